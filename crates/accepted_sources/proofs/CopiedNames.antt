@@ -1,13 +1,16 @@
--- What names are where no form is taken but those of copied values: variables of copied types, variables of no known type, functions that give such a type,
--- and structs and unions of parts of such types. Then all such types are copied.
+-- What names are where no form is taken but those of copied values: variables and arrays of copied types, the index of an array that is made, variables of no
+-- known type, functions that give such a type, and structs and unions of parts of such types. Then all such types are copied.
 use Rattle.std.proofs.Common.{◌≡◌, ℕ, zero, suc, Bool, true, false, Option, Some, None, List, [], ◌∷◌, refl, ap₂}
 use Rattle.std.specs.Prelude.{bytes_eq, if◌then◌else◌, length, ◌&&◌}
 use Rattle.cyc_tree.specs.Tree as tree
 use Rattle.source_typing.specs.Declarations.{what_after, what_of}
 use Rattle.source_typing.specs.Faults.{Fault}
+use Rattle.source_typing.specs.Making.{with_counter}
 use Rattle.source_typing.specs.Regions.{Region}
 use Rattle.source_typing.specs.Scope.{Env, Local, find_local, is_second, meant, with_local, with_locals}
 use Rattle.source_typing.specs.Tables.{
+  Arrayed,
+  Counter,
   Entry,
   OfBuiltin,
   OfFunction,
@@ -34,11 +37,12 @@ use Rattle.accepted_sources.proofs.CopiedTypes.{IsCopied, IsCopiedIfKnown, IsCop
 
 -- ---- names
 
--- a variable of a copied type, or one of no known type
+-- a variable or an array of a copied type, an index, or a variable of no known type
 abbrev pub IsCopiedOrUnknown : What → Type 0
 IsCopiedOrUnknown (Stored t r) = IsCopied t
+IsCopiedOrUnknown (Arrayed t r) = IsCopied t
+IsCopiedOrUnknown Counter = Unit {0}
 IsCopiedOrUnknown Unknown = Unit {0}
-IsCopiedOrUnknown _ = ⊥
 
 -- parts of such types, where they are known
 abbrev pub AreCopiedParts : List Part → Type 0
@@ -120,7 +124,7 @@ copied_to n g k Char h = refl
 copied_to n g k Void h = refl
 copied_to n g k Null h = refl
 copied_to n g k (Thin m r t) h = refl
-copied_to n g k (Fat r t) h = absurd h
+copied_to n g k (Fat r t) h = refl
 copied_to n g k (Unique m t) h = absurd h
 copied_to n g k (Handle r) h = refl
 copied_to n g k (Key r) h = absurd h
@@ -142,10 +146,14 @@ meant_found g x h = entry_found (with_locals g.locals g.tables) x (locals_no_oth
 
 -- ---- what is in scope after a declaration
 
-pub known_what : (r : Region) (v : Verdict StaticType) → IsCopiedIfKnown v → IsCopiedOrUnknown (what_of r None v)
-known_what r (Of t) h = h
-known_what r (Faulty f fs) h = tt
-known_what r Unjudged h = tt
+-- a variable, or an array of so many elements
+pub known_what : (r : Region) (count : Option ℕ) (v : Verdict StaticType) → IsCopiedIfKnown v → IsCopiedOrUnknown (what_of r count v)
+known_what r None (Of t) h = h
+known_what r (Some n) (Of t) h = h
+known_what r None (Faulty f fs) h = tt
+known_what r None Unjudged h = tt
+known_what r (Some n) (Faulty f fs) h = tt
+known_what r (Some n) Unjudged h = tt
 
 pub what_clean : (fs : List Fault) (w : What) → IsCopiedOrUnknown w → IsCopiedOrUnknown (what_after fs w)
 what_clean [] w h = h
@@ -157,3 +165,7 @@ local_kept x w g k h = by (is_second g.locals g.block x.text)
     by : (b : Bool) → HasCopiedAlone (if b then g else record g { locals = record { name = x.text; what = w; block = g.block } ∷ g.locals })
     by true = h
     by false = ((k, h.0), h.1)
+
+-- within the element of an array that is made
+pub counter_kept : (x : tree.Name) (g : Env) → HasCopiedAlone g → HasCopiedAlone (with_counter x g)
+counter_kept x g h = ((tt, h.0), h.1)

@@ -43,7 +43,7 @@ live_copied false at t r h = tt
 
 contents_copied : (g : Env) (at : ℕ) (t : StaticType) → IsCopied t → GivesCopied (contents_of g at t)
 contents_copied g at (Thin n r t) h = live_copied (is_live g r) at t r h
-contents_copied g at (Fat r t) h = absurd h
+contents_copied g at (Fat r t) h = live_copied (is_live g r) at t r h
 contents_copied g at (Unique n t) h = absurd h
 contents_copied g at _ h = tt
 
@@ -59,8 +59,8 @@ pub indexed_copied : (g : Env) (a b : Value) → IsCopiedValue a → GivesCopied
 indexed_copied g a b h = by a.type (is_integer b.type) h.0
   where
     by : (t : StaticType) (i : Bool) → IsCopied t → GivesCopied (indexed_of g a.at t i)
-    by (Fat r t) i c = absurd c
-    by _ i c = tt
+    by (Fat r t) true c = live_copied (is_live g r) a.at t r c
+    by _ _ c = tt
 
 -- ---- members
 
@@ -88,13 +88,14 @@ member_copied g f at t InBlock h c = absurd c
 member_copied g f at (Struct tag rs) (In r) h c = part_copied g at (In r) tag rs f h tt
 member_copied g f at _ (In r) h c = tt
 
+led_copied : (b : Bool) (g : Env) (f : tree.Name) (at : ℕ) (r : Region) (tag : List ℕ) (rs : List Region) → AreNoOtherValues g.tables
+    → GivesCopied (arrow_live b g f at r tag rs)
+led_copied true g f at r tag rs h = part_copied g at (In r) tag rs f h tt
+led_copied false g f at r tag rs h = tt
+
 arrow_copied : (g : Env) (f : tree.Name) (at : ℕ) (t : StaticType) → AreNoOtherValues g.tables → IsCopied t → GivesCopied (arrow_of g f at t)
-arrow_copied g f at (Thin n r (Struct tag rs)) h c = by (is_live g r)
-  where
-    by : (b : Bool) → GivesCopied (arrow_live b g f at r tag rs)
-    by true = part_copied g at (In r) tag rs f h tt
-    by false = tt
-arrow_copied g f at (Fat r t) h c = absurd c
+arrow_copied g f at (Thin n r (Struct tag rs)) h c = led_copied (is_live g r) g f at r tag rs h
+arrow_copied g f at (Fat r (Struct tag rs)) h c = led_copied (is_live g r) g f at r tag rs h
 arrow_copied g f at (Unique n t) h c = absurd c
 arrow_copied g f at _ h c = tt
 

@@ -15,12 +15,13 @@ use Rattle.source_typing.specs.Taken.{Taken, declaration_taken, declared_if, ini
 use Rattle.source_typing.specs.Taken.{takes_initializer, takes_type}
 use Rattle.source_typing.specs.Types.{Handle, PartialType, StaticType}
 use Rattle.source_typing.specs.Verdicts.{Faulty, Of, Unjudged, Verdict}
+use Rattle.accepted_sources.specs.Laws.{copied_forms}
 use Rattle.accepted_sources.proofs.CopiedExpressions.{judge_copied}
 use Rattle.accepted_sources.proofs.CopiedValues.{GivesCopied}
 use Rattle.accepted_sources.proofs.CopiedNames.{HasCopiedAlone, known_what, local_kept, what_clean}
 use Rattle.accepted_sources.proofs.CopiedTypes.{IsCopied, IsCopiedIfKnown, IsCopiedIfSome, fitting_copied}
 use Rattle.accepted_sources.proofs.CopiedTypes.{judged_after, settled_copied}
-use Rattle.accepted_sources.proofs.CopiedWritten.{copied_forms, type_copied}
+use Rattle.accepted_sources.proofs.CopiedWritten.{type_copied}
 
 -- ---- types of locals
 
@@ -36,18 +37,15 @@ from_copied g at true Unjudged p h c = tt
 from_copied g at true (Of v) p h c = local_copied g at None true (Some v.type) p h c.0
 from_copied g at false v p h c = local_copied g at None true None p h tt
 
-abbrev k : Bool → Taken
-k b = copied_forms b
+unset_copied : (k : Taken) (g : Env) (t : TypeName) (count : Option ℕ) → takes_type (copied_forms k) t ≡ true → IsCopiedIfKnown (unset_type g t count)
+unset_copied k g t count e =
+    judged_after (λ (p : PartialType). IsCopied p) (λ u. IsCopied u) (type_in_scope g t) (local_type g t.at count false None)
+    (type_copied k (in_scope g) g.names t e) (λ p h. local_copied g t.at count false None p h tt)
 
-unset_copied : (b : Bool) (g : Env) (t : TypeName) → takes_type (k b) t ≡ true → IsCopiedIfKnown (unset_type g t None)
-unset_copied b g t e =
-    judged_after (λ (p : PartialType). IsCopied p) (λ u. IsCopied u) (type_in_scope g t) (local_type g t.at None false None)
-    (type_copied b (in_scope g) g.names t e) (λ p h. local_copied g t.at None false None p h tt)
-
-set_copied : (b : Bool) (g : Env) (t : TypeName) (v : Verdict Value) → takes_type (k b) t ≡ true → GivesCopied v → IsCopiedIfKnown (set_type g t v)
-set_copied b g t v e c =
+set_copied : (k : Taken) (g : Env) (t : TypeName) (v : Verdict Value) → takes_type (copied_forms k) t ≡ true → GivesCopied v → IsCopiedIfKnown (set_type g t v)
+set_copied k g t v e c =
     judged_after (λ (p : PartialType). IsCopied p) (λ u. IsCopied u) (type_in_scope g t) (taken_from g t.at (misses_region g t) v)
-    (type_copied b (in_scope g) g.names t e) (λ p h. from_copied g t.at (misses_region g t) v p h c)
+    (type_copied k (in_scope g) g.names t e) (λ p h. from_copied g t.at (misses_region g t) v p h c)
 
 -- ---- declarations
 
@@ -56,17 +54,18 @@ refused_kept : (g : Env) (at : ℕ) (x : tree.Name) → HasCopiedAlone g → Has
 refused_kept g at x h = local_kept x Unknown g tt h
 
 -- one that is taken
-plain_kept : (b : Bool) (g : Env) (t : TypeName) (x : tree.Name) (i : Initializer) → takes_type (k b) t ≡ true → takes_initializer (k b) i ≡ true
-    → HasCopiedAlone g
-    → HasCopiedAlone (declare g (tree.Local t x (initializer_taken (k b) i))).scope
-plain_kept b g t x Initializer.Unset c e h =
-    local_kept x (what_of g.frame None (unset_type g t None)) g (known_what g.frame (unset_type g t None) (unset_copied b g t c)) h
-plain_kept b g t x (Initializer.Elements n) c e h = absurd cc
-plain_kept b g t x (Initializer.Value a) c e h =
-    let v : Verdict Value = judge g (taken (k b) a) in
+plain_kept : (k : Taken) (g : Env) (t : TypeName) (x : tree.Name) (i : Initializer) → takes_type (copied_forms k) t ≡ true → HasCopiedAlone g
+    → HasCopiedAlone (declare g (tree.Local t x (initializer_taken (copied_forms k) i))).scope
+plain_kept k g t x Initializer.Unset c h =
+    local_kept x (what_of g.frame None (unset_type g t None)) g (known_what g.frame None (unset_type g t None) (unset_copied k g t None c)) h
+plain_kept k g t x (Initializer.Elements n) c h =
+    local_kept x (what_of g.frame (Some n) (unset_type g t (Some n))) g
+    (known_what g.frame (Some n) (unset_type g t (Some n)) (unset_copied k g t (Some n) c)) h
+plain_kept k g t x (Initializer.Value a) c h =
+    let v : Verdict Value = judge g (taken (copied_forms k) a) in
     local_kept x (what_after (set_faults g v (set_type g t v)) (what_of g.frame None (set_type g t v))) g
     (what_clean (set_faults g v (set_type g t v)) (what_of g.frame None (set_type g t v))
-    (known_what g.frame (set_type g t v) (set_copied b g t v c (judge_copied b a g h)))) h
+    (known_what g.frame None (set_type g t v) (set_copied k g t v c (judge_copied k a g h)))) h
 
 -- a lexical region, with its handle
 handle_kept : (g : Env) (r : tree.RegionName) (x : tree.Name) → HasCopiedAlone g → HasCopiedAlone (region_of g r x (λ a. Handle a) with_scope).scope
@@ -82,16 +81,15 @@ region_kept : (b : Bool) (g : Env) (at : ℕ) (r : tree.RegionName) (x : tree.Na
 region_kept true g at r x h = handle_kept g r x h
 region_kept false g at r x h = refused_kept g at x h
 
-pub declared_kept : (b : Bool) (d : tree.Declaration) (g : Env) → HasCopiedAlone g → HasCopiedAlone (declare g (declaration_taken (k b) d)).scope
-declared_kept b (tree.Region at r x) g h = region_kept b g at r x h
-declared_kept b (tree.Open at r x y) g h = refused_kept g at x h
-declared_kept b (tree.Alias at r u x y) g h = refused_kept g at x h
-declared_kept b (tree.NewKey at r x) g h = refused_kept g at x h
-declared_kept b (tree.Local t x i) g h = by (takes_type (k b) t && takes_initializer (k b) i) refl
+pub declared_kept : (k : Taken) (d : tree.Declaration) (g : Env) → HasCopiedAlone g
+    → HasCopiedAlone (declare g (declaration_taken (copied_forms k) d)).scope
+declared_kept k (tree.Region at r x) g h = region_kept k.regions g at r x h
+declared_kept k (tree.Open at r x y) g h = refused_kept g at x h
+declared_kept k (tree.Alias at r u x y) g h = refused_kept g at x h
+declared_kept k (tree.NewKey at r x) g h = refused_kept g at x h
+declared_kept k (tree.Local t x i) g h = by (takes_type (copied_forms k) t && takes_initializer (copied_forms k) i) refl
   where
-    by : (c : Bool) → takes_type (k b) t && takes_initializer (k b) i ≡ c
-        → HasCopiedAlone (declare g (declared_if c t.at (tree.Local t x (initializer_taken (k b) i)))).scope
-    by true e =
-        let c : (takes_type (k b) t ≡ true) × (takes_initializer (k b) i ≡ true) = and_parts (takes_type (k b) t) (takes_initializer (k b) i) e in
-        plain_kept b g t x i c.0 c.1 h
+    by : (c : Bool) → takes_type (copied_forms k) t && takes_initializer (copied_forms k) i ≡ c
+        → HasCopiedAlone (declare g (declared_if c t.at (tree.Local t x (initializer_taken (copied_forms k) i)))).scope
+    by true e = plain_kept k g t x i (and_parts (takes_type (copied_forms k) t) (takes_initializer (copied_forms k) i) e).0 h
     by false e = refused_kept g t.at x h

@@ -1,11 +1,11 @@
 -- Types whose values are copied, where no struct has a part of another type: integers, nothing, NULL, handles, structs, whatever their region arguments, and
--- thin pointers to such.
+-- thin and fat pointers to such.
 use Rattle.std.proofs.Common.{ℕ, Bool, true, false, Option, Some, None, List, [], ◌∷◌}
 use Rattle.std.specs.Prelude.{◌&&◌}
 use Rattle.source_typing.specs.Declarations.{can_be, fitting, if_sized}
 use Rattle.source_typing.specs.Extents.{fits_bytes, variable_size}
 use Rattle.source_typing.specs.Faults.{Fault}
-use Rattle.source_typing.specs.Missing.{as_type, filled_from, or_found, outer_region, pointee_of, settled, thin_with}
+use Rattle.source_typing.specs.Missing.{as_type, fat_with, filled_from, or_found, outer_region, pointee_of, settled, thin_with}
 use Rattle.source_typing.specs.Regions.{Region}
 use Rattle.source_typing.specs.Scope.{Env}
 use Rattle.source_typing.specs.Types.{
@@ -36,6 +36,7 @@ IsCopied Char = Unit {0}
 IsCopied Void = Unit {0}
 IsCopied Null = Unit {0}
 IsCopied (Thin n r t) = IsCopied t
+IsCopied (Fat r t) = IsCopied t
 IsCopied (Handle r) = Unit {0}
 IsCopied (Struct tag rs) = Unit {0}
 IsCopied _ = ⊥
@@ -101,7 +102,7 @@ copied_renamed f Char h = tt
 copied_renamed f Void h = tt
 copied_renamed f Null h = tt
 copied_renamed f (Thin n r t) h = copied_renamed f t h
-copied_renamed f (Fat r t) h = absurd h
+copied_renamed f (Fat r t) h = copied_renamed f t h
 copied_renamed f (Unique n t) h = absurd h
 copied_renamed f (Handle r) h = tt
 copied_renamed f (Key r) h = absurd h
@@ -127,7 +128,7 @@ outer_shared (Some Char) h = tt
 outer_shared (Some Void) h = tt
 outer_shared (Some Null) h = tt
 outer_shared (Some (Thin n r t)) h = tt
-outer_shared (Some (Fat r t)) h = absurd h
+outer_shared (Some (Fat r t)) h = tt
 outer_shared (Some (Unique n t)) h = absurd h
 outer_shared (Some (Handle r)) h = tt
 outer_shared (Some (Key r)) h = absurd h
@@ -142,7 +143,7 @@ pointee_copied (Some Char) h = tt
 pointee_copied (Some Void) h = tt
 pointee_copied (Some Null) h = tt
 pointee_copied (Some (Thin n r t)) h = h
-pointee_copied (Some (Fat r t)) h = absurd h
+pointee_copied (Some (Fat r t)) h = h
 pointee_copied (Some (Unique n t)) h = absurd h
 pointee_copied (Some (Handle r)) h = tt
 pointee_copied (Some (Key r)) h = absurd h
@@ -159,6 +160,12 @@ thin_copied n (Is r) (Some t) h k = k
 thin_copied n IsUnique (Some t) h k = absurd h
 thin_copied n Missing (Some t) h k = k
 
+fat_copied : (f : Found) (t : Option StaticType) → IsNotUnique f → IsCopiedIfSome t → IsCopiedIfSome (fat_with f t)
+fat_copied f None h k = tt
+fat_copied (Is r) (Some t) h k = k
+fat_copied IsUnique (Some t) h k = absurd h
+fat_copied Missing (Some t) h k = k
+
 filled_copied : (p : PartialType) (s : Option StaticType) → IsCopied p → IsCopiedIfSome s → IsCopiedIfSome (filled_from p s)
 filled_copied Int s h k = tt
 filled_copied Unsigned s h k = tt
@@ -168,7 +175,9 @@ filled_copied Null s h k = tt
 filled_copied (Thin n r t) s h k =
     thin_copied n (or_found r (outer_region s)) (filled_from t (pointee_of s)) (found_shared r (outer_region s) (outer_shared s k))
     (filled_copied t (pointee_of s) h (pointee_copied s k))
-filled_copied (Fat r t) s h k = absurd h
+filled_copied (Fat r t) s h k =
+    fat_copied (or_found r (outer_region s)) (filled_from t (pointee_of s)) (found_shared r (outer_region s) (outer_shared s k))
+    (filled_copied t (pointee_of s) h (pointee_copied s k))
 filled_copied (Unique n t) s h k = absurd h
 filled_copied (Handle r) s h k = tt
 filled_copied (Key r) s h k = absurd h

@@ -1,6 +1,6 @@
 -- Names, calls and operators give copied values, and no place in the block of a unique pointer, where all names in scope are of copied types.
 use Rattle.std.proofs.Common.{ℕ, Bool, true, false, Option, Some, None, List}
-use Rattle.std.specs.Prelude.{◌&&◌, ◌||◌, ◌++◌}
+use Rattle.std.specs.Prelude.{length, nat_lt, ◌&&◌, ◌||◌, ◌++◌}
 use Rattle.cyc_tree.specs.declared.expression.Operator.{Operator}
 use Rattle.cyc_tree.specs.declared.expression.Operator.TheVariants as operator
 use Rattle.source_meaning.specs.Memory.{AsChar, AsInt, AsUnsigned, IntegerType}
@@ -21,7 +21,8 @@ use Rattle.source_typing.specs.Calls.{
   typed_result,
 }
 use Rattle.source_typing.specs.Faults.{effect_rule, outlives_rule, region_rule, test}
-use Rattle.source_typing.specs.Operators.{applied_to, common, compared, compared_thin, if_equality, integers_joined, is_equality, on_integers, promoted}
+use Rattle.source_typing.specs.Operators.{applied_to, common, compared, compared_thin, fat_moved, if_equality, integers_joined, is_equality, is_move}
+use Rattle.source_typing.specs.Operators.{on_integers, promoted, string, string_sized}
 use Rattle.source_typing.specs.Places.{variable}
 use Rattle.source_typing.specs.Regions.{Region}
 use Rattle.source_typing.specs.Scope.{Env, In, InBlock, Nowhere, Seat, Value, is_live, outlives, value}
@@ -82,8 +83,8 @@ gives_fitting b at place t h = judged_fits (λ w. IsCopiedValue w) b at t (value
 pub variable_copied : (at : ℕ) (e : Option Entry) → FindsNoOtherValue e → GivesCopied (variable at e)
 variable_copied at None h = tt
 variable_copied at (Some (OfValue (Stored t r))) h = (h, tt)
-variable_copied at (Some (OfValue (Arrayed t r))) h = absurd h
-variable_copied at (Some (OfValue Counter)) h = absurd h
+variable_copied at (Some (OfValue (Arrayed t r))) h = (h, tt)
+variable_copied at (Some (OfValue Counter)) h = (tt, tt)
 variable_copied at (Some (OfValue Unknown)) h = tt
 variable_copied at (Some (OfTag t)) h = other t.sound
   where
@@ -147,6 +148,15 @@ called_copied g at (ToFunction s) vs h =
     (λ rs k. judged_unless (λ w. IsCopiedValue w) (test (all_live g rs s.effect) effect_rule at ++ test (all_ordered g rs s.bounds) outlives_rule at)
     (typed_result at rs s.result) (result_copied at rs s.result h))
 
+-- ---- strings
+
+sized_copied : (b : Bool) (at : ℕ) → GivesCopied (string_sized b at)
+sized_copied true at = (tt, tt)
+sized_copied false at = tt
+
+pub string_copied : (at : ℕ) (bytes : List ℕ) → GivesCopied (string at bytes)
+string_copied at bytes = sized_copied (nat_lt (length bytes) 4096) at
+
 -- ---- operators
 
 pub number_copied : (k : IntegerType) → IsCopied (integer_type k)
@@ -161,7 +171,7 @@ promoted_copied Char h = tt
 promoted_copied Void h = h
 promoted_copied Null h = h
 promoted_copied (Thin n r t) h = h
-promoted_copied (Fat r t) h = absurd h
+promoted_copied (Fat r t) h = h
 promoted_copied (Unique n t) h = absurd h
 promoted_copied (Handle r) h = h
 promoted_copied (Key r) h = absurd h
@@ -209,6 +219,11 @@ integers_copied : (b : Bool) (g : Env) (o : Operator) (at : ℕ) (t u : StaticTy
 integers_copied true g o at t u h = (joined_copied o t u h, tt)
 integers_copied false g o at t u h = equality_copied (is_equality o) g at t u
 
+-- a fat pointer that is moved, or compared
+fat_copied : (b : Bool) (g : Env) (o : Operator) (at : ℕ) (t u : StaticType) → IsCopied t → GivesCopied (fat_moved b g o at t u)
+fat_copied true g o at t u h = (h, tt)
+fat_copied false g o at t u h = equality_copied (is_equality o) g at t u
+
 pub applied_copied : (g : Env) (o : Operator) (at : ℕ) (t u : StaticType) → IsCopied t → GivesCopied (applied_to g o at t u)
-applied_copied g o at (Fat r t) u h = absurd h
+applied_copied g o at (Fat r t) u h = fat_copied (is_move o && is_integer u) g o at (Fat r t) u h
 applied_copied g o at t u h = integers_copied (is_integer t && is_integer u) g o at t u h

@@ -1,4 +1,4 @@
--- Types as they are written are of copied values, where thin pointers and structs are taken, with the heap and lexical regions or without.
+-- Types as they are written are of copied values, where no form is taken but those of copied values.
 use Rattle.std.proofs.Common.{◌≡◌, ℕ, zero, suc, Bool, true, false, Option, Some, None, List, [], ◌∷◌}
 use Rattle.std.specs.Prelude.{◌&&◌, ◌++◌, map, replicate}
 use Rattle.std.proofs.lemmas.Bool.{and_parts}
@@ -10,12 +10,13 @@ use Rattle.source_typing.specs.Faults.{Fault, region_rule}
 use Rattle.source_typing.specs.Functions.{AllSpotted, Variables, take_named, take_spot, take_spots}
 use Rattle.source_typing.specs.Regions.{Region}
 use Rattle.source_typing.specs.Tables.{Tables, find, tag_in}
-use Rattle.source_typing.specs.Taken.{Taken, region_structures, takes_base, takes_pointers, takes_region, takes_sign, takes_type}
-use Rattle.source_typing.specs.Types.{Char, Fat, Handle, Int, Key, Null, PartialType, Struct, Thin, Union, Unique, Unsigned, Void}
+use Rattle.source_typing.specs.Taken.{Taken, takes_base, takes_pointers, takes_region, takes_sign, takes_type}
+use Rattle.source_typing.specs.Types.{Char, Handle, Int, Key, PartialType, Struct, Unsigned, Void}
 use Rattle.source_typing.specs.Verdicts.{Faulty, Of, Unjudged, Verdict, refuse, unless_faulty}
-use Rattle.source_typing.specs.Written.{Found, Is, IsUnique, Missing, RegionNamed, Spot, all_found, as_region, built, count_fits, counted_type, find_region}
+use Rattle.source_typing.specs.Written.{Found, IsUnique, RegionNamed, Spot, all_found, as_region, built, count_fits, counted_type, find_region}
 use Rattle.source_typing.specs.Written.{found_by, found_named, pointer_to, pointers_to, regions_of_tag, spot, spots_of, tag_of, type_built, with_arguments}
 use Rattle.source_typing.specs.Written.{written, written_on, written_with}
+use Rattle.accepted_sources.specs.Laws.{copied_forms}
 use Rattle.accepted_sources.proofs.CopiedTypes.{AreNotUnique, IsCopied, IsCopiedIfSome, IsNotUnique, WhereJudged, judged_unless}
 
 -- a region name, of a pointer or of an argument: the unique region is at fault as an argument, and so is none that is found
@@ -76,30 +77,24 @@ arguments_shared [] ss h = h
 arguments_shared (r ∷ rs) ss h =
     argument_shared r (map (λ (r : tree.RegionName). spot false (Some r)) rs ++ ss) (arguments_shared rs ss h)
 
--- the forms whose values are all copied, with the heap and lexical regions or without
-abbrev pub copied_forms : Bool → Taken
-copied_forms b = record region_structures { regions = b }
+region_shared : (k : Taken) (r : Option tree.RegionName) → takes_region (copied_forms k) r ≡ true → IsSharedName r true
+region_shared k None e = tt
+region_shared k (Some (tree.Heap at)) e = tt
+region_shared k (Some (tree.Unique at)) e = absurd cc
+region_shared k (Some (tree.Named n)) e = tt
 
-abbrev k : Bool → Taken
-k b = copied_forms b
+pointers_shared : (k : Taken) (ps : List tree.Pointer) → takes_pointers (copied_forms k) ps ≡ true
+    → AreShared (map (λ (p : tree.Pointer). spot true p.region) ps)
+pointers_shared k [] e = tt
+pointers_shared k (p ∷ ps) e =
+    let a = and_parts (takes_sign (copied_forms k) p.sign && takes_region (copied_forms k) p.region) (takes_pointers (copied_forms k) ps) e in
+    (region_shared k p.region (and_parts (takes_sign (copied_forms k) p.sign) (takes_region (copied_forms k) p.region) a.0).1, pointers_shared k ps a.1)
 
-region_shared : (b : Bool) (r : Option tree.RegionName) → takes_region (k b) r ≡ true → IsSharedName r true
-region_shared b None e = tt
-region_shared b (Some (tree.Heap at)) e = tt
-region_shared b (Some (tree.Unique at)) e = absurd cc
-region_shared b (Some (tree.Named n)) e = tt
-
-pointers_shared : (b : Bool) (ps : List tree.Pointer) → takes_pointers (k b) ps ≡ true → AreShared (map (λ (p : tree.Pointer). spot true p.region) ps)
-pointers_shared b [] e = tt
-pointers_shared b (p ∷ ps) e =
-    let a = and_parts (takes_sign (k b) p.sign && takes_region (k b) p.region) (takes_pointers (k b) ps) e in
-    (region_shared b p.region (and_parts (takes_sign (k b) p.sign) (takes_region (k b) p.region) a.0).1, pointers_shared b ps a.1)
-
-type_shared : (b : Bool) (g : Tables) (t : TypeName) → takes_type (k b) t ≡ true → AreShared (spots_of g t)
-type_shared b g t e =
-    let a = and_parts (takes_base (k b) t.base) (takes_pointers (k b) t.pointers) e in by t.base a.0 (pointers_shared b t.pointers a.1)
+type_shared : (k : Taken) (g : Tables) (t : TypeName) → takes_type (copied_forms k) t ≡ true → AreShared (spots_of g t)
+type_shared k g t e =
+    let a = and_parts (takes_base (copied_forms k) t.base) (takes_pointers (copied_forms k) t.pointers) e in by t.base a.0 (pointers_shared k t.pointers a.1)
   where
-    by : (x : tree.Base) → takes_base (k b) x ≡ true → AreShared (map (λ (p : tree.Pointer). spot true p.region) t.pointers)
+    by : (x : tree.Base) → takes_base (copied_forms k) x ≡ true → AreShared (map (λ (p : tree.Pointer). spot true p.region) t.pointers)
         → AreShared (spots_of g (record { at = t.at; base = x; pointers = t.pointers }))
     by tree.Int e h = h
     by tree.Unsigned e h = h
@@ -111,107 +106,72 @@ type_shared b g t e =
     by (tree.Union tag rs) e h = absurd cc
     by (tree.Key r) e h = absurd cc
 
-pointer_copied : (b : Bool) (s : Sign) (f : Found) (t : PartialType) → takes_sign (k b) s ≡ true → IsNotUnique f → IsCopied t
-    → IsCopiedIfSome (pointer_to s f t)
-pointer_copied b s f Void e h c = tt
-pointer_copied b s IsUnique t e h c = absurd h
-pointer_copied b sign.Fat f t e h c = absurd cc
-pointer_copied b sign.Nullable (Is q) Int e h c = tt
-pointer_copied b sign.Nullable Missing Int e h c = tt
-pointer_copied b sign.NotNull (Is q) Int e h c = tt
-pointer_copied b sign.NotNull Missing Int e h c = tt
-pointer_copied b sign.Nullable (Is q) Unsigned e h c = tt
-pointer_copied b sign.Nullable Missing Unsigned e h c = tt
-pointer_copied b sign.NotNull (Is q) Unsigned e h c = tt
-pointer_copied b sign.NotNull Missing Unsigned e h c = tt
-pointer_copied b sign.Nullable (Is q) Char e h c = tt
-pointer_copied b sign.Nullable Missing Char e h c = tt
-pointer_copied b sign.NotNull (Is q) Char e h c = tt
-pointer_copied b sign.NotNull Missing Char e h c = tt
-pointer_copied b sign.Nullable (Is q) Null e h c = tt
-pointer_copied b sign.Nullable Missing Null e h c = tt
-pointer_copied b sign.NotNull (Is q) Null e h c = tt
-pointer_copied b sign.NotNull Missing Null e h c = tt
-pointer_copied b sign.Nullable (Is q) (Thin n r t) e h c = c
-pointer_copied b sign.Nullable Missing (Thin n r t) e h c = c
-pointer_copied b sign.NotNull (Is q) (Thin n r t) e h c = c
-pointer_copied b sign.NotNull Missing (Thin n r t) e h c = c
-pointer_copied b sign.Nullable (Is q) (Struct tag rs) e h c = tt
-pointer_copied b sign.Nullable Missing (Struct tag rs) e h c = tt
-pointer_copied b sign.NotNull (Is q) (Struct tag rs) e h c = tt
-pointer_copied b sign.NotNull Missing (Struct tag rs) e h c = tt
-pointer_copied b s f (Fat r t) e h c = absurd c
-pointer_copied b s f (Unique n t) e h c = absurd c
-pointer_copied b sign.Nullable (Is q) (Handle r) e h c = tt
-pointer_copied b sign.Nullable Missing (Handle r) e h c = tt
-pointer_copied b sign.NotNull (Is q) (Handle r) e h c = tt
-pointer_copied b sign.NotNull Missing (Handle r) e h c = tt
-pointer_copied b s f (Key r) e h c = absurd c
-pointer_copied b s f (Union tag rs) e h c = absurd c
+pointer_copied : (s : Sign) (f : Found) (t : PartialType) → IsNotUnique f → IsCopied t → IsCopiedIfSome (pointer_to s f t)
+pointer_copied s f Void h c = tt
+pointer_copied s f (Key r) h c = absurd c
+pointer_copied s IsUnique t h c = absurd h
+pointer_copied sign.Nullable f t h c = c
+pointer_copied sign.NotNull f t h c = c
+pointer_copied sign.Fat f t h c = c
 
-pointers_copied : (b : Bool) (ps : List tree.Pointer) (fs : List Found) (t : Option PartialType) → takes_pointers (k b) ps ≡ true → AreNotUnique fs
-    → IsCopiedIfSome t
+pointers_copied : (ps : List tree.Pointer) (fs : List Found) (t : Option PartialType) → AreNotUnique fs → IsCopiedIfSome t
     → IsCopiedIfSome (pointers_to ps fs t)
-pointers_copied b [] fs t e h c = c
-pointers_copied b (p ∷ ps) [] t e h c = c
-pointers_copied b (p ∷ ps) (f ∷ fs) None e h c = tt
-pointers_copied b (p ∷ ps) (f ∷ fs) (Some t) e h c =
-    let a = and_parts (takes_sign (k b) p.sign && takes_region (k b) p.region) (takes_pointers (k b) ps) e in
-    pointers_copied b ps fs (pointer_to p.sign f t) a.1 h.1
-    (pointer_copied b p.sign f t (and_parts (takes_sign (k b) p.sign) (takes_region (k b) p.region) a.0).0 h.0 c)
+pointers_copied [] fs t h c = c
+pointers_copied (p ∷ ps) [] t h c = c
+pointers_copied (p ∷ ps) (f ∷ fs) None h c = tt
+pointers_copied (p ∷ ps) (f ∷ fs) (Some t) h c = pointers_copied ps fs (pointer_to p.sign f t) h.1 (pointer_copied p.sign f t h.0 c)
 
 -- a struct, whose first regions are its arguments
-struct_copied : (b : Bool) (tag : List ℕ) (n : ℕ) (args : List Found) (ps : List tree.Pointer) (fs : List Found) → takes_pointers (k b) ps ≡ true
-    → AreNotUnique fs
+struct_copied : (tag : List ℕ) (n : ℕ) (args : List Found) (ps : List tree.Pointer) (fs : List Found) → AreNotUnique fs
     → IsCopiedIfSome (with_arguments n (Struct tag) args ps fs)
-struct_copied b tag zero args ps fs e h = pointers_copied b ps fs (Some (Struct tag (map as_region args))) e h tt
-struct_copied b tag (suc n) args ps [] e h = tt
-struct_copied b tag (suc n) args ps (f ∷ fs) e h = struct_copied b tag n (args ++ f ∷ []) ps fs e h.1
+struct_copied tag zero args ps fs h = pointers_copied ps fs (Some (Struct tag (map as_region args))) h tt
+struct_copied tag (suc n) args ps [] h = tt
+struct_copied tag (suc n) args ps (f ∷ fs) h = struct_copied tag n (args ++ f ∷ []) ps fs h.1
 
-written_copied : (b : Bool) (g : Tables) (t : TypeName) (fs : List Found) (bad : List Fault) → takes_type (k b) t ≡ true → AreNotUnique fs
+written_copied : (k : Taken) (g : Tables) (t : TypeName) (fs : List Found) (bad : List Fault) → takes_type (copied_forms k) t ≡ true → AreNotUnique fs
     → WhereJudged (λ (p : PartialType). IsCopied p) (written_with g t (fs, bad))
-written_copied b g t fs bad e h =
-    let a = and_parts (takes_base (k b) t.base) (takes_pointers (k b) t.pointers) e in by t.base a.0 a.1
+written_copied k g t fs bad e h =
+    by t.base (and_parts (takes_base (copied_forms k) t.base) (takes_pointers (copied_forms k) t.pointers) e).0
   where
     found : (p : Option PartialType) → IsCopiedIfSome p → WhereJudged (λ (p : PartialType). IsCopied p) (unless_faulty bad (type_built t.at p))
     found None c = judged_unless (λ (p : PartialType). IsCopied p) bad (type_built t.at None) tt
     found (Some p) c = judged_unless (λ (p : PartialType). IsCopied p) bad (type_built t.at (Some p)) c
 
-    by : (x : tree.Base) → takes_base (k b) x ≡ true → takes_pointers (k b) t.pointers ≡ true
+    by : (x : tree.Base) → takes_base (copied_forms k) x ≡ true
         → WhereJudged (λ (p : PartialType). IsCopied p) (written_with g (record { at = t.at; base = x; pointers = t.pointers }) (fs, bad))
-    by tree.Int e q = found (pointers_to t.pointers fs (Some Int)) (pointers_copied b t.pointers fs (Some Int) q h tt)
-    by tree.Unsigned e q = found (pointers_to t.pointers fs (Some Unsigned)) (pointers_copied b t.pointers fs (Some Unsigned) q h tt)
-    by tree.Char e q = found (pointers_to t.pointers fs (Some Char)) (pointers_copied b t.pointers fs (Some Char) q h tt)
-    by tree.Void e q = found (pointers_to t.pointers fs (Some Void)) (pointers_copied b t.pointers fs (Some Void) q h tt)
-    by (tree.Struct tag rs) e q = on_tag (tag_of (find g tag.text) false tag.at)
+    by tree.Int e = found (pointers_to t.pointers fs (Some Int)) (pointers_copied t.pointers fs (Some Int) h tt)
+    by tree.Unsigned e = found (pointers_to t.pointers fs (Some Unsigned)) (pointers_copied t.pointers fs (Some Unsigned) h tt)
+    by tree.Char e = found (pointers_to t.pointers fs (Some Char)) (pointers_copied t.pointers fs (Some Char) h tt)
+    by tree.Void e = found (pointers_to t.pointers fs (Some Void)) (pointers_copied t.pointers fs (Some Void) h tt)
+    by (tree.Struct tag rs) e = on_tag (tag_of (find g tag.text) false tag.at)
       where
         u : TypeName
         u = record { at = t.at; base = tree.Struct tag rs; pointers = t.pointers }
 
         counted : (n : ℕ) (b : Bool) → WhereJudged (λ (p : PartialType). IsCopied p) (unless_faulty bad (counted_type u fs n b))
-        counted n true = found (with_arguments n (Struct tag.text) [] t.pointers fs) (struct_copied b tag.text n [] t.pointers fs q h)
+        counted n true = found (with_arguments n (Struct tag.text) [] t.pointers fs) (struct_copied tag.text n [] t.pointers fs h)
         counted n false = judged_unless (λ (p : PartialType). IsCopied p) bad (refuse region_rule t.at) tt
 
         on_tag : (v : Verdict ℕ) → WhereJudged (λ (p : PartialType). IsCopied p) (written_on u fs bad v)
         on_tag (Faulty f others) = tt
         on_tag Unjudged = judged_unless (λ (p : PartialType). IsCopied p) bad Unjudged tt
         on_tag (Of n) = counted n (count_fits (tree.Struct tag rs) n)
-    by (tree.Union tag rs) e q = absurd cc
-    by (tree.Handle r) e q = found (built (tree.Handle r) 0 t.pointers fs) (on_handle fs h)
+    by (tree.Union tag rs) e = absurd cc
+    by (tree.Handle r) e = found (built (tree.Handle r) 0 t.pointers fs) (on_handle fs h)
       where
         on_handle : (fs : List Found) → AreNotUnique fs → IsCopiedIfSome (built (tree.Handle r) 0 t.pointers fs)
         on_handle [] h = tt
-        on_handle (f ∷ fs) h = pointers_copied b t.pointers fs (Some (Handle (as_region f))) q h.1 tt
-    by (tree.Key r) e q = absurd cc
+        on_handle (f ∷ fs) h = pointers_copied t.pointers fs (Some (Handle (as_region f))) h.1 tt
+    by (tree.Key r) e = absurd cc
 
 -- a type that is taken, by the region names in scope, and as a parameter's
-pub type_copied : (b : Bool) (g : Tables) (names : List RegionNamed) (t : TypeName) → takes_type (k b) t ≡ true
+pub type_copied : (k : Taken) (g : Tables) (names : List RegionNamed) (t : TypeName) → takes_type (copied_forms k) t ≡ true
     → WhereJudged (λ (p : PartialType). IsCopied p) (written g names t)
-type_copied b g names t e =
+type_copied k g names t e =
     let f : List Found × List Fault = all_found names (spots_of g t) in
-    written_copied b g t f.0 f.1 e (all_by_shared names (spots_of g t) (type_shared b g t e))
+    written_copied k g t f.0 f.1 e (all_by_shared names (spots_of g t) (type_shared k g t e))
 
-pub spotted_copied : (b : Bool) (g : Tables) (vs : Variables) (t : TypeName) → takes_type (k b) t ≡ true
+pub spotted_copied : (k : Taken) (g : Tables) (vs : Variables) (t : TypeName) → takes_type (copied_forms k) t ≡ true
     → WhereJudged (λ (p : PartialType). IsCopied p) (written_with g t ((take_spots vs (spots_of g t)).found, (take_spots vs (spots_of g t)).faults))
-spotted_copied b g vs t e =
-    let f : AllSpotted = take_spots vs (spots_of g t) in written_copied b g t f.found f.faults e (spots_shared vs (spots_of g t) (type_shared b g t e))
+spotted_copied k g vs t e =
+    let f : AllSpotted = take_spots vs (spots_of g t) in written_copied k g t f.found f.faults e (spots_shared vs (spots_of g t) (type_shared k g t e))

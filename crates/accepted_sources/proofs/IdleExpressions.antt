@@ -11,7 +11,6 @@ use Rattle.cyc_tree.specs.Tree.{
   Expressions,
   Index,
   Links,
-  Made,
   MoreExpressions,
   MoreLinks,
   NoExpressions,
@@ -24,33 +23,33 @@ use Rattle.cyc_tree.specs.Places.{expression_place}
 use Rattle.source_meaning.specs.Expressions.{is_unique_region}
 use Rattle.source_typing.specs.Expressions.{judge}
 use Rattle.source_typing.specs.Flow.{use_all, use_links, use_of, use_suffixes, use_tests}
-use Rattle.source_typing.specs.Making.{goal_of, inside}
-use Rattle.source_typing.specs.Moves.{address_use, applied_use, assigned_use, contents_use, copy_if, if_moved, is_moved, local_use, nothing, place_use}
-use Rattle.source_typing.specs.Moves.{indexed_use, is_unique_value, member_use, place_at, pointed_use, tested_use, use_of_local, use_of_name}
-use Rattle.source_typing.specs.Moves.{value_use}
+use Rattle.source_typing.specs.Making.{goal_of, inside, with_counter}
+use Rattle.source_typing.specs.Moves.{Use, address_use, applied_use, array_use, assigned_use, contents_use, copy_if, elements_passed, if_moved, indexed_use}
+use Rattle.source_typing.specs.Moves.{is_moved, is_unique_value, local_use, member_use, nothing, place_at, place_use, pointed_use, tested_use, use_of_local}
+use Rattle.source_typing.specs.Moves.{use_of_name, value_use}
 use Rattle.source_typing.specs.Places.{arrow, contents, indexed, member, variable}
 use Rattle.source_typing.specs.Scope.{Env, In, InBlock, Local, Nowhere, Seat, Value, find_local}
 use Rattle.source_typing.specs.States.{States, passed, then_passed}
 use Rattle.source_typing.specs.Tables.{Arrayed, Counter, Entry, Stored, Unknown, What, find}
-use Rattle.source_typing.specs.Taken.{Taken, all_taken, are_suffixed, if_taken, links_taken, made_taken, suffixes_taken, taken}
-use Rattle.source_typing.specs.Taken.{takes_handle, takes_made, takes_suffixes}
+use Rattle.source_typing.specs.Taken.{Taken, all_taken, are_suffixed, if_taken, links_taken, suffixes_taken, taken}
+use Rattle.source_typing.specs.Taken.{takes_handle, takes_suffixes}
 use Rattle.source_typing.specs.Types.{StaticType, Unique, is_unique}
 use Rattle.source_typing.specs.Verdicts.{Faulty, Of, Unjudged, Verdict, after, both}
+use Rattle.accepted_sources.specs.Laws.{copied_forms}
 use Rattle.accepted_sources.proofs.CopiedExpressions.{judge_copied}
 use Rattle.accepted_sources.proofs.CopiedPlaces.{arrow_gives, contents_all_copied, indexed_copied, member_gives}
 use Rattle.accepted_sources.proofs.CopiedValues.{GivesCopied, IsShared, gives_both, variable_copied}
 use Rattle.accepted_sources.proofs.CopiedNames.{AreNoOtherValues, FindsCopied, HasCopiedAlone, IsCopiedOrUnknown, copied_is_copyable, entry_found}
-use Rattle.accepted_sources.proofs.CopiedNames.{local_found}
+use Rattle.accepted_sources.proofs.CopiedNames.{counter_kept, local_found}
 use Rattle.accepted_sources.proofs.CopiedTypes.{IsCopied}
-use Rattle.accepted_sources.proofs.CopiedWritten.{copied_forms}
-use Rattle.accepted_sources.proofs.StillStates.{idle, tested_idle}
+use Rattle.accepted_sources.proofs.StillStates.{idle, tested_idle, turned_nothing}
 
 -- ---- names
 
 what_idle : (g : Env) (x : tree.Name) (w : What) → AreNoOtherValues g.tables → IsCopiedOrUnknown w → use_of_local g x w ≡ idle
 what_idle g x (Stored t r) k h = ap (λ b. if_moved (not b) (local_use g.locals x)) (copied_is_copyable g.tables k t h)
-what_idle g x (Arrayed t r) k h = absurd h
-what_idle g x Counter k h = absurd h
+what_idle g x (Arrayed t r) k h = ap (λ b. if_moved (not b) (array_use x.at)) (copied_is_copyable g.tables k t h)
+what_idle g x Counter k h = refl
 what_idle g x Unknown k h = refl
 
 -- a copied value isn't moved
@@ -103,102 +102,114 @@ address_idle at (Of v) h = by v.seat h.1
 
 -- ---- expressions
 
-abbrev k : Bool → Taken
-k b = copied_forms b
-
 if_idle : (b : Bool) (g : Env) (at : ℕ) (e : Expression) → use_of g e ≡ idle → use_of g (if_taken b at e) ≡ idle
 if_idle true g at e h = h
 if_idle false g at e h = refl
 
--- an array that is made is none that is taken
-array_refused : (b : Bool) (g : Env) (at : ℕ) (e : Expression) → use_of g (if_taken (b && false) at e) ≡ idle
-array_refused true g at e = refl
-array_refused false g at e = refl
+-- a making in the region of a handle; one in the unique region is none that is taken
+made_in_idle : (k : Taken) (u takes : Bool) (g : Env) (at : ℕ) (e : Expression) → use_of g e ≡ idle
+    → use_of g (if_taken (takes_handle (copied_forms k) u && takes) at e) ≡ idle
+made_in_idle k true takes g at e h = refl
+made_in_idle k false takes g at e h = if_idle (k.regions && takes) g at e h
 
--- nor is a making in the unique region
-made_in_idle : (b u : Bool) (handle : Expression) (g : Env) (at : ℕ) (new : Made)
-    → use_of g (if_taken (b && takes_made (k b) new) at (Expression.NewIn at (taken (k b) handle) (made_taken (k b) new))) ≡ idle
-    → use_of g (if_taken (takes_handle (k b) u && takes_made (k b) new) at (Expression.NewIn at (taken (k b) handle) (made_taken (k b) new))) ≡ idle
-made_in_idle b true handle g at new h = refl
-made_in_idle b false handle g at new h = h
+-- an array that is made: its handle, its count and its elements
+abbrev elements_use : (handle count element : Use) → Use
+elements_use handle count element = value_use (λ s. then_passed (then_passed (handle.look s) count.look) (elements_passed element.value))
+
+elements_idle : (handle count element : Use) → handle ≡ idle → count ≡ idle → element ≡ idle → elements_use handle count element ≡ idle
+elements_idle handle count element h c e =
+    ap (λ u. elements_use u count element) h ∙ ap (λ u. elements_use idle u element) c ∙ ap (λ u. elements_use idle idle u) e
+    ∙ ap (λ act. value_use act) (λ i s. turned_nothing s i)
 
 mutual
-  pub use_idle : (b : Bool) (e : Expression) (g : Env) → HasCopiedAlone g → use_of g (taken (k b) e) ≡ idle
-  use_idle b (Expression.Number at n suffix) g h = refl
-  use_idle b (Expression.Character at byte) g h = refl
-  use_idle b (Expression.Text at bytes) g h = refl
-  use_idle b (Expression.Null at) g h = refl
-  use_idle b (Expression.HeapRegion at) g h = if_idle b g at (Expression.HeapRegion at) refl
-  use_idle b (Expression.UniqueRegion at) g h = refl
-  use_idle b (Expression.Variable x) g h = name_idle g x h
-  use_idle b (Expression.Call x es) g h = ap (λ act. value_use act) (λ i s. arguments_idle b es g h s i)
-  use_idle b (Expression.MakeUnion tag f e) g h = refl
-  use_idle b (Expression.NumElts at e) g h = refl
-  use_idle b (Expression.Grouped at e) g h = use_idle b e g h
-  use_idle b (Expression.Suffixed e es) g h =
-      if_idle (are_suffixed es && takes_suffixes (k b) es) g (expression_place e) (Expression.Suffixed (taken (k b) e) (suffixes_taken (k b) es))
-      (subst (λ u. use_suffixes g (judge g (taken (k b) e)) u (suffixes_taken (k b) es) ≡ idle) (sym (use_idle b e g h))
-      (suffixes_idle b es g (judge g (taken (k b) e)) h (judge_copied b e g h)))
-  use_idle b (Expression.Prefixed at prefix.Negate e) g h = ap (λ u. value_use u.look) (use_idle b e g h)
-  use_idle b (Expression.Prefixed at prefix.Not e) g h = ap (λ u. value_use u.look) (use_idle b e g h)
-  use_idle b (Expression.Prefixed at prefix.Complement e) g h = ap (λ u. value_use u.look) (use_idle b e g h)
-  use_idle b (Expression.Prefixed at prefix.Dereference e) g h =
-      ap (λ u. contents_use g at (judge g (taken (k b) e)) u) (use_idle b e g h) ∙ contents_idle g at (judge g (taken (k b) e)) h (judge_copied b e g h)
-  use_idle b (Expression.Prefixed at prefix.AddressOf e) g h =
-      ap (λ u. address_use at (judge g (taken (k b) e)) u) (use_idle b e g h) ∙ address_idle at (judge g (taken (k b) e)) (judge_copied b e g h)
-  use_idle b (Expression.New at (One e)) g h =
-      if_idle (b && true) g at (Expression.New at (One (taken (k b) e))) (ap (λ u. value_use u.value) (use_idle b e g h))
-  use_idle b (Expression.New at (Array x n e)) g h = array_refused b g at (Expression.New at (made_taken (k b) (Array x n e)))
-  use_idle b (Expression.NewIn at handle (One e)) g h =
-      let within : Env = inside (goal_of (is_unique_region (taken (k b) handle)) g (judge g (taken (k b) handle))) g in
-      made_in_idle b (is_unique_region handle) handle g at (One e)
-      (if_idle (b && true) g at (Expression.NewIn at (taken (k b) handle) (One (taken (k b) e)))
-      (ap₂ (λ u v. value_use (λ s. then_passed (u.look s) v.value)) (use_idle b handle g h) (use_idle b e within h)))
-  use_idle b (Expression.NewIn at handle (Array x n e)) g h =
-      made_in_idle b (is_unique_region handle) handle g at (Array x n e)
-      (array_refused b g at (Expression.NewIn at (taken (k b) handle) (made_taken (k b) (Array x n e))))
-  use_idle b (Expression.Chain e NoLinks) g h = refl
-  use_idle b (Expression.Chain e (MoreLinks o y es)) g h =
-      subst (λ u. use_links g u (links_taken (k b) (MoreLinks o y es)) ≡ idle) (sym (use_idle b e g h)) (links_idle b (MoreLinks o y es) g h)
-  use_idle b (Expression.AllOf e NoExpressions) g h = refl
-  use_idle b (Expression.AllOf e (MoreExpressions y es)) g h =
-      subst (λ u. use_tests g u (all_taken (k b) (MoreExpressions y es)) ≡ idle) (sym (use_idle b e g h)) (tests_idle b (MoreExpressions y es) g h)
-  use_idle b (Expression.AnyOf e NoExpressions) g h = refl
-  use_idle b (Expression.AnyOf e (MoreExpressions y es)) g h =
-      subst (λ u. use_tests g u (all_taken (k b) (MoreExpressions y es)) ≡ idle) (sym (use_idle b e g h)) (tests_idle b (MoreExpressions y es) g h)
-  use_idle b (Expression.Assign x y) g h = ap₂ (λ u v. assigned_use u v) (use_idle b x g h) (use_idle b y g h)
+  pub use_idle : (k : Taken) (e : Expression) (g : Env) → HasCopiedAlone g → use_of g (taken (copied_forms k) e) ≡ idle
+  use_idle k (Expression.Number at n suffix) g h = refl
+  use_idle k (Expression.Character at byte) g h = refl
+  use_idle k (Expression.Text at bytes) g h = if_idle k.strings g at (Expression.Text at bytes) refl
+  use_idle k (Expression.Null at) g h = if_idle k.pointers g at (Expression.Null at) refl
+  use_idle k (Expression.HeapRegion at) g h = if_idle k.regions g at (Expression.HeapRegion at) refl
+  use_idle k (Expression.UniqueRegion at) g h = refl
+  use_idle k (Expression.Variable x) g h = name_idle g x h
+  use_idle k (Expression.Call x es) g h = ap (λ act. value_use act) (λ i s. arguments_idle k es g h s i)
+  use_idle k (Expression.MakeUnion tag f e) g h = refl
+  use_idle k (Expression.NumElts at e) g h =
+      if_idle k.arrays g at (Expression.NumElts at (taken (copied_forms k) e)) (ap (λ u. value_use u.look) (use_idle k e g h))
+  use_idle k (Expression.Grouped at e) g h = use_idle k e g h
+  use_idle k (Expression.Suffixed e es) g h =
+      if_idle (are_suffixed es && takes_suffixes (copied_forms k) es) g (expression_place e)
+      (Expression.Suffixed (taken (copied_forms k) e) (suffixes_taken (copied_forms k) es))
+      (subst (λ u. use_suffixes g (judge g (taken (copied_forms k) e)) u (suffixes_taken (copied_forms k) es) ≡ idle) (sym (use_idle k e g h))
+      (suffixes_idle k es g (judge g (taken (copied_forms k) e)) h (judge_copied k e g h)))
+  use_idle k (Expression.Prefixed at prefix.Negate e) g h = ap (λ u. value_use u.look) (use_idle k e g h)
+  use_idle k (Expression.Prefixed at prefix.Not e) g h = ap (λ u. value_use u.look) (use_idle k e g h)
+  use_idle k (Expression.Prefixed at prefix.Complement e) g h = ap (λ u. value_use u.look) (use_idle k e g h)
+  use_idle k (Expression.Prefixed at prefix.Dereference e) g h =
+      if_idle k.pointers g at (Expression.Prefixed at prefix.Dereference (taken (copied_forms k) e))
+      (ap (λ u. contents_use g at (judge g (taken (copied_forms k) e)) u) (use_idle k e g h)
+      ∙ contents_idle g at (judge g (taken (copied_forms k) e)) h (judge_copied k e g h))
+  use_idle k (Expression.Prefixed at prefix.AddressOf e) g h =
+      if_idle k.pointers g at (Expression.Prefixed at prefix.AddressOf (taken (copied_forms k) e))
+      (ap (λ u. address_use at (judge g (taken (copied_forms k) e)) u) (use_idle k e g h)
+      ∙ address_idle at (judge g (taken (copied_forms k) e)) (judge_copied k e g h))
+  use_idle k (Expression.New at (One e)) g h =
+      if_idle (k.regions && true) g at (Expression.New at (One (taken (copied_forms k) e))) (ap (λ u. value_use u.value) (use_idle k e g h))
+  use_idle k (Expression.New at (Array x n e)) g h =
+      if_idle (k.regions && k.filled) g at (Expression.New at (Array x (taken (copied_forms k) n) (taken (copied_forms k) e)))
+      (elements_idle idle (use_of g (taken (copied_forms k) n)) (use_of (with_counter x g) (taken (copied_forms k) e)) refl (use_idle k n g h)
+      (use_idle k e (with_counter x g) (counter_kept x g h)))
+  use_idle k (Expression.NewIn at handle (One e)) g h =
+      let f : Env = inside (goal_of (is_unique_region (taken (copied_forms k) handle)) g (judge g (taken (copied_forms k) handle))) g in
+      made_in_idle k (is_unique_region handle) true g at (Expression.NewIn at (taken (copied_forms k) handle) (One (taken (copied_forms k) e)))
+      (ap₂ (λ u v. value_use (λ s. then_passed (u.look s) v.value)) (use_idle k handle g h) (use_idle k e f h))
+  use_idle k (Expression.NewIn at handle (Array x n e)) g h =
+      let f : Env = inside (goal_of (is_unique_region (taken (copied_forms k) handle)) g (judge g (taken (copied_forms k) handle))) g in
+      made_in_idle k (is_unique_region handle) k.filled g at
+      (Expression.NewIn at (taken (copied_forms k) handle) (Array x (taken (copied_forms k) n) (taken (copied_forms k) e)))
+      (elements_idle (use_of g (taken (copied_forms k) handle)) (use_of f (taken (copied_forms k) n))
+      (use_of (with_counter x f) (taken (copied_forms k) e)) (use_idle k handle g h) (use_idle k n f h)
+      (use_idle k e (with_counter x f) (counter_kept x f h)))
+  use_idle k (Expression.Chain e NoLinks) g h = refl
+  use_idle k (Expression.Chain e (MoreLinks o y es)) g h =
+      subst (λ u. use_links g u (links_taken (copied_forms k) (MoreLinks o y es)) ≡ idle) (sym (use_idle k e g h)) (links_idle k (MoreLinks o y es) g h)
+  use_idle k (Expression.AllOf e NoExpressions) g h = refl
+  use_idle k (Expression.AllOf e (MoreExpressions y es)) g h =
+      subst (λ u. use_tests g u (all_taken (copied_forms k) (MoreExpressions y es)) ≡ idle) (sym (use_idle k e g h)) (tests_idle k (MoreExpressions y es) g h)
+  use_idle k (Expression.AnyOf e NoExpressions) g h = refl
+  use_idle k (Expression.AnyOf e (MoreExpressions y es)) g h =
+      subst (λ u. use_tests g u (all_taken (copied_forms k) (MoreExpressions y es)) ≡ idle) (sym (use_idle k e g h)) (tests_idle k (MoreExpressions y es) g h)
+  use_idle k (Expression.Assign x y) g h = ap₂ (λ u v. assigned_use u v) (use_idle k x g h) (use_idle k y g h)
 
-  arguments_idle : (b : Bool) (es : Expressions) (g : Env) → HasCopiedAlone g → (s : States) → use_all g (all_taken (k b) es) s ≡ passed [] s
-  arguments_idle b NoExpressions g h s = refl
-  arguments_idle b (MoreExpressions e es) g h s =
-      subst (λ u. then_passed (u.value s) (λ t. use_all g (all_taken (k b) es) t) ≡ passed [] s) (sym (use_idle b e g h)) (arguments_idle b es g h s)
+  arguments_idle : (k : Taken) (es : Expressions) (g : Env) → HasCopiedAlone g → (s : States) → use_all g (all_taken (copied_forms k) es) s ≡ passed [] s
+  arguments_idle k NoExpressions g h s = refl
+  arguments_idle k (MoreExpressions e es) g h s =
+      subst (λ u. then_passed (u.value s) (λ t. use_all g (all_taken (copied_forms k) es) t) ≡ passed [] s) (sym (use_idle k e g h)) (arguments_idle k es g h s)
 
-  suffixes_idle : (b : Bool) (es : Suffixes) (g : Env) (v : Verdict Value) → HasCopiedAlone g → GivesCopied v
-      → use_suffixes g v idle (suffixes_taken (k b) es) ≡ idle
-  suffixes_idle b NoSuffixes g v h c = refl
-  suffixes_idle b (Index index es) g v h c =
-      let w : Verdict Value = both v (judge g (taken (k b) index)) (indexed g) in
-      let d : GivesCopied w = gives_both v (judge g (taken (k b) index)) (indexed g) c (indexed_copied g) in
-      subst (λ u. use_suffixes g w u (suffixes_taken (k b) es) ≡ idle)
-      (sym (ap₂ (λ a u. indexed_use (place_at 0 v) a idle u) (value_stays g w h d) (use_idle b index g h))) (suffixes_idle b es g w h d)
-  suffixes_idle b (Dot f es) g v h c =
+  suffixes_idle : (k : Taken) (es : Suffixes) (g : Env) (v : Verdict Value) → HasCopiedAlone g → GivesCopied v
+      → use_suffixes g v idle (suffixes_taken (copied_forms k) es) ≡ idle
+  suffixes_idle k NoSuffixes g v h c = refl
+  suffixes_idle k (Index index es) g v h c =
+      let w : Verdict Value = both v (judge g (taken (copied_forms k) index)) (indexed g) in
+      let d : GivesCopied w = gives_both v (judge g (taken (copied_forms k) index)) (indexed g) c (indexed_copied g) in
+      subst (λ u. use_suffixes g w u (suffixes_taken (copied_forms k) es) ≡ idle)
+      (sym (ap₂ (λ a u. indexed_use (place_at 0 v) a idle u) (value_stays g w h d) (use_idle k index g h))) (suffixes_idle k es g w h d)
+  suffixes_idle k (Dot f es) g v h c =
       let w : Verdict Value = after v (member g f) in
       let d : GivesCopied w = member_gives g f v h c in
-      subst (λ u. use_suffixes g w u (suffixes_taken (k b) es) ≡ idle) (sym (ap (λ a. member_use (place_at 0 v) a idle) (value_stays g w h d)))
-      (suffixes_idle b es g w h d)
-  suffixes_idle b (Arrow f es) g v h c =
+      subst (λ u. use_suffixes g w u (suffixes_taken (copied_forms k) es) ≡ idle) (sym (ap (λ a. member_use (place_at 0 v) a idle) (value_stays g w h d)))
+      (suffixes_idle k es g w h d)
+  suffixes_idle k (Arrow f es) g v h c =
       let w : Verdict Value = after v (arrow g f) in
       let d : GivesCopied w = arrow_gives g f v h c in
-      subst (λ u. use_suffixes g w u (suffixes_taken (k b) es) ≡ idle) (sym (pointed_idle (place_at 0 v) (is_moved g w) v (value_stays g w h d) c))
-      (suffixes_idle b es g w h d)
+      subst (λ u. use_suffixes g w u (suffixes_taken (copied_forms k) es) ≡ idle) (sym (pointed_idle (place_at 0 v) (is_moved g w) v (value_stays g w h d) c))
+      (suffixes_idle k es g w h d)
 
-  tests_idle : (b : Bool) (es : Expressions) (g : Env) → HasCopiedAlone g → use_tests g idle (all_taken (k b) es) ≡ idle
-  tests_idle b NoExpressions g h = refl
-  tests_idle b (MoreExpressions e es) g h =
-      subst (λ u. use_tests g (tested_use idle u) (all_taken (k b) es) ≡ idle) (sym (use_idle b e g h))
-      (subst (λ u. use_tests g u (all_taken (k b) es) ≡ idle) (sym tested_idle) (tests_idle b es g h))
+  tests_idle : (k : Taken) (es : Expressions) (g : Env) → HasCopiedAlone g → use_tests g idle (all_taken (copied_forms k) es) ≡ idle
+  tests_idle k NoExpressions g h = refl
+  tests_idle k (MoreExpressions e es) g h =
+      subst (λ u. use_tests g (tested_use idle u) (all_taken (copied_forms k) es) ≡ idle) (sym (use_idle k e g h))
+      (subst (λ u. use_tests g u (all_taken (copied_forms k) es) ≡ idle) (sym tested_idle) (tests_idle k es g h))
 
-  links_idle : (b : Bool) (es : Links) (g : Env) → HasCopiedAlone g → use_links g idle (links_taken (k b) es) ≡ idle
-  links_idle b NoLinks g h = refl
-  links_idle b (MoreLinks o e es) g h =
-      subst (λ u. use_links g (applied_use idle u) (links_taken (k b) es) ≡ idle) (sym (use_idle b e g h)) (links_idle b es g h)
+  links_idle : (k : Taken) (es : Links) (g : Env) → HasCopiedAlone g → use_links g idle (links_taken (copied_forms k) es) ≡ idle
+  links_idle k NoLinks g h = refl
+  links_idle k (MoreLinks o e es) g h =
+      subst (λ u. use_links g (applied_use idle u) (links_taken (copied_forms k) es) ≡ idle) (sym (use_idle k e g h)) (links_idle k es g h)

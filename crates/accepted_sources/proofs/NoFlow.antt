@@ -6,10 +6,10 @@ use Rattle.source_typing.specs.Faults.{Fault, earliest}
 use Rattle.source_typing.specs.Programs.{typing_faults}
 use Rattle.source_typing.specs.Taken.{constant_forms, only_taken}
 use Rattle.accepted_sources.specs.Supported.{supported}
-use Rattle.accepted_sources.proofs.StillPrograms.{regions_have_no_flow_faults}
+use Rattle.accepted_sources.proofs.StillPrograms.{copied_forms_have_no_flow_faults}
 
 pub first_is_of_effects : (p : Program) → effect_fault supported p ≡ first_fault supported p
 first_is_of_effects p =
     let typing = typing_faults false (only_taken supported p) in
     ap (λ (fs : List Fault). earliest (constant_forms supported p ++ fs))
-    (sym (ap (λ (fs : List Fault). typing ++ fs) (regions_have_no_flow_faults p) ∙ append-nil typing))
+    (sym (ap (λ (fs : List Fault). typing ++ fs) (copied_forms_have_no_flow_faults supported p) ∙ append-nil typing))

@@ -1,5 +1,5 @@
 -- Uses and statements that leave the states of all locals as they are, and have no fault of flow.
-use Rattle.std.proofs.Common.{◌≡◌, ℕ, zero, suc, Option, Some, None, [], ◌∷◌, refl, sym, subst, ap, ap₂, ◌∙◌}
+use Rattle.std.proofs.Common.{◌≡◌, Option, Some, None, [], refl, sym, subst, ap, ap₂, ◌∙◌}
 use Rattle.std.proofs.Math.Seq.{drop-append_seam}
 use Rattle.std.specs.Prelude.{length, option_map, ◌++◌}
 use Rattle.source_typing.specs.Left.{
@@ -19,7 +19,7 @@ use Rattle.source_typing.specs.Left.{
   loop_from,
   turn_of,
 }
-use Rattle.source_typing.specs.Moves.{Use, nothing, tested_use, value_use}
+use Rattle.source_typing.specs.Moves.{Use, elements_passed, nothing, tested_use, value_use}
 use Rattle.source_typing.specs.Scope.{Env}
 use Rattle.source_typing.specs.States.{Passed, States, loop_head, meet_all, meet_ways, or_entry, passed}
 use Rattle.source_typing.proofs.Inversion.{both_none}
@@ -115,6 +115,10 @@ loop_still condition body e h s = subst (λ c. IsStill s (loop c body s)) (sym e
           continues = tt;
           faults = k.faults;
         })
+
+-- the elements of an array, each of which does nothing
+pub turned_nothing : (s : States) → elements_passed nothing s ≡ passed [] s
+turned_nothing s = ap (λ t. passed [] t) (head_itself s (λ t. Some t) refl)
 
 -- ---- locals that come into scope
 

@@ -1,10 +1,9 @@
 // What holds of the flow of all programs of forms whose values are all copied.
 
-ghost use Rattle.accepted_sources.specs.Laws.{RegionsHaveNoFlowFaults};
+ghost use Rattle.accepted_sources.specs.Laws.{CopiedFormsHaveNoFlowFaults};
 
 /// A law, with nothing to run: no program, also none with other faults, has a fault of flow where each
-/// form but those on integers, thin pointers, structs, the heap and lexical regions stands as one that
-/// is at fault.
-pub fn regions_have_no_flow_faults()
-    ensures { RegionsHaveNoFlowFaults }
+/// form of tagged unions, unique pointers and keys, and of any others, stands as one that is at fault.
+pub fn copied_forms_have_no_flow_faults()
+    ensures { CopiedFormsHaveNoFlowFaults }
 {}

@@ -81,7 +81,7 @@ module _ (takes : code_taken.Taken) (g : Env) where
       ≡ shortened (both (judge f (taken k n)) (judge (with_counter x f) (taken k e)) (elements at))
   elements_are f at x n e = sym (shortened_both (judge f (taken k n)) (judge (with_counter x f) (taken k e)) (elements at))
 
-  array_is : (f : Env) (at : ℕ) (goal : Verdict Goal) (x : Name) (n e : Expression) → takes.arrays ≡ true
+  array_is : (f : Env) (at : ℕ) (goal : Verdict Goal) (x : Name) (n e : Expression) → takes.filled ≡ true
       → short_made f at (shortened goal) k (Array x n e)
       ≡ shortened (with_goal at goal (both (judge f (taken k n)) (judge (with_counter x f) (taken k e)) (elements at)) (array_made at))
   array_is f at goal x n e h =
@@ -91,14 +91,14 @@ module _ (takes : code_taken.Taken) (g : Env) where
       ∙ ap (λ s. with_short_goal at (shortened goal) s (λ a b. shortened (array_made at a b))) (elements_are f at x n e)
       ∙ shortened_with at (array_made at) goal (both (judge f (taken k n)) (judge (with_counter x f) (taken k e)) (elements at))
 
-  no_array : (f : Env) (at : ℕ) (s : Short Goal) (x : Name) (n e : Expression) → takes.arrays ≡ false
+  no_array : (f : Env) (at : ℕ) (s : Short Goal) (x : Name) (n e : Expression) → takes.filled ≡ false
       → short_made f at s k (Array x n e) ≡ Wrong (fault type_rule at)
   no_array f at s x n e h =
       ap (λ b. if b then
       with_short_goal at s (short_both (shortened (judge f (taken k n))) (shortened (judge (with_counter x f) (taken k e)))
       (λ a b. shortened (elements at a b))) (λ a b. shortened (array_made at a b)) else Wrong (fault type_rule at)) h
 
-  pub made_array : (at : ℕ) (s : Short Goal) (x : Name) (n e : Expression) (u v w : Short Value) → takes.arrays ≡ true
+  pub made_array : (at : ℕ) (s : Short Goal) (x : Name) (n e : Expression) (u v w : Short Value) → takes.filled ≡ true
       → u ≡ shortened (judge g (taken k n)) → v ≡ shortened (judge (with_counter x g) (taken k e))
       → w ≡ short_both u v (λ a b. shortened (elements at a b))
       → with_short_goal at s w (λ a b. shortened (array_made at a b)) ≡ short_made g at s k (Array x n e)
@@ -118,9 +118,9 @@ module _ (takes : code_taken.Taken) (g : Env) where
   pub new_is : (at : ℕ) (new : Made) → takes.regions ≡ true → short_made g at (Is (To TheHeap)) k new ≡ shortened (judge g (taken k (Expression.New at new)))
   new_is at (One e) is =
       shortened_with at (made at) (Of (To TheHeap)) (judge g (taken k e)) ∙ ap (λ b. new_taken (b && true) at (One e)) (sym is)
-  new_is at (Array x n e) is = by takes.arrays refl ∙ ap (λ b. new_taken (b && takes.arrays) at (Array x n e)) (sym is)
+  new_is at (Array x n e) is = by takes.filled refl ∙ ap (λ b. new_taken (b && takes.filled) at (Array x n e)) (sym is)
     where
-      by : (b : Bool) → takes.arrays ≡ b → short_made g at (Is (To TheHeap)) k (Array x n e) ≡ new_taken takes.arrays at (Array x n e)
+      by : (b : Bool) → takes.filled ≡ b → short_made g at (Is (To TheHeap)) k (Array x n e) ≡ new_taken takes.filled at (Array x n e)
       by true h = array_is g at (Of (To TheHeap)) x n e h ∙ ap (λ b. new_taken b at (Array x n e)) (sym h)
       by false h = no_array g at (Is (To TheHeap)) x n e h ∙ ap (λ b. new_taken b at (Array x n e)) (sym h)
 
@@ -151,9 +151,9 @@ module _ (takes : code_taken.Taken) (g : Env) where
       ∙ ap (λ b. new_in_taken (b && true) at h (One e)) (sym is)
   new_in_is at h (Array x n e) s is p =
       ap (λ u. short_made (inside (handle_goal h) g) at u k (Array x n e)) p
-      ∙ by takes.arrays refl ∙ ap (λ b. new_in_taken (b && takes.arrays) at h (Array x n e)) (sym is)
+      ∙ by takes.filled refl ∙ ap (λ b. new_in_taken (b && takes.filled) at h (Array x n e)) (sym is)
     where
-      by : (b : Bool) → takes.arrays ≡ b
-          → short_made (inside (handle_goal h) g) at (shortened (handle_goal h)) k (Array x n e) ≡ new_in_taken takes.arrays at h (Array x n e)
+      by : (b : Bool) → takes.filled ≡ b
+          → short_made (inside (handle_goal h) g) at (shortened (handle_goal h)) k (Array x n e) ≡ new_in_taken takes.filled at h (Array x n e)
       by true h2 = array_is (inside (handle_goal h) g) at (handle_goal h) x n e h2 ∙ ap (λ b. new_in_taken b at h (Array x n e)) (sym h2)
       by false h2 = no_array (inside (handle_goal h) g) at (shortened (handle_goal h)) x n e h2 ∙ ap (λ b. new_in_taken b at h (Array x n e)) (sym h2)

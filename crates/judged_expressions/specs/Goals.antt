@@ -37,6 +37,6 @@ short_goal false g s = short_after s (λ h. shortened (handled g h))
 -- what is answered of what is made, by what is answered of where
 abbrev pub short_made : Env → ℕ → Short Goal → Taken → Made → Short Value
 short_made g at s k (One e) = with_short_goal at s (shortened (judge g (taken k e))) (λ a b. shortened (made at a b))
-short_made g at s k (Array x n e) = (if k.arrays then
+short_made g at s k (Array x n e) = (if k.filled then
     with_short_goal at s (short_both (shortened (judge g (taken k n))) (shortened (judge (with_counter x g) (taken k e))) (λ a b. shortened (elements at a b)))
     (λ a b. shortened (array_made at a b)) else Wrong (fault type_rule at))

@@ -269,7 +269,7 @@ fn judge_made<'p>(
             made_parts(at, goal, value)
         }
         Made::Array(index, count, element) => {
-            if !scope.taken.arrays {
+            if !scope.taken.filled {
                 return Ok(refused(at));
             }
             let count = judge_inside(scope, alloc, around, count)?;

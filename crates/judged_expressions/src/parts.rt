@@ -173,7 +173,7 @@ pub(crate) fn given_after<'p>(
     }
 }
 
-/// A string of these bytes, where arrays are taken.
+/// A string of these bytes, where strings are taken.
 pub(crate) fn string_taken<'p>(
     taken: Taken,
     alloc: Global,
@@ -182,7 +182,7 @@ pub(crate) fn string_taken<'p>(
 ) -> Result<Verdict<Value<'p>>, AllocError>
     ensures { (g : Env) → IfOk result (λ v. short_of value_of v ≡ shortened (judge g (rules.taken (taken_of taken) (Expression.Text at bytes.now)))) }
 {
-    if taken.arrays {
+    if taken.strings {
         string(alloc, at, bytes)
     } else {
         Ok(refused(at))

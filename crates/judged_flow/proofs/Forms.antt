@@ -49,7 +49,7 @@ module _ (k : Taken) (g : Env) where
   idle_if false at x h = refl
 
   pub text_idle : (at : ℕ) (bytes : List ℕ) → uses_of g (taken k (Expression.Text at bytes)) ≡ uses_as_value unchanged
-  text_idle at bytes = idle_if k.arrays at (Expression.Text at bytes) refl
+  text_idle at bytes = idle_if k.strings at (Expression.Text at bytes) refl
 
   pub null_idle : (at : ℕ) → uses_of g (taken k (Expression.Null at)) ≡ uses_as_value unchanged
   null_idle at = idle_if k.pointers at (Expression.Null at) refl
@@ -117,11 +117,11 @@ module _ (k : Taken) (g : Env) where
       → uses_of g (taken k (Expression.NewIn at e m)) ≡ uses_as_value unchanged
   new_in_idle at e m h = ap (λ b. uses_of g (if_taken (b && takes_made k m) at (Expression.NewIn at (taken k e) (made_taken k m)))) h
 
-  pub array_made : (x : Name) (n e : Expression) (handle : Passage) → k.arrays ≡ true → made_if g (Array x n e) handle
+  pub array_made : (x : Name) (n e : Expression) (handle : Passage) → k.filled ≡ true → made_if g (Array x n e) handle
       ≡ uses_as_value (in_turn (in_turn handle (uses_of g (taken k n)).look) (repeated (length g.locals) (uses_of (with_counter x g) (taken k e)).value))
   array_made x n e handle h = ap (λ b. if b then uses_made g (made_taken k (Array x n e)) handle else uses_as_value unchanged) h
 
-  pub array_idle : (x : Name) (n e : Expression) (handle : Passage) → k.arrays ≡ false → made_if g (Array x n e) handle ≡ uses_as_value unchanged
+  pub array_idle : (x : Name) (n e : Expression) (handle : Passage) → k.filled ≡ false → made_if g (Array x n e) handle ≡ uses_as_value unchanged
   array_idle x n e handle h = ap (λ b. if b then uses_made g (made_taken k (Array x n e)) handle else uses_as_value unchanged) h
 
   -- ---- operands

@@ -356,7 +356,7 @@ fn made(
             Ok(Used::value(handle.in_turn(value.passed)))
         }
         Made::Array(index, count, element) => {
-            if !scope.taken.arrays {
+            if !scope.taken.filled {
                 return Ok(idle());
             }
             let count = uses(scope, alloc, around, Usage::Look, count)?;

@@ -48,7 +48,7 @@ module _ (k : Taken) where
   pub taken_place : (e : Expression) → expression_place (taken k e) ≡ expression_place e
   taken_place (Expression.Number at n suffix) = refl
   taken_place (Expression.Character at byte) = refl
-  taken_place (Expression.Text at bytes) = if_place k.arrays at (Expression.Text at bytes) refl
+  taken_place (Expression.Text at bytes) = if_place k.strings at (Expression.Text at bytes) refl
   taken_place (Expression.Null at) = if_place k.pointers at (Expression.Null at) refl
   taken_place (Expression.HeapRegion at) = if_place k.regions at (Expression.HeapRegion at) refl
   taken_place (Expression.UniqueRegion at) = refl

@@ -17,7 +17,7 @@ use Rattle.cyc_tree.specs.Tree as tree
 -- ---- a string
 
 module _ (k : Taken) (t : TypeName) (at : ℕ) (bytes : List ℕ) where
-  pub text_counts : (old new : Total) (n : ℕ) → k.arrays ≡ true → n ≡ rounded_up (length bytes + 1) 8
+  pub text_counts : (old new : Total) (n : ℕ) → k.strings ≡ true → n ≡ rounded_up (length bytes + 1) 8
       → ((more : List Static) → counted new more ≡ counted old ((at, n) ∷ more))
       → Counts old new (constant_strings (constant_taken k t (Constant.Text at bytes)))
   text_counts old new n takes is counts =
@@ -28,7 +28,7 @@ module _ (k : Taken) (t : TypeName) (at : ℕ) (bytes : List ℕ) where
   refused_silent [] = refl
   refused_silent (p ∷ ps) = refl
 
-  pub no_text_counts : (old : Total) → k.arrays ≡ false → Counts old old (constant_strings (constant_taken k t (Constant.Text at bytes)))
+  pub no_text_counts : (old : Total) → k.strings ≡ false → Counts old old (constant_strings (constant_taken k t (Constant.Text at bytes)))
   no_text_counts old takes =
       subst (λ (b : Bool). Counts old old (constant_strings (if b then Constant.Text at bytes else refused_constant t.pointers at))) (sym takes)
       (subst (λ ls. Counts old old ls) (sym (refused_silent t.pointers)) (λ more. refl))

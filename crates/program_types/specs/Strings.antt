@@ -10,7 +10,7 @@ use Rattle.source_typing.specs.Taken.{takes_made, takes_prefix, takes_suffixes}
 
 -- whether an expression's form is taken, whatever its parts are
 abbrev pub takes_form : Taken → Expression → Bool
-takes_form k (Expression.Text at bytes) = k.arrays
+takes_form k (Expression.Text at bytes) = k.strings
 takes_form k (Expression.MakeUnion tag f e) = k.unions
 takes_form k (Expression.NumElts at e) = k.arrays
 takes_form k (Expression.Suffixed e es) = are_suffixed es && takes_suffixes k es

@@ -75,7 +75,7 @@ fn text_value<'p>(
     ensures { IfOk result (λ v. short_of value_of v
         ≡ shortened (constant (constant_taken (taken_of taken) (type_tree of.now) (tree.Constant.Text at text.now)))) }
 {
-    if taken.arrays {
+    if taken.strings {
         string(alloc, at, text)
     } else {
         Ok(plain_value(alloc, at, unfit_base(of)))

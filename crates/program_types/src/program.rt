@@ -48,9 +48,9 @@ fn named(at: u32) -> Fault
 
 /// The fault of a string, unless strings are taken.
 fn text_form(taken: Taken, at: u32) -> Option<Fault>
-    ensures { faults_of result ≡ earliest (test taken.arrays type_rule at) }
+    ensures { faults_of result ≡ earliest (test taken.strings type_rule at) }
 {
-    if taken.arrays {
+    if taken.strings {
         None
     } else {
         Some(mistyped(at))

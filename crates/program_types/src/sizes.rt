@@ -43,7 +43,7 @@ fn with_constant(total: Total, taken: Taken, constant: &Constant) -> Total
 fn with_text(total: Total, taken: Taken, at: u32, text: &[u8]) -> Total
     ensures { (of : tree.TypeName) → Counts total result (constant_strings (constant_taken (taken_of taken) of (tree.Constant.Text at text.now))) }
 {
-    if taken.arrays {
+    if taken.strings {
         total.with(at, string_bytes(text))
     } else {
         total

@@ -14,13 +14,13 @@ use cyc_tree::{Expression, Link, Made, Suffix};
 use judged_expressions::{are_linked, are_some, takes_handle, takes_suffixes};
 use type_verdicts::Taken;
 
-/// Whether what is made is taken: an array, where arrays are.
+/// Whether what is made is taken: an array, where those that are made are.
 fn takes_made(taken: Taken, made: &Made) -> bool
     ensures { result ≡ takes_made (taken_of taken) (made_tree made.now) }
 {
     match made {
         Made::One(_) => true,
-        Made::Array(_, _, _) => taken.arrays,
+        Made::Array(_, _, _) => taken.filled,
     }
 }
 
@@ -29,7 +29,8 @@ fn takes_form(taken: Taken, expression: &Expression) -> bool
     ensures { result ≡ takes_form (taken_of taken) (expression_tree expression.now) }
 {
     match expression {
-        Expression::Text(_, _) | Expression::NumElts(_, _) => taken.arrays,
+        Expression::Text(_, _) => taken.strings,
+        Expression::NumElts(_, _) => taken.arrays,
         Expression::MakeUnion(_, _, _) => taken.unions,
         Expression::Suffixed(_, suffixes) => takes_suffixes(taken, suffixes),
         Expression::New(_, made) => taken.regions && takes_made(taken, made),

@@ -28,6 +28,7 @@ mod LentSamples
 mod SizeSamples
 mod TagSamples
 mod TakenSamples
+mod ArraySamples
 mod TotalSamples
 mod FormSamples1
 mod FormSamples2

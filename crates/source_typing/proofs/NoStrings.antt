@@ -1,4 +1,4 @@
--- There are no strings where no arrays are taken.
+-- There are no strings where none are taken.
 use Rattle.std.proofs.Common.{◌≡◌, ℕ, List, [], ◌∷◌, ◌++◌, Bool, true, false, refl, subst, ap, ◌∙◌}
 use Rattle.std.specs.Prelude.{Option, Some, None, ◌&&◌, if◌then◌else◌}
 use Rattle.cyc_tree.specs.Places.{expression_place}
@@ -54,21 +54,21 @@ global_silent : (b : Bool) (x : tree.Global) (i : Initial) → initial_strings i
 global_silent true x i h = h
 global_silent false x i h = refl
 
-module _ (k : Taken) (none : k.arrays ≡ false) where
+module _ (k : Taken) (none : k.strings ≡ false) where
   -- ---- expressions
 
   mutual
     expression_silent : (e : Expression) → expression_strings (taken k e) ≡ []
     expression_silent (Expression.Number at n suffix) = refl
     expression_silent (Expression.Character at byte) = refl
-    expression_silent (Expression.Text at bytes) = not_taken k.arrays at (Expression.Text at bytes) none
+    expression_silent (Expression.Text at bytes) = not_taken k.strings at (Expression.Text at bytes) none
     expression_silent (Expression.Null at) = if_silent k.pointers at (Expression.Null at) refl
     expression_silent (Expression.HeapRegion at) = if_silent k.regions at (Expression.HeapRegion at) refl
     expression_silent (Expression.UniqueRegion at) = refl
     expression_silent (Expression.Variable x) = refl
     expression_silent (Expression.Call x es) = all_silent es
     expression_silent (Expression.MakeUnion tag f e) = if_silent k.unions tag.at (Expression.MakeUnion tag f (taken k e)) (expression_silent e)
-    expression_silent (Expression.NumElts at e) = not_taken k.arrays at (Expression.NumElts at (taken k e)) none
+    expression_silent (Expression.NumElts at e) = if_silent k.arrays at (Expression.NumElts at (taken k e)) (expression_silent e)
     expression_silent (Expression.Grouped at e) = expression_silent e
     expression_silent (Expression.Suffixed e es) =
         if_silent (are_suffixed es && takes_suffixes k es) (expression_place e) (Expression.Suffixed (taken k e) (suffixes_taken k es))
@@ -173,7 +173,7 @@ module _ (k : Taken) (none : k.arrays ≡ false) where
   constant_silent t (Constant.Number at n suffix) = refl
   constant_silent t (Constant.Negative at n suffix) = refl
   constant_silent t (Constant.Character at byte) = refl
-  constant_silent t (Constant.Text at bytes) = text_silent k.arrays t.pointers at bytes none
+  constant_silent t (Constant.Text at bytes) = text_silent k.strings t.pointers at bytes none
   constant_silent t (Constant.Null at) = null_silent k.pointers t.pointers at
 
   initial_silent : (t : TypeName) (i : Initial) → initial_strings (initial_taken k t i) ≡ []

@@ -114,7 +114,7 @@ live_11 = refl
 
 -- a constant that is not taken is at fault also where its type is not judged
 -- struct S *p = "a"; struct S { void x; };
-live_12 : type_fault (record whole { arrays = false })
+live_12 : type_fault (record whole { strings = false })
     ((tree.GlobalItem (global (type_at 0 (tree.Struct (name_at 7 "S") []) ((pointer sign.Nullable None) ∷ [])) (name_at 10 "p") (Initial.Given (Constant.Text
     14 (codes "a"))))) ∷ (tree.StructItem (structure 19 (name_at 26 "S") [] ((member (type_at 30 tree.Void []) (name_at 35 "x")) ∷ []))) ∷ [])
     ≡ Some (fault type_rule 14)

@@ -97,8 +97,8 @@ unique_kept k (Expression.AnyOf x es) e =
     (Expression.AnyOf x es)) (Expression.AnyOf x es) (no_unique (are_some es) (expression_place x) (Expression.AnyOf (taken k x) (all_taken k es)) refl) e
 unique_kept k (Expression.Assign x y) e = absurd cc
 unique_kept k (Expression.Text at bytes) e =
-    differs (is_unique_region (if_taken (k.arrays) at (Expression.Text at bytes))) (taken k (Expression.Text at bytes)) (Expression.Text at bytes)
-    (no_unique (k.arrays) at (Expression.Text at bytes) refl) e
+    differs (is_unique_region (if_taken (k.strings) at (Expression.Text at bytes))) (taken k (Expression.Text at bytes)) (Expression.Text at bytes)
+    (no_unique (k.strings) at (Expression.Text at bytes) refl) e
 unique_kept k (Expression.Null at) e =
     differs (is_unique_region (if_taken (k.pointers) at (Expression.Null at))) (taken k (Expression.Null at)) (Expression.Null at) (no_unique
     (k.pointers) at (Expression.Null at) refl) e
@@ -138,7 +138,7 @@ mutual
   pub expression_is_taken : (k : Taken) (e : Expression) (g : Env) → faults_of (judge g (taken k e)) ≡ [] → taken k e ≡ e
   expression_is_taken k (Expression.Number at n suffix) g p = refl
   expression_is_taken k (Expression.Character at byte) g p = refl
-  expression_is_taken k (Expression.Text at bytes) g p = kept g k.arrays at (Expression.Text at bytes) (Expression.Text at bytes) p (λ q. refl)
+  expression_is_taken k (Expression.Text at bytes) g p = kept g k.strings at (Expression.Text at bytes) (Expression.Text at bytes) p (λ q. refl)
   expression_is_taken k (Expression.Null at) g p = kept g k.pointers at (Expression.Null at) (Expression.Null at) p (λ q. refl)
   expression_is_taken k (Expression.HeapRegion at) g p = kept g k.regions at (Expression.HeapRegion at) (Expression.HeapRegion at) p (λ q. refl)
   expression_is_taken k (Expression.UniqueRegion at) g p = refl

@@ -112,7 +112,7 @@ constant_is_taken k t (Constant.Number at n suffix) p = refl
 constant_is_taken k t (Constant.Negative at n suffix) p = refl
 constant_is_taken k t (Constant.Character at byte) p = refl
 constant_is_taken k t (Constant.Text at bytes) p =
-    if_is k.arrays (Constant.Text at bytes) (refused_constant t.pointers at) (test_is k.arrays type_rule at p)
+    if_is k.strings (Constant.Text at bytes) (refused_constant t.pointers at) (test_is k.strings type_rule at p)
 constant_is_taken k t (Constant.Null at) p = if_is k.pointers (Constant.Null at) (refused_constant t.pointers at) (test_is k.pointers type_rule at p)
 
 initial_is_taken : (k : Taken) (t : TypeName) (i : Initial) → initial_form k i ≡ [] → initial_taken k t i ≡ i

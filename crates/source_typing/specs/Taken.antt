@@ -23,8 +23,12 @@ pub record Taken : Type 0 where
   pub parameters : Bool
   -- the heap and lexical regions: handles, making, effects, bounds
   pub regions : Bool
-  -- fat pointers, arrays, strings, subscripts
+  -- fat pointers, arrays of locals and globals, subscripts, `numelts`
   pub arrays : Bool
+  -- strings
+  pub strings : Bool
+  -- the arrays that `new` and `rnew` make
+  pub filled : Bool
   -- tagged unions
   pub unions : Bool
   -- unique pointers: `unique_region`, `:=:`, `ufree`, `alias`
@@ -34,7 +38,18 @@ pub record Taken : Type 0 where
 
 -- functions and globals of integers, and all statements on integers
 abbrev pub integers : Taken
-integers = record { structs = false; pointers = false; parameters = false; regions = false; arrays = false; unions = false; unique = false; keys = false }
+integers = record {
+  structs = false;
+  pointers = false;
+  parameters = false;
+  regions = false;
+  arrays = false;
+  strings = false;
+  filled = false;
+  unions = false;
+  unique = false;
+  keys = false;
+}
 
 -- those, and thin pointers to integers and to such pointers
 abbrev pub thin_pointers : Taken
@@ -52,9 +67,32 @@ region_structures = record structures { parameters = true }
 abbrev pub with_regions : Taken
 with_regions = record region_structures { regions = true }
 
+-- and fat pointers, arrays of locals and globals, subscripts and `numelts`
+abbrev pub with_arrays : Taken
+with_arrays = record with_regions { arrays = true }
+
+-- and strings
+abbrev pub with_strings : Taken
+with_strings = record with_arrays { strings = true }
+
+-- and the arrays that `new` and `rnew` make
+abbrev pub with_filled : Taken
+with_filled = record with_strings { filled = true }
+
 -- the whole language
 abbrev pub whole : Taken
-whole = record { structs = true; pointers = true; parameters = true; regions = true; arrays = true; unions = true; unique = true; keys = true }
+whole = record {
+  structs = true;
+  pointers = true;
+  parameters = true;
+  regions = true;
+  arrays = true;
+  strings = true;
+  filled = true;
+  unions = true;
+  unique = true;
+  keys = true;
+}
 
 -- ---- what is always at fault at a place
 
@@ -155,7 +193,7 @@ takes_prefix k AddressOf = k.pointers
 
 abbrev pub takes_made : Taken → Made → Bool
 takes_made k (One e) = true
-takes_made k (Array index count e) = k.arrays
+takes_made k (Array index count e) = k.filled
 
 abbrev pub takes_handle : Taken → Bool → Bool
 takes_handle k true = k.unique
@@ -169,7 +207,7 @@ abbrev mutual
   pub taken : Taken → Expression → Expression
   taken k (Expression.Number at n suffix) = Expression.Number at n suffix
   taken k (Expression.Character at byte) = Expression.Character at byte
-  taken k (Expression.Text at bytes) = if_taken k.arrays at (Expression.Text at bytes)
+  taken k (Expression.Text at bytes) = if_taken k.strings at (Expression.Text at bytes)
   taken k (Expression.Null at) = if_taken k.pointers at (Expression.Null at)
   taken k (Expression.HeapRegion at) = if_taken k.regions at (Expression.HeapRegion at)
   taken k (Expression.UniqueRegion at) = Expression.UniqueRegion at
@@ -289,7 +327,7 @@ abbrev pub constant_taken : Taken → TypeName → Constant → Constant
 constant_taken k t (Constant.Number at n suffix) = Constant.Number at n suffix
 constant_taken k t (Constant.Negative at n suffix) = Constant.Negative at n suffix
 constant_taken k t (Constant.Character at byte) = Constant.Character at byte
-constant_taken k t (Constant.Text at bytes) = (if k.arrays then Constant.Text at bytes else refused_constant t.pointers at)
+constant_taken k t (Constant.Text at bytes) = (if k.strings then Constant.Text at bytes else refused_constant t.pointers at)
 constant_taken k t (Constant.Null at) = (if k.pointers then Constant.Null at else refused_constant t.pointers at)
 
 abbrev pub initial_taken : Taken → TypeName → Initial → Initial
@@ -353,7 +391,7 @@ abbrev pub constant_form : Taken → Constant → List Fault
 constant_form k (Constant.Number at n suffix) = []
 constant_form k (Constant.Negative at n suffix) = []
 constant_form k (Constant.Character at byte) = []
-constant_form k (Constant.Text at bytes) = test k.arrays type_rule at
+constant_form k (Constant.Text at bytes) = test k.strings type_rule at
 constant_form k (Constant.Null at) = test k.pointers type_rule at
 
 abbrev pub initial_form : Taken → Initial → List Fault

@@ -13,8 +13,12 @@ pub struct Taken {
     pub parameters: bool,
     /// The heap and lexical regions: handles, makings, effects and bounds.
     pub regions: bool,
-    /// Fat pointers, arrays, strings, subscripts.
+    /// Fat pointers, arrays of locals and globals, subscripts, `numelts`.
     pub arrays: bool,
+    /// Strings.
+    pub strings: bool,
+    /// The arrays that `new` and `rnew` make.
+    pub filled: bool,
     /// Tagged unions.
     pub unions: bool,
     /// Unique pointers: `unique_region`, `:=:`, `ufree`, `alias`.
@@ -33,6 +37,8 @@ impl Taken {
             parameters: false,
             regions: false,
             arrays: false,
+            strings: false,
+            filled: false,
             unions: false,
             unique: false,
             keys: false,
@@ -48,6 +54,8 @@ impl Taken {
             parameters: true,
             regions: true,
             arrays: true,
+            strings: true,
+            filled: true,
             unions: true,
             unique: true,
             keys: true,

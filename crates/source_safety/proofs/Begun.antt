@@ -1,9 +1,10 @@
--- A variable without an initializer: its cells hold values from the start.
+-- A variable without an initializer, or an array: its cells hold values from the start.
 use Rattle.std.proofs.Common.{◌≡◌, ℕ, suc, ◌+◌, ◌<◌, ◌≤◌, Bool, Option, Some, None, List, [], ◌∷◌, refl, sym, ◌∙◌, ap, subst, arith}
 use Rattle.std.specs.Prelude.{nat_eq, ◌&&◌, if◌then◌else◌, map, slice_get}
 use Rattle.std.proofs.lemmas.Bool.{eq-eqb}
 use Rattle.source_meaning.specs.Memory.{Region, Spot, Holds, Cell, Object, Live, Memory, beyond, with_cell, with_object, next_spot, is_live, state_is_live}
-use Rattle.source_meaning.specs.Memory.{object_of, first_cell}
+use Rattle.source_meaning.specs.Memory.{array_of, first_cell}
+use Rattle.source_meaning.specs.Sizes.{repeated}
 use Rattle.source_meaning.specs.Steps.{Act, ◌>>=◌}
 use Rattle.source_meaning.specs.Making.{make_object}
 use Rattle.source_typing.specs.Types.{shape_of}
@@ -14,6 +15,7 @@ use Rattle.source_safety.proofs.Invariant.{RunType, Flying, Kept, Reached, Ghost
 use Rattle.source_safety.proofs.Runs.{Runs, runs_check}
 use Rattle.source_safety.proofs.Moves.{Class, inv_cells}
 use Rattle.source_safety.proofs.Cells.{cell}
+use Rattle.source_safety.proofs.Rows.{map_repeated, array_cells}
 use Rattle.source_safety.proofs.Layouts.{AllBegin}
 use Rattle.source_safety.proofs.Objects.{inv_object, grows_object, filled, inv_filled, grows_filled, untyped}
 
@@ -113,12 +115,11 @@ cells_typed d k b w m s (t ∷ ts) i there a h =
     bare a b c = cc
 
 -- a new object whose cells hold their first values
-pub runs_begun : {B : Type 0} (d : Tables) (n k b : ℕ) (w : Ghost) (m : Memory) (r : Region) (ts : List RunType) (rest : Spot → Act B)
-    (Q : B → Memory → Type 0) → Inv d w m → m.state r ≡ Live → AllBegin ts
+pub runs_begun : {B : Type 0} (d : Tables) (n k b : ℕ) (w : Ghost) (m : Memory) (r : Region) (o : Object) (ts : List RunType) (rest : Spot → Act B)
+    (Q : B → Memory → Type 0) → Inv d w m → m.state r ≡ Live → AllBegin ts → ((j : ℕ) → o j ≡ slice_get (map first_cell (map shape_of ts)) j)
     → ((at : Spot) (w' : Ghost) (m' : Memory) → Inv d w' m' → Grows k b w m w' m' → at.region ≡ r → Laid w' at ts → Runs n (rest at) m' Q)
-    → Runs n (make_object r (object_of (map first_cell (map shape_of ts))) >>= rest) m Q
-runs_begun d n k b w m r ts rest Q i l begins go =
-    let o : Object = object_of (map first_cell (map shape_of ts)) in
+    → Runs n (make_object r o >>= rest) m Q
+runs_begun d n k b w m r o ts rest Q i l begins first go =
     let m1 : Memory = with_object m r o in
     let at : Spot = next_spot m r in
     let there : at.object < m1.objects at.region =
@@ -127,6 +128,14 @@ runs_begun d n k b w m r ts rest Q i l begins go =
     cells_typed d k b w m1 at ts (inv_object d w m r o i l) there begins
     (begun_slice w m1 at ts (λ j. untyped d w m (beyond at j) i (omega arith) (w.types (beyond at j)) refl) (λ j.
     ap (λ (c : Bool). if c && nat_eq (m.objects r) (m.objects r) then o (0 + j) else m.cells (beyond at j)) (region_itself r)
-    ∙ (ap (λ (c : Bool). if c then o (0 + j) else m.cells (beyond at j)) (eq-eqb (m.objects r) (m.objects r) refl) ∙ ap o (omega arith)))) in
+    ∙ (ap (λ (c : Bool). if c then o (0 + j) else m.cells (beyond at j)) (eq-eqb (m.objects r) (m.objects r) refl) ∙ (ap o (omega arith) ∙ first j)))) in
     let done = go at z.ghost m1 z.inv (z.grows w m (omega arith) (grows_object d k b w m r o i)) refl z.laid in
     record { by = λ next q. (runs_check n (is_live m r) (λ next2 m2. rest at next2 m1) m Q (ap state_is_live l) (record { by = λ next2 q2. done.by next2 q2 })).by next q }
+
+-- the cells of an array that begins, in a row
+pub array_begins : (n : ℕ) (ts : List RunType) (j : ℕ)
+    → array_of n (map first_cell (map shape_of ts)) j ≡ slice_get (map first_cell (map shape_of (repeated n ts))) j
+array_begins n ts j =
+    array_cells n (map first_cell (map shape_of ts)) j
+    ∙ ap (λ cs. slice_get cs j)
+    (sym (ap (map first_cell) (map_repeated shape_of n ts) ∙ map_repeated first_cell n (map shape_of ts)))

@@ -18,7 +18,7 @@ use Rattle.source_typing.specs.Types.{StaticType, Int, renamed, shape_of}
 use Rattle.source_typing.proofs.Inversion.{of_is, after_is, unless_is}
 use Rattle.source_typing.proofs.CallsFit.{Arguments, arguments_are, Entered, entered_is, sound_is, struct_is}
 use Rattle.source_safety.specs.Flat.{Tables}
-use Rattle.source_safety.proofs.Layouts.{Structs}
+use Rattle.source_safety.proofs.Layouts.{Structs, agrees}
 use Rattle.source_safety.proofs.Names.{NameOf, AllBelow}
 use Rattle.source_safety.proofs.Sound.{shape_renamed, Gives}
 use Rattle.source_safety.proofs.Calling.{AllPass, gives_byte, gives_written}
@@ -68,7 +68,7 @@ module _ (n : ℕ) (d : Tables) (g : Env) (scope : Scope) (f : NameOf → Region
         let same : r.result ≡ F.gives = (let q : Some r.result ≡ Some F.gives = sym r.has ∙ F.result in cc) in
         let vt : v.type ≡ renamed (argument z.0) F.gives = r.is ∙ ap (renamed (argument z.0)) same in
         let pass : AllPass n d g scope f b (map shape_of F.types) (map (renamed (argument z.0)) F.types) es =
-        all_pass n d g scope f b z.0 F.types vs es F.objects
+        all_pass n d g scope f b (agrees d scope.world g.tables structs) z.0 F.types vs es F.objects
         (eqb-true _ _ (subst (λ (ps : List (Option StaticType)). nat_eq (length ps) (length vs) ≡ true) F.parameters a.count))
         (subst (λ (ps : List (Option StaticType)). Rattle.source_typing.proofs.CallsFit.AllConvert (within i g) z.0 ps vs) F.parameters a.convert) h in
         let gives : Gives n d g scope f b (renamed (argument z.0) F.gives) (converted_all scope.world (part_shapes F.routine.parameters) es >>= λ vss. invoke F.routine scope.world vss) =
@@ -108,7 +108,8 @@ module _ (n : ℕ) (d : Tables) (g : Env) (scope : Scope) (f : NameOf → Region
         let y : (rs : List NameOf) × (arguments_fit (within i g) at 0 (Some Int ∷ []) vs ≡ Of rs) × (value at Int ≡ Of v) =
         after_is (arguments_fit (within i g) at 0 (Some Int ∷ []) vs) (λ rs. value at Int) v e1 in
         let a : Arguments (within i g) (Some Int ∷ []) vs _ y.0 = arguments_are (within i g) at 0 (Some Int ∷ []) vs y.0 y.1 in
-        let pass : AllPass n d g scope f b (IntShape ∷ []) (Int ∷ []) es = all_pass n d g scope f b y.0 (Int ∷ []) vs es (tt, tt) (eqb-true _ _ a.count) a.convert h in
+        let pass : AllPass n d g scope f b (IntShape ∷ []) (Int ∷ []) es = all_pass n d g scope f b (agrees d scope.world g.tables structs) y.0
+        (Int ∷ []) vs es (tt, tt) (eqb-true _ _ a.count) a.convert h in
         subst (λ (k : Bool). Denotes n d g scope f b v (if k then value_sense IntShape (read_byte es)
         else (if bytes_eq x (codes "putchar") then value_sense IntShape (write_byte scope.world es)
         else (if has_tag scope.world.structs x then struct_made scope.world x es else called scope.world (function_of scope.world.functions x) es)))) (sym z.0)

@@ -1,19 +1,24 @@
--- Values are converted: integers to each other, `NULL` to pointers, pointers to pointers into regions that theirs outlive, and structs to their own type.
-use Rattle.std.proofs.Common.{◌≡◌, ℕ, Bool, true, false, inl, inr, Some, None, List, [], ◌∷◌, refl, sym, ◌∙◌, ap, subst}
+-- Values are converted: integers to each other, `NULL` to pointers, pointers to pointers into regions that theirs outlive, thin and fat ones to each other,
+-- and structs to their own type.
+use Rattle.std.proofs.Common.{◌≡◌, ◌<◌, ℕ, Bool, true, false, inl, inr, Some, None, List, [], ◌∷◌, refl, sym, ◌∙◌, ap, subst}
+use Rattle.std.specs.Prelude.{◌*◌, length}
 use Rattle.cyc_words.specs.declared.faults.Kind.TheVariants.{NullException}
-use Rattle.source_meaning.specs.Shapes.{Shared, Shape, ThinShape, HandleShape, StructShape}
+use Rattle.source_meaning.specs.Shapes.{Shared, Shape, ThinShape, FatShape, HandleShape, StructShape}
 use Rattle.source_meaning.specs.Memory as memory
-use Rattle.source_meaning.specs.Memory.{Region, Spot, Scalar, Memory}
+use Rattle.source_meaning.specs.Memory.{Region, Spot, Span, Scalar, Memory, beyond}
 use Rattle.source_meaning.specs.Steps.{World, Act, ◌>>=◌, ◌>>◌, give, check}
-use Rattle.source_meaning.specs.Conversions.{converted}
+use Rattle.source_meaning.specs.Conversions.{cells_of, element, fat_to_thin, converted}
+use Rattle.source_meaning.specs.Places.{span_at}
 use Rattle.source_typing.specs.Converts.{IsInteger, Converts, Same, Integers, NullToThin, NullToFat, NullToUnique, Thins, Fats, ThinToFat, FatToThin, Uniques}
 use Rattle.source_typing.specs.Regions.{Regions}
 use Rattle.source_typing.specs.Types.{StaticType, Int, Unsigned, Char, Void, Null, Thin, Fat, Unique, Handle, Key, Struct, Union, renamed, shape_of}
 use Rattle.source_safety.specs.Flat.{Tables}
 use Rattle.source_safety.proofs.Invariant.{RunType, Owner, Ghost, Reaches, HasType, HaveTypes, Inv}
 use Rattle.source_safety.proofs.Runs.{Safe, Runs, safe_raised}
+use Rattle.source_safety.proofs.Arguments.{Agrees}
 use Rattle.source_safety.proofs.Names.{NameOf, NamesOk}
 use Rattle.source_safety.proofs.Sound.{cells_type}
+use Rattle.source_safety.proofs.Elements.{cells_counted, ReachesAll, one_element, runs_element}
 use Rattle.source_safety.proofs.Layouts.{same_text}
 use Rattle.source_safety.proofs.Integers.{word_of, Becomes, integer_becomes}
 use Rattle.source_safety.proofs.Words.{IsObjectType, IsSimple, object_some, integer_object, shape_itself, OneValue, one_value}
@@ -78,6 +83,109 @@ module _ {B : Type 0} (n : ℕ) (d : Tables) (world : World) (f : NameOf → Reg
       goes (inr z) = subst (λ (y : Scalar). Runs n (converted world (ThinShape c Shared (shape_of t)) (ThinShape a Shared (shape_of t)) (y ∷ []) >>= h) m Q) (sym z.is)
           (some_goes a c q t z.at e (along z.at z.reaches) go)
 
+  -- ---- fat pointers
+
+  -- `NULL` becomes one, and stays one
+  fat_null_goes : (q : NameOf) (t : StaticType) (from : Shape) → Going (Fat q t)
+      → Runs n (converted world (FatShape (shape_of t)) from (memory.Thin None ∷ []) >>= h) m Q
+  fat_null_goes q t from go = record { by = λ next p. (go (memory.Wide None ∷ []) (inl refl, tt)).by next p }
+
+  wide_null_goes : (q : NameOf) (t : StaticType) (from : Shape) → Going (Fat q t)
+      → Runs n (converted world (FatShape (shape_of t)) from (memory.Wide None ∷ []) >>= h) m Q
+  wide_null_goes q t from go = record { by = λ next p. (go (memory.Wide None ∷ []) (inl refl, tt)).by next p }
+
+  -- a fat pointer stays as it is
+  fat_goes : (r q : NameOf) (t : StaticType) (vs : List Scalar) → IsObjectType t
+      → ((at : Spot) → Reaches d w at (f r) (renamed f t) → Reaches d w at (f q) (renamed f t)) → HaveTypes d w holder vs (cells_type d f (Fat r t))
+      → Going (Fat q t)
+      → Runs n (converted world (FatShape (shape_of t)) (FatShape (shape_of t)) vs >>= h) m Q
+  fat_goes r q t [] e along x go = absurd x
+  fat_goes r q t (v ∷ u ∷ us) e along x go = absurd x.1
+  fat_goes r q t (v ∷ []) e along x go = goes x.0
+    where
+      goes : HasType d w (holder 0) v (renamed f (Fat r t)) → Runs n (converted world (FatShape (shape_of t)) (FatShape (shape_of t)) (v ∷ []) >>= h) m Q
+      goes (inl z) = subst (λ (y : Scalar). Runs n (converted world (FatShape (shape_of t)) (FatShape (shape_of t)) (y ∷ []) >>= h) m Q) (sym z)
+          (wide_null_goes q t (FatShape (shape_of t)) go)
+      goes (inr z) = subst (λ (y : Scalar). Runs n (converted world (FatShape (shape_of t)) (FatShape (shape_of t)) (y ∷ []) >>= h) m Q) (sym z.is) (record {
+        by = λ next p.
+            subst (λ (b : Bool). Safe n ((check b >> give (memory.Wide (Some z.span) ∷ []) >>= h) next m)) (sym (shape_itself t e))
+            ((go (memory.Wide (Some z.span) ∷ []) (inr (record { span = z.span; is = refl; reaches = λ i l. along _ (z.reaches i l) }), tt)).by next p);
+      })
+
+  -- a thin pointer becomes a fat one of one element
+  thin_fat_goes : (a : Bool) (r q : NameOf) (t : StaticType) (vs : List Scalar) → IsObjectType t
+      → ((at : Spot) → Reaches d w at (f r) (renamed f t) → Reaches d w at (f q) (renamed f t)) → HaveTypes d w holder vs (cells_type d f (Thin a r t))
+      → Going (Fat q t)
+      → Runs n (converted world (FatShape (shape_of t)) (ThinShape a Shared (shape_of t)) vs >>= h) m Q
+  thin_fat_goes a r q t [] e along x go = absurd x
+  thin_fat_goes a r q t (v ∷ u ∷ us) e along x go = absurd x.1
+  thin_fat_goes a r q t (v ∷ []) e along x go = goes x.0
+    where
+      goes : HasType d w (holder 0) v (renamed f (Thin a r t))
+          → Runs n (converted world (FatShape (shape_of t)) (ThinShape a Shared (shape_of t)) (v ∷ []) >>= h) m Q
+      goes (inl z) = subst (λ (y : Scalar). Runs n (converted world (FatShape (shape_of t)) (ThinShape a Shared (shape_of t)) (y ∷ []) >>= h) m Q) (sym z.is)
+          (fat_null_goes q t (ThinShape a Shared (shape_of t)) go)
+      goes (inr z) = subst (λ (y : Scalar). Runs n (converted world (FatShape (shape_of t)) (ThinShape a Shared (shape_of t)) (y ∷ []) >>= h) m Q) (sym z.is)
+          (record {
+            by = λ next p.
+                subst (λ (b : Bool). Safe n ((check b >> give (span_at 1 z.at ∷ []) >>= h) next m)) (sym (shape_itself t e))
+                ((go (span_at 1 z.at ∷ []) (inr (one_element d w z.at (f q) (renamed f t) (along z.at z.reaches)), tt)).by next p);
+          })
+
+  -- a fat pointer becomes a thin one to its element, which has to be there
+  element_goes : (c : Bool) (q : NameOf) (t : StaticType) (s : Span) → Agrees world d → ReachesAll d w s (f q) (renamed f t) → Going (Thin c q t)
+      → Runs n (fat_to_thin c (length (cells_of world (shape_of t))) (Some s) >>= λ v. give (v ∷ []) >>= h) m Q
+  element_goes c q t s agrees reach go = by c
+    where
+      at : Spot
+      at = beyond s.first (s.index * length (cells_of world (shape_of t)))
+
+      typed : (b : Bool) → s.index < s.count → HaveTypes d w holder (memory.Thin (Some at) ∷ []) (cells_type d f (Thin b q t))
+      typed b l = (
+        inr (record {
+          at = at;
+          is = refl;
+          reaches = subst (λ (k : ℕ). Reaches d w (beyond s.first (s.index * k)) (f q) (renamed f t)) (sym (cells_counted d world f t agrees))
+              (reach s.index l);
+        }),
+        tt,
+      )
+
+      found : Runs n (element (length (cells_of world (shape_of t))) (Some s) >>= λ a. h (memory.Thin (Some a) ∷ [])) m Q
+      found = runs_element n (length (cells_of world (shape_of t))) s (λ a. h (memory.Thin (Some a) ∷ [])) m Q
+          (λ l. go (memory.Thin (Some at) ∷ []) (typed c l))
+
+      by : (b : Bool) → Runs n (fat_to_thin b (length (cells_of world (shape_of t))) (Some s) >>= λ v. give (v ∷ []) >>= h) m Q
+      by true = record { by = λ next p. found.by next p }
+      by false = record { by = λ next p. found.by next p }
+
+  -- `NULL` stays `NULL`, or an exception is raised
+  null_thin_goes : (c : Bool) (q : NameOf) (t : StaticType) (from : Shape) → Going (Thin c q t)
+      → Runs n (converted world (ThinShape c Shared (shape_of t)) from (memory.Wide None ∷ []) >>= h) m Q
+  null_thin_goes true q t from go = record { by = λ next p. (go (memory.Thin None ∷ []) (inl (record { allowed = refl; is = refl }), tt)).by next p }
+  null_thin_goes false q t from go = record { by = λ next p. safe_raised n NullException }
+
+  fat_thin_goes : (c : Bool) (r q : NameOf) (t : StaticType) (vs : List Scalar) → IsObjectType t → Agrees world d
+      → ((at : Spot) → Reaches d w at (f r) (renamed f t) → Reaches d w at (f q) (renamed f t)) → HaveTypes d w holder vs (cells_type d f (Fat r t))
+      → Going (Thin c q t)
+      → Runs n (converted world (ThinShape c Shared (shape_of t)) (FatShape (shape_of t)) vs >>= h) m Q
+  fat_thin_goes c r q t [] e agrees along x go = absurd x
+  fat_thin_goes c r q t (v ∷ u ∷ us) e agrees along x go = absurd x.1
+  fat_thin_goes c r q t (v ∷ []) e agrees along x go = goes x.0
+    where
+      goes : HasType d w (holder 0) v (renamed f (Fat r t))
+          → Runs n (converted world (ThinShape c Shared (shape_of t)) (FatShape (shape_of t)) (v ∷ []) >>= h) m Q
+      goes (inl z) = subst (λ (y : Scalar). Runs n (converted world (ThinShape c Shared (shape_of t)) (FatShape (shape_of t)) (y ∷ []) >>= h) m Q) (sym z)
+          (null_thin_goes c q t (FatShape (shape_of t)) go)
+      goes (inr z) = subst (λ (y : Scalar). Runs n (converted world (ThinShape c Shared (shape_of t)) (FatShape (shape_of t)) (y ∷ []) >>= h) m Q) (sym z.is)
+          (record {
+            by = λ next p.
+                subst (λ (b : Bool). Safe n ((check b >> (fat_to_thin c (length (cells_of world (shape_of t))) (Some z.span) >>= λ v. give (v ∷ []) >>= h)) next m))
+                (sym (shape_itself t e)) ((element_goes c q t z.span agrees (λ i l. along _ (z.reaches i l)) go).by next p);
+          })
+
+  -- ---- all of them
+
   integer_goes : (t u : StaticType) (vs : List Scalar) → IsInteger t → IsInteger u → HaveTypes d w holder vs (cells_type d f t) → Going u
       → Runs n (converted world (shape_of u) (shape_of t) vs >>= h) m Q
   integer_goes t u vs it iu x go =
@@ -116,7 +224,7 @@ module _ {B : Type 0} (n : ℕ) (d : Tables) (world : World) (f : NameOf → Reg
   same_goes Void vs e x go = absurd e
   same_goes Null vs e x go = absurd e
   same_goes (Thin a r t) vs e x go = thin_goes a a r r t vs e (λ at z. z) x go
-  same_goes (Fat r t) vs e x go = absurd e
+  same_goes (Fat r t) vs e x go = fat_goes r r t vs e (λ at z. z) x go
   same_goes (Unique a t) vs e x go = absurd e
   same_goes (Handle r) vs e x go = handle_goes r vs x go
   same_goes (Key r) vs e x go = absurd e
@@ -124,20 +232,28 @@ module _ {B : Type 0} (n : ℕ) (d : Tables) (world : World) (f : NameOf → Reg
   same_goes (Union tag rs) vs e x go = absurd e
 
   -- Each conversion gives a value of its type, or raises.
-  pub converts_goes : (g : Regions) (k : ℕ) (t u : StaticType) (vs : List Scalar) → NamesOk g f k w m → IsSimple t → IsObjectType u → Converts g t u
+  pub converts_goes : (g : Regions) (k : ℕ) (t u : StaticType) (vs : List Scalar) → Agrees world d → NamesOk g f k w m → IsSimple t → IsObjectType u
+      → Converts g t u
       → HaveTypes d w holder vs (cells_type d f t) → Going u → Runs n (converted world (shape_of u) (shape_of t) vs >>= h) m Q
-  converts_goes g k t u vs names p e (Same {t = s}) x go = same_goes s vs e x go
-  converts_goes g k t u vs names p e (Integers {t = s} {u = z} a c) x go = integer_goes s z vs a c x go
-  converts_goes g k t u vs names p e (NullToThin {a = q} {t = s}) x go =
+  converts_goes g k t u vs agrees names p e (Same {t = s}) x go = same_goes s vs e x go
+  converts_goes g k t u vs agrees names p e (Integers {t = s} {u = z} a c) x go = integer_goes s z vs a c x go
+  converts_goes g k t u vs agrees names p e (NullToThin {a = q} {t = s}) x go =
       let v : OneValue d w (holder 0) vs Null = one_value d w holder vs Null x in
       subst (λ (us : List Scalar). Runs n (converted world (ThinShape true Shared (shape_of s)) (shape_of {R = NameOf} Null) us >>= h) m Q)
       (sym (v.is ∙ ap (λ (y : Scalar). y ∷ []) v.typed))
       (null_goes true q s (shape_of {R = NameOf} Null) go)
-  converts_goes g k t u vs names p e NullToFat x go = absurd e
-  converts_goes g k t u vs names p e NullToUnique x go = absurd e
-  converts_goes g k t u vs names p e (Thins {n = n1} {m = n2} {a = a} {b = b} {t = s} o) x go =
+  converts_goes g k t u vs agrees names p e (NullToFat {a = q} {t = s}) x go =
+      let v : OneValue d w (holder 0) vs Null = one_value d w holder vs Null x in
+      subst (λ (us : List Scalar). Runs n (converted world (FatShape (shape_of s)) (shape_of {R = NameOf} Null) us >>= h) m Q)
+      (sym (v.is ∙ ap (λ (y : Scalar). y ∷ []) v.typed))
+      (fat_null_goes q s (shape_of {R = NameOf} Null) go)
+  converts_goes g k t u vs agrees names p e NullToUnique x go = absurd e
+  converts_goes g k t u vs agrees names p e (Thins {n = n1} {m = n2} {a = a} {b = b} {t = s} o) x go =
       thin_goes n1 n2 a b s vs e (λ at z. reach_along d w m at (f a) (f b) (renamed f s) i (names.order a b o) z) x go
-  converts_goes g k t u vs names p e (Fats o) x go = absurd e
-  converts_goes g k t u vs names p e (ThinToFat o) x go = absurd e
-  converts_goes g k t u vs names p e (FatToThin o) x go = absurd p
-  converts_goes g k t u vs names p e Uniques x go = absurd e
+  converts_goes g k t u vs agrees names p e (Fats {a = a} {b = b} {t = s} o) x go =
+      fat_goes a b s vs e (λ at z. reach_along d w m at (f a) (f b) (renamed f s) i (names.order a b o) z) x go
+  converts_goes g k t u vs agrees names p e (ThinToFat {n = n1} {a = a} {b = b} {t = s} o) x go =
+      thin_fat_goes n1 a b s vs e (λ at z. reach_along d w m at (f a) (f b) (renamed f s) i (names.order a b o) z) x go
+  converts_goes g k t u vs agrees names p e (FatToThin {n = n1} {a = a} {b = b} {t = s} o) x go =
+      fat_thin_goes n1 a b s vs e agrees (λ at z. reach_along d w m at (f a) (f b) (renamed f s) i (names.order a b o) z) x go
+  converts_goes g k t u vs agrees names p e Uniques x go = absurd e

@@ -1,4 +1,4 @@
--- Each expression of integers, thin pointers, structs and regions that is in order runs safely and gives a value of its type.
+-- Each expression of integers, pointers, structs, arrays and regions that is in order runs safely and gives a value of its type.
 use Rattle.std.proofs.Common.{◌≡◌, ℕ, Bool, true, false, Some, List, [], ◌∷◌, refl, sym, ◌∙◌, ap, subst}
 use Rattle.std.specs.Prelude.{◌&&◌, ◌^◌, ◌-◌}
 use Rattle.std.proofs.lemmas.Bool.{false≢true}
@@ -11,7 +11,7 @@ use Rattle.cyc_tree.specs.declared.expression.Prefix.{Prefix}
 use Rattle.cyc_tree.specs.declared.expression.Prefix.TheVariants as prefix
 use Rattle.source_meaning.specs.Memory.{Region, IntegerType, AsInt, AsUnsigned, AsChar}
 use Rattle.source_meaning.specs.Steps.{Scope}
-use Rattle.source_meaning.specs.Places.{Sense, contents, member}
+use Rattle.source_meaning.specs.Places.{Sense, contents, indexed, member}
 use Rattle.source_meaning.specs.Calls.{
   number_type,
   all_true,
@@ -37,11 +37,11 @@ use Rattle.source_typing.specs.Calls as rules_of_calls
 use Rattle.source_typing.specs.Scope.{Env, Enclosing, Value, value, meant}
 use Rattle.source_typing.specs.Tables.{OfFunction, Signature, find}
 use Rattle.source_typing.specs.Taken.{taken, all_taken, are_suffixed, links_taken, suffixes_taken, if_taken, takes_prefix, takes_suffixes, takes_made, takes_handle, made_taken}
-use Rattle.source_typing.specs.Taken.{with_regions}
 use Rattle.source_typing.specs.Types.{StaticType, Int, Char, Null, Handle, is_integer, is_testable, integer_type}
 use Rattle.source_typing.proofs.Inversion.{of_is, after_is, both_is, goal_is, call_is, assign_is, prefix_is, links_first, suffixes_first, tests_first}
 use Rattle.source_typing.proofs.OperatorsFit.{tested_both_is}
 use Rattle.source_safety.specs.Flat.{Tables}
+use Rattle.source_safety.specs.Judged.{safe_forms}
 use Rattle.source_safety.specs.Named.{Below, TypeBelow}
 use Rattle.source_safety.proofs.Layouts.{Structs, agrees}
 use Rattle.source_safety.proofs.Names.{NameOf}
@@ -49,6 +49,7 @@ use Rattle.source_safety.proofs.Scenes.{Binds}
 use Rattle.source_safety.proofs.Sound.{Shows}
 use Rattle.source_safety.proofs.Operands.{AllTell, tells_all, tells_any, tells_not}
 use Rattle.source_safety.proofs.Fixed.{EnclosingBelow, within}
+use Rattle.source_safety.proofs.FatForms.{denotes_counted, denotes_indexed}
 use Rattle.source_safety.proofs.StructForms.{denotes_member, denotes_arrow}
 use Rattle.source_safety.proofs.Entries.{MeansPlain, Invokes, strictly}
 use Rattle.source_safety.proofs.Makings.{Handled, handled_is, heap_lives, aims_at_heap, aims_by_handle, denotes_made, denotes_heap}
@@ -64,14 +65,15 @@ new_taken true at m new p = (refl, cc)
 new_taken false at m new p = absurd cc
 
 new_in_taken : (c b : Bool) (at : ℕ) (y x : Expression) (m new : Made)
-    → if_taken (takes_handle with_regions c && b) at (Expression.NewIn at y m) ≡ Expression.NewIn at x new → (c ≡ false) × (b ≡ true) × (y ≡ x) × (m ≡ new)
+    → if_taken (takes_handle safe_forms c && b) at (Expression.NewIn at y m) ≡ Expression.NewIn at x new → (c ≡ false) × (b ≡ true) × (y ≡ x) × (m ≡ new)
 new_in_taken true b at y x m new p = absurd cc
 new_in_taken false true at y x m new p = (refl, refl, cc, cc)
 new_in_taken false false at y x m new p = absurd cc
 
 -- a prefix that is taken, and its operand
-prefix_taken : (at : ℕ) (o : Prefix) (e : Expression) → if_taken (takes_prefix with_regions o) at (Expression.Prefixed at o (taken with_regions e)) ≡ Expression.Prefixed at o e
-    → (takes_prefix with_regions o ≡ true) × (taken with_regions e ≡ e)
+prefix_taken : (at : ℕ) (o : Prefix) (e : Expression)
+    → if_taken (takes_prefix safe_forms o) at (Expression.Prefixed at o (taken safe_forms e)) ≡ Expression.Prefixed at o e
+    → (takes_prefix safe_forms o ≡ true) × (taken safe_forms e ≡ e)
 prefix_taken at prefix.Negate e p = (refl, cc)
 prefix_taken at prefix.Not e p = (refl, cc)
 prefix_taken at prefix.Complement e p = (refl, cc)
@@ -99,7 +101,7 @@ module _ (n : ℕ) (d : Tables) (g : Env) (scope : Scope) (f : NameOf → Region
       some : AreSome es → (is_testable a.type ≡ true) × Valued v Int
 
     -- a prefix
-    prefixed_sound : (i : Enclosing) (at : ℕ) (p : Prefix) (e : Sense) (a v : Value) → takes_prefix with_regions p ≡ true → Denotes n d g scope f b a e
+    prefixed_sound : (i : Enclosing) (at : ℕ) (p : Prefix) (e : Sense) (a v : Value) → takes_prefix safe_forms p ≡ true → Denotes n d g scope f b a e
         → rules.prefixed (within i g) at p a ≡ Of v → Denotes n d g scope f b v (calls.prefixed scope.world p e)
     prefixed_sound i at prefix.Negate e a v k h j = denotes_signed n d g scope f b i strict Subtract at 0 a v e by h j
       where
@@ -121,7 +123,7 @@ module _ (n : ℕ) (d : Tables) (g : Env) (scope : Scope) (f : NameOf → Region
     prefixed_sound i at prefix.AddressOf e a v k h j = denotes_address n d g scope f b at a v e h j
 
     mutual
-      pub expression_sound : (e : Expression) (i : Enclosing) (v : Value) → EnclosingBelow g.regions.count i → taken with_regions e ≡ e → ExpressionHasOperands e
+      pub expression_sound : (e : Expression) (i : Enclosing) (v : Value) → EnclosingBelow g.regions.count i → taken safe_forms e ≡ e → ExpressionHasOperands e
           → judge (within i g) e ≡ Of v
           → Denotes n d g scope f b v (sense e scope)
       expression_sound (Expression.Number at k suffix) i v l t o j =
@@ -132,48 +134,51 @@ module _ (n : ℕ) (d : Tables) (g : Env) (scope : Scope) (f : NameOf → Region
       expression_sound (Expression.HeapRegion at) i v l t o j = denotes_heap n d g scope f b v (value_of at (Handle TheHeap) v j)
       expression_sound (Expression.UniqueRegion at) i v l t o j = absurd cc
       expression_sound (Expression.MakeUnion tag m x) i v l t o j = absurd cc
-      expression_sound (Expression.NumElts at x) i v l t o j = absurd cc
+      expression_sound (Expression.NumElts at x) i v l t o j =
+          let s : taken safe_forms x ≡ x = cc in
+          let a : (a : Value) × (judge (within i g) x ≡ Of a) × (rules.counted at a ≡ Of v) = after_is (judge (within i g) x) (rules.counted at) v j in
+          denotes_counted n d g scope f b at a.0 v (sense x scope) (expression_sound x i a.0 l s o a.1) a.2
       expression_sound (Expression.New at new) i v l t o j =
-          let s : (takes_made with_regions new ≡ true) × (made_taken with_regions new ≡ new) =
-          new_taken (takes_made with_regions new) at (made_taken with_regions new) new t in
+          let s : (takes_made safe_forms new ≡ true) × (made_taken safe_forms new ≡ new) =
+          new_taken (takes_made safe_forms new) at (made_taken safe_forms new) new t in
           new_sound new i at v l s.0 s.1 o j
       expression_sound (Expression.NewIn at x new) i v l t o j =
-          let s : (is_unique_region x ≡ false) × (takes_made with_regions new ≡ true) × (taken with_regions x ≡ x) × (made_taken with_regions new ≡ new) =
-          new_in_taken (is_unique_region x) (takes_made with_regions new) at (taken with_regions x) x (made_taken with_regions new) new t in
+          let s : (is_unique_region x ≡ false) × (takes_made safe_forms new ≡ true) × (taken safe_forms x ≡ x) × (made_taken safe_forms new ≡ new) =
+          new_in_taken (is_unique_region x) (takes_made safe_forms new) at (taken safe_forms x) x (made_taken safe_forms new) new t in
           new_in_sound new i at (is_unique_region x) (judge (within i g) x) v (sense x scope) l s.1 s.3 o.1 s.0 (λ a e. expression_sound x i a l s.2 o.0 e) j
       expression_sound (Expression.Suffixed x es) i v l t o j =
-          let k : (takes_suffixes with_regions es ≡ true) × (taken with_regions x ≡ x) × (suffixes_taken with_regions es ≡ es) =
-          suffixed_taken (are_suffixed es) (takes_suffixes with_regions es) (expression_place x) (taken with_regions x) x (suffixes_taken with_regions es) es t in
+          let k : (takes_suffixes safe_forms es ≡ true) × (taken safe_forms x ≡ x) × (suffixes_taken safe_forms es ≡ es) =
+          suffixed_taken (are_suffixed es) (takes_suffixes safe_forms es) (expression_place x) (taken safe_forms x) x (suffixes_taken safe_forms es) es t in
           let a : (a : Value) × (judge (within i g) x ≡ Of a) = suffixes_first (within i g) (judge (within i g) x) es v j in
-          suffixes_sound es i a.0 v (sense x scope) k.2 k.0 o.1.1 (expression_sound x i a.0 l k.1 o.1.0 a.1)
+          suffixes_sound es i a.0 v (sense x scope) l k.2 k.0 o.1.1 (expression_sound x i a.0 l k.1 o.1.0 a.1)
           (subst (λ (y : Verdict Value). judge_suffixes (within i g) y es ≡ Of v) a.1 j)
       expression_sound (Expression.Variable x) i v l t o j =
           denotes_variable n d g scope f b (agrees d scope.world g.tables structs) structs.in_order binds x.at x.text (meant (within i g) x.text) v plain refl j
       expression_sound (Expression.Call x es) i v l t o j =
-          let s : all_taken with_regions es ≡ es = cc in
+          let s : all_taken safe_forms es ≡ es = cc in
           let c : (u : Target) × (vs : List Value) × (target x.at (meant (within i g) x.text) ≡ Of u) × (judge_all (within i g) es ≡ Of vs) × (rules_of_calls.called (within i g) x.at u vs ≡ Of v) =
           call_is (within i g) x es v j in
           called_entry n d g scope f b invokes strict structs i l x.at x.text (meant (within i g) x.text) c.0 c.1 (senses es scope) v plain (functions x.text) refl c.2
           (all_sound es i c.1 l s o c.3) c.4
       expression_sound (Expression.Grouped at x) i v l t o j =
-          let s : taken with_regions x ≡ x = cc in
+          let s : taken safe_forms x ≡ x = cc in
           let a : (a : Value) × (judge (within i g) x ≡ Of a) × (places.grouped at a ≡ Of v) = after_is (judge (within i g) x) (places.grouped at) v j in
           denotes_grouped n d g scope f b at a.0 v (sense x scope) (expression_sound x i a.0 l s o a.1) a.2
       expression_sound (Expression.Prefixed at p x) i v l t o j =
-          let k : (takes_prefix with_regions p ≡ true) × (taken with_regions x ≡ x) = prefix_taken at p x t in
+          let k : (takes_prefix safe_forms p ≡ true) × (taken safe_forms x ≡ x) = prefix_taken at p x t in
           let a : (a : Value) × (judge (within i g) x ≡ Of a) × (rules.prefixed (within i g) at p a ≡ Of v) = prefix_is (within i g) at p x v j in
           prefixed_sound i at p (sense x scope) a.0 v k.0 (expression_sound x i a.0 l k.1 o a.1) a.2
       expression_sound (Expression.Chain x NoLinks) i v l t o j = absurd cc
       expression_sound (Expression.Chain x (MoreLinks p e es)) i v l t o j =
-          let s : taken with_regions x ≡ x = cc in
-          let k : links_taken with_regions (MoreLinks p e es) ≡ MoreLinks p e es = cc in
+          let s : taken safe_forms x ≡ x = cc in
+          let k : links_taken safe_forms (MoreLinks p e es) ≡ MoreLinks p e es = cc in
           let a : (a : Value) × (judge (within i g) x ≡ Of a) = links_first (within i g) (judge (within i g) x) (MoreLinks p e es) v j in
           links_sound (MoreLinks p e es) i a.0 v (sense x scope) l k o.1.1 (expression_sound x i a.0 l s o.1.0 a.1)
           (subst (λ (y : Verdict Value). judge_links (within i g) y (MoreLinks p e es) ≡ Of v) a.1 j)
       expression_sound (Expression.AllOf x NoExpressions) i v l t o j = absurd cc
       expression_sound (Expression.AllOf x (MoreExpressions e es)) i v l t o j =
-          let s : taken with_regions x ≡ x = cc in
-          let k : all_taken with_regions (MoreExpressions e es) ≡ MoreExpressions e es = cc in
+          let s : taken safe_forms x ≡ x = cc in
+          let k : all_taken safe_forms (MoreExpressions e es) ≡ MoreExpressions e es = cc in
           let a : (a : Value) × (judge (within i g) x ≡ Of a) = tests_first (within i g) (judge (within i g) x) (MoreExpressions e es) v j in
           let h : Denotes n d g scope f b a.0 (sense x scope) = expression_sound x i a.0 l s o.1.0 a.1 in
           let r : Tested a.0 v (MoreExpressions e es) = tests_sound (MoreExpressions e es) i a.0 v l k o.1.1
@@ -183,8 +188,8 @@ module _ (n : ℕ) (d : Tables) (g : Env) (scope : Scope) (f : NameOf → Region
           (tells_all n d g scope f b (sense x scope ∷ senses (MoreExpressions e es) scope) (denotes_tells n d g scope f b a.0 (sense x scope) h q.0, r.others))
       expression_sound (Expression.AnyOf x NoExpressions) i v l t o j = absurd cc
       expression_sound (Expression.AnyOf x (MoreExpressions e es)) i v l t o j =
-          let s : taken with_regions x ≡ x = cc in
-          let k : all_taken with_regions (MoreExpressions e es) ≡ MoreExpressions e es = cc in
+          let s : taken safe_forms x ≡ x = cc in
+          let k : all_taken safe_forms (MoreExpressions e es) ≡ MoreExpressions e es = cc in
           let a : (a : Value) × (judge (within i g) x ≡ Of a) = tests_first (within i g) (judge (within i g) x) (MoreExpressions e es) v j in
           let h : Denotes n d g scope f b a.0 (sense x scope) = expression_sound x i a.0 l s o.1.0 a.1 in
           let r : Tested a.0 v (MoreExpressions e es) = tests_sound (MoreExpressions e es) i a.0 v l k o.1.1
@@ -193,28 +198,31 @@ module _ (n : ℕ) (d : Tables) (g : Env) (scope : Scope) (f : NameOf → Region
           denotes_tested n d g scope f b v (any_true (sense x scope ∷ senses (MoreExpressions e es) scope)) q.1
           (tells_any n d g scope f b (sense x scope ∷ senses (MoreExpressions e es) scope) (denotes_tells n d g scope f b a.0 (sense x scope) h q.0, r.others))
       expression_sound (Expression.Assign to from) i v l t o j =
-          let s : taken with_regions to ≡ to = cc in
-          let k : taken with_regions from ≡ from = cc in
+          let s : taken safe_forms to ≡ to = cc in
+          let k : taken safe_forms from ≡ from = cc in
           let a : (a : Value) × (c : Value) × (judge (within i g) to ≡ Of a) × (judge (within i g) from ≡ Of c) × (places.assigned (within i g) a c ≡ Of v) = assign_is (within i g) to from v j in
-          denotes_assigned n d g scope f b i structs.in_order a.0 a.1 v (sense to scope) (sense from scope) (expression_sound to i a.0 l s o.0 a.2) (expression_sound from i a.1 l k o.1 a.3) a.4
+          denotes_assigned n d g scope f b i (agrees d scope.world g.tables structs) structs.in_order a.0 a.1 v (sense to scope) (sense from scope)
+          (expression_sound to i a.0 l s o.0 a.2) (expression_sound from i a.1 l k o.1 a.3) a.4
 
-      pub all_sound : (es : Expressions) (i : Enclosing) (vs : List Value) → EnclosingBelow g.regions.count i → all_taken with_regions es ≡ es → AllHaveOperands es → judge_all (within i g) es ≡ Of vs
+      pub all_sound : (es : Expressions) (i : Enclosing) (vs : List Value) → EnclosingBelow g.regions.count i → all_taken safe_forms es ≡ es
+          → AllHaveOperands es → judge_all (within i g) es ≡ Of vs
           → AllDenote n d g scope f b vs (senses es scope)
       all_sound NoExpressions i vs l t o j = subst (λ (us : List Value). AllDenote n d g scope f b us []) (of_is [] vs j) tt
       all_sound (MoreExpressions x es) i vs l t o j =
-          let s : taken with_regions x ≡ x = cc in
-          let k : all_taken with_regions es ≡ es = cc in
+          let s : taken safe_forms x ≡ x = cc in
+          let k : all_taken safe_forms es ≡ es = cc in
           let a : (a : Value) × (us : List Value) × (judge (within i g) x ≡ Of a) × (judge_all (within i g) es ≡ Of us) × (Rattle.source_typing.specs.Fixing.more a us ≡ Of vs) =
           both_is (judge (within i g) x) (judge_all (within i g) es) Rattle.source_typing.specs.Fixing.more vs j in
           subst (λ (us : List Value). AllDenote n d g scope f b us (sense x scope ∷ senses es scope)) (of_is (a.0 ∷ a.1) vs a.4)
           (expression_sound x i a.0 l s o.0 a.2, all_sound es i a.1 l k o.1 a.3)
 
-      links_sound : (es : Links) (i : Enclosing) (a v : Value) (left : Sense) → EnclosingBelow g.regions.count i → links_taken with_regions es ≡ es → LinksHaveOperands es → Denotes n d g scope f b a left
+      links_sound : (es : Links) (i : Enclosing) (a v : Value) (left : Sense) → EnclosingBelow g.regions.count i → links_taken safe_forms es ≡ es
+          → LinksHaveOperands es → Denotes n d g scope f b a left
           → judge_links (within i g) (Of a) es ≡ Of v → Denotes n d g scope f b v (linked es scope left)
       links_sound NoLinks i a v left l t o h j = subst (λ (y : Value). Denotes n d g scope f b y left) (of_is a v j) h
       links_sound (MoreLinks p x es) i a v left l t o h j =
-          let s : taken with_regions x ≡ x = cc in
-          let k : links_taken with_regions es ≡ es = cc in
+          let s : taken safe_forms x ≡ x = cc in
+          let k : links_taken safe_forms es ≡ es = cc in
           let c : (c : Value) × (both (Of a) (judge (within i g) x) (rules.applied (within i g) p) ≡ Of c) = links_first (within i g) (both (Of a) (judge (within i g) x) (rules.applied (within i g) p)) es v j in
           let e : (u : Value) × (y : Value) × (Of a ≡ Of u) × (judge (within i g) x ≡ Of y) × (rules.applied (within i g) p u y ≡ Of c.0) = both_is (Of a) (judge (within i g) x) (rules.applied (within i g) p) c.0 c.1 in
           let same : a ≡ e.0 = of_is a e.0 e.2 in
@@ -223,26 +231,38 @@ module _ (n : ℕ) (d : Tables) (g : Env) (scope : Scope) (f : NameOf → Region
           (expression_sound x i e.1 l s o.0 e.3) e.4)
           (subst (λ (y : Verdict Value). judge_links (within i g) y es ≡ Of v) c.1 j)
 
-      suffixes_sound : (es : Suffixes) (i : Enclosing) (a v : Value) (e : Sense) → suffixes_taken with_regions es ≡ es → takes_suffixes with_regions es ≡ true
+      suffixes_sound : (es : Suffixes) (i : Enclosing) (a v : Value) (e : Sense) → EnclosingBelow g.regions.count i → suffixes_taken safe_forms es ≡ es
+          → takes_suffixes safe_forms es ≡ true
           → SuffixesHaveOperands es → Denotes n d g scope f b a e → judge_suffixes (within i g) (Of a) es ≡ Of v → Denotes n d g scope f b v (suffixed es scope e)
-      suffixes_sound NoSuffixes i a v e t k o h j = subst (λ (y : Value). Denotes n d g scope f b y e) (of_is a v j) h
-      suffixes_sound (Index x es) i a v e t k o h j = absurd (false≢true k)
-      suffixes_sound (Dot m es) i a v e t k o h j =
+      suffixes_sound NoSuffixes i a v e l t k o h j = subst (λ (y : Value). Denotes n d g scope f b y e) (of_is a v j) h
+      suffixes_sound (Index x es) i a v e l t k o h j =
+          let s : taken safe_forms x ≡ x = cc in
+          let c : (c : Value) × (both (Of a) (judge (within i g) x) (places.indexed (within i g)) ≡ Of c) =
+          suffixes_first (within i g) (both (Of a) (judge (within i g) x) (places.indexed (within i g))) es v j in
+          let y : (u : Value) × (q : Value) × (Of a ≡ Of u) × (judge (within i g) x ≡ Of q) × (places.indexed (within i g) u q ≡ Of c.0) =
+          both_is (Of a) (judge (within i g) x) (places.indexed (within i g)) c.0 c.1 in
+          suffixes_sound es i c.0 v (indexed scope.world e (sense x scope)) l (cc) k o.1
+          (denotes_indexed n d g scope f b i strict (agrees d scope.world g.tables structs) structs.in_order y.0 y.1 c.0 e (sense x scope)
+          (subst (λ (q : Value). Denotes n d g scope f b q e) (of_is a y.0 y.2) h) (expression_sound x i y.1 l s o.0 y.3) y.4)
+          (subst (λ (q : Verdict Value). judge_suffixes (within i g) q es ≡ Of v) c.1 j)
+      suffixes_sound (Dot m es) i a v e l t k o h j =
           let c : (c : Value) × (places.member (within i g) m a ≡ Of c) = suffixes_first (within i g) (places.member (within i g) m a) es v j in
-          suffixes_sound es i c.0 v (member scope.world e m.text) (cc) k o (denotes_member n d g scope f b structs i m a c.0 e h c.1)
+          suffixes_sound es i c.0 v (member scope.world e m.text) l (cc) k o (denotes_member n d g scope f b structs i m a c.0 e h c.1)
           (subst (λ (y : Verdict Value). judge_suffixes (within i g) y es ≡ Of v) c.1 j)
-      suffixes_sound (Arrow m es) i a v e t k o h j =
+      suffixes_sound (Arrow m es) i a v e l t k o h j =
           let c : (c : Value) × (places.arrow (within i g) m a ≡ Of c) = suffixes_first (within i g) (places.arrow (within i g) m a) es v j in
-          suffixes_sound es i c.0 v (member scope.world (contents scope.world e) m.text) (cc) k o (denotes_arrow n d g scope f b structs i strict m a c.0 e h c.1)
+          suffixes_sound es i c.0 v (member scope.world (contents scope.world e) m.text) l (cc) k o
+          (denotes_arrow n d g scope f b structs i strict m a c.0 e h c.1)
           (subst (λ (y : Verdict Value). judge_suffixes (within i g) y es ≡ Of v) c.1 j)
 
       -- the operands behind the first
-      tests_sound : (es : Expressions) (i : Enclosing) (a v : Value) → EnclosingBelow g.regions.count i → all_taken with_regions es ≡ es → AllHaveOperands es → judge_tests (within i g) (Of a) es ≡ Of v → Tested a v es
+      tests_sound : (es : Expressions) (i : Enclosing) (a v : Value) → EnclosingBelow g.regions.count i → all_taken safe_forms es ≡ es → AllHaveOperands es
+          → judge_tests (within i g) (Of a) es ≡ Of v → Tested a v es
       tests_sound NoExpressions i a v l t o j =
           record { others = tt; valued = λ h. subst (λ (y : Value). Valued y Int) (of_is a v j) h; some = λ s. absurd s }
       tests_sound (MoreExpressions x es) i a v l t o j =
-          let s : taken with_regions x ≡ x = cc in
-          let k : all_taken with_regions es ≡ es = cc in
+          let s : taken safe_forms x ≡ x = cc in
+          let k : all_taken safe_forms es ≡ es = cc in
           let c : (c : Value) × (both (Of a) (judge (within i g) x) tested_both ≡ Of c) = tests_first (within i g) (both (Of a) (judge (within i g) x) tested_both) es v j in
           let e : (u : Value) × (y : Value) × (Of a ≡ Of u) × (judge (within i g) x ≡ Of y) × (tested_both u y ≡ Of c.0) =
           both_is (Of a) (judge (within i g) x) tested_both c.0 c.1 in
@@ -256,12 +276,12 @@ module _ (n : ℕ) (d : Tables) (g : Env) (scope : Scope) (f : NameOf → Region
           }
 
       -- a value that is made in the heap
-      new_sound : (new : Made) (i : Enclosing) (at : ℕ) (v : Value) → EnclosingBelow g.regions.count i → takes_made with_regions new ≡ true
-          → made_taken with_regions new ≡ new → MadeHasOperands new → judge_made (within i g) at (Of (To TheHeap)) new ≡ Of v
+      new_sound : (new : Made) (i : Enclosing) (at : ℕ) (v : Value) → EnclosingBelow g.regions.count i → takes_made safe_forms new ≡ true
+          → made_taken safe_forms new ≡ new → MadeHasOperands new → judge_made (within i g) at (Of (To TheHeap)) new ≡ Of v
           → Denotes n d g scope f b v (new_sense new scope)
       new_sound (Array y c x) i at v l k t o j = absurd (false≢true k)
       new_sound (One x) i at v l k t o j =
-          let s : taken with_regions x ≡ x = cc in
+          let s : taken safe_forms x ≡ x = cc in
           let a : (y : Goal) × (a : Value) × (Of (To TheHeap) ≡ Of y) × (judge (within i g) x ≡ Of a) × (rules_of_making.made at y a ≡ Of v) =
           goal_is at (Of (To TheHeap)) (judge (within i g) x) (rules_of_making.made at) v j in
           denotes_made n d g scope f b at TheHeap heap_maker a.1 v (sense x scope) (agrees d scope.world g.tables structs) (heap_lives n d g scope f b) tt
@@ -270,13 +290,13 @@ module _ (n : ℕ) (d : Tables) (g : Env) (scope : Scope) (f : NameOf → Region
 
       -- and one in the region of a handle, inside of which its operand is judged
       new_in_sound : (new : Made) (i : Enclosing) (at : ℕ) (c : Bool) (hv : Verdict Value) (v : Value) (handle : Sense) → EnclosingBelow g.regions.count i
-          → takes_made with_regions new ≡ true → made_taken with_regions new ≡ new → MadeHasOperands new → c ≡ false
+          → takes_made safe_forms new ≡ true → made_taken safe_forms new ≡ new → MadeHasOperands new → c ≡ false
           → ((a : Value) → hv ≡ Of a → Denotes n d g scope f b a handle) → judge_made_in (within i g) at (goal_of c (within i g) hv) new ≡ Of v
           → Denotes n d g scope f b v (new_in_sense new scope c handle)
       new_in_sound (Array y c x) i at u hv v handle l k t o e h j = absurd (false≢true k)
       new_in_sound (One x) i at true hv v handle l k t o e h j = absurd (false≢true (sym e))
       new_in_sound (One x) i at false hv v handle l k t o e h j =
-          let s : taken with_regions x ≡ x = cc in
+          let s : taken safe_forms x ≡ x = cc in
           let goal : Verdict Goal = after hv (handled (within i g)) in
           let a : (y : Goal) × (a : Value) × (goal ≡ Of y) × (judge (within (enclosed goal) g) x ≡ Of a) × (rules_of_making.made at y a ≡ Of v) =
           goal_is at goal (judge (within (enclosed goal) g) x) (rules_of_making.made at) v j in

@@ -1,6 +1,6 @@
 -- Functions of regions and spots that are changed at one place.
 use Rattle.std.proofs.Common.{◌≡◌, ℕ, ◌+◌, Bool, true, false, refl, sym, ◌∙◌, ap, arith}
-use Rattle.std.specs.Prelude.{if◌then◌else◌}
+use Rattle.std.specs.Prelude.{◌*◌, if◌then◌else◌}
 use Rattle.std.proofs.lemmas.Bool.{false≢true}
 use Rattle.source_meaning.specs.Memory.{Region, Spot, beyond, same_region, same_spot}
 use Rattle.source_meaning.proofs.Cases.{region_is, region_itself, spot_itself, spot_is}
@@ -33,3 +33,7 @@ further s a b c e = ap (λ (j : ℕ). record { region = s.region; object = s.obj
 
 pub not_further : (s : Spot) → beyond s 0 ≡ s
 not_further s = ap (λ (j : ℕ). record { region = s.region; object = s.object; cell = j }) (omega arith)
+
+-- the first element of an array lies at its start
+pub at_start : (s : Spot) (cells : ℕ) → beyond s (0 * cells) ≡ s
+at_start s cells = ap (beyond s) (omega arith) ∙ not_further s

@@ -36,7 +36,7 @@ object_below n rs Char e h = tt
 object_below n rs Void e h = tt
 object_below n rs Null e h = tt
 object_below n rs (Thin c r t) e h = (argument_below n rs r h, object_below n rs t e h)
-object_below n rs (Fat r t) e h = absurd e
+object_below n rs (Fat r t) e h = (argument_below n rs r h, object_below n rs t e h)
 object_below n rs (Unique c t) e h = absurd e
 object_below n rs (Handle r) e h = argument_below n rs r h
 object_below n rs (Key r) e h = absurd e
@@ -50,7 +50,7 @@ plain_below n rs Char e h = tt
 plain_below n rs Void e h = tt
 plain_below n rs Null e h = tt
 plain_below n rs (Thin c r t) e h = object_below n rs (Thin c r t) e h
-plain_below n rs (Fat r t) e h = absurd e
+plain_below n rs (Fat r t) e h = object_below n rs (Fat r t) e h
 plain_below n rs (Unique c t) e h = absurd e
 plain_below n rs (Handle r) e h = object_below n rs (Handle r) e h
 plain_below n rs (Key r) e h = absurd e
@@ -158,8 +158,11 @@ fits_below n at Char u e h = tt
 fits_below n at Void u e h = absurd e
 fits_below n at Null u e h = absurd e
 fits_below n at (Thin c r t) u e h =
-    both_below n (fits_of at t (pointee_of u)) (fit at r (outer_region u) ∷ []) (fits_below n at t (pointee_of u) e (pointee_below n u h)) (outer_below n u h, tt)
-fits_below n at (Fat r t) u e h = absurd e
+    both_below n (fits_of at t (pointee_of u)) (fit at r (outer_region u) ∷ []) (fits_below n at t (pointee_of u) e (pointee_below n u h))
+    (outer_below n u h, tt)
+fits_below n at (Fat r t) u e h =
+    both_below n (fits_of at t (pointee_of u)) (fit at r (outer_region u) ∷ []) (fits_below n at t (pointee_of u) e (pointee_below n u h))
+    (outer_below n u h, tt)
 fits_below n at (Unique c t) u e h = absurd e
 fits_below n at (Handle r) u e h = handle_below n at r u h
 fits_below n at (Key r) u e h = absurd e

@@ -2,14 +2,14 @@
 use Rattle.std.proofs.Common.{◌≡◌, ℕ, Bool, true, false, Option, Some, None, List, [], ◌∷◌, refl, sym, ◌∙◌, ap, subst, arith}
 use Rattle.std.specs.Prelude.{map, ◌%◌, ◌^◌, length}
 use Rattle.cyc_tree.specs.declared.expression.Operator.{Operator}
-use Rattle.source_meaning.specs.Shapes.{Shared, Shape, IntShape, VoidShape, ThinShape, pointee}
+use Rattle.source_meaning.specs.Shapes.{Shared, Shape, IntShape, VoidShape, ThinShape, FatShape, ArrayShape, pointee}
 use Rattle.source_meaning.specs.Memory as memory
 use Rattle.source_meaning.specs.Memory.{Region, Scalar, Integer, IntegerType, AsInt, AsUnsigned, AsChar}
 use Rattle.source_meaning.specs.Steps as steps
-use Rattle.source_meaning.specs.Steps.{Scope, Act, give, ◌>>=◌, need}
-use Rattle.source_meaning.specs.Conversions.{cells_of, converted, one}
+use Rattle.source_meaning.specs.Steps.{Entity, Scope, Act, give, ◌>>=◌, need}
+use Rattle.source_meaning.specs.Conversions.{cells_of, converted, one, accessed}
 use Rattle.source_meaning.specs.Operators.{truth_value, operated, operator_shape}
-use Rattle.source_meaning.specs.Places.{Sense, value_sense, entity_of, entity_sense, contents, address_of, assigned}
+use Rattle.source_meaning.specs.Places.{Sense, value_sense, entity_of, entity_sense, span_at, contents, address_of, assigned}
 use Rattle.source_meaning.specs.Calls.{constant, applied, tested, truth}
 use Rattle.source_typing.specs.Verdicts.{Of, after, if_fits, other_kind}
 use Rattle.source_typing.specs.Converts.{IsInteger, Converts}
@@ -51,10 +51,12 @@ use Rattle.source_safety.proofs.After.{After, flying}
 use Rattle.source_safety.proofs.Arguments.{Agrees}
 use Rattle.source_safety.proofs.Names.{NameOf}
 use Rattle.source_safety.proofs.Scenes.{Bound, Binds}
-use Rattle.source_safety.proofs.Sound.{shape_renamed, cells_type, Gives, Shows, Sound, sound_value, gives_at_once}
+use Rattle.source_safety.proofs.Sound.{shape_renamed, cells_type, Gives, Shows, Finds, Sound, sound_value, gives_at_once}
+use Rattle.source_safety.proofs.Elements.{cells_counted}
 use Rattle.source_safety.proofs.Places.{sound_placed}
 use Rattle.source_safety.proofs.WordRules.{testable_word, Valued, value_of, applied_seat, fitted, given_type, assigned_object, given_simple, given_below}
-use Rattle.source_safety.proofs.WordRules.{given_shaped, Pointed, contents_is}
+use Rattle.source_safety.proofs.WordRules.{given_shaped, IsPointer, IsThin, IsFat, pointer_object, pointer_some, pointer_below, pointer_shape, Pointed}
+use Rattle.source_safety.proofs.WordRules.{contents_is}
 use Rattle.source_safety.proofs.Integers.{integer_typed, integer_is, on_integers_is, operator_shaped}
 use Rattle.source_safety.specs.Structs.{AreInOrder}
 use Rattle.source_safety.proofs.Words.{IsObjectType, IsSimple, object_simple, object_some, integer_object, integer_below, object_renamed, object_copied}
@@ -65,13 +67,16 @@ use Rattle.source_safety.proofs.Pointers.{
   compares_thins,
   compares_with_null,
   compares_null_with,
+  compares_fat_with_null,
+  compares_null_with_fat,
   gives_compared,
   equality_shape,
   finds_contents,
   gives_address,
 }
 use Rattle.source_safety.proofs.Operands.{gives_applied, Tells, tells_truth, gives_tested}
-use Rattle.source_safety.proofs.Storing.{runs_converted, sound_variable, gives_assigned}
+use Rattle.source_safety.proofs.Spans.{moved_shape, gives_moved, finds_element}
+use Rattle.source_safety.proofs.Storing.{runs_converted, sound_variable, gives_array, gives_assigned}
 use Rattle.source_safety.proofs.Calling.{AllPass}
 use Rattle.source_safety.proofs.Fixed.{ValuesBelow, within}
 use Rattle.source_safety.proofs.Entries.{AreObjects, MeansPlain, strictly}
@@ -125,7 +130,7 @@ module _ (n : ℕ) (d : Tables) (g : Env) (scope : Scope) (f : NameOf → Region
       let it : IsObjectType t = p x (OfValue (Stored t r)) m in
       let vt : v.type ≡ t = ap (λ (y : Value). y.type) (sym z) in
       let vs : v.seat ≡ In r = ap (λ (y : Value). y.seat) (sym z) in
-      let bound : Bound g.regions.count f (entity_of scope x) t r = binds.variables x t r m in
+      let bound : Bound g.regions.count f (entity_of scope x) (shape_of t) t r = binds.variables x (Stored t r) m in
       record {
         simple = subst (λ (y : StaticType). IsSimple y) (sym vt) (object_simple t it);
         below = subst (λ (y : StaticType). TypeBelow g.regions.count y) (sym vt) bound.below;
@@ -139,7 +144,11 @@ module _ (n : ℕ) (d : Tables) (g : Env) (scope : Scope) (f : NameOf → Region
     where
       same : (r q : NameOf) → In r ≡ In q → r ≡ q
       same r q e = cc
-  denotes_variable agrees order binds at x (Some (OfValue (Arrayed t r))) v p m e = absurd (p x (OfValue (Arrayed t r)) m)
+  denotes_variable agrees order binds at x (Some (OfValue (Arrayed t r))) v p m e =
+      let z : (c : ℕ) × Bound g.regions.count f (entity_of scope x) (ArrayShape c (shape_of t)) t r = binds.variables x (Arrayed t r) m in
+      subst (λ (y : Option Entity). Denotes v (entity_sense scope.world y)) (sym z.1.is)
+      (denotes_value v (Fat r t) (FatShape (shape_of t)) (give (span_at z.0 z.1.at ∷ [])) (p x (OfValue (Arrayed t r)) m) (z.1.within, z.1.below)
+      (value_of at (Fat r t) v e) refl (gives_array n d g scope f b x t r z.0 z.1 m))
   denotes_variable agrees order binds at x (Some (OfValue Counter)) v p m e = absurd (p x (OfValue Counter) m)
   denotes_variable agrees order binds at x (Some (OfValue Unknown)) v p m e = absurd (p x (OfValue Unknown) m)
   denotes_variable agrees order binds at x (Some (OfTag t)) v p m e = absurd (never t.sound e)
@@ -182,7 +191,7 @@ module _ (n : ℕ) (d : Tables) (g : Env) (scope : Scope) (f : NameOf → Region
   compares_pointer Void p e = absurd cc
   compares_pointer Null p e = absurd cc
   compares_pointer (Thin c r t) p e = (p, compares_with_null n d g scope f b c r t, compares_null_with n d g scope f b c r t)
-  compares_pointer (Fat r t) p e = absurd p
+  compares_pointer (Fat r t) p e = (p, compares_fat_with_null n d g scope f b r t, compares_null_with_fat n d g scope f b r t)
   compares_pointer (Unique c t) p e = absurd p
   compares_pointer (Handle r) p e = absurd cc
   compares_pointer (Key r) p e = absurd cc
@@ -215,18 +224,24 @@ module _ (n : ℕ) (d : Tables) (g : Env) (scope : Scope) (f : NameOf → Region
         gives = gives_applied n d g scope f b o a c x.look y.look ia ic hx hy;
       }
 
-  joins : (i : Enclosing) → g.lenient ≡ false → (o : Operator) (x y : Sense) (a c t : StaticType) → IsSimple a → IsSimple c → ((a ≡ Void → ⊥) → x.shape ≡ shape_of a)
+  joins : (i : Enclosing) → g.lenient ≡ false → (o : Operator) (x y : Sense) (a c t : StaticType) → IsSimple a → IsSimple c → TypeBelow g.regions.count a
+      → ((a ≡ Void → ⊥) → x.shape ≡ shape_of a)
       → ((c ≡ Void → ⊥) → y.shape ≡ shape_of c) → Shows n d g scope f b a x.look → Shows n d g scope f b c y.look → Operates (within i g) o a c t → Joins o x y t
-  joins i strict o x y a c t p q ex ey hx hy (OnIntegers ia ic) =
+  joins i strict o x y a c t p q l ex ey hx hy (OnIntegers ia ic) =
       joins_integers o x y a c ia ic (ex (object_some a (integer_object a ia))) (ey (object_some c (integer_object c ic))) hx hy
-  joins i strict o x y a c t p q ex ey hx hy (OnFat u v) = absurd p
-  joins i strict o x y a c t p q ex ey hx hy (WithNull {a = s} e k) =
+  joins i strict o x y a c t p q l ex ey hx hy (OnFat {r = r} {t = to} {b = u} move iu) = record {
+    simple = p;
+    below = l;
+    shape = ap (λ (s : Shape). operator_shape o s y.shape) (ex (λ z. cc)) ∙ moved_shape o (shape_of to) y.shape move;
+    gives = gives_moved n d g scope f b o r to u x.look y.look move p iu hx hy;
+  }
+  joins i strict o x y a c t p q l ex ey hx hy (WithNull {a = s} e k) =
       let z : IsValue s × Compares n d g scope f b s Null × Compares n d g scope f b Null s = compares_pointer s p k in
       joins_compared o x y s Null e z.0 tt z.1 hx hy
-  joins i strict o x y a c t p q ex ey hx hy (NullWith {b = s} e k) =
+  joins i strict o x y a c t p q l ex ey hx hy (NullWith {b = s} e k) =
       let z : IsValue s × Compares n d g scope f b s Null × Compares n d g scope f b Null s = compares_pointer s q k in
       joins_compared o x y Null s e tt z.0 z.2 hx hy
-  joins i strict o x y a c t p q ex ey hx hy (OnThin {n = n1} {m = n2} {r = r1} {q = r2} {t = u} e lr lq z) =
+  joins i strict o x y a c t p q l ex ey hx hy (OnThin {n = n1} {m = n2} {r = r1} {q = r2} {t = u} e lr lq z) =
       joins_compared o x y (Thin n1 r1 u) (Thin n2 r2 u) e p q
       (compares_thins n d g scope f b n1 n2 r1 r2 u (strictly g r1 strict lr) (strictly g r2 strict lq)) hx hy
 
@@ -234,7 +249,8 @@ module _ (n : ℕ) (d : Tables) (g : Env) (scope : Scope) (f : NameOf → Region
       → Denotes v (applied o x y)
   denotes_applied i strict o at a c v x y ha hc e =
       let z : Joins o x y v.type =
-      joins i strict o x y a.type c.type v.type ha.simple hc.simple ha.sound.shape hc.sound.shape ha.sound.look hc.sound.look (applied_to_is (within i g) o at a.type c.type v e) in
+      joins i strict o x y a.type c.type v.type ha.simple hc.simple ha.below ha.sound.shape hc.sound.shape ha.sound.look hc.sound.look
+      (applied_to_is (within i g) o at a.type c.type v e) in
       denotes_value v v.type (operator_shape o x.shape y.shape) _ z.simple z.below
       (record { type = refl; seat = applied_seat (within i g) o at a.type c.type v ha.simple hc.simple e }) z.shape z.gives
 
@@ -248,24 +264,29 @@ module _ (n : ℕ) (d : Tables) (g : Env) (scope : Scope) (f : NameOf → Region
     where
       pointed : (z : Pointed (within i g) at a.type v) → Denotes (record { at = at; type = z.to; seat = In z.region }) (contents scope.world e)
       pointed z =
-          let below : TypeBelow g.regions.count (Thin z.may_be_null z.region z.to) = subst (λ (y : StaticType). TypeBelow g.regions.count y) z.is h.below in
-          let word : IsObjectType z.to = subst (λ (y : StaticType). IsSimple y) z.is h.simple in
-          let shows : Shows n d g scope f b (Thin z.may_be_null z.region z.to) e.look = subst (λ (y : StaticType). Shows n d g scope f b y e.look) z.is h.sound.look in
+          let below : Below g.regions.count z.region × TypeBelow g.regions.count z.to = pointer_below g.regions.count a.type z.to z.region z.is h.below in
+          let word : IsObjectType z.to = pointer_object a.type z.to z.region z.is h.simple in
+          let leads : pointee e.shape ≡ shape_of z.to =
+          ap pointee (h.sound.shape (pointer_some a.type z.to z.region z.is)) ∙ pointer_shape a.type z.to z.region z.is in
           record {
             simple = object_simple z.to word;
             below = below.1;
             outside = λ q. cc;
             place = λ q y. (word, subst (λ (p : NameOf). Below g.regions.count p) (same z.region q y) below.0);
-            sound = sound_placed n d g scope f b agrees (record { at = at; type = z.to; seat = In z.region }) (pointee e.shape) z.region _
-                (ap pointee (h.sound.shape (some z) ∙ ap shape_of z.is)) refl (object_copied d f z.to order word)
-                (finds_contents n d g scope f b z.may_be_null z.region z.to (length (cells_of scope.world (pointee e.shape))) e.look word (strictly g z.region strict z.live) shows);
+            sound = sound_placed n d g scope f b agrees (record { at = at; type = z.to; seat = In z.region }) (pointee e.shape) z.region _ leads refl
+                (object_copied d f z.to order word)
+                (found a.type z.to z.region (length (cells_of scope.world (pointee e.shape))) z.is word
+                (ap (λ (s : Shape). length (cells_of scope.world s)) leads ∙ cells_counted d scope.world f z.to agrees) (strictly g z.region strict z.live)
+                h.sound.look);
           }
         where
           same : (r q : NameOf) → In r ≡ In q → r ≡ q
           same r q e = cc
 
-          some : (z : Pointed (within i g) at a.type v) → a.type ≡ Void → ⊥
-          some z q = let y : Thin z.may_be_null z.region z.to ≡ Void = sym z.is ∙ q in cc
+          found : (t u : StaticType) (r : NameOf) (cells : ℕ) → IsPointer t r u → IsObjectType u → cells ≡ length (cells_type d f u) → g.regions.live r ≡ true
+              → Shows n d g scope f b t e.look → Finds n d g scope f b u r (e.look >>= one >>= λ p. accessed cells p)
+          found t u r cells (IsThin {n = c}) word count live shows = finds_contents n d g scope f b c r u cells e.look word live shows
+          found t u r cells IsFat word count live shows = finds_element n d g scope f b r u cells e.look word count live shows
 
   pub denotes_address : (at : ℕ) (a v : Value) (e : Sense) → Denotes a e → places.address at a ≡ Of v → Denotes v (address_of e)
   denotes_address at a v e h j = by a.seat refl j
@@ -300,9 +321,10 @@ module _ (n : ℕ) (d : Tables) (g : Env) (scope : Scope) (f : NameOf → Region
 
   -- ---- assignments
 
-  pub denotes_assigned : (i : Enclosing) → AreInOrder d.structs → (to from v : Value) (x y : Sense) → Denotes to x → Denotes from y → places.assigned (within i g) to from ≡ Of v
+  pub denotes_assigned : (i : Enclosing) → Agrees scope.world d → AreInOrder d.structs → (to from v : Value) (x y : Sense) → Denotes to x → Denotes from y
+      → places.assigned (within i g) to from ≡ Of v
       → Denotes v (assigned scope.world x y)
-  denotes_assigned i order to from v x y ht hf e = by to.seat refl
+  denotes_assigned i agrees order to from v x y ht hf e = by to.seat refl
     where
       valued : (c : Bool) → places.assigned_in c (within i g) to from ≡ Of v → v.seat ≡ Nowhere
       valued true z = (value_of to.at (assigned_type (within i g) to.type) v (Rattle.source_typing.proofs.Inversion.unless_is _ _ v z).1).seat
@@ -319,7 +341,7 @@ module _ (n : ℕ) (d : Tables) (g : Env) (scope : Scope) (f : NameOf → Region
           let shape : x.shape ≡ shape_of to.type = ht.sound.shape (object_some to.type it) in
           denotes_given v (given_type to.type) x.shape _ (given_simple to.type it) (given_below g.regions.count to.type it ht.below)
           (record { type = rules_say.2 ∙ assigned_object (within i g) to.type it; seat = valued (is_place to.seat) e }) (given_shaped to.type x.shape it shape)
-          (gives_assigned n d g scope f b from.type to.type r x y order hf.simple it rules_say.1
+          (gives_assigned n d g scope f b from.type to.type r x y agrees order hf.simple it rules_say.1
           (hf.sound.shape (converts_some g.regions from.type to.type rules_say.1 it)) shape hf.sound.value (ht.sound.place r z))
 
   -- ---- arguments
@@ -336,24 +358,26 @@ module _ (n : ℕ) (d : Tables) (g : Env) (scope : Scope) (f : NameOf → Region
   values_below (v ∷ vs) [] h = absurd h
 
   -- one that converts to a parameter's type, whose region variables stand for these
-  pub passes : (v : Value) (e : Sense) (rs : List NameOf) (t : StaticType) → IsObjectType t → Converts g.regions v.type (renamed (argument rs) t) → Denotes v e
+  pub passes : Agrees scope.world d → (v : Value) (e : Sense) (rs : List NameOf) (t : StaticType) → IsObjectType t
+      → Converts g.regions v.type (renamed (argument rs) t) → Denotes v e
       → Gives n d g scope f b (renamed (argument rs) t) (e.value >>= converted scope.world (shape_of t) e.shape)
-  passes v e rs t it conv h =
+  passes agrees v e rs t it conv h =
       subst (λ (s : Shape). Gives n d g scope f b (renamed (argument rs) t) (e.value >>= converted scope.world (shape_of t) s))
       (sym (h.sound.shape (converts_some g.regions v.type (renamed (argument rs) t) conv (object_renamed (argument rs) t it))))
       (subst (λ (s : Shape). Gives n d g scope f b (renamed (argument rs) t) (e.value >>= converted scope.world s (shape_of v.type))) (shape_renamed (argument rs) t)
       (λ k w m i x. record {
         by = λ next q. (runs_converted n d g scope f b v.type (renamed (argument rs) t) e.value (λ vs. give vs) k w m
-            (λ vs. After d k b w m (λ w' m'. HaveTypes d w' (flying k 0) vs (cells_type d f (renamed (argument rs) t)))) h.simple (object_renamed (argument rs) t it) conv h.sound.value i x
+            (λ vs. After d k b w m (λ w' m'. HaveTypes d w' (flying k 0) vs (cells_type d f (renamed (argument rs) t)))) agrees h.simple
+            (object_renamed (argument rs) t it) conv h.sound.value i x
             (λ vs w1 m1 i1 g1 typed. record { by = λ next2 q2. q2 vs m1 (record { ghost = w1; inv = i1; grows = g1; holds = typed }) })).by next q;
       }))
 
-  pub all_pass : (rs : List NameOf) (ts : List StaticType) (vs : List Value) (es : List Sense) → AreObjects ts
+  pub all_pass : Agrees scope.world d → (rs : List NameOf) (ts : List StaticType) (vs : List Value) (es : List Sense) → AreObjects ts
       → length (map (λ (t : StaticType). Some t) ts) ≡ length vs → AllConvert g rs (map (λ (t : StaticType). Some t) ts) vs → AllDenote vs es
       → AllPass n d g scope f b (map shape_of ts) (map (renamed (argument rs)) ts) es
-  all_pass rs [] [] [] i c a h = tt
-  all_pass rs (t ∷ ts) (v ∷ vs) (e ∷ es) i c a h = (passes v e rs t i.0 a.0 h.0, all_pass rs ts vs es i.1 (omega (arith, c)) a.1 h.1)
-  all_pass rs [] [] (e ∷ es) i c a h = absurd h
-  all_pass rs [] (v ∷ vs) es i c a h = absurd (omega (arith, c))
-  all_pass rs (t ∷ ts) [] es i c a h = absurd (omega (arith, c))
-  all_pass rs (t ∷ ts) (v ∷ vs) [] i c a h = absurd h
+  all_pass agrees rs [] [] [] i c a h = tt
+  all_pass agrees rs (t ∷ ts) (v ∷ vs) (e ∷ es) i c a h = (passes agrees v e rs t i.0 a.0 h.0, all_pass agrees rs ts vs es i.1 (omega (arith, c)) a.1 h.1)
+  all_pass agrees rs [] [] (e ∷ es) i c a h = absurd h
+  all_pass agrees rs [] (v ∷ vs) es i c a h = absurd (omega (arith, c))
+  all_pass agrees rs (t ∷ ts) [] es i c a h = absurd (omega (arith, c))
+  all_pass agrees rs (t ∷ ts) (v ∷ vs) [] i c a h = absurd h

@@ -1,31 +1,30 @@
 -- A function that is in order runs safely, whoever calls it.
-use Rattle.std.proofs.Common.{◌≡◌, ℕ, ◌+◌, Bool, true, Some, List, [], refl, sym, ◌∙◌, ap, subst, arith}
+use Rattle.std.proofs.Common.{◌≡◌, ℕ, ◌+◌, Bool, true, Option, Some, List, [], refl, sym, ◌∙◌, ap, subst, arith}
 use Rattle.std.specs.Prelude.{if◌then◌else◌}
 use Rattle.std.proofs.lemmas.Bool.{eq-eqb}
 use Rattle.std.proofs.lemmas.Option.{same_Some}
 use Rattle.source_meaning.specs.Memory.{Region, Frame, Memory}
-use Rattle.source_meaning.specs.Steps.{World, Scope}
+use Rattle.source_meaning.specs.Steps.{Entity, World, Scope}
 use Rattle.source_meaning.specs.Places.{bound_to}
 use Rattle.source_typing.specs.Regions.{Regions, TheHeap, Level, with_scope}
 use Rattle.source_typing.specs.Scope.{with_locals, meant, block_entered}
 use Rattle.source_typing.specs.Tables as typing
-use Rattle.source_typing.specs.Tables.{OfValue, OfFunction, Stored, Signature, find}
+use Rattle.source_typing.specs.Tables.{What, OfValue, OfFunction, Stored, Arrayed, Counter, Unknown, Signature, find}
 use Rattle.source_typing.specs.Types.{StaticType, renamed}
-use Rattle.source_safety.specs.Flat.{Tables, flat}
+use Rattle.source_safety.specs.Flat.{Tables}
 pub use Rattle.source_safety.specs.Programs.{FunctionJudged}
-use Rattle.source_safety.proofs.Invariant.{RunType, heap, Ghost, Laid, Inv}
-use Rattle.source_safety.proofs.Values.{laid_kept}
+use Rattle.source_safety.proofs.Invariant.{heap, Ghost, Inv}
 use Rattle.source_safety.proofs.Scopes.{block_ghost, block_memory, frame_births}
 use Rattle.source_safety.proofs.Layouts.{Structs}
 use Rattle.source_safety.proofs.Names.{NameOf, Below, NamesOk, naming, names_scope, names_entered}
-use Rattle.source_safety.proofs.Scenes.{TypeBelow, Alike, renamed_alike, Bound, bound_alike, Globals, Scene}
-use Rattle.source_safety.proofs.Entries.{Function, run_type, Enters}
+use Rattle.source_safety.proofs.Scenes.{TypeBelow, Alike, renamed_alike, BoundAs, LivesAs, bound_as_alike, laid_as_later, laid_as_kept, Globals, Scene}
+use Rattle.source_safety.proofs.Entries.{Function, Enters}
 use Rattle.source_safety.proofs.Surroundings.{ResultIs, Surrounds, below_zero, type_up, type_zero, naming_alike, naming_itself}
 
 -- What holds of the program: its structs are known, its globals lie in the heap, and its functions are in order.
 pub record Sources (d : Tables) (world : World) (tables : typing.Tables) : Type 0 where
   pub structs : Structs d world tables
-  pub globals : (x : List ℕ) (t : StaticType) (r : NameOf) → find tables x ≡ Some (OfValue (Stored t r)) → Bound 0 (λ a. heap) (bound_to world.globals x) t r
+  pub globals : (x : List ℕ) (v : What) → find tables x ≡ Some (OfValue v) → BoundAs 0 (λ a. heap) (bound_to world.globals x) v
   pub functions : (x : List ℕ) (s : Signature) (F : Function world x s) → find tables x ≡ Some (OfFunction s) → FunctionJudged world tables x s F
 
 module _ (d : Tables) (world : World) (tables : typing.Tables) (sources : Sources d world tables) (x : List ℕ) (s : Signature) (F : Function world x s)
@@ -59,6 +58,16 @@ module _ (d : Tables) (world : World) (tables : typing.Tables) (sources : Source
     heap_live : judged.outside.regions.live TheHeap ≡ true
     heap_live = ap (λ (r : Regions). r.live TheHeap) judged.regions
 
+    -- the globals lie in the heap, which is live
+    heap_lives : (r : NameOf) → Below 0 r → (with_scope judged.outside.regions).live r ≡ true
+    heap_lives r l = subst (λ (q : NameOf). (with_scope judged.outside.regions).live q ≡ true) (sym (heap_alone r l)) heap_live
+
+    global_lives : (e : Option Entity) (v : What) → BoundAs 0 (λ c. heap) e v → LivesAs (with_scope judged.outside.regions).live v
+    global_lives e (Stored t r) p = heap_lives r p.within
+    global_lives e (Arrayed t r) p = heap_lives r p.1.within
+    global_lives e Counter p = tt
+    global_lives e Unknown p = tt
+
     result_is : (t : StaticType) → F.gives ≡ t → ResultIs (block_entered judged.outside) entry_scope entry_names (renamed h F.gives) t
     result_is t e = subst (λ (u : StaticType). ResultIs (block_entered judged.outside) entry_scope entry_names (renamed h F.gives) u) e (record {
       shape = F.shape;
@@ -72,12 +81,11 @@ module _ (d : Tables) (world : World) (tables : typing.Tables) (sources : Source
       world_is = refl;
       structs = sources.structs;
       binds = record {
-        variables = λ y u r e.
-            bound_alike 0 (judged.outside.regions.count + 1) (λ c. heap) entry_names (bound_to world.globals y) u r (below_zero (judged.outside.regions.count + 1))
-            (type_zero (judged.outside.regions.count + 1)) heap_alike (sources.globals y u r (sym (means y) ∙ e));
-        live = λ y u r e.
-            subst (λ (q : NameOf). (with_scope judged.outside.regions).live q ≡ true) (sym (heap_alone r (sources.globals y u r (sym (means y) ∙ e)).within)) heap_live;
-        globals = λ y u r e. sources.globals y u r (subst (λ (t : typing.Tables). find t y ≡ Some (OfValue (Stored u r))) judged.tables_are e);
+        variables = λ y u e.
+            bound_as_alike 0 (judged.outside.regions.count + 1) (λ c. heap) entry_names (bound_to world.globals y) u
+            (below_zero (judged.outside.regions.count + 1)) (type_zero (judged.outside.regions.count + 1)) heap_alike (sources.globals y u (sym (means y) ∙ e));
+        live = λ y u e. global_lives (bound_to world.globals y) u (sources.globals y u (sym (means y) ∙ e));
+        globals = λ y u e. sources.globals y u (subst (λ (t : typing.Tables). find t y ≡ Some (OfValue u)) judged.tables_are e);
       };
       plain = λ y e z. sources.structs.plain y e (sym (means y) ∙ z);
       functions = λ y c z. ap (λ (t : typing.Tables). find t y) judged.tables_are ∙ (sym (means y) ∙ z);
@@ -99,13 +107,10 @@ scene_entry d world tables sources x s F judged h k w m i globals enters = recor
       (subst (λ (r : Regions). NamesOk r h k w m) (sym judged.regions)
       (names_entered d h k w m i enters.heap_is enters.known s.regions s.effect s.bounds judged.effect_below judged.bounds_below enters.effect enters.bounds));
   base = omega arith;
-  variables = λ y u r at e q.
-      let there : find tables y ≡ Some (OfValue (Stored u r)) = sym (means d world tables sources x s F judged h enters.heap_is m.activations y) ∙ e in
-      let same : renamed (naming h judged.outside.regions.count (Frame m.activations)) u ≡ run_type u =
-      renamed_alike 0 (λ c. heap) (naming h judged.outside.regions.count (Frame m.activations)) u
-      (heap_alike d world tables sources x s F judged h enters.heap_is m.activations) (sources.globals y u r there).below in
-      subst (λ (t : RunType). Laid (block_ghost w m) at (flat heap d t)) (sym same)
-      (laid_kept w (block_ghost w m) at (flat heap d (run_type u)) (λ p v l. l) (globals y u r at there q));
-  globals = λ y u r at e q. laid_kept w (block_ghost w m) at (flat heap d (renamed (λ c. heap) u)) (λ p v l. l)
-      (globals y u r at (subst (λ (t : typing.Tables). find t y ≡ Some (OfValue (Stored u r))) judged.tables_are e) q);
+  variables = λ y u e.
+      let there : find tables y ≡ Some (OfValue u) = sym (means d world tables sources x s F judged h enters.heap_is m.activations y) ∙ e in
+      laid_as_later 0 d (λ c. heap) (naming h judged.outside.regions.count (Frame m.activations)) w (block_ghost w m) (bound_to world.globals y) u
+      (heap_alike d world tables sources x s F judged h enters.heap_is m.activations) (sources.globals y u there) (λ p t l. l) (globals y u there);
+  globals = λ y u e. laid_as_kept d (λ c. heap) w (block_ghost w m) (bound_to world.globals y) u (λ p t l. l)
+      (globals y u (subst (λ (t : typing.Tables). find t y ≡ Some (OfValue u)) judged.tables_are e));
 }

@@ -5,11 +5,12 @@ use Rattle.std.proofs.lemmas.Bool.{cases_Bool, false≢true}
 use Rattle.std.proofs.lemmas.Slice.Eq.{bytes_eq-Decides}
 use Rattle.cyc_tree.specs.Tree as tree
 use Rattle.cyc_tree.specs.Tree.{Constant, Initial, Item}
-use Rattle.source_meaning.specs.Shapes.{Shared, Shape, IntShape, UnsignedShape, CharShape, ThinShape, StructShape}
+use Rattle.source_meaning.specs.Shapes.{Shared, Shape, IntShape, UnsignedShape, CharShape, ThinShape, FatShape, StructShape}
 use Rattle.source_meaning.specs.Steps.{World}
 use Rattle.source_typing.specs.Regions.{Region}
 use Rattle.source_typing.specs.Tables as typing
-use Rattle.source_typing.specs.Tables.{Entry, OfValue, OfTag, OfFunction, OfBuiltin, OfOther, Stored, Arrayed, Counter, Unknown, find, each_part, parts_in, begins}
+use Rattle.source_typing.specs.Tables.{What, Entry, OfValue, OfTag, OfFunction, OfBuiltin, OfOther, Stored, Arrayed, Counter, Unknown, find, each_part}
+use Rattle.source_typing.specs.Tables.{parts_in, begins}
 use Rattle.source_typing.specs.Types.{StaticType, Int, Unsigned, Char, Void, Null, Thin, Fat, Unique, Handle, Key, Struct, Union, shape_of}
 use Rattle.source_safety.specs.Entries.{IsObjectType, PlainTables}
 use Rattle.source_safety.specs.Programs.{IsNumber, IsNullConstant, IsFirst, InitialJudged, GlobalJudged, GlobalsJudged}
@@ -26,6 +27,10 @@ thins_shaped false false r q t u (inl e) = inl (ap (ThinShape false Shared) e)
 thins_shaped true false r q t u h = inr (λ z. cc)
 thins_shaped false true r q t u h = inr (λ z. cc)
 thins_shaped n m r q t u (inr k) = inr (λ z. k (let y : shape_of t ≡ shape_of u = cc in y))
+
+fats_shaped : (r q : Region) (t u : StaticType) → SameShape t u → SameShape (Fat r t) (Fat q u)
+fats_shaped r q t u (inl e) = inl (ap FatShape e)
+fats_shaped r q t u (inr k) = inr (λ z. k (let y : shape_of t ≡ shape_of u = cc in y))
 
 objects_shaped : (t u : StaticType) → IsObjectType t → IsObjectType u → SameShape t u
 objects_shaped Int Int e h = inl refl
@@ -47,7 +52,8 @@ objects_shaped (Struct x rs) (Struct y qs) e h = elim (cases_Bool (bytes_eq x y)
 objects_shaped (Struct x rs) u e h = inr (λ z. cc)
 objects_shaped Void u e h = absurd e
 objects_shaped Null u e h = absurd e
-objects_shaped (Fat r t) u e h = absurd e
+objects_shaped (Fat r t) (Fat q u) e h = fats_shaped r q t u (objects_shaped t u e h)
+objects_shaped (Fat r t) u e h = inr (λ z. cc)
 objects_shaped (Unique n t) u e h = absurd e
 objects_shaped (Key r) u e h = absurd e
 objects_shaped (Union x rs) u e h = absurd e
@@ -59,6 +65,7 @@ begins_by n g IntShape = true
 begins_by n g UnsignedShape = true
 begins_by n g CharShape = true
 begins_by n g (ThinShape b owner to) = b
+begins_by n g (FatShape to) = true
 begins_by zero g (StructShape tag) = true
 begins_by (suc n) g (StructShape tag) = each_part (begins n g) (parts_in g tag)
 begins_by n g s = false
@@ -70,7 +77,7 @@ begins_shaped n g Char e = refl
 begins_shaped n g Void e = absurd e
 begins_shaped n g Null e = absurd e
 begins_shaped n g (Thin b r t) e = refl
-begins_shaped n g (Fat r t) e = absurd e
+begins_shaped n g (Fat r t) e = refl
 begins_shaped n g (Unique b t) e = absurd e
 begins_shaped n g (Handle r) e = refl
 begins_shaped n g (Key r) e = absurd e
@@ -83,6 +90,7 @@ FirstBy IntShape c = IsNumber c
 FirstBy UnsignedShape c = IsNumber c
 FirstBy CharShape c = IsNumber c
 FirstBy (ThinShape b owner to) c = IsNullConstant c
+FirstBy (FatShape to) c = IsNullConstant c
 FirstBy s c = ⊥
 
 to_shape : (t : StaticType) (c : Constant) → IsObjectType t → IsFirst t c → FirstBy (shape_of t) c
@@ -92,7 +100,7 @@ to_shape Char c e h = h
 to_shape Void c e h = absurd e
 to_shape Null c e h = absurd e
 to_shape (Thin b r t) c e h = h
-to_shape (Fat r t) c e h = absurd e
+to_shape (Fat r t) c e h = h
 to_shape (Unique b t) c e h = absurd e
 to_shape (Handle r) c e h = h
 to_shape (Key r) c e h = absurd e
@@ -106,7 +114,7 @@ from_shape Char c e h = h
 from_shape Void c e h = absurd e
 from_shape Null c e h = absurd e
 from_shape (Thin b r t) c e h = h
-from_shape (Fat r t) c e h = absurd e
+from_shape (Fat r t) c e h = h
 from_shape (Unique b t) c e h = absurd e
 from_shape (Handle r) c e h = h
 from_shape (Key r) c e h = absurd e
@@ -120,10 +128,18 @@ initial_shaped t u (Initial.Given c) e h z j = from_shape t c e (subst (λ (s : 
 
 -- ---- globals
 
+-- the type of a variable, or of an array's elements
+abbrev pub held_type : What → Option StaticType
+held_type (Stored t r) = Some t
+held_type (Arrayed t r) = Some t
+held_type Counter = None
+held_type Unknown = None
+
 -- a global whose type is the one that the tables have, if that has its shape
 pub record GlobalTyped (tables : typing.Tables) (x : tree.Global) : Type 0 where
   pub judged : GlobalJudged tables x
-  pub same : (t : StaticType) (r : Region) → find tables x.name.text ≡ Some (OfValue (Stored t r)) → shape_of t ≡ shape_of judged.type → t ≡ judged.type
+  pub same : (v : What) (t : StaticType) → find tables x.name.text ≡ Some (OfValue v) → held_type v ≡ Some t → shape_of t ≡ shape_of judged.type
+      → t ≡ judged.type
 
 abbrev pub GlobalsTyped : typing.Tables → List Item → Type 0
 GlobalsTyped tables [] = Unit {0}
@@ -135,11 +151,15 @@ GlobalsTyped tables (tree.FunctionItem f ∷ items) = GlobalsTyped tables items
 global_typed : (world : World) (tables : typing.Tables) (x : tree.Global) → PlainTables world tables → GlobalJudged tables x → GlobalTyped tables x
 global_typed world tables x plain j = by (find tables x.name.text) refl
   where
-    one_type : (t u : StaticType) (r q : Region) → find tables x.name.text ≡ Some (OfValue (Stored t r)) → find tables x.name.text ≡ Some (OfValue (Stored u q)) → t ≡ u
-    one_type t u r q e h = let z : Some (OfValue (Stored t r)) ≡ Some (OfValue (Stored u q)) = sym e ∙ h in cc
+    one_type : (u v : What) (t q : StaticType) → u ≡ v → held_type u ≡ Some t → held_type v ≡ Some q → q ≡ t
+    one_type u v t q e h k = let z : held_type u ≡ held_type v = ap held_type e in cc
 
-    as_listed : (t : StaticType) (r : Region) → find tables x.name.text ≡ Some (OfValue (Stored t r)) → IsObjectType t → SameShape t j.type → GlobalTyped tables x
-    as_listed t r e o (inl z) = record {
+    same_value : (u v : What) → find tables x.name.text ≡ Some (OfValue u) → find tables x.name.text ≡ Some (OfValue v) → u ≡ v
+    same_value u v e h = let z : Some (OfValue u) ≡ Some (OfValue v) = sym e ∙ h in cc
+
+    as_listed : (v : What) (t : StaticType) → find tables x.name.text ≡ Some (OfValue v) → held_type v ≡ Some t → IsObjectType t → SameShape t j.type
+        → GlobalTyped tables x
+    as_listed v t e h o (inl z) = record {
       judged = record {
         type = t;
         object = o;
@@ -147,21 +167,35 @@ global_typed world tables x plain j = by (find tables x.name.text) refl
         shape = j.shape ∙ sym z;
         initial = initial_shaped t j.type x.initial o j.object z j.initial;
       };
-      same = λ u q h k. one_type u t q r h e;
+      same = λ u q p k y. one_type v u t q (same_value v u e p) h k;
     }
-    as_listed t r e o (inr n) = record { judged = j; same = λ u q h k. absurd (n (ap shape_of (one_type t u r q e h) ∙ k)) }
+    as_listed v t e h o (inr n) = record {
+      judged = j;
+      same = λ u q p k y. absurd (n (ap shape_of (sym (one_type v u t q (same_value v u e p) h k)) ∙ y));
+    }
+
+    -- what has no such type
+    no_type : (v : What) → held_type v ≡ None → find tables x.name.text ≡ Some (OfValue v) → GlobalTyped tables x
+    no_type v n e = record {
+      judged = j;
+      same = λ u q p k y. absurd (let z : held_type v ≡ held_type u = ap held_type (same_value v u e p) in cc);
+    }
+
+    no_value : (o : Option Entry) → find tables x.name.text ≡ o → ((v : What) → o ≡ Some (OfValue v) → ⊥) → GlobalTyped tables x
+    no_value o e n = record { judged = j; same = λ u q p k y. absurd (n u (sym e ∙ p)) }
 
     by : (o : Option Entry) → find tables x.name.text ≡ o → GlobalTyped tables x
     by (Some (OfValue (Stored t r))) e =
-        let o : IsObjectType t = plain x.name.text (OfValue (Stored t r)) e in as_listed t r e o (objects_shaped t j.type o j.object)
-    by None e = record { judged = j; same = λ u q h k. absurd cc }
-    by (Some (OfValue (Arrayed t r))) e = record { judged = j; same = λ u q h k. absurd cc }
-    by (Some (OfValue Counter)) e = record { judged = j; same = λ u q h k. absurd cc }
-    by (Some (OfValue Unknown)) e = record { judged = j; same = λ u q h k. absurd cc }
-    by (Some (OfTag t)) e = record { judged = j; same = λ u q h k. absurd cc }
-    by (Some (OfFunction s)) e = record { judged = j; same = λ u q h k. absurd cc }
-    by (Some (OfBuiltin n)) e = record { judged = j; same = λ u q h k. absurd cc }
-    by (Some OfOther) e = record { judged = j; same = λ u q h k. absurd cc }
+        let o : IsObjectType t = plain x.name.text (OfValue (Stored t r)) e in as_listed (Stored t r) t e refl o (objects_shaped t j.type o j.object)
+    by (Some (OfValue (Arrayed t r))) e =
+        let o : IsObjectType t = plain x.name.text (OfValue (Arrayed t r)) e in as_listed (Arrayed t r) t e refl o (objects_shaped t j.type o j.object)
+    by (Some (OfValue Counter)) e = no_type Counter refl e
+    by (Some (OfValue Unknown)) e = no_type Unknown refl e
+    by None e = no_value None e (λ v q. cc)
+    by (Some (OfTag t)) e = no_value (Some (OfTag t)) e (λ v q. cc)
+    by (Some (OfFunction s)) e = no_value (Some (OfFunction s)) e (λ v q. cc)
+    by (Some (OfBuiltin n)) e = no_value (Some (OfBuiltin n)) e (λ v q. cc)
+    by (Some OfOther) e = no_value (Some OfOther) e (λ v q. cc)
 
 pub globals_typed : (world : World) (tables : typing.Tables) (items : List Item) → PlainTables world tables → GlobalsJudged tables items → GlobalsTyped tables items
 globals_typed world tables [] plain h = tt

@@ -50,6 +50,10 @@ abbrev pub Laid : Ghost → Spot → List RunType → Type 0
 Laid w s [] = Unit {0}
 Laid w s (t ∷ ts) = (w.types s ≡ Some (Reached t)) × Laid w (beyond s 1) ts
 
+-- the cells of so many elements, one after another
+abbrev pub AllLaid : Ghost → Spot → ℕ → List RunType → Type 0
+AllLaid w s count ts = (i : ℕ) → i < count → Laid w (beyond s (i * length ts)) ts
+
 -- where a pointer points: all cells of its type are there, and their region outlives the pointer's
 pub record Reaches (d : Tables) (w : Ghost) (at : Spot) (r : Region) (t : RunType) : Type 0 where
   pub typed : Laid w at (flat heap d t)

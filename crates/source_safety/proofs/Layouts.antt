@@ -6,7 +6,7 @@ use Rattle.std.proofs.lemmas.List.{map-append}
 use Rattle.std.proofs.lemmas.Slice.Eq.{bytes_eq-Decides}
 use Rattle.source_meaning.specs.Shapes as shapes
 use Rattle.source_meaning.specs.Shapes.{Shape, Layout, has_tag, parts_of}
-use Rattle.source_meaning.specs.Sizes.{cells_by, all_cells, struct_cells}
+use Rattle.source_meaning.specs.Sizes.{repeated, cells_by, all_cells, struct_cells}
 use Rattle.source_meaning.specs.Memory as memory
 use Rattle.source_meaning.specs.Memory.{Region, Scalar, Integer, AsInt, AsUnsigned, AsChar, Holds, first_content}
 use Rattle.source_meaning.specs.Steps.{World}
@@ -207,7 +207,7 @@ copied_member ds each f Char e = (refl, tt)
 copied_member ds each f Void e = absurd e
 copied_member ds each f Null e = absurd e
 copied_member ds each f (Thin n r t) e = (refl, tt)
-copied_member ds each f (Fat r t) e = absurd e
+copied_member ds each f (Fat r t) e = (refl, tt)
 copied_member ds each f (Unique n t) e = absurd e
 copied_member ds each f (Handle r) e = (refl, tt)
 copied_member ds each f (Key r) e = absurd e
@@ -250,6 +250,11 @@ both_begin : (xs ys : List RunType) → AllBegin xs → AllBegin ys → AllBegin
 both_begin [] ys h k = k
 both_begin (x ∷ xs) ys h k = (h.0, both_begin xs ys h.1 k)
 
+-- each element of an array begins as its type does
+pub all_begin : (n : ℕ) (xs : List RunType) → AllBegin xs → AllBegin (repeated n xs)
+all_begin zero xs h = tt
+all_begin (suc n) xs h = both_begin xs (repeated n xs) h (all_begin n xs h)
+
 pointer_begins : (c : Bool) (r : Region) (t : RunType) → c ≡ true → BeginsWith (Thin c r t)
 pointer_begins true r t e =
     record { value = memory.Thin None; first = refl; typed = λ d w by. inl (record { allowed = refl; is = refl }) }
@@ -273,7 +278,7 @@ module _ (tables : typing.Tables) where
   type_begins ds each n f Void o l e = absurd o
   type_begins ds each n f Null o l e = absurd o
   type_begins ds each n f (Thin c r t) o l e = (pointer_begins c (f r) (renamed f t) e, tt)
-  type_begins ds each n f (Fat r t) o l e = absurd o
+  type_begins ds each n f (Fat r t) o l e = (record { value = memory.Wide None; first = refl; typed = λ d w by. inl refl }, tt)
   type_begins ds each n f (Unique c t) o l e = absurd o
   type_begins ds each n f (Handle r) o l e = absurd (false≢true e)
   type_begins ds each n f (Key r) o l e = absurd o

@@ -1,24 +1,22 @@
 -- A lexical region comes into scope: its name stands for the region that was born, and what was in scope stays as it was.
-use Rattle.std.proofs.Common.{◌≡◌, ℕ, ◌+◌, true, List, refl, sym, ◌∙◌, subst}
+use Rattle.std.proofs.Common.{◌≡◌, ℕ, ◌+◌, true, List, refl, ◌∙◌}
 use Rattle.std.specs.Prelude.{is_some}
 use Rattle.cyc_tree.specs.Tree as tree
 use Rattle.source_meaning.specs.Memory.{Region, Born, Memory}
 use Rattle.source_meaning.specs.Steps.{World, Scope}
-use Rattle.source_meaning.specs.Places.{entity_of}
+use Rattle.source_meaning.specs.Places.{bound_to, entity_of}
 use Rattle.source_typing.specs.Declarations.{name_added, with_region}
 use Rattle.source_typing.specs.Regions.{Level, same_id, with_scope}
 use Rattle.source_typing.specs.Scope.{Env, next_region}
 use Rattle.source_typing.specs.Tables as typing
-use Rattle.source_typing.specs.Types.{renamed}
 use Rattle.source_typing.specs.Written.{RegionNamed, find_region}
-use Rattle.source_safety.specs.Flat.{Tables, flat}
+use Rattle.source_safety.specs.Flat.{Tables}
 use Rattle.source_safety.proofs.Facts.{if_cases}
-use Rattle.source_safety.proofs.Invariant.{RunType, heap, Ghost, Laid, Inv}
-use Rattle.source_safety.proofs.Values.{laid_kept}
+use Rattle.source_safety.proofs.Invariant.{RunType, heap, Ghost, Inv}
 use Rattle.source_safety.proofs.Scopes.{region_ghost, region_memory, born_births}
 use Rattle.source_safety.proofs.Names.{NameOf, below_up, naming, names_scope}
-use Rattle.source_safety.proofs.Scenes.{renamed_alike, bound_alike, Scene}
-use Rattle.source_safety.proofs.Surroundings.{ResultIs, Surrounds, type_up, naming_alike}
+use Rattle.source_safety.proofs.Scenes.{renamed_alike, bound_as_alike, lives_more, laid_as_later, laid_as_kept, Scene}
+use Rattle.source_safety.proofs.Surroundings.{ResultIs, Surrounds, type_up, naming_alike, lives_in_scope}
 
 -- a scope with one more region, and these names
 abbrev pub lexical : Env → List RegionNamed → Env
@@ -42,10 +40,10 @@ surrounds_region d world tables g scope f gives names a h = record {
   world_is = h.world_is;
   structs = h.structs;
   binds = record {
-    variables = λ y u r e.
-        bound_alike g.regions.count (g.regions.count + 1) f (naming f g.regions.count (Born a)) (entity_of scope y) u r (below_up g.regions.count)
-        (type_up g.regions.count) (naming_alike f g.regions.count (Born a)) (h.binds.variables y u r e);
-    live = λ y u r e. if_cases (same_id r (Level g.regions.count)) true (g.regions.live r) (λ z. z ≡ true) (λ z. refl) (λ z. h.binds.live y u r e);
+    variables = λ y u e.
+        bound_as_alike g.regions.count (g.regions.count + 1) f (naming f g.regions.count (Born a)) (entity_of scope y) u (below_up g.regions.count)
+        (type_up g.regions.count) (naming_alike f g.regions.count (Born a)) (h.binds.variables y u e);
+    live = λ y u e. lives_more g.regions.live (with_scope g.regions).live u (lives_in_scope g.regions) (h.binds.live y u e);
     globals = h.binds.globals;
   };
   plain = h.plain;
@@ -69,9 +67,7 @@ pub scene_region : (d : Tables) (world : World) (tables : typing.Tables) (g : En
 scene_region d world tables g scope f gives names b k w m h i z = record {
   names = names_scope d g.regions f k w m m.activations (m.births + 1) (Born m.births) i (born_births d w m i) z.names;
   base = z.base;
-  variables = λ y u r s e q.
-      subst (λ (t : RunType). Laid (region_ghost w m) s (flat heap d t))
-      (sym (renamed_alike g.regions.count f (naming f g.regions.count (Born m.births)) u (naming_alike f g.regions.count (Born m.births)) (h.binds.variables y u r e).below))
-      (laid_kept w (region_ghost w m) s (flat heap d (renamed f u)) (λ p v l. l) (z.variables y u r s e q));
-  globals = λ y u r s e q. laid_kept w (region_ghost w m) s (flat heap d (renamed (λ a. heap) u)) (λ p v l. l) (z.globals y u r s e q);
+  variables = λ y u e. laid_as_later g.regions.count d f (naming f g.regions.count (Born m.births)) w (region_ghost w m) (entity_of scope y) u
+      (naming_alike f g.regions.count (Born m.births)) (h.binds.variables y u e) (λ p t l. l) (z.variables y u e);
+  globals = λ y u e. laid_as_kept d (λ a. heap) w (region_ghost w m) (bound_to scope.world.globals y) u (λ p t l. l) (z.globals y u e);
 }

@@ -7,6 +7,7 @@ pub mod Growth
 pub mod Runs
 pub mod After
 pub mod Cells
+pub mod Rows
 pub mod Objects
 pub mod Scopes
 pub mod Names
@@ -17,9 +18,11 @@ pub mod Layouts
 pub mod Places
 pub mod Integers
 pub mod Words
+pub mod Elements
 pub mod Converting
 pub mod Pointers
 pub mod Operands
+pub mod Spans
 pub mod Storing
 pub mod Calling
 pub mod Members
@@ -27,6 +30,7 @@ pub mod Fixed
 pub mod Entries
 pub mod WordRules
 pub mod Forms
+pub mod FatForms
 pub mod StructForms
 pub mod Makings
 pub mod CallForms
@@ -46,3 +50,4 @@ pub mod Started
 pub mod Never
 pub mod Same
 pub mod Sample
+pub mod ArraySample

@@ -1,7 +1,6 @@
 -- Members of structs are places, and structs are made of their members' values.
 use Rattle.std.proofs.Common.{◌≡◌, ℕ, zero, suc, ◌+◌, Bool, true, false, Option, Some, None, List, [], ◌∷◌, ◌++◌, refl, sym, ◌∙◌, ap, subst, arith}
 use Rattle.std.specs.Prelude.{map, length, slice_get, bytes_eq, if◌then◌else◌}
-use Rattle.std.proofs.lemmas.List.{length-map}
 use Rattle.source_meaning.specs.Shapes as shapes
 use Rattle.source_meaning.specs.Shapes.{Shape, has_tag, parts_of, part_shape, part_shapes}
 use Rattle.source_meaning.specs.Sizes.{cells_before}
@@ -25,6 +24,8 @@ use Rattle.source_safety.proofs.Arguments.{Agrees, Flown}
 use Rattle.source_safety.proofs.Names.{NameOf}
 use Rattle.source_safety.proofs.Scenes.{Scene, scene_later}
 use Rattle.source_safety.proofs.Sound.{PlaceOk, Gives, Finds}
+use Rattle.source_safety.proofs.Rows.{laid_first, laid_rest}
+use Rattle.source_safety.proofs.Elements.{cells_counted}
 use Rattle.source_safety.proofs.Layouts.{member_types, member_object, members_typed, members_at, struct_is, all_copied, Structs, agrees}
 use Rattle.source_safety.proofs.Words.{object_twice, values_copied, grown_itself}
 use Rattle.source_safety.proofs.Calling.{Passes}
@@ -78,17 +79,6 @@ pub members_objects : (ds : List Declared) (ts : List StaticType) → AreMemberT
 members_objects ds [] h = tt
 members_objects ds (t ∷ ts) h = (member_object ds t h.0, members_objects ds ts h.1)
 
--- ---- cells in a row
-
-laid_first : (w : Ghost) (s : Spot) (xs ys : List RunType) → Laid w s (xs ++ ys) → Laid w s xs
-laid_first w s [] ys h = tt
-laid_first w s (x ∷ xs) ys h = (h.0, laid_first w (beyond s 1) xs ys h.1)
-
-laid_rest : (w : Ghost) (s : Spot) (xs ys : List RunType) → Laid w s (xs ++ ys) → Laid w (beyond s (length xs)) ys
-laid_rest w s [] ys h = subst (λ (x : Spot). Laid w x ys) (sym (not_further s)) h
-laid_rest w s (x ∷ xs) ys h =
-    subst (λ (z : Spot). Laid w z ys) (further s 1 (length xs) (length (x ∷ xs)) (omega arith)) (laid_rest w (beyond s 1) xs ys h.1)
-
 -- ---- a member among the members
 
 -- the type of a member that is found is one of those of the struct
@@ -135,9 +125,7 @@ member_laid d world f w same s (p ∷ ps) (q ∷ qs) (t ∷ ts) x part u h e z l
     others = flat_all (flat heap d) (map (renamed f) ts)
 
     count : length (cells_of world q.shape) ≡ length first
-    count =
-        ap (λ (y : Shape). length (cells_of world y)) (h.2 ∙ sym (Rattle.source_safety.proofs.Sound.shape_renamed f t))
-        ∙ (ap length (same (renamed f t)) ∙ length-map first shape_of)
+    count = ap (λ (y : Shape). length (cells_of world y)) h.2 ∙ cells_counted d world f t same
 
     by : (b c : Bool) → b ≡ c → (if b then Some p else part_in ps x) ≡ Some part
         → (part_in ps x ≡ Some part → Laid w (beyond (beyond s (length first)) (cells_before (cells_of world) qs x)) (flat heap d (renamed f u)))

@@ -1,30 +1,31 @@
 -- A program that is in order is never stuck, on any input, with any fuel.
-use Rattle.std.proofs.Common.{◌≡◌, ℕ, zero, suc, ◌+◌, Bool, true, false, inl, Option, Some, List, [], ◌∷◌, refl, sym, ◌∙◌, ap, subst, arith}
+use Rattle.std.proofs.Common.{◌≡◌, ℕ, zero, suc, ◌+◌, Bool, true, false, inl, Option, Some, None, List, [], ◌∷◌, refl, sym, ◌∙◌, ap, subst, arith}
 use Rattle.std.specs.Prelude.{map, ◌++◌, slice_get, option_and_then, codes, bytes_eq, if◌then◌else◌}
-use Rattle.std.proofs.lemmas.Option.{slice_get_within}
+use Rattle.std.proofs.lemmas.Bool.{false≢true}
+use Rattle.std.proofs.lemmas.Option.{slice_get_within, same_Some}
 use Rattle.cyc_tree.specs.Tree as tree
-use Rattle.cyc_tree.specs.Tree.{Item, Program}
+use Rattle.cyc_tree.specs.Tree.{Initial, Item, Program}
 use Rattle.cyc_words.specs.Events.{SourceEnding}
-use Rattle.source_meaning.specs.Shapes.{settled, written}
+use Rattle.source_meaning.specs.Shapes.{Shape, ArrayShape, settled, written}
 use Rattle.source_meaning.specs.Memory.{Spot, Scalar, Object, Memory}
 use Rattle.source_meaning.specs.Steps.{Variable, Binding, World, Routine, Stops, ◌>>=◌, need}
 use Rattle.source_meaning.specs.Conversions.{one, integer}
 use Rattle.source_meaning.specs.Places.{bound_to}
 use Rattle.source_meaning.specs.Calls.{function_of}
 use Rattle.source_meaning.specs.Strings.{program_strings}
-use Rattle.source_meaning.specs.Programs.{heap_spot, heap_alone, global_object, global_objects, string_object, world_of, entered, start, source}
+use Rattle.source_meaning.specs.Programs.{heap_spot, heap_alone, global_shape, global_object, global_objects, string_object, world_of, entered, start, source}
 use Rattle.source_typing.specs.Tables as typing
-use Rattle.source_typing.specs.Tables.{OfValue, Stored, Signature, find}
-use Rattle.source_typing.specs.Types.{Int, StaticType, shape_of}
+use Rattle.source_typing.specs.Tables.{What, OfValue, Stored, Arrayed, Counter, Unknown, Signature, find}
+use Rattle.source_typing.specs.Types.{Int, Unsigned, Char, Void, Null, Thin, Fat, Unique, Handle, Key, Struct, Union, StaticType, shape_of}
 use Rattle.source_safety.specs.Flat.{Tables, flat}
-pub use Rattle.source_safety.specs.Programs.{GlobalFound, MainFound, ProgramJudged}
-use Rattle.source_safety.proofs.Invariant.{heap, Ghost, Laid, HaveTypes, Inv}
+pub use Rattle.source_safety.specs.Programs.{GlobalFound, ArrayFound, MainFound, ProgramJudged}
+use Rattle.source_safety.proofs.Invariant.{heap, Ghost, Laid, AllLaid, HaveTypes, Inv}
 use Rattle.source_safety.proofs.Runs.{Safe, Runs, not_stuck}
 use Rattle.source_safety.proofs.After.{flying}
 use Rattle.source_safety.proofs.Layouts.{Structs}
-use Rattle.source_safety.proofs.Names.{NameOf, AllStand, AllOrdered}
+use Rattle.source_safety.proofs.Names.{NameOf, Below, AllStand, AllOrdered}
 use Rattle.source_safety.proofs.Births.{known_live}
-use Rattle.source_safety.proofs.Scenes.{Globals}
+use Rattle.source_safety.proofs.Scenes.{BoundAs, LaidAs, Globals}
 use Rattle.source_safety.proofs.Integers.{IsWord, word_of}
 use Rattle.source_safety.proofs.Entries.{run_type, Enters, Invokes}
 use Rattle.source_safety.proofs.Functions.{Sources}
@@ -32,7 +33,7 @@ use Rattle.source_safety.proofs.Entered.{runs_entered, all_fuel}
 use Rattle.source_safety.proofs.First.{first_ghost, first_inv}
 use Rattle.std.proofs.lemmas.Slice.Eq.{bytes_eq-Decides}
 use Rattle.source_safety.proofs.GlobalTypes.{globals_typed}
-use Rattle.source_safety.proofs.Started.{Ready, TypedEntity, EachTyped, runs_globals}
+use Rattle.source_safety.proofs.Started.{Ready, InitialLaid, TypedEntity, EachTyped, runs_globals}
 
 -- ---- the memory at the start
 
@@ -53,25 +54,82 @@ first_ready world (tree.FunctionItem f ∷ items) k os later h = first_ready wor
 
 -- ---- globals by their names
 
-laid_entity : (d : Tables) (tables : typing.Tables) (w : Ghost) (x : List ℕ) (t : StaticType) (r : NameOf) (at : Spot) (b : Binding) → TypedEntity d tables w b
-    → b.name ≡ x → find tables x ≡ Some (OfValue (Stored t r)) → b.entity ≡ Variable (shape_of t) at → Laid w at (flat heap d (run_type t))
-laid_entity d tables w x t r at b h name found q =
-    let both : Variable (shape_of h.type) h.at ≡ Variable (shape_of t) at = sym h.is ∙ q in
-    let shapes : shape_of h.type ≡ shape_of t = cc in
-    let spots : h.at ≡ at = cc in
-    let same : t ≡ h.type = h.same t r (ap (find tables) name ∙ found) (sym shapes) in
-    subst (λ (s : Spot). Laid w s (flat heap d (run_type t))) spots (subst (λ (u : StaticType). Laid w h.at (flat heap d (run_type u))) (sym same) h.laid)
+-- no type's shape is an array's
+abbrev is_array : Shape → Bool
+is_array (ArrayShape n s) = true
+is_array s = false
 
-laid_global : (d : Tables) (tables : typing.Tables) (w : Ghost) (bs : List Binding) (x : List ℕ) (t : StaticType) (r : NameOf) (at : Spot) → EachTyped d tables w bs
-    → find tables x ≡ Some (OfValue (Stored t r)) → bound_to bs x ≡ Some (Variable (shape_of t) at) → Laid w at (flat heap d (run_type t))
-laid_global d tables w [] x t r at h found e = absurd cc
-laid_global d tables w (b ∷ bs) x t r at h found e = by (bytes_eq b.name x) refl (λ q. laid_global d tables w bs x t r at h.1 found q) e
-  where
-    by : (c : Bool) → bytes_eq b.name x ≡ c → (bound_to bs x ≡ Some (Variable (shape_of t) at) → Laid w at (flat heap d (run_type t)))
-        → (if c then Some b.entity else bound_to bs x) ≡ Some (Variable (shape_of t) at) → Laid w at (flat heap d (run_type t))
-    by true z others q =
-        laid_entity d tables w x t r at b h.0 ((bytes_eq-Decides b.name x).0 z) found (let y : b.entity ≡ Variable (shape_of t) at = cc in y)
-    by false z others q = others q
+no_array : (t : StaticType) → is_array (shape_of t) ≡ false
+no_array Int = refl
+no_array Unsigned = refl
+no_array Char = refl
+no_array Void = refl
+no_array Null = refl
+no_array (Thin n r t) = refl
+no_array (Fat r t) = refl
+no_array (Unique n t) = refl
+no_array (Handle r) = refl
+no_array (Key r) = refl
+no_array (Struct tag rs) = refl
+no_array (Union tag rs) = refl
+
+apart : (t : StaticType) (n : ℕ) (s : Shape) → shape_of t ≡ ArrayShape n s → ⊥
+apart t n s e = false≢true (sym (no_array t) ∙ ap is_array e)
+
+module _ (d : Tables) (tables : typing.Tables) (w : Ghost) where
+  -- the type is that of the tables
+  laid_variable : (t u : StaticType) (at s : Spot) → (shape_of t ≡ shape_of u → t ≡ u) → Variable (shape_of u) s ≡ Variable (shape_of t) at
+      → Laid w s (flat heap d (run_type u)) → Laid w at (flat heap d (run_type t))
+  laid_variable t u at s same e h =
+      let shapes : shape_of u ≡ shape_of t = cc in
+      let spots : s ≡ at = cc in
+      subst (λ (y : Spot). Laid w y (flat heap d (run_type t))) spots
+      (subst (λ (y : StaticType). Laid w s (flat heap d (run_type y))) (sym (same (sym shapes))) h)
+
+  laid_array : (t u : StaticType) (n c : ℕ) (at s : Spot) → (shape_of t ≡ shape_of u → t ≡ u)
+      → Variable (ArrayShape c (shape_of u)) s ≡ Variable (ArrayShape n (shape_of t)) at
+      → AllLaid w s c (flat heap d (run_type u)) → AllLaid w at n (flat heap d (run_type t))
+  laid_array t u n c at s same e h =
+      let shapes : shape_of u ≡ shape_of t = cc in
+      let counts : c ≡ n = cc in
+      let spots : s ≡ at = cc in
+      subst (λ (y : Spot). AllLaid w y n (flat heap d (run_type t))) spots
+      (subst (λ (k : ℕ). AllLaid w s k (flat heap d (run_type t))) counts
+      (subst (λ (y : StaticType). AllLaid w s c (flat heap d (run_type y))) (sym (same (sym shapes))) h))
+
+  -- what a name is bound to has its cells, by the initializer of the global
+  laid_entity : (b : Binding) (h : TypedEntity d tables w b) (v : What) → find tables b.name ≡ Some (OfValue v) → LaidAs d (λ a. heap) w (Some b.entity) v
+  laid_entity b h (Stored t r) found = λ at q. by h.initial at (sym h.is ∙ same_Some b.entity (Variable (shape_of t) at) q) h.laid
+    where
+      by : (i : Initial) (at : Spot) → Variable (global_shape i (shape_of h.type)) h.at ≡ Variable (shape_of t) at → InitialLaid d w i h.type h.at
+          → Laid w at (flat heap d (run_type t))
+      by Initial.Unset at q laid = laid_variable t h.type at h.at (h.same (Stored t r) t found refl) q laid
+      by (Initial.Given c) at q laid = laid_variable t h.type at h.at (h.same (Stored t r) t found refl) q laid
+      by (Initial.Elements c) at q laid = absurd (apart t c (shape_of h.type) (let y : ArrayShape c (shape_of h.type) ≡ shape_of t = cc in sym y))
+  laid_entity b h (Arrayed t r) found = λ at n q. by h.initial at n (sym h.is ∙ same_Some b.entity (Variable (ArrayShape n (shape_of t)) at) q) h.laid
+    where
+      by : (i : Initial) (at : Spot) (n : ℕ) → Variable (global_shape i (shape_of h.type)) h.at ≡ Variable (ArrayShape n (shape_of t)) at
+          → InitialLaid d w i h.type h.at → AllLaid w at n (flat heap d (run_type t))
+      by Initial.Unset at n q laid = absurd (apart h.type n (shape_of t) (let y : shape_of h.type ≡ ArrayShape n (shape_of t) = cc in y))
+      by (Initial.Given c) at n q laid = absurd (apart h.type n (shape_of t) (let y : shape_of h.type ≡ ArrayShape n (shape_of t) = cc in y))
+      by (Initial.Elements c) at n q laid = laid_array t h.type n c at h.at (h.same (Arrayed t r) t found refl) q laid
+  laid_entity b h Counter found = tt
+  laid_entity b h Unknown found = tt
+
+  laid_none : (v : What) → LaidAs d (λ a. heap) w None v
+  laid_none (Stored t r) = λ at q. absurd cc
+  laid_none (Arrayed t r) = λ at n q. absurd cc
+  laid_none Counter = tt
+  laid_none Unknown = tt
+
+  laid_global : (bs : List Binding) (x : List ℕ) (v : What) → EachTyped d tables w bs → find tables x ≡ Some (OfValue v)
+      → LaidAs d (λ a. heap) w (bound_to bs x) v
+  laid_global [] x v h found = laid_none v
+  laid_global (b ∷ bs) x v h found = by (laid_global bs x v h.1 found) (bytes_eq b.name x) refl
+    where
+      by : LaidAs d (λ a. heap) w (bound_to bs x) v → (c : Bool) → bytes_eq b.name x ≡ c → LaidAs d (λ a. heap) w (if c then Some b.entity else bound_to bs x) v
+      by others true z = laid_entity b h.0 v (ap (find tables) ((bytes_eq-Decides b.name x).0 z) ∙ found)
+      by others false z = others
 
 -- a function whose region variables all stand for the heap
 heap_stands : (d : Tables) (w : Ghost) (m : Memory) (rs : List NameOf) → Inv d w m → AllStand (λ a. heap) 0 w m rs
@@ -107,22 +165,26 @@ module _ (p : Program) (tables : typing.Tables) (judged : ProgramJudged p tables
   }
 
   all_globals : (w : Ghost) → EachTyped d tables w world.globals → Globals d tables world w
-  all_globals w h x t r at e q = laid_global d tables w world.globals x t r at h e q
+  all_globals w h x v e = laid_global d tables w world.globals x v h e
 
   sources : Sources d world tables
   sources = record {
     structs = structs;
-    globals = λ x t r e.
-        let z : GlobalFound world x t r = judged.variables x t r e in
-        record {
-          at = heap_spot z.number;
-          is = z.is;
-          region = refl;
-          within = subst (λ (q : NameOf). Rattle.source_safety.proofs.Names.Below 0 q) (sym z.region) tt;
-          below = z.below;
-        };
+    globals = found;
     functions = judged.functions;
   }
+    where
+      found : (x : List ℕ) (v : What) → find tables x ≡ Some (OfValue v) → BoundAs 0 (λ a. heap) (bound_to world.globals x) v
+      found x (Stored t r) e =
+          let z : GlobalFound world x t r = judged.variables x t r e in
+          record { at = heap_spot z.number; is = z.is; region = refl; within = subst (λ (q : NameOf). Below 0 q) (sym z.region) tt; below = z.below }
+      found x (Arrayed t r) e =
+          let z : ArrayFound world x t r = judged.arrays x t r e in (
+            z.count,
+            record { at = heap_spot z.number; is = z.is; region = refl; within = subst (λ (q : NameOf). Below 0 q) (sym z.region) tt; below = z.below },
+          )
+      found x Counter e = tt
+      found x Unknown e = tt
 
   -- `main` is entered once the globals are stored
   runs_main : (n : ℕ) (w : Ghost) (m : Memory) → Inv d w m → EachTyped d tables w world.globals

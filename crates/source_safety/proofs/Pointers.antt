@@ -1,12 +1,12 @@
 -- Values of one cell are looked at; pointers are compared and dereferenced, and addresses are taken.
 use Rattle.std.proofs.Common.{◌≡◌, ℕ, Bool, true, false, inl, inr, Option, Some, None, List, [], ◌∷◌, refl, sym, ◌∙◌, ap, subst}
-use Rattle.std.specs.Prelude.{not, ◌&&◌, option_and_then, if◌then◌else◌}
+use Rattle.std.specs.Prelude.{not, ◌&&◌, is_some, option_and_then, if◌then◌else◌}
 use Rattle.cyc_words.specs.declared.faults.Kind.TheVariants.{NullException}
 use Rattle.cyc_tree.specs.declared.expression.Operator.{Operator}
 use Rattle.cyc_tree.specs.declared.expression.Operator.TheVariants.{Equal, NotEqual}
 use Rattle.source_meaning.specs.Shapes.{Shape, IntShape}
 use Rattle.source_meaning.specs.Memory as memory
-use Rattle.source_meaning.specs.Memory.{Region, Spot, Scalar, Live, Memory, state_is_live, is_live, is_moved, same_spot}
+use Rattle.source_meaning.specs.Memory.{Region, Spot, Span, Scalar, Live, Memory, state_is_live, is_live, is_moved, same_spot}
 use Rattle.source_meaning.specs.Steps.{Scope, Act, give, ◌>>=◌, need}
 use Rattle.source_meaning.specs.Steps as steps
 use Rattle.source_meaning.specs.Operators.{truth_value, same_thin, equality, operated, operator_shape, is_true}
@@ -38,7 +38,7 @@ word_value Char e = tt
 word_value Void e = absurd e
 word_value Null e = tt
 word_value (Thin n r t) e = e
-word_value (Fat r t) e = absurd e
+word_value (Fat r t) e = e
 word_value (Unique n t) e = absurd e
 word_value (Handle r) e = absurd e
 word_value (Key r) e = absurd e
@@ -53,7 +53,7 @@ value_cell d f Char e = refl
 value_cell d f Void e = absurd e
 value_cell d f Null e = refl
 value_cell d f (Thin n r t) e = refl
-value_cell d f (Fat r t) e = absurd e
+value_cell d f (Fat r t) e = refl
 value_cell d f (Unique n t) e = absurd e
 value_cell d f (Handle r) e = absurd e
 value_cell d f (Key r) e = absurd e
@@ -67,7 +67,7 @@ value_copied f Char e = refl
 value_copied f Void e = absurd e
 value_copied f Null e = refl
 value_copied f (Thin n r t) e = refl
-value_copied f (Fat r t) e = absurd e
+value_copied f (Fat r t) e = refl
 value_copied f (Unique n t) e = absurd e
 value_copied f (Handle r) e = absurd e
 value_copied f (Key r) e = absurd e
@@ -84,7 +84,8 @@ truth_known d f w by v Void e h = absurd e
 truth_known d f w by v Null e h = absurd e
 truth_known d f w by v (Thin n r t) e (inl h) = (false, ap is_true h.is)
 truth_known d f w by v (Thin n r t) e (inr h) = (true, ap is_true h.is)
-truth_known d f w by v (Fat r t) e h = absurd e
+truth_known d f w by v (Fat r t) e (inl h) = (false, ap is_true h)
+truth_known d f w by v (Fat r t) e (inr h) = (true, ap is_true h.is)
 truth_known d f w by v (Unique n t) e h = absurd e
 truth_known d f w by v (Handle r) e h = absurd e
 truth_known d f w by v (Key r) e h = absurd e
@@ -104,23 +105,22 @@ equality_shape Equal s t e = refl
 equality_shape NotEqual s t e = refl
 equality_shape _ s t e = absurd cc
 
--- two thin pointers that can be compared
+-- two pointers that can be compared: whether they are the same is known
 pub record Comparable (m : Memory) (v u : Scalar) : Type 0 where
-  pub left : Option Spot
-  pub right : Option Spot
-  pub left_is : v ≡ memory.Thin left
-  pub right_is : u ≡ memory.Thin right
   pub result : Bool
-  pub same : same_thin m left right ≡ Some result
+  pub joined : (o : Operator) → operated m o v u ≡ equality o result
 
 pub compared_gives : (m : Memory) (o : Operator) (v u : Scalar) → is_equality o ≡ true → Comparable m v u
     → (c : Bool) × (operated m o v u ≡ Some (truth_value c))
 compared_gives m o v u e h =
-    let z : (c : Bool) × (equality o h.result ≡ Some (truth_value c)) = equality_gives o h.result e in (
-      z.0,
-      ap (λ (x : Scalar). operated m o x u) h.left_is
-          ∙ (ap (λ (x : Scalar). operated m o (memory.Thin h.left) x) h.right_is ∙ (ap (option_and_then (equality o)) h.same ∙ z.1)),
-    )
+    let z : (c : Bool) × (equality o h.result ≡ Some (truth_value c)) = equality_gives o h.result e in (z.0, h.joined o ∙ z.1)
+
+thins_comparable : (m : Memory) (v u : Scalar) (p q : Option Spot) (result : Bool) → v ≡ memory.Thin p → u ≡ memory.Thin q → same_thin m p q ≡ Some result
+    → Comparable m v u
+thins_comparable m v u p q result a c e = record {
+  result = result;
+  joined = λ o. ap (λ (x : Scalar). operated m o x u) a ∙ (ap (λ (x : Scalar). operated m o (memory.Thin p) x) c ∙ ap (option_and_then (equality o)) e);
+}
 
 -- where a pointer points is live
 abbrev LiveAt : Memory → Option Spot → Type 0
@@ -153,6 +153,10 @@ pointer_of : (d : Tables) (w : Ghost) (by : Owner) (v : Scalar) (c : Bool) (r : 
 pointer_of d w by v c r t (inl h) = (None, h.is)
 pointer_of d w by v c r t (inr h) = (Some h.at, h.is)
 
+span_of : (d : Tables) (w : Ghost) (by : Owner) (v : Scalar) (r : Region) (t : RunType) → HasType d w by v (Fat r t) → (p : Option Span) × (v ≡ memory.Wide p)
+span_of d w by v r t (inl h) = (None, h)
+span_of d w by v r t (inr h) = (Some h.span, h.is)
+
 live_pointer : (d : Tables) (w : Ghost) (m : Memory) (by : Owner) (v : Scalar) (c : Bool) (r : Region) (t : RunType) → Inv d w m → m.state r ≡ Live
     → HasType d w by v (Thin c r t) → (p : Option Spot) × (v ≡ memory.Thin p) × LiveAt m p
 live_pointer d w m by v c r t i l (inl h) = (None, h.is, tt)
@@ -181,19 +185,36 @@ module _ (n : ℕ) (d : Tables) (g : Env) (scope : Scope) (f : NameOf → Region
       let p : (p : Option Spot) × (v ≡ memory.Thin p) × LiveAt m p = live_pointer d w m one_by v c (f r) (renamed f t) i (x.names.live r lr) hv in
       let s : (p : Option Spot) × (u ≡ memory.Thin p) × LiveAt m p = live_pointer d w m two_by u e (f q) (renamed f t) i (x.names.live q lq) hu in
       let z : (b : Bool) × (same_thin m p.0 s.0 ≡ Some b) = both_live m p.0 s.0 p.2 s.2 in
-      record { left = p.0; right = s.0; left_is = p.1; right_is = s.1; result = z.0; same = z.1 }
+      thins_comparable m v u p.0 s.0 z.0 p.1 s.1 z.1
 
   pub compares_with_null : (c : Bool) (r : NameOf) (t : StaticType) → Compares (Thin c r t) Null
   compares_with_null c r t = λ k w m one_by two_by v u i x hv hu.
       let p : (p : Option Spot) × (v ≡ memory.Thin p) = pointer_of d w one_by v c (f r) (renamed f t) hv in
       let z : (b : Bool) × (same_thin m p.0 None ≡ Some b) = none_right m p.0 in
-      record { left = p.0; right = None; left_is = p.1; right_is = hu; result = z.0; same = z.1 }
+      thins_comparable m v u p.0 None z.0 p.1 hu z.1
 
   pub compares_null_with : (c : Bool) (r : NameOf) (t : StaticType) → Compares Null (Thin c r t)
   compares_null_with c r t = λ k w m one_by two_by v u i x hv hu.
       let p : (p : Option Spot) × (u ≡ memory.Thin p) = pointer_of d w two_by u c (f r) (renamed f t) hu in
       let z : (b : Bool) × (same_thin m None p.0 ≡ Some b) = none_left m p.0 in
-      record { left = None; right = p.0; left_is = hv; right_is = p.1; result = z.0; same = z.1 }
+      thins_comparable m v u None p.0 z.0 hv p.1 z.1
+
+  -- a fat pointer is compared with `NULL` alone
+  pub compares_fat_with_null : (r : NameOf) (t : StaticType) → Compares (Fat r t) Null
+  compares_fat_with_null r t = λ k w m one_by two_by v u i x hv hu.
+      let p : (p : Option Span) × (v ≡ memory.Wide p) = span_of d w one_by v (f r) (renamed f t) hv in
+      record {
+        result = not (is_some p.0);
+        joined = λ o. ap (λ (y : Scalar). operated m o y u) p.1 ∙ ap (λ (y : Scalar). operated m o (memory.Wide p.0) y) hu;
+      }
+
+  pub compares_null_with_fat : (r : NameOf) (t : StaticType) → Compares Null (Fat r t)
+  compares_null_with_fat r t = λ k w m one_by two_by v u i x hv hu.
+      let p : (p : Option Span) × (u ≡ memory.Wide p) = span_of d w two_by u (f r) (renamed f t) hu in
+      record {
+        result = not (is_some p.0);
+        joined = λ o. ap (λ (y : Scalar). operated m o y u) hv ∙ ap (λ (y : Scalar). operated m o (memory.Thin None) y) p.1;
+      }
 
   -- two pointers are compared: the first one is as it was once the second one was evaluated
   pub gives_compared : (o : Operator) (s t : StaticType) (a c : Act (List Scalar)) → is_equality o ≡ true → IsValue s → IsValue t → Compares s t

@@ -13,8 +13,8 @@ use Rattle.source_typing.specs.Programs.{tables_of}
 use Rattle.source_typing.specs.Regions.{entry_regions}
 use Rattle.source_typing.specs.Scope.{Nowhere, at_item}
 use Rattle.source_typing.specs.Tables as typing
-use Rattle.source_typing.specs.Tables.{Entry, OfValue, OfFunction, OfBuiltin, Stored, Signature, find}
-use Rattle.source_typing.specs.Types.{StaticType, Int}
+use Rattle.source_typing.specs.Tables.{What, Entry, OfValue, OfFunction, OfBuiltin, Stored, Arrayed, Signature, find}
+use Rattle.source_typing.specs.Types.{Int}
 use Rattle.source_safety.specs.Entries.{Function, Builtin, PlainEntry}
 use Rattle.source_safety.specs.Programs.{FunctionJudged, ProgramJudged}
 use Rattle.source_safety.proofs.Same.{judged_same}
@@ -121,11 +121,11 @@ function_judged x s false false true r h =
     signature_is : (s u : Signature) → OfFunction s ≡ OfFunction u → s ≡ u
     signature_is s u e = cc
 
-no_variable : (t : StaticType) (r : Rattle.source_typing.specs.Regions.Region) (a c m : Bool) → by_names a c m ≡ Some (OfValue (Stored t r)) → ⊥
-no_variable t r true c m h = absurd cc
-no_variable t r false true m h = absurd cc
-no_variable t r false false true h = absurd cc
-no_variable t r false false false h = absurd cc
+no_value : (v : What) (a c m : Bool) → by_names a c m ≡ Some (OfValue v) → ⊥
+no_value v true c m h = absurd cc
+no_value v false true m h = absurd cc
+no_value v false false true h = absurd cc
+no_value v false false false h = absurd cc
 
 -- what the law on runs asks for is met by the rules' tables
 pub nothing_judged : ProgramJudged nothing its_tables
@@ -133,7 +133,8 @@ nothing_judged = record {
   structs = record { types = []; in_order = tt; laid_out = tt; few = omega arith };
   plain = λ x e h. entry_plain x e (bytes_eq (codes "getchar") x) (bytes_eq (codes "putchar") x) (bytes_eq (codes "main") x) refl refl refl h;
   globals = tt;
-  variables = λ x t r h. absurd (no_variable t r (bytes_eq (codes "getchar") x) (bytes_eq (codes "putchar") x) (bytes_eq (codes "main") x) h);
+  variables = λ x t r h. absurd (no_value (Stored t r) (bytes_eq (codes "getchar") x) (bytes_eq (codes "putchar") x) (bytes_eq (codes "main") x) h);
+  arrays = λ x t r h. absurd (no_value (Arrayed t r) (bytes_eq (codes "getchar") x) (bytes_eq (codes "putchar") x) (bytes_eq (codes "main") x) h);
   functions = λ x s F h. function_judged x s (bytes_eq (codes "getchar") x) (bytes_eq (codes "putchar") x) (bytes_eq (codes "main") x) refl h F;
   main = record { signature = main_signature; function = main_function; found = refl; types = refl; gives = refl };
 }

@@ -5,7 +5,24 @@ use Rattle.cyc_tree.specs.Tree as tree
 use Rattle.cyc_tree.specs.Tree.{Constant, Initial, Item}
 use Rattle.source_meaning.specs.Shapes.{Shape, written, settled}
 use Rattle.source_meaning.specs.Memory as memory
-use Rattle.source_meaning.specs.Memory.{Spot, Scalar, Integer, IntegerType, AsInt, AsUnsigned, AsChar, Holds, Blank, Live, Memory, beyond, first_cell, with_cell}
+use Rattle.source_meaning.specs.Memory.{
+  Spot,
+  Scalar,
+  Integer,
+  IntegerType,
+  AsInt,
+  AsUnsigned,
+  AsChar,
+  Holds,
+  Blank,
+  Live,
+  Memory,
+  array_of,
+  beyond,
+  first_cell,
+  with_cell,
+}
+use Rattle.source_meaning.specs.Sizes.{repeated}
 use Rattle.source_meaning.specs.Steps.{Variable, Binding, World, Act, give, ◌>>=◌, ◌>>◌}
 use Rattle.source_meaning.specs.Conversions.{cells_of, converted}
 use Rattle.source_meaning.specs.Values.{write_cell, write_cells}
@@ -14,20 +31,21 @@ use Rattle.source_typing.specs.Types.{StaticType, Int, Unsigned, Char, Void, Nul
 use Rattle.source_safety.specs.Flat.{Tables, flat}
 pub use Rattle.source_safety.specs.Programs.{IsNumber, IsNullConstant, IsFirst, InitialJudged, GlobalJudged}
 use Rattle.source_typing.specs.Tables as typing
-use Rattle.source_typing.specs.Tables.{OfValue, Stored, find, has_beginning}
+use Rattle.source_typing.specs.Tables.{What, OfValue, find, has_beginning}
 use Rattle.source_safety.specs.Entries.{IsObjectType, IsWordType}
 use Rattle.source_safety.proofs.Facts.{at_spot, same_at}
-use Rattle.source_safety.proofs.Invariant.{RunType, heap, Flying, Kept, Reached, Ghost, Laid, HasType, Inv}
-use Rattle.source_safety.proofs.Values.{laid_kept}
-use Rattle.source_safety.proofs.Layouts.{Structs, agrees, cells_begin}
+use Rattle.source_safety.proofs.Invariant.{RunType, heap, Flying, Kept, Reached, Ghost, Laid, AllLaid, HasType, Inv}
+use Rattle.source_safety.proofs.Values.{laid_kept, all_laid_kept}
+use Rattle.source_safety.proofs.Layouts.{Structs, agrees, all_begin, cells_begin}
+use Rattle.source_safety.proofs.Rows.{laid_all}
 use Rattle.source_safety.proofs.Runs.{Runs}
 use Rattle.source_safety.proofs.Cells.{cell, typed_is, seen, runs_write}
 use Rattle.source_safety.proofs.Objects.{filled, inv_filled}
 use Rattle.source_safety.proofs.Names.{NameOf}
 use Rattle.source_safety.proofs.Sound.{shape_renamed}
 use Rattle.source_safety.proofs.Entries.{run_type}
-use Rattle.source_safety.proofs.GlobalTypes.{GlobalsTyped}
-use Rattle.source_safety.proofs.Begun.{Typed, cells_typed, begun_slice}
+use Rattle.source_safety.proofs.GlobalTypes.{held_type, GlobalsTyped}
+use Rattle.source_safety.proofs.Begun.{Typed, cells_typed, begun_slice, array_begins}
 
 -- ---- the memory before a global is stored, and after
 
@@ -42,15 +60,28 @@ Ready world (tree.StructItem s ∷ items) k w m = Ready world items k w m
 Ready world (tree.UnionItem s ∷ items) k w m = Ready world items k w m
 Ready world (tree.FunctionItem f ∷ items) k w m = Ready world items k w m
 
--- a variable whose cells are there
+-- the cells of a global, or of each element of a global array
+abbrev pub InitialLaid : Tables → Ghost → Initial → StaticType → Spot → Type 0
+InitialLaid d w Initial.Unset t at = Laid w at (flat heap d (run_type t))
+InitialLaid d w (Initial.Elements count) t at = AllLaid w at count (flat heap d (run_type t))
+InitialLaid d w (Initial.Given c) t at = Laid w at (flat heap d (run_type t))
+
+initial_kept : (d : Tables) (w w' : Ghost) (i : Initial) (t : StaticType) (at : Spot)
+    → ((s : Spot) (u : RunType) → w.types s ≡ Some (Reached u) → w'.types s ≡ Some (Reached u)) → InitialLaid d w i t at → InitialLaid d w' i t at
+initial_kept d w w' Initial.Unset t at keep h = laid_kept w w' at (flat heap d (run_type t)) keep h
+initial_kept d w w' (Initial.Elements count) t at keep h = all_laid_kept w w' at count (flat heap d (run_type t)) keep h
+initial_kept d w w' (Initial.Given c) t at keep h = laid_kept w w' at (flat heap d (run_type t)) keep h
+
+-- a variable, or an array, whose cells are there
 pub record TypedEntity (d : Tables) (tables : typing.Tables) (w : Ghost) (b : Binding) : Type 0 where
   pub type : StaticType
+  pub initial : Initial
   pub at : Spot
-  pub is : b.entity ≡ Variable (shape_of type) at
+  pub is : b.entity ≡ Variable (global_shape initial (shape_of type)) at
   -- its type is the one that the tables have, if that has its shape
-  pub same : (t : StaticType) (r : NameOf) → find tables b.name ≡ Some (OfValue (Stored t r)) → shape_of t ≡ shape_of type → t ≡ type
+  pub same : (v : What) (t : StaticType) → find tables b.name ≡ Some (OfValue v) → held_type v ≡ Some t → shape_of t ≡ shape_of type → t ≡ type
   pub in_heap : at.region ≡ heap
-  pub laid : Laid w at (flat heap d (run_type type))
+  pub laid : InitialLaid d w initial type at
 
 abbrev pub EachTyped : Tables → typing.Tables → Ghost → List Binding → Type 0
 EachTyped d tables w [] = Unit {0}
@@ -101,7 +132,7 @@ begins_blank world c Char e = refl
 begins_blank world c Void e = absurd e
 begins_blank world c Null e = absurd e
 begins_blank world c (Thin n r t) e = ap (λ (s : Shape). Some (record { shape = s; content = Blank })) (sym (shape_renamed (λ (a : NameOf). heap) (Thin n r t)))
-begins_blank world c (Fat r t) e = absurd e
+begins_blank world c (Fat r t) e = ap (λ (s : Shape). Some (record { shape = s; content = Blank })) (sym (shape_renamed (λ (a : NameOf). heap) (Fat r t)))
 begins_blank world c (Unique n t) e = absurd e
 begins_blank world c (Handle r) e = absurd e
 begins_blank world c (Key r) e = absurd e
@@ -115,7 +146,7 @@ laid_one d w Char at word e = (e, tt)
 laid_one d w Void at word e = absurd word
 laid_one d w Null at word e = absurd word
 laid_one d w (Thin n r t) at word e = (e, tt)
-laid_one d w (Fat r t) at word e = absurd word
+laid_one d w (Fat r t) at word e = (e, tt)
 laid_one d w (Unique n t) at word e = absurd word
 laid_one d w (Handle r) at word e = absurd word
 laid_one d w (Key r) at word e = absurd word
@@ -125,26 +156,35 @@ laid_one d w (Union tag rs) at word e = absurd word
 -- ---- one global, and all of them
 
 module _ {B : Type 0} (d : Tables) (n : ℕ) (world : World) (tables : typing.Tables) (structs : Structs d world tables) (Q : B → Memory → Type 0) where
+  global_cells : (u : StaticType) → cells_of world (shape_of u) ≡ map shape_of (flat heap d (run_type u))
+  global_cells u = ap (cells_of world) (sym (shape_renamed (λ (a : NameOf). heap) u)) ∙ agrees d world tables structs (run_type u)
+
   -- a global gets its value, and its cells their types
   runs_one : (i : Initial) (u : StaticType) (items : List Item) (k : ℕ) (w : Ghost) (m : Memory) (rest : Act B) → IsObjectType u
       → has_beginning tables u ≡ true → InitialJudged u i → Inv d w m → ((j : ℕ) → w.types (beyond (heap_spot k) j) ≡ None)
       → ((j : ℕ) → m.cells (beyond (heap_spot k) j) ≡ global_object world i (shape_of u) j) → k < m.objects heap → Ready world items (suc k) w m
-      → ((w' : Ghost) (m' : Memory) → Inv d w' m' → Keeps w w' → Laid w' (heap_spot k) (flat heap d (run_type u)) → Ready world items (suc k) w' m'
+      → ((w' : Ghost) (m' : Memory) → Inv d w' m' → Keeps w w' → InitialLaid d w' i u (heap_spot k) → Ready world items (suc k) w' m'
       → Runs n rest m' Q)
       → Runs n (global_stored world i (shape_of u) (heap_spot k) >> rest) m Q
-  runs_one (Initial.Elements c) u items k w m rest e b j i none there l ready go = absurd j
+  runs_one (Initial.Elements c) u items k w m rest e b j i none there l ready go = record {
+    by = λ next q. (go z.ghost m z.inv z.keeps (laid_all z.ghost (heap_spot k) c (flat heap d (run_type u)) z.laid)
+        (ready_later world items k (suc k) w m z.ghost m (omega arith) z.others (λ y p. refl) refl ready)).by next q;
+  }
+    where
+      z : Typed d 0 0 w m (heap_spot k) (repeated c (flat heap d (run_type u)))
+      z = cells_typed d 0 0 w m (heap_spot k) (repeated c (flat heap d (run_type u))) i l
+          (all_begin c (flat heap d (run_type u)) (cells_begin d world tables (λ a. heap) u structs e b))
+          (begun_slice w m (heap_spot k) (repeated c (flat heap d (run_type u))) none
+          (λ j. there j ∙ (ap (λ (ss : List Shape). array_of c (map first_cell ss) j) (global_cells u) ∙ array_begins c (flat heap d (run_type u)) j)))
   runs_one Initial.Unset u items k w m rest e b j i none there l ready go = record {
     by = λ next q. (go z.ghost m z.inv z.keeps z.laid
         (ready_later world items k (suc k) w m z.ghost m (omega arith) z.others (λ y p. refl) refl ready)).by next q;
   }
     where
-      cells : cells_of world (shape_of u) ≡ map shape_of (flat heap d (run_type u))
-      cells = ap (cells_of world) (sym (shape_renamed (λ (a : NameOf). heap) u)) ∙ agrees d world tables structs (run_type u)
-
       z : Typed d 0 0 w m (heap_spot k) (flat heap d (run_type u))
       z = cells_typed d 0 0 w m (heap_spot k) (flat heap d (run_type u)) i l (cells_begin d world tables (λ a. heap) u structs e b)
           (begun_slice w m (heap_spot k) (flat heap d (run_type u)) none
-          (λ c. there c ∙ ap (λ (ss : List Shape). slice_get (map first_cell ss) c) cells))
+          (λ c. there c ∙ ap (λ (ss : List Shape). slice_get (map first_cell ss) c) (global_cells u)))
   runs_one (Initial.Given c) u items k w m rest e b j i none there l ready go = by u e j (there 0) go b
     where
       Going : StaticType → Type 0
@@ -184,6 +224,16 @@ module _ {B : Type 0} (d : Tables) (n : ℕ) (world : World) (tables : typing.Ta
       null r t e (Constant.Character at byte) x there go = absurd x
       null r t e (Constant.Text at bytes) x there go = absurd x
 
+      fat : (r : NameOf) (t : StaticType) → IsObjectType t → (y : Constant) → IsNullConstant y
+          → m.cells (heap_spot k) ≡ global_object world (Initial.Given c) (shape_of (Fat r t)) 0 → Going (Fat r t)
+          → Runs n ((constant_value world.strings y >>= λ v. converted world (shape_of (Fat r t)) (constant_shape y) (v ∷ []) >>= λ vs.
+          write_cells (heap_spot k) vs) >> rest) m Q
+      fat r t e (Constant.Null at) x there go = record { by = λ next q. (store (Fat r t) (memory.Wide None) e (inl refl) there go).by next q }
+      fat r t e (Constant.Number at y suffix) x there go = absurd x
+      fat r t e (Constant.Negative at y suffix) x there go = absurd x
+      fat r t e (Constant.Character at byte) x there go = absurd x
+      fat r t e (Constant.Text at bytes) x there go = absurd x
+
       pointer : (z : Bool) (r : NameOf) (t : StaticType) → IsObjectType t → z ≡ true → IsNullConstant c
           → m.cells (heap_spot k) ≡ global_object world (Initial.Given c) (shape_of (Thin z r t)) 0 → Going (Thin z r t)
           → Runs n (storing (shape_of (Thin z r t)) (constant_value world.strings c)) m Q
@@ -199,17 +249,12 @@ module _ {B : Type 0} (d : Tables) (n : ℕ) (world : World) (tables : typing.Ta
       by Void e x there go b = absurd e
       by Null e x there go b = absurd e
       by (Thin z r t) e x there go b = pointer z r t e b x there go
-      by (Fat r t) e x there go b = absurd e
+      by (Fat r t) e x there go b = fat r t e c x there go
       by (Unique z t) e x there go b = absurd e
       by (Handle r) e x there go b = absurd x
       by (Key r) e x there go b = absurd e
       by (Struct tag rs) e x there go b = absurd x
       by (Union tag rs) e x there go b = absurd e
-
-  given_shape : (t : StaticType) (i : Initial) (s : Shape) → InitialJudged t i → global_shape i s ≡ s
-  given_shape t Initial.Unset s j = refl
-  given_shape t (Initial.Elements c) s j = absurd j
-  given_shape t (Initial.Given c) s j = refl
 
   -- all globals get their values before what follows
   pub runs_globals : (items : List Item) (k : ℕ) (w : Ghost) (m : Memory) (rest : Act B) → GlobalsTyped tables items → Inv d w m → Ready world items k w m
@@ -224,11 +269,12 @@ module _ {B : Type 0} (d : Tables) (n : ℕ) (world : World) (tables : typing.Ta
       go w2 m2 i2 (λ s t e. keeps2 s t (keeps s t e)) (
         record {
           type = u;
+          initial = x.initial;
           at = heap_spot k;
-          is = ap (λ (s : Shape). Variable s (heap_spot k)) (given_shape u x.initial (settled (written x.of)) j.0.judged.initial ∙ j.0.judged.shape);
+          is = ap (λ (s : Shape). Variable (global_shape x.initial s) (heap_spot k)) j.0.judged.shape;
           same = j.0.same;
           in_heap = refl;
-          laid = laid_kept w1 w2 (heap_spot k) (flat heap d (run_type u)) (λ s t e. keeps2 s (Reached t) e) laid;
+          laid = initial_kept d w1 w2 x.initial u (heap_spot k) (λ s t e. keeps2 s (Reached t) e) laid;
         },
         each,
       ))) in

@@ -31,7 +31,7 @@ use Rattle.source_safety.proofs.Entries.{Invokes}
 use Rattle.source_safety.proofs.Forms.{Denotes, denotes_tells}
 use Rattle.source_safety.proofs.Expressions.{expression_sound}
 use Rattle.source_safety.proofs.Fixed.{EnclosingBelow}
-use Rattle.source_safety.proofs.Surroundings.{ResultIs, Surrounds, scene_block}
+use Rattle.source_safety.proofs.Surroundings.{ResultIs, Surrounds, agrees_here, scene_block}
 use Rattle.source_safety.proofs.Flows.{FlowOk, Leaves, flow_as, flow_left, flow_right}
 
 -- a call of a function gives what any act that is given gives
@@ -101,7 +101,8 @@ module _ (n : ℕ) (d : Tables) (world : World) (tables : typing.Tables) (invoke
       (subst (λ (y : Shape). Leaves n d gives g scope f b s ((sense e scope).value >>= converted scope.world (shape_of r.gives) y >>= λ vs. give (Returns vs)))
       (sym (z.sound.shape (converts_some g.regions a.value.type r.gives r.fitting.converts r.object)))
       (λ k w m i x. runs_converted n d g scope f b a.value.type r.gives (sense e scope).value (λ vs. give (Returns vs)) k w m
-      (λ flow. After d k b w m (λ w' m'. FlowOk d gives g s flow w')) z.simple r.object r.fitting.converts z.sound.value i x
+      (λ flow. After d k b w m (λ w' m'. FlowOk d gives g s flow w'))
+      (agrees_here d world tables g scope f gives h) z.simple r.object r.fitting.converts z.sound.value i x
       (λ vs w1 m1 i1 g1 typed. record {
         by = λ next q. q (Returns vs) m1 (record {
           ghost = w1;

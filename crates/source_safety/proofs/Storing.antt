@@ -1,15 +1,15 @@
--- Values are converted, variables are read, and values are stored to them.
-use Rattle.std.proofs.Common.{◌≡◌, ℕ, suc, true, Option, Some, List, refl, sym, ◌∙◌, ap, subst}
-use Rattle.source_meaning.specs.Shapes.{Shape}
+-- Values are converted, variables are read, values are stored to them, and arrays are named.
+use Rattle.std.proofs.Common.{◌≡◌, ℕ, suc, true, inr, Option, Some, List, [], ◌∷◌, refl, sym, ◌∙◌, ap, subst}
+use Rattle.source_meaning.specs.Shapes.{Shape, ArrayShape}
 use Rattle.source_meaning.specs.Memory.{Region, Spot, Scalar, Memory}
 use Rattle.source_meaning.specs.Steps.{Entity, Variable, Scope, Act, give, ◌>>=◌, ◌>>◌}
 use Rattle.source_meaning.specs.Conversions.{converted}
 use Rattle.source_meaning.specs.Values.{write_cells}
-use Rattle.source_meaning.specs.Places.{Sense, place_sense, entity_of, entity_sense, given_by}
+use Rattle.source_meaning.specs.Places.{Sense, place_sense, entity_of, entity_sense, span_at, given_by}
 use Rattle.source_typing.specs.Converts.{Converts}
-use Rattle.source_typing.specs.Types.{StaticType, Int, Unsigned, Char, Void, Null, Thin, Fat, Unique, Handle, Key, Struct, Union, shape_of}
+use Rattle.source_typing.specs.Types.{StaticType, Int, Unsigned, Char, Void, Null, Thin, Fat, Unique, Handle, Key, Struct, Union, renamed, shape_of}
 use Rattle.source_typing.specs.Scope.{Env, Value, In, meant}
-use Rattle.source_typing.specs.Tables.{OfValue, Stored}
+use Rattle.source_typing.specs.Tables.{OfValue, Stored, Arrayed}
 use Rattle.source_safety.specs.Flat.{Tables}
 use Rattle.source_safety.specs.Structs.{AreInOrder}
 use Rattle.source_safety.proofs.Invariant.{Owner, Ghost, HaveTypes, Inv, Grows}
@@ -22,6 +22,7 @@ use Rattle.source_safety.proofs.Names.{NameOf}
 use Rattle.source_safety.proofs.Scenes.{Bound, Binds, Scene, scene_later, scene_more}
 use Rattle.source_safety.proofs.Sound.{cells_type, PlaceOk, Gives, Finds, Sound}
 use Rattle.source_safety.proofs.Words.{IsObjectType, IsSimple, object_copied, object_kept, grows_grown}
+use Rattle.source_safety.proofs.Elements.{all_elements}
 use Rattle.source_safety.proofs.Converting.{converts_goes}
 use Rattle.source_safety.proofs.WordRules.{given_type}
 use Rattle.source_safety.proofs.Places.{sound_placed}
@@ -29,13 +30,15 @@ use Rattle.source_safety.proofs.Places.{sound_placed}
 module _ (n : ℕ) (d : Tables) (g : Env) (scope : Scope) (f : NameOf → Region) (b : ℕ) where
   -- a value that is given is converted, and then comes the rest, in which it is on its way
   pub runs_converted : {B : Type 0} (t u : StaticType) (act : Act (List Scalar)) (h : List Scalar → Act B) (k : ℕ) (w : Ghost) (m : Memory)
-      (Q : B → Memory → Type 0) → IsSimple t → IsObjectType u → Converts g.regions t u → Gives n d g scope f b t act → Inv d w m → Scene d g scope f b k w m
+      (Q : B → Memory → Type 0) → Agrees scope.world d → IsSimple t → IsObjectType u → Converts g.regions t u → Gives n d g scope f b t act → Inv d w m
+      → Scene d g scope f b k w m
       → ((vs : List Scalar) (w' : Ghost) (m' : Memory) → Inv d w' m' → Grows k b w m w' m' → HaveTypes d w' (flying k 0) vs (cells_type d f u)
       → Runs n (h vs) m' Q)
       → Runs n (act >>= converted scope.world (shape_of u) (shape_of t) >>= h) m Q
-  runs_converted t u act h k w m Q it iu conv gives i x go = record {
+  runs_converted t u act h k w m Q agrees it iu conv gives i x go = record {
     by = λ next q. (gives k w m i x).by (λ vs. (converted scope.world (shape_of u) (shape_of t) vs >>= h) next) (λ vs m' y.
-        (converts_goes n d scope.world f y.ghost m' (flying k 0) y.inv Q h g.regions k t u vs (scene_later d g scope f b k w m y.ghost m' y.inv y.grows x).names it iu conv y.holds
+        (converts_goes n d scope.world f y.ghost m' (flying k 0) y.inv Q h g.regions k t u vs agrees
+        (scene_later d g scope f b k w m y.ghost m' y.inv y.grows x).names it iu conv y.holds
         (λ us typed. go us y.ghost m' y.inv y.grows typed)).by next q);
   }
 
@@ -49,18 +52,23 @@ module _ (n : ℕ) (d : Tables) (g : Env) (scope : Scope) (f : NameOf → Region
   variable_sense Void at e = absurd e
   variable_sense Null at e = absurd e
   variable_sense (Thin c r t) at e = refl
-  variable_sense (Fat r t) at e = absurd e
+  variable_sense (Fat r t) at e = refl
   variable_sense (Unique c t) at e = absurd e
   variable_sense (Handle r) at e = refl
   variable_sense (Key r) at e = absurd e
   variable_sense (Struct tag rs) at e = refl
   variable_sense (Union tag rs) at e = absurd e
 
+  -- a variable's region outlives itself
+  above_itself : {k : ℕ} {e : Option Entity} (sh : Shape) (t : StaticType) (r : NameOf) (z : Bound g.regions.count f e sh t r) (w : Ghost) (m : Memory)
+      → Inv d w m → Scene d g scope f b k w m → w.above z.at.region (f r) ≡ true
+  above_itself sh t r z w m h s = ap (λ (q : Region). w.above q (f r)) z.region ∙ h.itself (f r) (s.names.known r z.within)
+
   -- a variable is a place
   pub sound_variable : Agrees scope.world d → AreInOrder d.structs → Binds g scope f → (x : List ℕ) (t : StaticType) (r : NameOf) (v : Value)
       → meant g x ≡ Some (OfValue (Stored t r)) → IsObjectType t → v.type ≡ t → v.seat ≡ In r → Sound n d g scope f b v (entity_sense scope.world (entity_of scope x))
   sound_variable agrees order binds x t r v e it vt seat =
-      let z : Bound g.regions.count f (entity_of scope x) t r = binds.variables x t r e in
+      let z : Bound g.regions.count f (entity_of scope x) (shape_of t) t r = binds.variables x (Stored t r) e in
       subst (λ (y : Option Entity). Sound n d g scope f b v (entity_sense scope.world y)) (sym z.is)
       (subst (λ (y : Sense). Sound n d g scope f b v y) (sym (variable_sense t z.at it))
       (sound_placed n d g scope f b agrees v (shape_of t) r (give z.at) (ap shape_of (sym vt)) seat
@@ -71,15 +79,26 @@ module _ (n : ℕ) (d : Tables) (g : Env) (scope : Scope) (f : NameOf → Region
           inv = h;
           grows = grows_refl k b w m;
           holds = subst (λ (y : StaticType). PlaceOk d f y r z.at w m) (sym vt) (
-            record { typed = s.variables x t r z.at e z.is; above = above_itself z w m h s },
-            ap m.state z.region ∙ s.names.live r (binds.live x t r e),
+            record { typed = s.variables x (Stored t r) e z.at z.is; above = above_itself (shape_of t) t r z w m h s },
+            ap m.state z.region ∙ s.names.live r (binds.live x (Stored t r) e),
           );
         });
       })))
-    where
-      above_itself : (z : Bound g.regions.count f (entity_of scope x) t r) (w : Ghost) (m : Memory) {k : ℕ} → Inv d w m → Scene d g scope f b k w m
-          → w.above z.at.region (f r) ≡ true
-      above_itself z w m h s = ap (λ (q : Region). w.above q (f r)) z.region ∙ h.itself (f r) (s.names.known r z.within)
+
+  -- an array's name is a fat pointer that spans its elements
+  pub gives_array : (x : List ℕ) (t : StaticType) (r : NameOf) (c : ℕ) (z : Bound g.regions.count f (entity_of scope x) (ArrayShape c (shape_of t)) t r)
+      → meant g x ≡ Some (OfValue (Arrayed t r)) → Gives n d g scope f b (Fat r t) (give (span_at c z.at ∷ []))
+  gives_array x t r c z e = λ k w m h s. record {
+    by = λ next q. q (span_at c z.at ∷ []) m (record {
+      ghost = w;
+      inv = h;
+      grows = grows_refl k b w m;
+      holds = (
+        inr (all_elements d w z.at c (f r) (renamed f t) (above_itself (ArrayShape c (shape_of t)) t r z w m h s) (s.variables x (Arrayed t r) e z.at c z.is)),
+        tt,
+      );
+    });
+  }
 
   -- ---- assignments
 
@@ -92,7 +111,7 @@ module _ (n : ℕ) (d : Tables) (g : Env) (scope : Scope) (f : NameOf → Region
   given_typed Void vs w by e h = absurd e
   given_typed Null vs w by e h = absurd e
   given_typed (Thin c r t) vs w by e h = h
-  given_typed (Fat r t) vs w by e h = absurd e
+  given_typed (Fat r t) vs w by e h = h
   given_typed (Unique c t) vs w by e h = absurd e
   given_typed (Handle r) vs w by e h = h
   given_typed (Key r) vs w by e h = absurd e
@@ -100,16 +119,18 @@ module _ (n : ℕ) (d : Tables) (g : Env) (scope : Scope) (f : NameOf → Region
   given_typed (Union tag rs) vs w by e h = absurd e
 
   -- a value is stored to the place of an object, which is found after it was evaluated
-  pub gives_assigned : (t u : StaticType) (r : NameOf) (to from : Sense) → AreInOrder d.structs → IsSimple t → IsObjectType u → Converts g.regions t u
+  pub gives_assigned : (t u : StaticType) (r : NameOf) (to from : Sense) → Agrees scope.world d → AreInOrder d.structs → IsSimple t → IsObjectType u
+      → Converts g.regions t u
       → from.shape ≡ shape_of t → to.shape ≡ shape_of u → Gives n d g scope f b t from.value → Finds n d g scope f b u r to.place
       → Gives n d g scope f b (given_type u)
       (from.value >>= converted scope.world to.shape from.shape >>= λ vs. to.place >>= λ s. write_cells s vs >> give (given_by to.shape vs))
-  gives_assigned t u r to from order it iu conv ef et gives finds =
+  gives_assigned t u r to from agrees order it iu conv ef et gives finds =
       subst (λ (y : Shape). Gives n d g scope f b (given_type u)
       (from.value >>= converted scope.world to.shape y >>= λ vs. to.place >>= λ s. write_cells s vs >> give (given_by to.shape vs))) (sym ef)
       (subst (λ (y : Shape). Gives n d g scope f b (given_type u)
       (from.value >>= converted scope.world y (shape_of t) >>= λ vs. to.place >>= λ s. write_cells s vs >> give (given_by y vs))) (sym et)
-      (λ k w m i x. runs_converted t u from.value (λ vs. to.place >>= λ s. write_cells s vs >> give (given_by (shape_of u) vs)) k w m (post k w m) it iu conv gives i x
+      (λ k w m i x. runs_converted t u from.value (λ vs. to.place >>= λ s. write_cells s vs >> give (given_by (shape_of u) vs)) k w m
+      (post k w m) agrees it iu conv gives i x
       (λ vs w1 m1 i1 g1 typed. stored k w m vs w1 m1 i1 g1 typed (scene_later d g scope f b k w m w1 m1 i1 g1 x))))
     where
       post : ℕ → Ghost → Memory → List Scalar → Memory → Type 0

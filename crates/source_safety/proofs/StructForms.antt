@@ -34,7 +34,7 @@ use Rattle.source_safety.proofs.Words.{IsSimple, object_simple, object_renamed, 
 use Rattle.source_safety.proofs.Fixed.{EnclosingBelow, object_below, within, fixed_within}
 use Rattle.source_safety.proofs.Calling.{AllPass, all_passed}
 use Rattle.source_safety.proofs.Members.{Found, member_found, struct_there, members_objects, members_known, members_shaped, finds_member, gives_made}
-use Rattle.source_safety.proofs.WordRules.{Valued, value_of}
+use Rattle.source_safety.proofs.WordRules.{Valued, value_of, IsPointer, IsThin, IsFat, pointer_contents}
 use Rattle.source_safety.proofs.Forms.{Denotes, denotes_value, denotes_contents, AllDenote, values_below, all_pass}
 
 -- ---- what has members
@@ -62,11 +62,10 @@ of_struct g x (Union tag rs) s v h = absurd h
 
 -- a pointer to one, into a live region
 pub record ToMember (g : Env) (x : List ℕ) (t : StaticType) (v : Value) : Type 0 where
-  pub may_be_null : Bool
   pub region : NameOf
   pub tag : List ℕ
   pub regions : List NameOf
-  pub is : t ≡ Thin may_be_null region (Struct tag regions)
+  pub is : IsPointer t region (Struct tag regions)
   pub live : is_live g region ≡ true
   pub part : HasPart g tag regions x (In region) v
 
@@ -81,9 +80,22 @@ thin_to_member g x n r (Fat q t) v h = absurd h
 thin_to_member g x n r (Unique m t) v h = absurd h
 thin_to_member g x n r (Handle q) v h = absurd h
 thin_to_member g x n r (Key q) v h = absurd h
-thin_to_member g x n r (Struct tag rs) v h =
-    record { may_be_null = n; region = r; tag = tag; regions = rs; is = refl; live = h.0; part = h.1 }
+thin_to_member g x n r (Struct tag rs) v h = record { region = r; tag = tag; regions = rs; is = IsThin; live = h.0; part = h.1 }
 thin_to_member g x n r (Union tag rs) v h = absurd h
+
+fat_to_member : (g : Env) (x : List ℕ) (r : NameOf) (t : StaticType) (v : Value) → ArrowTo g x (Fat r t) v → ToMember g x (Fat r t) v
+fat_to_member g x r Int v h = absurd h
+fat_to_member g x r Unsigned v h = absurd h
+fat_to_member g x r Char v h = absurd h
+fat_to_member g x r Void v h = absurd h
+fat_to_member g x r Null v h = absurd h
+fat_to_member g x r (Thin m q t) v h = absurd h
+fat_to_member g x r (Fat q t) v h = absurd h
+fat_to_member g x r (Unique m t) v h = absurd h
+fat_to_member g x r (Handle q) v h = absurd h
+fat_to_member g x r (Key q) v h = absurd h
+fat_to_member g x r (Struct tag rs) v h = record { region = r; tag = tag; regions = rs; is = IsFat; live = h.0; part = h.1 }
+fat_to_member g x r (Union tag rs) v h = absurd h
 
 to_member : (g : Env) (x : List ℕ) (t : StaticType) (v : Value) → IsSimple t → ArrowTo g x t v → ToMember g x t v
 to_member g x Int v p h = absurd h
@@ -92,7 +104,7 @@ to_member g x Char v p h = absurd h
 to_member g x Void v p h = absurd h
 to_member g x Null v p h = absurd h
 to_member g x (Thin n r t) v p h = thin_to_member g x n r t v h
-to_member g x (Fat r t) v p h = absurd p
+to_member g x (Fat r t) v p h = fat_to_member g x r t v h
 to_member g x (Unique n t) v p h = absurd p
 to_member g x (Handle r) v p h = absurd h
 to_member g x (Key r) v p h = absurd h
@@ -167,7 +179,7 @@ module _ (n : ℕ) (d : Tables) (g : Env) (scope : Scope) (f : NameOf → Region
       let z : ToMember (within i g) x.text a.type v = to_member (within i g) x.text a.type v h.simple (arrow_is (within i g) x a.at a.type v j) in
       let at : Value = record { at = a.at; type = Struct z.tag z.regions; seat = In z.region } in
       let found : places.contents (within i g) a.at a ≡ Of at =
-      ap (places.contents_of (within i g) a.at) z.is ∙ ap (λ (c : Bool). places.in_live c a.at (Struct z.tag z.regions) z.region) z.live in
+      pointer_contents (within i g) a.at a.type (Struct z.tag z.regions) z.region z.is z.live in
       denotes_part i z.tag z.regions x.text z.region at v (contents scope.world e)
       (denotes_contents n d g scope f b i strict (agrees d scope.world g.tables structs) structs.in_order a.at a at e h found) refl refl z.part
 
@@ -187,7 +199,8 @@ module _ (n : ℕ) (d : Tables) (g : Env) (scope : Scope) (f : NameOf → Region
       (subst (λ (ps : List (Rattle.std.specs.Prelude.Option StaticType)). fixed_from i at (all_fits ps vs) 0 t.regions ≡ Of z.0) known a.found) in
       let valued : Valued v (Struct x z.0) = subst (λ (y : List ℕ). Valued v (Struct y z.0)) k.named (value_of at (Struct t.text z.0) v z.2) in
       let pass : AllPass n d g scope f b (map shape_of types) (map (renamed (argument z.0)) types) es =
-      all_pass n d g scope f b z.0 types vs es (members_objects d.structs types (members_typed d.structs x structs.in_order))
+      all_pass n d g scope f b (agrees d scope.world g.tables structs) z.0 types vs es
+      (members_objects d.structs types (members_typed d.structs x structs.in_order))
       (eqb-true _ _ (subst (λ (ps : List (Rattle.std.specs.Prelude.Option StaticType)). nat_eq (length ps) (length vs) ≡ true) known a.count))
       (subst (λ (ps : List (Rattle.std.specs.Prelude.Option StaticType)). AllConvert (within i g) z.0 ps vs) known a.convert) h in
       let made : Denotes n d g scope f b v (struct_made scope.world x es) =

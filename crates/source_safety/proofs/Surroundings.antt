@@ -4,24 +4,40 @@ use Rattle.std.specs.Prelude.{bytes_eq, if◌then◌else◌}
 use Rattle.std.proofs.lemmas.Bool.{eq-eqb}
 use Rattle.std.proofs.lemmas.Bool.Decides.{eqb_tells}
 use Rattle.cyc_tree.specs.Tree as tree
+use Rattle.source_meaning.specs.Shapes.{Shape, ArrayShape}
 use Rattle.source_meaning.specs.Memory.{Region, Frame, Spot, Memory}
-use Rattle.source_meaning.specs.Steps.{Variable, World, Scope}
+use Rattle.source_meaning.specs.Steps.{Entity, Variable, World, Scope}
 use Rattle.source_meaning.specs.Places.{bound_to, or_else, entity_of, with_binding}
-use Rattle.source_typing.specs.Regions.{TheHeap, Level, same_id}
+use Rattle.source_typing.specs.Regions.{Regions, TheHeap, Level, same_id, with_scope}
 use Rattle.source_typing.specs.Scope.{Env, InRegion, meant, block_entered}
 use Rattle.source_typing.specs.Statements.{in_a_loop}
 use Rattle.source_typing.specs.Tables as typing
-use Rattle.source_typing.specs.Tables.{Entry, OfValue, OfFunction, Stored, Signature, find}
+use Rattle.source_typing.specs.Tables.{What, Entry, OfValue, OfFunction, Stored, Arrayed, Signature, find}
 use Rattle.source_typing.specs.Types.{Int, Unsigned, Char, Void, Null, Thin, Fat, Unique, Handle, Key, Struct, Union, StaticType, renamed, shape_of}
 use Rattle.source_safety.specs.Flat.{Tables, flat}
-use Rattle.source_safety.specs.Judged.{extended}
+use Rattle.source_safety.specs.Judged.{named, extended, arrayed}
 use Rattle.source_safety.proofs.Facts.{if_cases}
-use Rattle.source_safety.proofs.Invariant.{RunType, heap, Ghost, Laid, Inv}
-use Rattle.source_safety.proofs.Values.{laid_kept}
-use Rattle.source_safety.proofs.Layouts.{Structs}
+use Rattle.source_safety.proofs.Invariant.{RunType, heap, Ghost, Laid, AllLaid, Inv}
+use Rattle.source_safety.proofs.Arguments.{Agrees}
+use Rattle.source_safety.proofs.Layouts.{Structs, agrees}
 use Rattle.source_safety.proofs.Scopes.{block_ghost, block_memory, frame_births}
 use Rattle.source_safety.proofs.Names.{NameOf, Below, all_up, below_up, naming, names_scope}
-use Rattle.source_safety.proofs.Scenes.{AllBelow, TypeBelow, Alike, renamed_alike, Bound, bound_alike, Binds, Scene}
+use Rattle.source_safety.proofs.Scenes.{
+  AllBelow,
+  TypeBelow,
+  Alike,
+  renamed_alike,
+  Bound,
+  BoundAs,
+  LivesAs,
+  LaidAs,
+  bound_as_alike,
+  lives_more,
+  laid_as_later,
+  laid_as_kept,
+  Binds,
+  Scene,
+}
 use Rattle.source_safety.proofs.Entries.{IsObjectType, PlainEntry, MeansPlain}
 
 -- a function's result: its shape, and its type in this run
@@ -48,6 +64,11 @@ pub record Surrounds (d : Tables) (world : World) (tables : typing.Tables) (g : 
   pub frame_lives : g.regions.live g.frame ≡ true
   pub frame_below : Below g.regions.count g.frame
 
+-- the structs have the cells of their types
+pub agrees_here : (d : Tables) (world : World) (tables : typing.Tables) (g : Env) (scope : Scope) (f : NameOf → Region) (gives : RunType)
+    → Surrounds d world tables g scope f gives → Agrees scope.world d
+agrees_here d world tables g scope f gives h = subst (λ (y : World). Agrees y d) (sym h.world_is) (agrees d world tables h.structs)
+
 -- in a loop nothing of it changes
 pub surrounds_loop : (d : Tables) (world : World) (tables : typing.Tables) (g : Env) (scope : Scope) (f : NameOf → Region) (gives : RunType)
     → Surrounds d world tables g scope f gives → Surrounds d world tables (in_a_loop g) scope f gives
@@ -72,53 +93,41 @@ scene_loop d g scope f b k w m h = record { names = h.names; base = h.base; vari
 
 -- ---- a local is declared
 
-module _ (d : Tables) (world : World) (tables : typing.Tables) (g : Env) (scope : Scope) (f : NameOf → Region) (x : tree.Name) (t : StaticType) (at : Spot)
-    (gives : RunType) (h : Surrounds d world tables g scope f gives) (object : IsObjectType t) (below : TypeBelow g.regions.count t)
-    (there : at.region ≡ Frame scope.frame)
+module _ (d : Tables) (world : World) (tables : typing.Tables) (g : Env) (scope : Scope) (f : NameOf → Region) (x : tree.Name) (v : What) (e : Entity)
+    (gives : RunType) (h : Surrounds d world tables g scope f gives) (plain : (y : List ℕ) → PlainEntry scope.world y (OfValue v))
+    (bound : BoundAs g.regions.count f (Some e) v) (lives : LivesAs g.regions.live v)
   where
-    -- the scope of the meaning with the local
-    abbrev pub bound_scope : Scope
-    bound_scope = with_binding scope x.text (Variable (shape_of t) at)
+    name_bound : (y : List ℕ) (u : What) (c : Bool) → (if c then Some (OfValue v) else meant g y) ≡ Some (OfValue u)
+        → BoundAs g.regions.count f (or_else (if c then Some e else bound_to scope.locals y) (bound_to scope.world.globals y)) u
+    name_bound y u true z = let a : v ≡ u = cc in subst (λ (q : What). BoundAs g.regions.count f (Some e) q) a bound
+    name_bound y u false z = h.binds.variables y u z
 
-    new_bound : Bound g.regions.count f (Some (Variable (shape_of t) at)) t g.frame
-    new_bound = record { at = at; is = refl; region = there ∙ sym h.frame; within = h.frame_below; below = below }
+    name_live : (y : List ℕ) (u : What) (c : Bool) → (if c then Some (OfValue v) else meant g y) ≡ Some (OfValue u) → LivesAs g.regions.live u
+    name_live y u true z = let a : v ≡ u = cc in subst (λ (q : What). LivesAs g.regions.live q) a lives
+    name_live y u false z = h.binds.live y u z
 
-    variable_bound : (y : List ℕ) (u : StaticType) (r : NameOf) (c : Bool)
-        → (if c then Some (OfValue (Stored t g.frame)) else meant g y) ≡ Some (OfValue (Stored u r))
-        → Bound g.regions.count f (or_else (if c then Some (Variable (shape_of t) at) else bound_to scope.locals y) (bound_to scope.world.globals y)) u r
-    variable_bound y u r true e =
-        let a : t ≡ u = cc in let c : g.frame ≡ r = cc in
-        subst (λ (v : StaticType). Bound g.regions.count f (Some (Variable (shape_of t) at)) v r) a
-        (subst (λ (q : NameOf). Bound g.regions.count f (Some (Variable (shape_of t) at)) t q) c new_bound)
-    variable_bound y u r false e = h.binds.variables y u r e
+    entry_plain : (y : List ℕ) (o : Entry) (c : Bool) → (if c then Some (OfValue v) else meant g y) ≡ Some o → PlainEntry scope.world y o
+    entry_plain y o true z = let q : OfValue v ≡ o = cc in subst (λ (u : Entry). PlainEntry scope.world y u) q (plain y)
+    entry_plain y o false z = h.plain y o z
 
-    variable_live : (y : List ℕ) (u : StaticType) (r : NameOf) (c : Bool)
-        → (if c then Some (OfValue (Stored t g.frame)) else meant g y) ≡ Some (OfValue (Stored u r)) → g.regions.live r ≡ true
-    variable_live y u r true e = let c : g.frame ≡ r = cc in subst (λ (q : NameOf). g.regions.live q ≡ true) c h.frame_lives
-    variable_live y u r false e = h.binds.live y u r e
-
-    entry_plain : (y : List ℕ) (e : Entry) (c : Bool) → (if c then Some (OfValue (Stored t g.frame)) else meant g y) ≡ Some e → PlainEntry scope.world y e
-    entry_plain y e true z = let q : OfValue (Stored t g.frame) ≡ e = cc in subst (λ (u : Entry). PlainEntry scope.world y u) q object
-    entry_plain y e false z = h.plain y e z
-
-    function_found : (y : List ℕ) (s : Signature) (c : Bool) → (if c then Some (OfValue (Stored t g.frame)) else meant g y) ≡ Some (OfFunction s)
+    function_found : (y : List ℕ) (s : Signature) (c : Bool) → (if c then Some (OfValue v) else meant g y) ≡ Some (OfFunction s)
         → find g.tables y ≡ Some (OfFunction s)
     function_found y s true z = absurd cc
     function_found y s false z = h.functions y s z
 
-    pub surrounds_local : Surrounds d world tables (extended g x t) bound_scope f gives
-    surrounds_local = record {
+    pub surrounds_named : Surrounds d world tables (named g x v) (with_binding scope x.text e) f gives
+    surrounds_named = record {
       tables_are = h.tables_are;
       world_is = h.world_is;
       structs = h.structs;
       binds = record {
-        variables = λ y u r e. variable_bound y u r (bytes_eq x.text y) e;
-        live = λ y u r e. variable_live y u r (bytes_eq x.text y) e;
+        variables = λ y u z. name_bound y u (bytes_eq x.text y) z;
+        live = λ y u z. name_live y u (bytes_eq x.text y) z;
         globals = h.binds.globals;
       };
-      plain = λ y e z. entry_plain y e (bytes_eq x.text y) z;
+      plain = λ y o z. entry_plain y o (bytes_eq x.text y) z;
       functions = λ y s z. function_found y s (bytes_eq x.text y) z;
-      result = λ u e. let r : ResultIs g scope f gives u = h.result u e in record { shape = r.shape; below = r.below; run = r.run };
+      result = λ u z. let r : ResultIs g scope f gives u = h.result u z in record { shape = r.shape; below = r.below; run = r.run };
       strict = h.strict;
       inside = h.inside;
       frame = h.frame;
@@ -126,24 +135,60 @@ module _ (d : Tables) (world : World) (tables : typing.Tables) (g : Env) (scope 
       frame_below = h.frame_below;
     }
 
-    variable_laid : (b k : ℕ) (w : Ghost) (m : Memory) → Scene d g scope f b k w m → Laid w at (flat heap d (renamed f t))
-        → (y : List ℕ) (u : StaticType) (r : NameOf)
-        (s : Spot) (c : Bool) → (if c then Some (OfValue (Stored t g.frame)) else meant g y) ≡ Some (OfValue (Stored u r))
-        → or_else (if c then Some (Variable (shape_of t) at) else bound_to scope.locals y) (bound_to scope.world.globals y) ≡ Some (Variable (shape_of u) s)
-        → Laid w s (flat heap d (renamed f u))
-    variable_laid b k w m z laid y u r s true e q =
-        let a : t ≡ u = cc in let c : at ≡ s = cc in
-        subst (λ (v : StaticType). Laid w s (flat heap d (renamed f v))) a (subst (λ (p : Spot). Laid w p (flat heap d (renamed f t))) c laid)
-    variable_laid b k w m z laid y u r s false e q = z.variables y u r s e q
+    name_laid : (b k : ℕ) (w : Ghost) (m : Memory) → Scene d g scope f b k w m → LaidAs d f w (Some e) v → (y : List ℕ) (u : What) (c : Bool)
+        → (if c then Some (OfValue v) else meant g y) ≡ Some (OfValue u)
+        → LaidAs d f w (or_else (if c then Some e else bound_to scope.locals y) (bound_to scope.world.globals y)) u
+    name_laid b k w m z laid y u true q = let a : v ≡ u = cc in subst (λ (p : What). LaidAs d f w (Some e) p) a laid
+    name_laid b k w m z laid y u false q = z.variables y u q
 
-    pub scene_local : (b k : ℕ) (w : Ghost) (m : Memory) → Scene d g scope f b k w m → Laid w at (flat heap d (renamed f t))
-        → Scene d (extended g x t) bound_scope f b k w m
-    scene_local b k w m z laid = record {
+    pub scene_named : (b k : ℕ) (w : Ghost) (m : Memory) → Scene d g scope f b k w m → LaidAs d f w (Some e) v
+        → Scene d (named g x v) (with_binding scope x.text e) f b k w m
+    scene_named b k w m z laid = record {
       names = z.names;
       base = z.base;
-      variables = λ y u r s e q. variable_laid b k w m z laid y u r s (bytes_eq x.text y) e q;
+      variables = λ y u q. name_laid b k w m z laid y u (bytes_eq x.text y) q;
       globals = z.globals;
     }
+
+-- a variable, or an array, of a type in the innermost block
+module _ (d : Tables) (world : World) (tables : typing.Tables) (g : Env) (scope : Scope) (f : NameOf → Region) (x : tree.Name) (t : StaticType) (at : Spot)
+    (gives : RunType) (h : Surrounds d world tables g scope f gives) (object : IsObjectType t) (below : TypeBelow g.regions.count t)
+    (there : at.region ≡ Frame scope.frame)
+  where
+    new_bound : (s : Shape) → Bound g.regions.count f (Some (Variable s at)) s t g.frame
+    new_bound s = record { at = at; is = refl; region = there ∙ sym h.frame; within = h.frame_below; below = below }
+
+    pub surrounds_local : Surrounds d world tables (extended g x t) (with_binding scope x.text (Variable (shape_of t) at)) f gives
+    surrounds_local =
+        surrounds_named d world tables g scope f x (Stored t g.frame) (Variable (shape_of t) at) gives h (λ y. object) (new_bound (shape_of t)) h.frame_lives
+
+    pub surrounds_array : (n : ℕ) → Surrounds d world tables (arrayed g x t) (with_binding scope x.text (Variable (ArrayShape n (shape_of t)) at)) f gives
+    surrounds_array n =
+        surrounds_named d world tables g scope f x (Arrayed t g.frame) (Variable (ArrayShape n (shape_of t)) at) gives h (λ y. object)
+        (n, new_bound (ArrayShape n (shape_of t))) h.frame_lives
+
+    -- the only variable that the name is bound to
+    local_laid : (w : Ghost) → Laid w at (flat heap d (renamed f t)) → LaidAs d f w (Some (Variable (shape_of t) at)) (Stored t g.frame)
+    local_laid w laid = λ s q. let c : at ≡ s = cc in subst (λ (p : Spot). Laid w p (flat heap d (renamed f t))) c laid
+
+    array_laid : (w : Ghost) (n : ℕ) → AllLaid w at n (flat heap d (renamed f t))
+        → LaidAs d f w (Some (Variable (ArrayShape n (shape_of t)) at)) (Arrayed t g.frame)
+    array_laid w n laid = λ s c q.
+        let a : at ≡ s = cc in
+        let e : n ≡ c = cc in
+        subst (λ (p : Spot). AllLaid w p c (flat heap d (renamed f t))) a (subst (λ (k : ℕ). AllLaid w at k (flat heap d (renamed f t))) e laid)
+
+    pub scene_local : (b k : ℕ) (w : Ghost) (m : Memory) → Scene d g scope f b k w m → Laid w at (flat heap d (renamed f t))
+        → Scene d (extended g x t) (with_binding scope x.text (Variable (shape_of t) at)) f b k w m
+    scene_local b k w m z laid =
+        scene_named d world tables g scope f x (Stored t g.frame) (Variable (shape_of t) at) gives h (λ y. object) (new_bound (shape_of t)) h.frame_lives
+        b k w m z (local_laid w laid)
+
+    pub scene_array : (n b k : ℕ) (w : Ghost) (m : Memory) → Scene d g scope f b k w m → AllLaid w at n (flat heap d (renamed f t))
+        → Scene d (arrayed g x t) (with_binding scope x.text (Variable (ArrayShape n (shape_of t)) at)) f b k w m
+    scene_array n b k w m z laid =
+        scene_named d world tables g scope f x (Arrayed t g.frame) (Variable (ArrayShape n (shape_of t)) at) gives h (λ y. object)
+        (n, new_bound (ArrayShape n (shape_of t))) h.frame_lives b k w m z (array_laid w n laid)
 
 -- ---- a block is entered
 
@@ -192,6 +237,10 @@ naming_alike f n r (Level k) h = elim (eqb_tells k n) [
   | inr e ↦ ap (λ (c : Bool). if c then r else f (Level k)) e.0
 ]
 
+-- what was live stays live
+pub lives_in_scope : (g : Regions) (r : NameOf) → g.live r ≡ true → (with_scope g).live r ≡ true
+lives_in_scope g r l = if_cases (same_id r (Level g.count)) true (g.live r) (λ z. z ≡ true) (λ z. refl) (λ z. l)
+
 pub naming_itself : (f : NameOf → Region) (n : ℕ) (r : Region) → naming f n r (Level n) ≡ r
 naming_itself f n r = ap (λ (c : Bool). if c then r else f (Level n)) (eq-eqb n n refl)
 
@@ -207,10 +256,9 @@ module _ (d : Tables) (world : World) (tables : typing.Tables) (g : Env) (scope 
     world_is = h.world_is;
     structs = h.structs;
     binds = record {
-      variables = λ y u r e. bound_alike g.regions.count (g.regions.count + 1) f block_names (entity_of scope y) u r (below_up g.regions.count)
-          (type_up g.regions.count)
-          (naming_alike f g.regions.count (Frame a)) (h.binds.variables y u r e);
-      live = λ y u r e. if_cases (same_id r (Level g.regions.count)) true (g.regions.live r) (λ z. z ≡ true) (λ z. refl) (λ z. h.binds.live y u r e);
+      variables = λ y u e. bound_as_alike g.regions.count (g.regions.count + 1) f block_names (entity_of scope y) u (below_up g.regions.count)
+          (type_up g.regions.count) (naming_alike f g.regions.count (Frame a)) (h.binds.variables y u e);
+      live = λ y u e. lives_more g.regions.live (with_scope g.regions).live u (lives_in_scope g.regions) (h.binds.live y u e);
       globals = h.binds.globals;
     };
     plain = h.plain;
@@ -235,10 +283,7 @@ pub scene_block : (d : Tables) (world : World) (tables : typing.Tables) (g : Env
 scene_block d world tables g scope f gives b k w m h i z = record {
   names = names_scope d g.regions f k w m (m.activations + 1) m.births (Frame m.activations) i (frame_births d w m i) z.names;
   base = let l : b ≤ m.activations = z.base in omega (arith, l);
-  variables = λ y u r s e q.
-      subst (λ (t : RunType). Laid (block_ghost w m) s (flat heap d t))
-      (sym (renamed_alike g.regions.count f (naming f g.regions.count (Frame m.activations)) u (naming_alike f g.regions.count (Frame m.activations))
-      (h.binds.variables y u r e).below))
-      (laid_kept w (block_ghost w m) s (flat heap d (renamed f u)) (λ p v l. l) (z.variables y u r s e q));
-  globals = λ y u r s e q. laid_kept w (block_ghost w m) s (flat heap d (renamed (λ a. heap) u)) (λ p v l. l) (z.globals y u r s e q);
+  variables = λ y u e. laid_as_later g.regions.count d f (naming f g.regions.count (Frame m.activations)) w (block_ghost w m) (entity_of scope y) u
+      (naming_alike f g.regions.count (Frame m.activations)) (h.binds.variables y u e) (λ p t l. l) (z.variables y u e);
+  globals = λ y u e. laid_as_kept d (λ a. heap) w (block_ghost w m) (bound_to scope.world.globals y) u (λ p t l. l) (z.globals y u e);
 }

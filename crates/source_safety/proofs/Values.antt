@@ -1,10 +1,12 @@
 -- Values keep their types.
 use Rattle.std.proofs.Common.{◌≡◌, ℕ, suc, true, false, inl, inr, Some, List, [], ◌∷◌, ◌∙◌}
+use Rattle.std.specs.Prelude.{◌*◌, length}
 use Rattle.source_meaning.specs.Memory.{Region, Born, Spot, Scalar, Content, is_moved, beyond}
 use Rattle.source_typing.specs.Types as types
 use Rattle.source_typing.specs.Types.{Int, Unsigned, Char, Void, Null, Fat, Unique, Handle, Key, Struct, Union, shape_of}
 use Rattle.source_safety.specs.Flat.{Tables, flat}
-use Rattle.source_safety.proofs.Invariant.{RunType, Ghost, Owner, Nobody, InCell, Kept, Reached, Private, heap, Laid, Reaches, Member, HasPlain, HasType, HaveTypes, ContentOk}
+use Rattle.source_safety.proofs.Invariant.{RunType, Ghost, Owner, Nobody, InCell, Kept, Reached, Private, heap, Laid, AllLaid, Reaches, Member, HasPlain}
+use Rattle.source_safety.proofs.Invariant.{HasType, HaveTypes, ContentOk}
 
 -- a value that `by` has comes to `to`
 pub record Carries (w w' : Ghost) (by to : Owner) : Type 0 where
@@ -16,6 +18,10 @@ pub record Carries (w w' : Ghost) (by to : Owner) : Type 0 where
 pub laid_kept : (w w' : Ghost) (s : Spot) (ts : List RunType) → ((s : Spot) (t : RunType) → w.types s ≡ Some (Reached t) → w'.types s ≡ Some (Reached t)) → Laid w s ts → Laid w' s ts
 laid_kept w w' s [] g h = tt
 laid_kept w w' s (t ∷ ts) g h = (g s t h.0, laid_kept w w' (beyond s 1) ts g h.1)
+
+pub all_laid_kept : (w w' : Ghost) (s : Spot) (count : ℕ) (ts : List RunType)
+    → ((s : Spot) (t : RunType) → w.types s ≡ Some (Reached t) → w'.types s ≡ Some (Reached t)) → AllLaid w s count ts → AllLaid w' s count ts
+all_laid_kept w w' s count ts g h = λ i l. laid_kept w w' (beyond s (i * length ts)) ts g (h i l)
 
 reaches_kept : (d : Tables) (w w' : Ghost) (by to : Owner) (at : Spot) (r : Region) (t : RunType) → Carries w w' by to → Reaches d w at r t → Reaches d w' at r t
 reaches_kept d w w' by to at r t c h = record { typed = laid_kept w w' at (flat heap d t) c.types h.typed; above = c.above _ _ h.above }

@@ -1,19 +1,20 @@
--- What the names of a program of integers, thin pointers, structs and regions mean: variables, functions that take such values, structs, and the two
--- functions that every program has.
+-- What the names of a program of integers, pointers, structs, arrays and regions mean: variables, arrays, functions that take such values, structs, and
+-- the two functions that every program has.
 use Rattle.std.specs.Prelude.{◌≡◌, ℕ, true, false, ◌⊎◌, Some, List, [], ◌∷◌, map, bytes_eq, codes}
 use Rattle.source_meaning.specs.Shapes.{part_shapes, has_tag}
 use Rattle.source_meaning.specs.Steps.{Routine, World}
 use Rattle.source_meaning.specs.Calls.{function_of}
 use Rattle.source_typing.specs.Tables as typing
-use Rattle.source_typing.specs.Tables.{Entry, OfValue, OfTag, OfFunction, OfBuiltin, Stored, Signature, Tag, find}
-use Rattle.source_typing.specs.Types.{StaticType, Int, Unsigned, Char, Void, Thin, Handle, Struct, shape_of}
+use Rattle.source_typing.specs.Tables.{Entry, OfValue, OfTag, OfFunction, OfBuiltin, Stored, Arrayed, Signature, Tag, find}
+use Rattle.source_typing.specs.Types.{StaticType, Int, Unsigned, Char, Void, Thin, Fat, Handle, Struct, shape_of}
 
--- What a variable may be of: an integer, a thin pointer to what a variable may be of, a handle, or a struct.
+-- What a variable may be of: an integer, a pointer to what a variable may be of, a handle, or a struct.
 abbrev pub IsObjectType : StaticType → Type 0
 IsObjectType Int = Unit {0}
 IsObjectType Unsigned = Unit {0}
 IsObjectType Char = Unit {0}
 IsObjectType (Thin n r t) = IsObjectType t
+IsObjectType (Fat r t) = IsObjectType t
 IsObjectType (Handle r) = Unit {0}
 IsObjectType (Struct tag rs) = Unit {0}
 IsObjectType _ = ⊥
@@ -70,6 +71,7 @@ pub record Structure (world : World) (x : List ℕ) (t : Tag) : Type 0 where
 
 abbrev pub PlainEntry : World → List ℕ → Entry → Type 0
 PlainEntry world x (OfValue (Stored t r)) = IsObjectType t
+PlainEntry world x (OfValue (Arrayed t r)) = IsObjectType t
 PlainEntry world x (OfTag t) = Structure world x t
 PlainEntry world x (OfFunction s) = Function world x s
 PlainEntry world x (OfBuiltin n) = Builtin x n

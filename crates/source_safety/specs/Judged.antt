@@ -1,4 +1,4 @@
--- Which statements of integers, thin pointers, structs and lexical regions are in order: the judgement of each of their expressions, where it stands.
+-- Which statements of integers, pointers, structs, arrays and lexical regions are in order: the judgement of each of their expressions, where it stands.
 use Rattle.std.specs.Prelude.{◌≡◌, ℕ, true, ◌||◌, Some, None, ◌∷◌}
 use Rattle.cyc_tree.specs.Operands.{ExpressionHasOperands}
 use Rattle.cyc_tree.specs.Tree as tree
@@ -10,18 +10,22 @@ use Rattle.source_typing.specs.Expressions.{judge}
 use Rattle.source_typing.specs.Regions.{with_scope}
 use Rattle.source_typing.specs.Scope.{Env, Value, block_entered, next_region}
 use Rattle.source_typing.specs.Statements.{in_a_loop}
-use Rattle.source_typing.specs.Tables.{Stored, has_beginning}
-use Rattle.source_typing.specs.Taken.{taken, with_regions}
+use Rattle.source_typing.specs.Tables.{What, Stored, Arrayed, has_beginning}
+use Rattle.source_typing.specs.Taken.{Taken, taken, with_arrays}
 use Rattle.source_typing.specs.Types.{StaticType, Void, Handle, is_testable, shape_of}
 use Rattle.source_typing.specs.Verdicts.{Of}
 use Rattle.source_safety.specs.Entries.{IsObjectType}
 use Rattle.source_safety.specs.Named.{TypeBelow}
 
+-- the forms that safety is proved of so far
+abbrev pub safe_forms : Taken
+safe_forms = with_arrays
+
 -- an expression of these forms that is in order, and what it is
 pub record Accepted (g : Env) (e : Expression) : Type 0 where
   pub value : Value
   pub judged : judge g e ≡ Of value
-  pub is_taken : taken with_regions e ≡ e
+  pub is_taken : taken safe_forms e ≡ e
   pub operands : ExpressionHasOperands e
 
 -- a condition
@@ -30,8 +34,16 @@ pub record Condition (g : Env) (e : Expression) : Type 0 where
   pub testable : is_testable accepted.value.type ≡ true
 
 -- a scope with one more local
+abbrev pub named : Env → tree.Name → What → Env
+named g x w = record g { locals = record { name = x.text; what = w; block = g.block } ∷ g.locals }
+
+-- a variable of a type, in the innermost block
 abbrev pub extended : Env → tree.Name → StaticType → Env
-extended g x t = record g { locals = record { name = x.text; what = Stored t g.frame; block = g.block } ∷ g.locals }
+extended g x t = named g x (Stored t g.frame)
+
+-- an array of elements of a type, in the innermost block
+abbrev pub arrayed : Env → tree.Name → StaticType → Env
+arrayed g x t = named g x (Arrayed t g.frame)
 
 -- what is stored, passed or returned as a value of a type
 pub record Fitting (g : Env) (e : Expression) (t : StaticType) : Type 0 where
@@ -46,6 +58,15 @@ pub record LocalUnset (g : Env) (of : TypeName) (x : tree.Name) : Type 0 where
   pub begins : has_beginning g.tables type ≡ true
   pub shape : settled (written of) ≡ shape_of type
   pub scope : (declare g (tree.Local of x Initializer.Unset)).scope ≡ extended g x type
+
+-- An array, of elements whose type begins without an initializer. How many there are is no matter: the index of each access is compared with their count.
+pub record LocalArray (g : Env) (of : TypeName) (x : tree.Name) (count : ℕ) : Type 0 where
+  pub type : StaticType
+  pub object : IsObjectType type
+  pub below : TypeBelow g.regions.count type
+  pub begins : has_beginning g.tables type ≡ true
+  pub shape : settled (written of) ≡ shape_of type
+  pub scope : (declare g (tree.Local of x (Initializer.Elements count))).scope ≡ arrayed g x type
 
 -- one with an initializer, whose value converts to its type
 pub record LocalSet (g : Env) (of : TypeName) (x : tree.Name) (e : Expression) : Type 0 where
@@ -62,6 +83,7 @@ RegionOpened g at r x = ((declare g (tree.Region at r x)).scope ≡ extended (wi
 
 abbrev pub DeclarationJudged : Env → tree.Declaration → Type 0
 DeclarationJudged g (tree.Local of x Initializer.Unset) = LocalUnset g of x
+DeclarationJudged g (tree.Local of x (Initializer.Elements count)) = LocalArray g of x count
 DeclarationJudged g (tree.Local of x (Initializer.Value e)) = LocalSet g of x e
 DeclarationJudged g (tree.Region at r x) = RegionOpened g at r x
 DeclarationJudged g _ = ⊥

@@ -1,9 +1,9 @@
--- Which programs of integers, thin pointers, structs and regions are in order: their structs, globals, functions and `main`, by what their names mean.
+-- Which programs of integers, pointers, structs, arrays and regions are in order: their structs, globals, functions and `main`, by what their names mean.
 use Rattle.std.specs.Prelude.{◌≡◌, ℕ, true, false, ◌⊎◌, Some, List, [], ◌∷◌, codes}
 use Rattle.cyc_tree.specs.Tree as tree
 use Rattle.cyc_tree.specs.Tree.{Constant, Initial, Item, Program}
 use Rattle.cyc_words.specs.Events.{SourceEnding}
-use Rattle.source_meaning.specs.Shapes.{Part, written, settled}
+use Rattle.source_meaning.specs.Shapes.{ArrayShape, Part, written, settled}
 use Rattle.source_meaning.specs.Memory.{Integer, IntegerType, Scalar}
 use Rattle.source_meaning.specs.Steps.{Variable, World, give}
 use Rattle.source_meaning.specs.Places.{bound_to}
@@ -11,8 +11,8 @@ use Rattle.source_meaning.specs.Programs.{heap_spot, is_main, constant_value, wo
 use Rattle.source_typing.specs.Regions.{Region, TheHeap, entry_regions}
 use Rattle.source_typing.specs.Scope.{Env, InRegion, block_entered}
 use Rattle.source_typing.specs.Tables as typing
-use Rattle.source_typing.specs.Tables.{OfValue, OfFunction, Stored, Signature, find, has_beginning}
-use Rattle.source_typing.specs.Types.{StaticType, Int, Void, Thin, Handle, Struct, shape_of}
+use Rattle.source_typing.specs.Tables.{OfValue, OfFunction, Stored, Arrayed, Signature, find, has_beginning}
+use Rattle.source_typing.specs.Types.{StaticType, Int, Void, Thin, Fat, Handle, Struct, shape_of}
 use Rattle.source_typing.specs.Ways.{ways_of_items}
 use Rattle.source_safety.specs.Entries.{IsObjectType, Function, PlainTables}
 use Rattle.source_safety.specs.Judged.{extended, ItemsJudged}
@@ -66,17 +66,18 @@ IsNullConstant _ = ⊥
 -- the first value of a global of a type: a pointer's is `NULL`, and an integer's is a number; there is none of a handle or a struct
 abbrev pub IsFirst : StaticType → Constant → Type 0
 IsFirst (Thin n r t) c = IsNullConstant c
+IsFirst (Fat r t) c = IsNullConstant c
 IsFirst (Handle r) c = ⊥
 IsFirst (Struct tag rs) c = ⊥
 IsFirst t c = IsNumber c
 
--- the initializer of a global, where there is one
+-- the initializer of a global, where there is one; the elements of an array have none
 abbrev pub InitialJudged : StaticType → Initial → Type 0
 InitialJudged t Initial.Unset = Unit {0}
-InitialJudged t (Initial.Elements count) = ⊥
+InitialJudged t (Initial.Elements count) = Unit {0}
 InitialJudged t (Initial.Given c) = IsFirst t c
 
--- a global, of a type that begins without an initializer
+-- a global, or a global array, of a type that begins without an initializer
 pub record GlobalJudged (tables : typing.Tables) (x : tree.Global) : Type 0 where
   pub type : StaticType
   pub object : IsObjectType type
@@ -100,6 +101,14 @@ pub record GlobalFound (world : World) (x : List ℕ) (t : StaticType) (r : Regi
   pub region : r ≡ TheHeap
   pub below : TypeBelow 0 t
 
+-- so is an array
+pub record ArrayFound (world : World) (x : List ℕ) (t : StaticType) (r : Region) : Type 0 where
+  pub number : ℕ
+  pub count : ℕ
+  pub is : bound_to world.globals x ≡ Some (Variable (ArrayShape count (shape_of t)) (heap_spot number))
+  pub region : r ≡ TheHeap
+  pub below : TypeBelow 0 t
+
 -- `main` takes nothing and gives an int
 pub record MainFound (world : World) (tables : typing.Tables) : Type 0 where
   pub signature : Signature
@@ -108,12 +117,13 @@ pub record MainFound (world : World) (tables : typing.Tables) : Type 0 where
   pub types : function.types ≡ []
   pub gives : function.gives ≡ Int
 
--- A program of integers, thin pointers, structs and regions in which nothing is at fault, by these tables of its names.
+-- A program of integers, pointers, structs, arrays and regions in which nothing is at fault, by these tables of its names.
 pub record ProgramJudged (p : Program) (tables : typing.Tables) : Type 0 where
   pub structs : StructsJudged (world_of p) tables
   pub plain : PlainTables (world_of p) tables
   pub globals : GlobalsJudged tables p
   pub variables : (x : List ℕ) (t : StaticType) (r : Region) → find tables x ≡ Some (OfValue (Stored t r)) → GlobalFound (world_of p) x t r
+  pub arrays : (x : List ℕ) (t : StaticType) (r : Region) → find tables x ≡ Some (OfValue (Arrayed t r)) → ArrayFound (world_of p) x t r
   pub functions : (x : List ℕ) (s : Signature) (F : Function (world_of p) x s) → find tables x ≡ Some (OfFunction s)
       → FunctionJudged (world_of p) tables x s F
   pub main : MainFound (world_of p) tables

@@ -2,8 +2,8 @@
 
 ghost use Rattle.source_safety.specs.Programs.{NeverStuck};
 
-/// A law, with nothing to run: a program of integers, thin pointers, structs, the heap and lexical
-/// regions that is in order is never stuck, on any input and with any fuel.
+/// A law, with nothing to run: a program of integers, pointers, structs, arrays, the heap and
+/// lexical regions that is in order is never stuck, on any input and with any fuel.
 pub fn never_stuck()
     ensures { NeverStuck }
 {}

@@ -1,7 +1,7 @@
 -- What a local without an initializer begins with: the source makes it so, and Core's code stores it.
-use Rattle.std.proofs.Common.{◌≡◌, inl, ℕ, zero, suc, ◌+◌, ◌≤◌, List, [], ◌∷◌, Bool, true, false, Option, Some, None, refl, sym, ap, ◌∙◌, subst, arith, eq-eqb}
+use Rattle.std.proofs.Common.{◌≡◌, ℕ, zero, suc, ◌+◌, ◌≤◌, List, [], ◌∷◌, Bool, true, false, Some, None, refl, sym, ap, ◌∙◌, subst, arith, eq-eqb}
+use Rattle.std.proofs.Common.{◌++◌}
 use Rattle.std.specs.Prelude.{map, slice_get}
-use Rattle.std.proofs.lemmas.Option.{none-some}
 use Rattle.source_meaning.specs.Shapes.{
   Shape,
   IntShape,
@@ -17,19 +17,7 @@ use Rattle.source_meaning.specs.Shapes.{
   ArrayShape,
 }
 use Rattle.source_meaning.specs.Memory as source
-use Rattle.source_meaning.specs.Memory.{
-  AsInt,
-  AsUnsigned,
-  AsChar,
-  Integer,
-  Thin,
-  Scalar,
-  Spot,
-  Holds,
-  Cell,
-  is_live,
-  with_object,
-}
+use Rattle.source_meaning.specs.Memory.{Spot, is_live, with_object, Object}
 use Rattle.source_meaning.specs.Steps as steps
 use Rattle.source_meaning.specs.Steps.{World, Variable, Scope, Flow, Act, check}
 use Rattle.source_meaning.specs.Conversions.{cells_of}
@@ -44,38 +32,26 @@ use Rattle.core_meaning.specs.Steps.{Config, with_temp, with_memory}
 use Rattle.core_meaning.specs.Operations.{does, fitting, are_elements, cleared}
 use Rattle.core_meaning.specs.Meaning as meaning
 use Rattle.source_lowering.specs.Lowered.{width_of, put}
-use Rattle.source_lowering.specs.Layouts.{first_part, layout_of}
+use Rattle.source_lowering.specs.Layouts.{first_part, layout_of, pieces_of, part_shape_of}
 use Rattle.source_lowering.specs.Programs.{first_code, unset_code}
 use Rattle.source_lowering.specs.Taken.{HasFirst}
 use Rattle.source_lowering.specs.Lowerable.{IsObject, AreStructs, HasBeginning}
-use Rattle.source_lowering.proofs.Relations.{
-  at,
-  PartIs,
-  PartsHold,
-  ArePending,
-  Shown,
-  Agree,
-  Later,
-  Place,
-  Fits,
-  SameAt,
-  Next,
-  AreKept,
-  around,
-  Bound,
-  activation,
-  within,
-}
+use Rattle.source_lowering.proofs.Relations.{at, AreMade, PartIs, PartsHold, ArePending, Agree, Later, Place, Fits, SameAt, Next, AreKept, around, Bound}
+use Rattle.source_lowering.proofs.Relations.{activation, within, AreShaped}
 use Rattle.core_meaning.proofs.Spots.{spot_self}
 use Rattle.source_lowering.proofs.Keeping.{later_on, fits_later, named_free}
 use Rattle.source_lowering.proofs.Runs.{stuck_same}
-use Rattle.source_lowering.proofs.Integers.{IsWordShape}
+use Rattle.source_lowering.proofs.Integers.{IsWordShape, word_value, value_object}
 use Rattle.source_lowering.proofs.Cells.{IsPlain, plain_of}
-use Rattle.source_lowering.proofs.Making.{local_spot, cell_spot, cell_with, m_made, grown_later, ahead_later, agree_ahead}
+use Rattle.source_lowering.proofs.Making.{local_spot, cell_spot, m_made, grown_later, ahead_later, agree_ahead}
 use Rattle.source_lowering.proofs.Values.{kept_temp, put_temp}
-use Rattle.source_lowering.proofs.StructCells.{AreWordShapes, object_cells}
-use Rattle.source_lowering.proofs.Clearing.{element_there, cleared_here, cleared_later, agree_cleared, layout_first, made_at}
+use Rattle.source_lowering.proofs.StructCells.{AreValueShapes, object_cells}
+use Rattle.source_lowering.proofs.Clearing.{element_there, cleared_later, agree_cleared, layout_first, made_at, placed_at, cleared_holds}
+use Rattle.source_lowering.proofs.CellParts.{firsts_of}
+use Rattle.source_lowering.proofs.Members.{word_pieces}
+use Rattle.source_lowering.proofs.ObjectShapes.{object_made}
 use Rattle.source_lowering.proofs.Declaring.{with_local, part_to_come, local_fits, part_with, put_here}
+use Rattle.source_lowering.proofs.FirstCells.{first_shown, first_cell_is}
 
 -- ---- what a local begins with
 
@@ -85,104 +61,42 @@ record IsFirst (shape : Shape) : Type 0 where
   does : (d : ℕ) (next : Config → core_steps.Step) (c : Config) → does (first_code shape d) next c ≡ next (with_temp d content c)
   part : first_part shape ≡ content
 
-first_of : (shape : Shape) → HasFirst shape → IsFirst shape
-first_of IntShape h = record { content = Word 0; fits = refl; does = λ d next c. refl; part = refl }
-first_of UnsignedShape h = record { content = Word 0; fits = refl; does = λ d next c. refl; part = refl }
-first_of CharShape h = record { content = Word 0; fits = refl; does = λ d next c. refl; part = refl }
-first_of (ThinShape true owner to) h = record { content = Null; fits = refl; does = λ d next c. refl; part = refl }
-first_of (ThinShape false owner to) h = absurd h
-first_of VoidShape h = absurd h
-first_of (FatShape to) h = absurd h
-first_of HandleShape h = absurd h
-first_of KeyShape h = absurd h
-first_of (StructShape tag) h = absurd h
-first_of (UnionShape tag) h = absurd h
-first_of (ArrayShape count of) h = absurd h
+first_of : (shape : Shape) → IsWordShape shape → HasFirst shape → IsFirst shape
+first_of IntShape word h = record { content = Word 0; fits = refl; does = λ d next c. refl; part = refl }
+first_of UnsignedShape word h = record { content = Word 0; fits = refl; does = λ d next c. refl; part = refl }
+first_of CharShape word h = record { content = Word 0; fits = refl; does = λ d next c. refl; part = refl }
+first_of (ThinShape true owner to) word h = record { content = Null; fits = refl; does = λ d next c. refl; part = refl }
+first_of (ThinShape false owner to) word h = absurd h
+first_of VoidShape word h = absurd h
+first_of (FatShape to) word h = absurd word
+first_of HandleShape word h = absurd h
+first_of KeyShape word h = absurd h
+first_of (StructShape tag) word h = absurd h
+first_of (UnionShape tag) word h = absurd h
+first_of (ArrayShape count of) word h = absurd h
 
 -- ---- a local without an initializer
 
--- what each cell begins with is shown by what its part does
-pub first_shown : (w : World) (m : source.Memory) (c : core.Memory) (s : Shape) (v : Scalar) → IsWordShape s → source.first_content s ≡ Holds v
-    → Shown w m c s v (first_part s ∷ [])
-first_shown w m c s v h e = by s h e
-  where
-    held : (u : Scalar) → Holds u ≡ Holds v → u ≡ v
-    held u f = cc f
-
-    none : (b : source.Content) → b ≡ source.Blank → b ≡ Holds v → ⊥
-    none b f g = cc (f, g)
-
-    by : (z : Shape) → IsWordShape z → source.first_content z ≡ Holds v → Shown w m c z v (first_part z ∷ [])
-    by IntShape h e = record { word = 0; value = sym (held (Integer AsInt 0) e); shown = refl; small = omega arith }
-    by UnsignedShape h e = record { word = 0; value = sym (held (Integer AsUnsigned 0) e); shown = refl; small = omega arith }
-    by CharShape h e = record { word = 0; value = sym (held (Integer AsChar 0) e); shown = refl; small = omega arith }
-    by (ThinShape true owner to) h e = inl (record { allowed = refl; value = sym (held (Thin None) e); shown = refl })
-    by (ThinShape false owner to) h e = absurd (none source.Blank refl e)
-    by VoidShape h e = absurd h
-    by (FatShape to) h e = absurd h
-    by HandleShape h e = absurd (none source.Blank refl e)
-    by KeyShape h e = absurd h
-    by (StructShape tag) h e = absurd h
-    by (UnionShape tag) h e = absurd h
-    by (ArrayShape count of) h e = absurd h
-
--- a cell that holds something at first
-pub record IsFirstCell (xs : List Shape) (cell : ℕ) (of : Shape) (v : Scalar) : Type 0 where
-  pub here : slice_get xs cell ≡ Some of
-  pub holds : source.first_content of ≡ Holds v
-  pub word : IsWordShape of
-
-pub first_cell_is : (xs : List Shape) (cell : ℕ) (of : Shape) (v : Scalar) → AreWordShapes xs
-    → slice_get (map (cell_with source.first_content) xs) cell ≡ Some (record { shape = of; content = Holds v }) → IsFirstCell xs cell of v
-first_cell_is [] cell of v h e = absurd (none-some _ e)
-first_cell_is (x ∷ xs) zero of v h e =
-    let same : x ≡ of = shape_is x of v (source.first_content x) e in
-    record {
-      here = ap (λ z. Some z) same;
-      holds = ap source.first_content (sym same) ∙ content_is x of v (source.first_content x) e;
-      word = subst IsWordShape same h.0;
-    }
-  where
-    of_cell : Shape → source.Content → Cell
-    of_cell s y = record { shape = s; content = y }
-
-    shape_in : Shape → Option Cell → Shape
-    shape_in s None = s
-    shape_in s (Some c) = c.shape
-
-    content_in : source.Content → Option Cell → source.Content
-    content_in y None = y
-    content_in y (Some c) = c.content
-
-    shape_is : (s z : Shape) (u : Scalar) (y : source.Content) → Some (of_cell s y) ≡ Some (of_cell z (Holds u)) → s ≡ z
-    shape_is s z u y f = ap (shape_in s) f
-
-    content_is : (s z : Shape) (u : Scalar) (y : source.Content) → Some (of_cell s y) ≡ Some (of_cell z (Holds u)) → y ≡ Holds u
-    content_is s z u y f = ap (content_in y) f
-first_cell_is (x ∷ xs) (suc cell) of v h e =
-    let more = first_cell_is xs cell of v h.1 e in
-    record { here = more.here; holds = more.holds; word = more.word }
-
 -- where Core's parts begin so, the source makes the object
-begins_fits : (p : Place) (m : source.Memory) (c : Config) (name : List ℕ) (shape : Shape) (shapes : List Shape) → AreWordShapes (cells_of p.world shape)
-    → p.pending ≡ shape ∷ shapes → Fits p m c
+begins_fits : (p : Place) (m : source.Memory) (c : Config) (name : List ℕ) (shape : Shape) (shapes : List Shape) → AreValueShapes (cells_of p.world shape)
+    → IsObject p.world.structs shape → p.pending ≡ shape ∷ shapes → Fits p m c
     → ((cell : ℕ) (of : Shape) → slice_get (cells_of p.world shape) cell ≡ Some of
-    → PartsHold c.memory (at (cell_spot p.frame p.made cell)) 0 (first_part of ∷ []))
+    → PartsHold c.memory (at (cell_spot p.frame p.made cell)) 0 (firsts_of (pieces_of of)))
     → Fits (with_local p name shape shapes) (m_made m p.frame (first_object p.world shape)) c
-begins_fits p m c name shape shapes words pending fits held =
-    local_fits p m c name shape shapes source.first_content pending fits
+begins_fits p m c name shape shapes values object pending fits held =
+    local_fits p m c name shape shapes source.first_content object pending fits
     (λ cell of v e.
-    let o = first_cell_is (cells_of p.world shape) cell of v words e in
-    record { contents = first_part of ∷ []; shown = first_shown p.world m c.memory of v o.word o.holds; held = held cell of o.here })
+    let o = first_cell_is (cells_of p.world shape) cell of v values e in
+    record { contents = firsts_of (pieces_of of); shown = first_shown p.world m c.memory of v o.is_value o.holds; held = held cell of o.here })
 
 -- where Core's code goes on from there
-declared_by : (p : Place) (n : ℕ) (scope : Scope) (name : List ℕ) (shape : Shape) (then_act : Scope → Act Flow)
+pub declared_by : (p : Place) (n : ℕ) (scope : Scope) (name : List ℕ) (shape : Shape) (o : World → Object) (then_act : Scope → Act Flow)
     (next : Flow → source.Memory → steps.Step) (m : source.Memory) (code : core_steps.Step)
     → scope.world ≡ p.world → scope.frame ≡ p.frame → m.objects (source.Frame p.frame) ≡ p.made
     → (is_live m (source.Frame p.frame) ≡ true
-    → SameAt p n (then_act (with_binding scope name (Variable shape (local_spot p.frame p.made))) next (m_made m p.frame (first_object p.world shape))) code)
-    → SameAt p n (declared scope name shape (first_object scope.world shape) then_act next m) code
-declared_by p n scope name shape then_act next m code world frame count goes =
+    → SameAt p n (then_act (with_binding scope name (Variable shape (local_spot p.frame p.made))) next (m_made m p.frame (o p.world))) code)
+    → SameAt p n (declared scope name shape (o scope.world) then_act next m) code
+declared_by p n scope name shape o then_act next m code world frame count goes =
     subst (λ z. SameAt p n (begun z scope.frame (next_of scope.frame)) code) (sym world)
     (subst (λ z. SameAt p n (begun p.world z (next_of z)) code) (sym frame)
     (by (is_live m (source.Frame p.frame)) refl))
@@ -191,7 +105,7 @@ declared_by p n scope name shape then_act next m code world frame count goes =
     next_of f = record { region = source.Frame f; object = m.objects (source.Frame f); cell = 0 }
 
     made : World → ℕ → Spot → steps.Step
-    made w f spot = then_act (with_binding scope name (Variable shape spot)) next (with_object m (source.Frame f) (first_object w shape))
+    made w f spot = then_act (with_binding scope name (Variable shape spot)) next (with_object m (source.Frame f) (o w))
 
     begun : World → ℕ → Spot → steps.Step
     begun w f spot = check (is_live m (source.Frame f)) (λ u m'. made w f spot) m
@@ -201,7 +115,7 @@ declared_by p n scope name shape then_act next m code world frame count goes =
     by true e =
         rw e
         (subst (λ z. SameAt p n (then_act (with_binding scope name (Variable shape (record { region = source.Frame p.frame; object = z; cell = 0 }))) next
-        (with_object m (source.Frame p.frame) (first_object p.world shape))) code) (sym count) (goes e))
+        (with_object m (source.Frame p.frame) (o p.world))) code) (sym count) (goes e))
 
 -- what comes after a declaration without an initializer
 pub record BeginsIn (p q : Place) (n : ℕ) (m0 : source.Memory) (c0 : Config) (s : source.Memory → steps.Step) (k : Config → core_steps.Step) : Type 0 where
@@ -217,7 +131,7 @@ word_begins : (p : Place) (n : ℕ) (scope : Scope) (name : List ℕ) (shape : S
     → SameAt p n (declared scope name shape (first_object scope.world shape) then_act next m) (meaning.statements
     (MoreStatements (Do (first_code shape p.regions.all)) (MoreStatements (Do (Put 0 p.made (width_of shape) p.regions.all)) rest)) after c)
 word_begins p n scope name shape shapes then_act next m c rest after world frame is_word begins pending fits goes =
-    declared_by p n scope name shape then_act next m code world frame fits.made stored
+    declared_by p n scope name shape (λ w. first_object w shape) then_act next m code world frame fits.made stored
   where
     code : core_steps.Step
     code = meaning.statements
@@ -226,8 +140,11 @@ word_begins p n scope name shape shapes then_act next m c rest after world frame
     plain : IsPlain p.world shape (width_of shape)
     plain = plain_of p.world shape is_word
 
+    object : IsObject p.world.structs shape
+    object = value_object p.world.structs shape (word_value shape is_word)
+
     first : IsFirst shape
-    first = first_of shape begins
+    first = first_of shape is_word begins
 
     spot : Spot
     spot = local_spot p.frame p.made
@@ -236,7 +153,7 @@ word_begins p n scope name shape shapes then_act next m c rest after world frame
     c0 = with_temp p.regions.all first.content c
 
     part : PartIs c.memory (at spot) 0 0 (width_of shape)
-    part = part_to_come p m c shape shapes plain pending fits
+    part = part_to_come p m c shape shapes object plain pending fits
 
     old : Part
     old = part_with (width_of shape) part.content
@@ -256,12 +173,14 @@ word_begins p n scope name shape shapes then_act next m c rest after world frame
     fits1 : Fits p m c1
     fits1 = fits_later p m m c c1 fits agree1 (later1 (within p)) refl
 
-    words : AreWordShapes (cells_of p.world shape)
-    words = subst AreWordShapes (sym plain.cells) (is_word, tt)
+    values : AreValueShapes (cells_of p.world shape)
+    values = subst AreValueShapes (sym plain.cells) (word_value shape is_word, tt)
 
-    only : (cell : ℕ) (of : Shape) → slice_get (shape ∷ []) cell ≡ Some of → PartsHold c1.memory (at (cell_spot p.frame p.made cell)) 0 (first_part of ∷ [])
+    only : (cell : ℕ) (of : Shape) → slice_get (shape ∷ []) cell ≡ Some of
+        → PartsHold c1.memory (at (cell_spot p.frame p.made cell)) 0 (firsts_of (pieces_of of))
     only zero of e =
-        subst (λ z. PartsHold c1.memory (at spot) 0 (z ∷ [])) (sym first.part ∙ ap first_part (some_is shape of e))
+        subst (λ z. PartsHold c1.memory (at spot) 0 z)
+        (ap (λ z. z ∷ []) (sym first.part) ∙ sym (ap firsts_of (word_pieces shape is_word)) ∙ ap (λ z. firsts_of (pieces_of z)) (some_is shape of e))
         ((part_with (width_of shape) first.content, (rw (spot_self (at spot)) refl, refl)), tt)
       where
         some_is : (s z : Shape) → Some s ≡ Some z → s ≡ z
@@ -281,7 +200,7 @@ word_begins p n scope name shape shapes then_act next m c rest after world frame
         ap (λ z. meaning.statements rest after (with_memory (with_part c.memory (at spot) 0 (part_with (width_of shape) z)) c0))
         (ap (fitting (width_of shape)) (put_temp p.regions.all first.content c) ∙ first.fits)))
         (goes.go (m_made m p.frame (first_object p.world shape)) c1
-        (begins_fits p m c1 name shape shapes words pending fits1 (λ cell of e. only cell of (ap (λ z. slice_get z cell) (sym plain.cells) ∙ e)))
+        (begins_fits p m c1 name shape shapes values object pending fits1 (λ cell of e. only cell of (ap (λ z. slice_get z cell) (sym plain.cells) ∙ e)))
         (later_on (around p p.frame) m m (m_made m p.frame (first_object p.world shape)) c.memory c1.memory c1.memory (later1 (around p p.frame))
         (grown_later (around p p.frame) m c1.memory p.frame (first_object p.world shape) (omega arith) fits.agree.unmade)) refl
         (kept_temp p.regions.all p.regions.all first.content c c (omega arith) (λ k less. refl)))
@@ -293,28 +212,23 @@ cleared_at : (c : Config) (d index frame : ℕ) (outer : List ℕ) (l : Layout) 
     ≡ next (with_memory (cleared l 1 (at (local_spot frame index)) c.memory) (with_temp d (Pointer (at (local_spot frame index)) 0) c))
 cleared_at c d index frame outer l next block live there = rw (block, eq-eqb d d refl, live, there) refl
 
-pub struct_begins : (p : Place) (n : ℕ) (scope : Scope) (name tag : List ℕ) (shapes : List Shape) (then_act : Scope → Act Flow)
+-- a struct, and a fat pointer
+pub object_begins : (p : Place) (n : ℕ) (scope : Scope) (name : List ℕ) (shape : Shape) (shapes : List Shape) (then_act : Scope → Act Flow)
     (next : Flow → source.Memory → steps.Step) (m : source.Memory) (c : Config) (rest : Statements) (after : Next)
-    → scope.world ≡ p.world → scope.frame ≡ p.frame → AreStructs p.world.unions p.world.structs → IsObject p.world.structs (StructShape tag)
-    → p.pending ≡ StructShape tag ∷ shapes → Fits p m c
-    → BeginsIn p (with_local p name (StructShape tag) shapes) n m c
-    (λ m'. then_act (with_binding scope name (Variable (StructShape tag) (local_spot p.frame p.made))) next m') (meaning.statements rest after)
-    → SameAt p n (declared scope name (StructShape tag) (first_object scope.world (StructShape tag)) then_act next m) (meaning.statements
-    (MoreStatements (Do (LocalAddress p.regions.all 0 p.made))
-    (MoreStatements (Do (Clear p.regions.all (layout_of p.world (StructShape tag)) 1)) rest)) after c)
-struct_begins p n scope name tag shapes then_act next m c rest after world frame structs object pending fits goes =
-    declared_by p n scope name shape then_act next m code world frame fits.made stored
+    → scope.world ≡ p.world → scope.frame ≡ p.frame → AreStructs p.world.unions p.world.structs → IsObject p.world.structs shape → p.pending ≡ shape ∷ shapes
+    → Fits p m c → BeginsIn p (with_local p name shape shapes) n m c
+    (λ m'. then_act (with_binding scope name (Variable shape (local_spot p.frame p.made))) next m') (meaning.statements rest after)
+    → SameAt p n (declared scope name shape (first_object scope.world shape) then_act next m) (meaning.statements
+    (MoreStatements (Do (LocalAddress p.regions.all 0 p.made)) (MoreStatements (Do (Clear p.regions.all (layout_of p.world shape) 1)) rest)) after c)
+object_begins p n scope name shape shapes then_act next m c rest after world frame structs object pending fits goes =
+    declared_by p n scope name shape (λ w. first_object w shape) then_act next m code world frame fits.made stored
   where
-    shape : Shape
-    shape = StructShape tag
-
     layout : Layout
-    layout = layout_of p.world (StructShape tag)
+    layout = layout_of p.world shape
 
     code : core_steps.Step
     code = meaning.statements
-        (MoreStatements (Do (LocalAddress p.regions.all 0 p.made))
-        (MoreStatements (Do (Clear p.regions.all (layout_of p.world (StructShape tag)) 1)) rest)) after c
+        (MoreStatements (Do (LocalAddress p.regions.all 0 p.made)) (MoreStatements (Do (Clear p.regions.all (layout_of p.world shape) 1)) rest)) after c
 
     spot : Spot
     spot = local_spot p.frame p.made
@@ -322,11 +236,14 @@ struct_begins p n scope name tag shapes then_act next m c rest after world frame
     all : ArePending p.world c.memory (core.Frame p.frame) p.made (shape ∷ shapes)
     all = subst (λ z. ArePending p.world c.memory (core.Frame p.frame) p.made z) pending fits.pending
 
+    made : AreMade c.memory (at spot) 0 layout.cells
+    made = object_made p.world.structs p.world c.memory (core.Frame p.frame) p.made shape object all.0
+
     c1 : Config
     c1 = with_memory (cleared layout 1 (at spot) c.memory) (with_temp p.regions.all (Pointer (at spot) 0) c)
 
     agree1 : Agree p.world m c1.memory
-    agree1 = agree_cleared p.world m c.memory p.frame p.made layout fits.agree fits.made
+    agree1 = agree_cleared p.world m c.memory p.frame p.made layout 1 fits.agree fits.made
 
     later1 : (b : Bound) → Later b m c.memory m c1.memory
     later1 b = cleared_later b m c.memory layout 1 (at spot) (named_free b spot)
@@ -334,27 +251,18 @@ struct_begins p n scope name tag shapes then_act next m c rest after world frame
     fits1 : Fits p m c1
     fits1 = fits_later p m m c c1 fits agree1 (later1 (within p)) refl
 
-    words : AreWordShapes (cells_of p.world shape)
-    words = (object_cells p.world.unions p.world.structs shape structs object).words
+    values : AreValueShapes (cells_of p.world shape)
+    values = (object_cells p.world.unions p.world.structs shape structs object).values
 
     held : (cell : ℕ) (of : Shape) → slice_get (cells_of p.world shape) cell ≡ Some of
-        → PartsHold c1.memory (at (cell_spot p.frame p.made cell)) 0 (first_part of ∷ [])
+        → PartsHold c1.memory (at (cell_spot p.frame p.made cell)) 0 (firsts_of (pieces_of of))
     held cell of e =
         let first = layout_first p.world shape cell of structs object e in
-        let x : PartShape = record { offset = first.offset; width = width_of of; first = first_part of } in
-        let part = made_at c.memory (core.Frame p.frame) p.made 0 0 cell layout.cells x first.others all.0 first.is in
-        let there : PartIs c.memory (at (cell_spot p.frame p.made cell)) 0 (0 + first.offset) (width_of of) =
-        subst (λ z. PartIs c.memory (at (cell_spot p.frame p.made z)) 0 (0 + first.offset) (width_of of)) (zero_on cell) part in (
-          (
-            record { offset = 0 + first.offset; width = width_of of; content = first_part of },
-            (
-              cleared_here layout (core.Frame p.frame) p.made c.memory cell 0 (x ∷ first.others) x
-                  (record { offset = 0 + first.offset; width = width_of of; content = there.content }) first.less first.is refl there.is,
-              refl,
-            ),
-          ),
-          tt,
-        )
+        let parts : List PartShape = map (part_shape_of (placed_at first.offset of)) (pieces_of of) ++ first.others in
+        cleared_holds layout (core.Frame p.frame) p.made 0 c.memory cell 0 parts (placed_at first.offset of) (pieces_of of) first.others first.less first.is
+        (λ i. ap (slice_get parts) (zero_on i))
+        (subst (λ z. AreShaped c.memory (at (cell_spot p.frame p.made z)) 0 0 parts) (zero_on cell)
+        (made_at c.memory (core.Frame p.frame) p.made 0 0 cell layout.cells parts made first.is))
       where
         zero_on : (i : ℕ) → 0 + i ≡ i
         zero_on i = omega arith
@@ -364,8 +272,8 @@ struct_begins p n scope name tag shapes then_act next m c rest after world frame
     stored live =
         subst (λ z. SameAt p n (then_act (with_binding scope name (Variable shape spot)) next (m_made m p.frame (first_object p.world shape))) z)
         (sym (cleared_at c p.regions.all p.made p.frame p.outer layout (meaning.statements rest after) fits.blocks
-        (sym (fits.agree.live (source.Frame p.frame)) ∙ live) (element_there c.memory (at spot) 0 layout all.0)))
-        (goes.go (m_made m p.frame (first_object p.world shape)) c1 (begins_fits p m c1 name shape shapes words pending fits1 held)
+        (sym (fits.agree.live (source.Frame p.frame)) ∙ live) (element_there c.memory (at spot) 0 layout made)))
+        (goes.go (m_made m p.frame (first_object p.world shape)) c1 (begins_fits p m c1 name shape shapes values object pending fits1 held)
         (later_on (around p p.frame) m m (m_made m p.frame (first_object p.world shape)) c.memory c1.memory c1.memory (later1 (around p p.frame))
         (grown_later (around p p.frame) m c1.memory p.frame (first_object p.world shape) (omega arith) fits.agree.unmade)) refl
         (kept_temp p.regions.all p.regions.all (Pointer (at spot) 0) c c (omega arith) (λ k less. refl)))
@@ -381,7 +289,7 @@ pub declared_same : (p : Place) (n : ℕ) (scope : Scope) (name : List ℕ) (sha
     (meaning.statements (put (unset_code p.world shape p.regions.all p.made) rest)
     after c)
 declared_same p n scope name (StructShape tag) shapes then_act next m c rest after world frame structs object begins pending fits goes =
-    struct_begins p n scope name tag shapes then_act next m c rest after world frame structs object pending fits goes
+    object_begins p n scope name (StructShape tag) shapes then_act next m c rest after world frame structs object pending fits goes
 declared_same p n scope name IntShape shapes then_act next m c rest after world frame structs object begins pending fits goes =
     word_begins p n scope name IntShape shapes then_act next m c rest after world frame tt tt pending fits goes
 declared_same p n scope name UnsignedShape shapes then_act next m c rest after world frame structs object begins pending fits goes =
@@ -391,7 +299,8 @@ declared_same p n scope name CharShape shapes then_act next m c rest after world
 declared_same p n scope name (ThinShape b owner to) shapes then_act next m c rest after world frame structs object begins pending fits goes =
     word_begins p n scope name (ThinShape b owner to) shapes then_act next m c rest after world frame object begins pending fits goes
 declared_same p n scope name VoidShape shapes then_act next m c rest after world frame structs object begins pending fits goes = absurd object
-declared_same p n scope name (FatShape to) shapes then_act next m c rest after world frame structs object begins pending fits goes = absurd object
+declared_same p n scope name (FatShape to) shapes then_act next m c rest after world frame structs object begins pending fits goes =
+    object_begins p n scope name (FatShape to) shapes then_act next m c rest after world frame structs object pending fits goes
 declared_same p n scope name HandleShape shapes then_act next m c rest after world frame structs object begins pending fits goes = absurd begins
 declared_same p n scope name KeyShape shapes then_act next m c rest after world frame structs object begins pending fits goes = absurd object
 declared_same p n scope name (UnionShape tag) shapes then_act next m c rest after world frame structs object begins pending fits goes = absurd object

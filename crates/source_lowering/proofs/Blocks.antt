@@ -17,11 +17,12 @@ use Rattle.core_meaning.specs.Steps.{Config, checked, with_memory}
 use Rattle.core_meaning.specs.Meaning as meaning
 use Rattle.source_lowering.specs.Lowered.{Named, all_of}
 use Rattle.source_lowering.specs.Programs.{RegionsAround, locals_of, outward}
-use Rattle.source_lowering.proofs.Relations.{ArePending, Agree, Bound, nothing, Later, AreLocals, AreLed, Place, Fits, Same, activation, around, Next}
-use Rattle.source_lowering.proofs.Keeping.{later_on, later_less, shown_later, all_led_later, pending_later, same_own, left_later, agree_left}
+use Rattle.source_lowering.proofs.Relations.{ArePending, Agree, Bound, nothing, Later, AreLocals, AreLed, Place, Fits, Same, AValue, around, Next}
+use Rattle.source_lowering.proofs.Keeping.{later_on, later_less, all_led_later, pending_later, same_own, left_later, agree_left}
 use Rattle.source_lowering.proofs.Names.{AreObjectNames}
 use Rattle.source_lowering.proofs.Entering.{made_standing, source_in, core_opened, core_in, agree_entered, entered_later, pending_entered}
-use Rattle.source_lowering.proofs.Calls.{OneResult, NoResult, ResultIs}
+use Rattle.source_lowering.proofs.Values.{value_later}
+use Rattle.source_lowering.proofs.Calls.{NoResult, ResultIs}
 use Rattle.source_lowering.proofs.Ways.{freed, Onward, WaysOn, RunsAs, free_by, each_birth}
 
 -- ---- names, a block further in
@@ -42,22 +43,11 @@ objects_outward structs (l ∷ ls) h = (h.0, objects_outward structs ls h.1)
 
 -- ---- results
 
-pub result_later : (b : Bound) (w : World) (m m' : source.Memory) (c c' : core.Memory) (shape : Shape) (vs : List Scalar) (xs : List Content) → Later b m c m' c'
+pub result_later : (b : Bound) (w : World) (m m' : source.Memory) (c c' : core.Memory) (shape : Shape) (vs : List Scalar) (xs : List Content)
+    → Later b m c m' c'
     → ResultIs w m c shape vs xs → ResultIs w m' c' shape vs xs
 result_later b w m m' c c' shape vs xs l r =
-    ⊎_elim
-    (λ (o : OneResult w m c shape vs xs).
-    inl (record {
-      content = o.content;
-      alone = o.alone;
-      value = record {
-        value = o.value.value;
-        alone = o.value.alone;
-        shown = shown_later b w m m' c c' shape
-            o.value.value (o.content ∷ []) l o.value.shown;
-      };
-    }))
-    (λ (o : NoResult shape vs xs). inr o) r
+    ⊎_elim (λ (v : AValue w m c shape vs xs). inl (value_later b w m m' c c' shape vs xs l v)) (λ (o : NoResult shape vs xs). inr o) r
 
 -- ---- a new activation
 

@@ -6,33 +6,13 @@ use Rattle.source_meaning.specs.Shapes.{Shape, VoidShape, Part, part_shapes}
 use Rattle.source_meaning.specs.Steps.{World, Routine}
 use Rattle.source_meaning.specs.Programs.{world_of}
 use Rattle.core_meaning.specs.Core as core
-use Rattle.core_meaning.specs.Core.{Do, If, While, Block, Return, Constant, Put}
-use Rattle.source_lowering.specs.Lowered.{Named, all_of, width_of, results_in, static_shape, expression_values}
-use Rattle.source_lowering.specs.Programs.{
-  temporaries_of,
-  passed_by,
-  local_shape,
-  block_shapes,
-  locals_of,
-  outward,
-  named_here,
-  leaving_code,
-  declaration_values,
-  statement_values,
-  routine_values,
-  RegionsAround,
-  no_regions,
-  in_loop,
-  regions_with,
-  statement_code,
-  items_code,
-  parameter_names,
-  parameters_code,
-  end_code,
-  body_code,
-  function_code,
-  program_code,
-}
+use Rattle.core_meaning.specs.Core.{Do, If, While, Block, Return, Constant}
+use Rattle.source_lowering.specs.Lowered.{Named, all_of, stored_code, results_in, static_shape, expression_values}
+use Rattle.source_lowering.specs.Programs.{local_shape, block_shapes, locals_of, outward, named_here, leaving_code, declaration_values, statement_values}
+use Rattle.source_lowering.specs.Programs.{routine_values, RegionsAround, no_regions, in_loop, regions_with, statement_code, items_code, parameter_names}
+use Rattle.source_lowering.specs.Programs.{parameters_code, end_code, body_code, function_code, program_code}
+use Rattle.source_lowering.specs.Temporaries.{temporaries_of, passed_by}
+use Rattle.source_lowering.specs.Members.{words_in, all_words}
 use Rattle.source_lowering.specs.Lowerable.{TakesStatement, TakesItems, IsLowerable}
 use Rattle.source_lowering.specs.Bounds.{
   value_words,
@@ -56,9 +36,11 @@ use Rattle.source_lowering.specs.Bounds.{
   code_bound,
 }
 use Rattle.source_lowering.proofs.Names.{AreParameters, IsRoutine, AreRoutines}
-use Rattle.source_lowering.proofs.LocalWords.{many_words, word_words}
-use Rattle.source_lowering.proofs.Costs.{Costs, no_costs, one_costs, both_cost, more_costs}
-use Rattle.source_lowering.proofs.PartCosts.{does_one, results_last, results_many, conversion_costs}
+use Rattle.source_lowering.proofs.LocalWords.{many_words, words_same}
+use Rattle.source_lowering.proofs.Costs.{Costs, no_costs, one_costs, both_cost, more_costs, at_most, does_one, if_costs}
+use Rattle.source_lowering.proofs.ValueCosts.{words_few, stored_costs}
+use Rattle.source_lowering.proofs.Counted.{two_nodes}
+use Rattle.source_lowering.proofs.PartCosts.{results_few, results_last, results_many, conversion_costs}
 use Rattle.source_lowering.proofs.ExpressionCosts.{expression_costs}
 use Rattle.source_lowering.proofs.WholeCosts.{run_costs}
 use Rattle.source_lowering.proofs.DeclarationCosts.{declaration_bounded, ending_costs, regions_paid, leaving_costs}
@@ -77,15 +59,6 @@ record IsBounded (t p l n : ℕ) (code : List core.Statement) : Type 0 where
   operations : ℕ
   costs : Costs t p l operations code
   less : operations ≤ 8 * n
-
--- a choice of two
-if_costs : (t p d l l' o o' : ℕ) (these those : List core.Statement) → suc d ≤ t → Costs t p l o these → Costs t p l' o' those
-    → Costs t p (l + l') (1 + (o + o')) (If d (all_of these) (all_of those) ∷ [])
-if_costs t p d l l' o o' these those h x y =
-    let a = x.temporaries in let b = x.passes in let e = x.locals in let f = x.operations in
-    let a' = y.temporaries in let b' = y.passes in let e' = y.locals in let f' = y.operations in
-    one_costs t p (l + l') (1 + (o + o')) (If d (all_of these) (all_of those)) (omega (arith, h, a, a')) (omega (arith, b, b')) (omega (arith, e, e'))
-    (omega (arith, f, f'))
 
 while_costs : (t p d l l' o o' : ℕ) (test body : List core.Statement) → suc d ≤ t → Costs t p l o test → Costs t p l' o' body
     → Costs t p (l + l') (1 + (o + o')) (While (all_of test) d (all_of body) ∷ [])
@@ -109,7 +82,7 @@ record ItemsBounded (w : World) (t p n : ℕ) (items : BlockItems) (code : List 
 
 mutual
   statement_bounded : (w : World) (result : Shape) (names : List Named) (r : RegionsAround) (own : ℕ) (s : Statement) (t p : ℕ)
-      → TakesStatement w result names s → r.all + (statement_locals w s + statement_nodes s) + 1 ≤ t → statement_nodes s ≤ p
+      → TakesStatement w result names s → r.all + (statement_locals w s + 2 * statement_nodes w s) + 1 ≤ t → 2 * statement_nodes w s ≤ p
       → IsBounded t p (statement_locals w s) (statement_size s + statement_left r s) (statement_code w result names r own s)
   statement_bounded w result names r own (Statement.Empty at) t p h f g = record { operations = 0; costs = no_costs t p; less = omega arith }
   statement_bounded w result names r own (Statement.Block at items) t p h f g =
@@ -124,7 +97,7 @@ mutual
         less = omega (arith, b);
       }
   statement_bounded w result names r own (Statement.Run e) t p h f g =
-      let a = run_costs w names e t p r.all own h (omega (arith, f)) g in let l = a.less in
+      let a = run_costs w names e t p r.all own h (omega (arith, f)) (omega (arith, g)) in let l = a.less in
       record { operations = a.operations; costs = a.costs; less = omega (arith, l) }
   statement_bounded w result names r own (Statement.If at condition body) t p h f g =
       let a = expression_costs w names condition t p r.all own h.0 (omega (arith, f)) (omega (arith, g)) in
@@ -173,21 +146,22 @@ mutual
       leaves t p r.all r.all 1 (Return []) (omega (arith, f)) (omega arith)
       (one_costs t p 0 1 (Return []) (omega arith) (omega arith) (omega arith) (omega arith))
   statement_bounded w result names r own (Statement.Return at (Some e)) t p h f g =
-      let a = expression_costs w names e t p r.all own h (omega (arith, f)) g in
-      let last = results_last result r.all in let many = results_many result r.all in
-      let b = leaves t p r.all r.all 2 (Return (results_in result r.all)) (omega (arith, f)) (omega arith)
-      (one_costs t p 0 2 (Return (results_in result r.all)) (omega (arith, last, f)) (omega arith) (omega arith) (omega (arith, many))) in
+      let n = two_nodes e in
+      let a = expression_costs w names e t p r.all own h (omega (arith, f)) (omega (arith, g)) in
+      let few = results_few result in let last = results_last result r.all in let many = results_many result r.all in
+      let b = leaves t p r.all r.all 4 (Return (results_in result r.all)) (omega (arith, f)) (omega arith)
+      (one_costs t p 0 4 (Return (results_in result r.all)) (omega (arith, last, few, f, n)) (omega arith) (omega arith) (omega (arith, many))) in
       let l = a.less in let k = b.less in
       record {
-        operations = a.operations + (2 + b.operations);
-        costs = both_cost t p 0 a.operations 0 (2 + b.operations) _ _ a.costs
-            (both_cost t p 0 2 0 b.operations _ _ (conversion_costs t p r.all result (static_shape w names e) (omega (arith, f))) b.costs);
+        operations = a.operations + (4 + b.operations);
+        costs = both_cost t p 0 a.operations 0 (4 + b.operations) _ _ a.costs
+            (both_cost t p 0 4 0 b.operations _ _ (conversion_costs w t p r.all result (static_shape w names e) (omega (arith, f, n))) b.costs);
         less = omega (arith, l, k);
       }
   statement_bounded w result names r own _ t p h f g = absurd h
 
   items_bounded : (w : World) (result : Shape) (names : List Named) (r : RegionsAround) (index own : ℕ) (items : BlockItems) (t p : ℕ)
-      → TakesItems w result names index items → r.all + (item_locals w items + item_nodes items) + 1 ≤ t → item_nodes items ≤ p
+      → TakesItems w result names index items → r.all + (item_locals w items + 2 * item_nodes w items) + 1 ≤ t → 2 * item_nodes w items ≤ p
       → ItemsBounded w t p (item_size items + items_left r items) items (items_code w result names r index own items)
   items_bounded w result names r index own NoItems t p h f g = record {
     inner = 0;
@@ -227,12 +201,14 @@ mutual
 
 -- ---- functions
 
-parameters_costs : (ps : List Part) (index t p : ℕ) → index + length ps ≤ t → Costs t p 0 (length ps) (parameters_code ps index)
-parameters_costs [] index t p h = no_costs t p
-parameters_costs (q ∷ ps) index t p h =
-    more_costs t p (0 + 0) (1 + length ps) t p 0 (length (q ∷ ps)) _ (omega arith) (omega arith) (omega arith) (omega arith)
-    (both_cost t p 0 1 0 (length ps) (Do (Put 0 index (width_of q.shape) index) ∷ []) (parameters_code ps (suc index)) (does_one t p _ (omega (arith, h)))
-    (parameters_costs ps (suc index) t p (omega (arith, h))))
+parameters_costs : (ps : List Part) (index at free t p : ℕ) → at + all_words (part_shapes ps) ≤ t → suc free ≤ t
+    → Costs t p 0 (4 * length ps) (parameters_code ps index at free)
+parameters_costs [] index at free t p g h = no_costs t p
+parameters_costs (q ∷ ps) index at free t p g h =
+    at_most t p (4 + 4 * length ps) (4 * length (q ∷ ps)) _ (omega arith)
+    (both_cost t p 0 4 0 (4 * length ps) (stored_code q.shape free at 0 index) (parameters_code ps (suc index) (at + words_in q.shape) free)
+    (stored_costs q.shape t p free at 0 index h (omega (arith, g)))
+    (parameters_costs ps (suc index) (at + words_in q.shape) free t p (omega (arith, g)) h))
 
 end_costs : (s : Shape) (t p : ℕ) → 1 ≤ t → Costs t p 0 3 (end_code s)
 end_costs s t p h = by s
@@ -246,44 +222,50 @@ end_costs s t p h = by s
         (omega arith) (omega arith) (omega arith))
     by _ = zero_code
 
--- a parameter is a word
+-- a parameter has the words of its value
 pub all_shapes : (w : World) (ps : List Part) (items : BlockItems) → AreParameters ps
-    → value_words w (part_shapes ps ++ block_shapes items) ≡ length ps + own_locals w items
+    → value_words w (part_shapes ps ++ block_shapes items) ≡ all_words (part_shapes ps) + own_locals w items
 all_shapes w [] items h = omega arith
 all_shapes w (p ∷ ps) items h =
-    let a = word_words w p.shape h.0 in
+    let a = words_same w p.shape h.0 in
     let b = all_shapes w ps items h.1 in
     omega (arith, a, b)
+
+words_many : (ps : List Part) → all_words (part_shapes ps) ≤ 3 * length ps
+words_many [] = omega arith
+words_many (p ∷ ps) = let a = words_few p.shape in let b = words_many ps in omega (arith, a, b)
 
 -- what a function's body takes
 record BodyBounded (w : World) (f : Routine) : Type 0 where
   code : List core.Statement
   is : body_code w f ≡ all_of code
-  costs : Costs (length f.parameters + (item_locals w f.body + item_nodes f.body + 1)) (item_nodes f.body) (length f.parameters + item_locals w f.body)
-      (1 + (length f.parameters + 8 * (item_size f.body + items_left no_regions f.body)) + 3) code
+  costs : Costs (all_words (part_shapes f.parameters) + (item_locals w f.body + 2 * item_nodes w f.body + 1)) (2 * item_nodes w f.body)
+      (all_words (part_shapes f.parameters) + item_locals w f.body)
+      (1 + (4 * length f.parameters + 8 * (item_size f.body + items_left no_regions f.body)) + 3) code
 
 body_bounded : (w : World) (f : Routine) → IsRoutine w f → BodyBounded w f
 body_bounded w f r =
-    let t = length f.parameters + (item_locals w f.body + item_nodes f.body + 1) in
-    let p = item_nodes f.body in
-    let l = length f.parameters + item_locals w f.body in
-    let o = 1 + (length f.parameters + 8 * (item_size f.body + items_left no_regions f.body)) in
+    let words = all_words (part_shapes f.parameters) in
+    let t = words + (item_locals w f.body + 2 * item_nodes w f.body + 1) in
+    let p = 2 * item_nodes w f.body in
+    let l = words + item_locals w f.body in
+    let o = 1 + (4 * length f.parameters + 8 * (item_size f.body + items_left no_regions f.body)) in
     let shapes = part_shapes f.parameters ++ block_shapes f.body in
+    let first = parameters_code f.parameters 0 0 words in
     let body = items_code w f.result (parameter_names f.parameters 0 []) no_regions (length f.parameters) 0 f.body in
     let items = items_bounded w f.result (parameter_names f.parameters 0 []) no_regions (length f.parameters) 0 f.body t p r.body (omega arith) (omega arith) in
-    let inside = both_cost t p 0 (length f.parameters) items.inner items.bounded.operations (parameters_code f.parameters 0) body
-    (parameters_costs f.parameters 0 t p (omega arith)) items.bounded.costs in
+    let inside = both_cost t p 0 (4 * length f.parameters) items.inner items.bounded.operations first body
+    (parameters_costs f.parameters 0 0 words t p (omega arith) (omega arith)) items.bounded.costs in
     let a = inside.temporaries in let b = inside.passes in let c = inside.locals in let d = inside.operations in
     let less = items.bounded.less in let e = items.locals in
     let m = many_words w shapes in
     let n = all_shapes w f.parameters f.body r.parameters in
     record {
-      code = Block (locals_of w shapes) (all_of (parameters_code f.parameters 0 ++ body)) ∷ end_code f.result;
+      code = Block (locals_of w shapes) (all_of (first ++ body)) ∷ end_code f.result;
       is = refl;
       costs = more_costs t p (l + 0) (o + 3) t p l (o + 3) _ (omega arith) (omega arith) (omega arith) (omega arith)
-          (both_cost t p l o 0 3 (Block (locals_of w shapes) (all_of (parameters_code f.parameters 0 ++ body)) ∷ []) (end_code f.result)
-          (one_costs t p l o (Block (locals_of w shapes) (all_of (parameters_code f.parameters 0 ++ body))) a b (omega (arith, c, e, m, n))
-          (omega (arith, d, less)))
+          (both_cost t p l o 0 3 (Block (locals_of w shapes) (all_of (first ++ body)) ∷ []) (end_code f.result)
+          (one_costs t p l o (Block (locals_of w shapes) (all_of (first ++ body))) a b (omega (arith, c, e, m, n)) (omega (arith, d, less)))
           (end_costs f.result t p (omega arith)));
     }
 
@@ -291,9 +273,10 @@ body_bounded w f r =
 pub frame_bounded : (w : World) (f : Routine) → IsRoutine w f → core_bound (function_code w f) ≤ frame_bound w f
 frame_bounded w f r =
     let b = body_bounded w f r in
-    let t = subst (λ z. temporaries_of z ≤ length f.parameters + (item_locals w f.body + item_nodes f.body + 1)) (sym b.is) b.costs.temporaries in
-    let p = subst (λ z. passed_by z ≤ item_nodes f.body) (sym b.is) b.costs.passes in
-    let l = subst (λ z. block_words z ≤ length f.parameters + item_locals w f.body) (sym b.is) b.costs.locals in
+    let words = all_words (part_shapes f.parameters) in
+    let t = subst (λ z. temporaries_of z ≤ words + (item_locals w f.body + 2 * item_nodes w f.body + 1)) (sym b.is) b.costs.temporaries in
+    let p = subst (λ z. passed_by z ≤ 2 * item_nodes w f.body) (sym b.is) b.costs.passes in
+    let l = subst (λ z. block_words z ≤ words + item_locals w f.body) (sym b.is) b.costs.locals in
     let o = many_words w (routine_values w f) in
     omega (arith, t, p, l, o)
 
@@ -301,10 +284,11 @@ operations_bounded : (w : World) (fs : List Routine) → AreRoutines w fs → al
 operations_bounded w [] h = omega arith
 operations_bounded w (f ∷ fs) h =
     let b = body_bounded w f h.0 in
-    let o = subst (λ z. operations_of z ≤ 1 + (length f.parameters + 8 * (item_size f.body + items_left no_regions f.body)) + 3) (sym b.is)
+    let o = subst (λ z. operations_of z ≤ 1 + (4 * length f.parameters + 8 * (item_size f.body + items_left no_regions f.body)) + 3) (sym b.is)
     b.costs.operations in
+    let words = words_many f.parameters in
     let others = operations_bounded w fs h.1 in
-    omega (arith, o, others)
+    omega (arith, o, words, others)
 
 -- each function's frame
 pub frames_bounded : (w : World) (fs : List Routine) → AreRoutines w fs → FramesFit w fs

@@ -41,10 +41,10 @@ use Rattle.source_meaning.specs.Shapes.{
 use Rattle.source_meaning.specs.Memory as source
 use Rattle.source_meaning.specs.Memory.{Scalar, Spot, Holds, is_live, is_of}
 use Rattle.source_meaning.specs.Steps as steps
-use Rattle.source_meaning.specs.Steps.{World, Variable, give, check}
+use Rattle.source_meaning.specs.Steps.{World, check}
 use Rattle.source_meaning.specs.Conversions.{cells_of}
 use Rattle.source_meaning.specs.Values.{read_cells, value_held, write_cells, put_content, is_lent, take_cells}
-use Rattle.source_meaning.specs.Places.{place_sense, entity_sense, given_by}
+use Rattle.source_meaning.specs.Places.{given_by}
 use Rattle.core_meaning.specs.Memory as core
 use Rattle.core_meaning.specs.Memory.{Content, Word, Null, Pointer, Birth, Part, with_part}
 use Rattle.core_meaning.specs.Core.{Program}
@@ -150,21 +150,6 @@ plain_of w (StructShape tag) h = absurd h
 plain_of w (UnionShape tag) h = absurd h
 plain_of w (ArrayShape count of) h = absurd h
 
--- an object's name is a place
-pub object_variable : (w : World) (shape : Shape) → IsObject w.structs shape → (s : Spot)
-    → entity_sense w (Some (Variable shape s)) ≡ place_sense w shape (give s)
-object_variable w (StructShape tag) h s = refl
-object_variable w IntShape h s = refl
-object_variable w UnsignedShape h s = refl
-object_variable w CharShape h s = refl
-object_variable w VoidShape h s = absurd h
-object_variable w (ThinShape may_be_null owner to) h s = refl
-object_variable w (FatShape to) h s = absurd h
-object_variable w HandleShape h s = refl
-object_variable w KeyShape h s = absurd h
-object_variable w (UnionShape tag) h s = absurd h
-object_variable w (ArrayShape count of) h s = absurd h
-
 -- an object is a local of one element
 pub object_local : (w : World) (shape : Shape) → IsObject w.structs shape → local_of w shape ≡ record { layout = layout_of w shape; count = 1 }
 object_local w (StructShape tag) h = refl
@@ -173,7 +158,7 @@ object_local w UnsignedShape h = refl
 object_local w CharShape h = refl
 object_local w VoidShape h = absurd h
 object_local w (ThinShape may_be_null owner to) h = refl
-object_local w (FatShape to) h = absurd h
+object_local w (FatShape to) h = refl
 object_local w HandleShape h = refl
 object_local w KeyShape h = absurd h
 object_local w (UnionShape tag) h = absurd h

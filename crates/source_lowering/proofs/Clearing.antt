@@ -54,13 +54,13 @@ use Rattle.core_meaning.specs.Operations.{
   cleared,
 }
 use Rattle.core_meaning.proofs.Spots.{region_self}
-use Rattle.source_lowering.specs.Layouts.{part_shape_of, padding, next_at, padded, layout_of, placed_of, extent_of, first_part}
-use Rattle.source_lowering.specs.Lowered.{width_of}
+use Rattle.source_lowering.specs.Layouts.{Piece, pieces_of, part_shape_of, padding, next_at, padded, layout_of, placed_of, extent_of}
 use Rattle.source_lowering.specs.Lowerable.{IsObject, AreStructs}
-use Rattle.source_lowering.proofs.StructCells.{AreWordShapes, shapes_in, object_cells}
+use Rattle.source_lowering.proofs.StructCells.{shapes_in, object_cells}
 use Rattle.source_lowering.proofs.Relations.{region_at, at, PartIs, AreShaped, AreMade, PartsHold, Agree, Bound, nothing, IsFree, Later}
 use Rattle.source_lowering.proofs.Keeping.{named_free, free_object, region_as, shown_later}
-use Rattle.source_lowering.proofs.Members.{word_pieces}
+use Rattle.source_lowering.proofs.CellParts.{firsts_of}
+use Rattle.source_lowering.proofs.ElementsMade.{here_on, further_on}
 use Rattle.source_lowering.proofs.Making.{cell_spot}
 
 -- ---- the object is there
@@ -161,7 +161,7 @@ cleared_later b m c l count t free = record {
 pub held_still : (c c' : core.Memory) (t : core.Spot) (j : ℕ) (cs : List Content) → ((i : ℕ) → c'.parts t i ≡ c.parts t i) → PartsHold c t j cs
     → PartsHold c' t j cs
 held_still c c' t j [] e h = tt
-held_still c c' t j (x ∷ xs) e ((q, (is, holds)), others) = ((q, (e j ∙ is, holds)), held_still c c' t (j + 1) xs e others)
+held_still c c' t j (x ∷ xs) e ((q, (is, holds)), others) = ((q, (e j ∙ is, holds)), held_still c c' t (suc j) xs e others)
 
 -- an object that isn't made yet has no cell
 no_object : (w : World) (m : source.Memory) (c : core.Memory) (k index : ℕ) (s : Spot) (y : Cell) → Agree w m c → m.objects (source.Frame k) ≡ index
@@ -193,90 +193,101 @@ object_apart w m c k index s y a made h = by (same_object (at (cell_spot k index
         (sym (region_is (source.Frame k) s.region (sym (region_as (source.Frame k) s.region) ∙ two.0))) (sym (eqb-true index s.object two.1)))
 
 -- memories still agree where the source has no such object yet
-pub agree_cleared : (w : World) (m : source.Memory) (c : core.Memory) (k index : ℕ) (l : Layout) → Agree w m c → m.objects (source.Frame k) ≡ index
-    → Agree w m (cleared l 1 (at (cell_spot k index 0)) c)
-agree_cleared w m c k index l a made = record {
+pub agree_cleared : (w : World) (m : source.Memory) (c : core.Memory) (k index : ℕ) (l : Layout) (count : ℕ) → Agree w m c
+    → m.objects (source.Frame k) ≡ index → Agree w m (cleared l count (at (cell_spot k index 0)) c)
+agree_cleared w m c k index l count a made = record {
   cells = λ s shape v h. let one = a.cells s shape v h in record {
     contents = one.contents;
-    shown = shown_later nothing w m m c c' shape v one.contents (cleared_later nothing m c l 1 t (named_free nothing (cell_spot k index 0))) one.shown;
-    held = held_still c c' (at s) 0 one.contents (λ i. cleared_other l 1 t c (at s) i (new_object w m c k index s _ a made h)) one.held;
+    shown = shown_later nothing w m m c c' shape v one.contents (cleared_later nothing m c l count t (named_free nothing (cell_spot k index 0))) one.shown;
+    held = held_still c c' (at s) 0 one.contents (λ i. cleared_other l count t c (at s) i (new_object w m c k index s _ a made h)) one.held;
   };
   live = a.live;
   activations = a.activations;
   unmade = a.unmade;
-  unentered = λ i u j h r. cleared_none l 1 t c u j (a.unentered i u j h r);
+  unentered = λ i u j h r. cleared_none l count t c u j (a.unentered i u j h r);
   unbegun = a.unbegun;
-  uncalled = λ i u j h r. cleared_none l 1 t c u j (a.uncalled i u j h r);
+  uncalled = λ i u j h r. cleared_none l count t c u j (a.uncalled i u j h r);
   unowned = a.unowned;
   births = a.births;
   heap = a.heap;
   lexical = a.lexical;
   blocks = a.blocks;
-  ungranted = λ d u j r h. cleared_none l 1 t c u j (a.ungranted d u j r h);
+  ungranted = λ d u j r h. cleared_none l count t c u j (a.ungranted d u j r h);
 }
   where
     t : core.Spot
     t = at (cell_spot k index 0)
 
     c' : core.Memory
-    c' = cleared l 1 t c
+    c' = cleared l count t c
 
--- ---- the first part of each cell of an object
+-- ---- the parts of each cell of an object
 
--- a cell's first part: where its value begins
+abbrev pub placed_at : ℕ → Shape → Placed
+placed_at offset shape = record { offset = offset; shape = shape }
+
+-- a cell begins with its value's parts
 pub record BeginsWith (xss : List (List PartShape)) (k : ℕ) (shape : Shape) : Type 0 where
   pub others : List PartShape
   pub offset : ℕ
-  pub is : slice_get xss k ≡ Some ((record { offset = offset; width = width_of shape; first = first_part shape }) ∷ others)
+  pub is : slice_get xss k ≡ Some (map (part_shape_of (placed_at offset shape)) (pieces_of shape) ++ others)
   pub less : k < length xss
 
-padded_first : (extent : Shape → Extent) (bytes : ℕ) (ps : List Placed) (k : ℕ) (shape : Shape) → AreWordShapes (shapes_in ps)
-    → slice_get (shapes_in ps) k ≡ Some shape → BeginsWith (padded extent bytes ps) k shape
-padded_first extent bytes [] k shape h e = absurd (cc e)
-padded_first extent bytes (p ∷ ps) Rattle.std.proofs.Common.zero shape h e =
+padded_first : (extent : Shape → Extent) (bytes : ℕ) (ps : List Placed) (k : ℕ) (shape : Shape) → slice_get (shapes_in ps) k ≡ Some shape
+    → BeginsWith (padded extent bytes ps) k shape
+padded_first extent bytes [] k shape e = absurd (cc e)
+padded_first extent bytes (p ∷ ps) Rattle.std.proofs.Common.zero shape e =
     let end : ℕ = p.offset + (extent p.shape).size in
     let pad : List PartShape = padding end (next_at bytes ps - end) in
     let same : p.shape ≡ shape = some_is p.shape shape e in
     record {
       others = pad;
-      offset = p.offset + 0;
-      is = ap (λ z. Some (map (part_shape_of p) z ++ pad)) (word_pieces p.shape h.0) ∙
-          ap (λ z. Some ((record { offset = p.offset + 0; width = width_of z; first = first_part z }) ∷ pad)) same;
+      offset = p.offset;
+      is = ap (λ z. Some (map (part_shape_of (placed_at p.offset z)) (pieces_of z) ++ pad)) same;
       less = omega arith;
     }
   where
     some_is : (s z : Shape) → Some s ≡ Some z → s ≡ z
     some_is s z f = cc f
-padded_first extent bytes (p ∷ ps) (suc k) shape h e =
-    let more = padded_first extent bytes ps k shape h.1 e in
+padded_first extent bytes (p ∷ ps) (suc k) shape e =
+    let more = padded_first extent bytes ps k shape e in
     record { others = more.others; offset = more.offset; is = more.is; less = let f = more.less in omega (arith, f) }
 
 pub layout_first : (w : World) (s : Shape) (k : ℕ) (shape : Shape) → AreStructs w.unions w.structs → IsObject w.structs s
     → slice_get (cells_of w s) k ≡ Some shape → BeginsWith (layout_of w s).cells k shape
 layout_first w s k shape structs object e =
     let has = object_cells w.unions w.structs s structs object in
-    padded_first (extent_of w) (extent_of w s).size (placed_of w s) k shape (subst AreWordShapes (sym has.shapes) has.words)
-    (ap (λ z. slice_get z k) has.shapes ∙ e)
+    padded_first (extent_of w) (extent_of w s).size (placed_of w s) k shape (ap (λ z. slice_get z k) has.shapes ∙ e)
 
--- the parts where a pending object's cells begin
-shaped_first : (c : core.Memory) (t : core.Spot) (b : ℕ) (x : PartShape) (xs : List PartShape) → AreShaped c t b 0 (x ∷ xs)
-    → PartIs c t 0 (b + x.offset) x.width
-shaped_first c t b x xs h = h.0
-
-pub made_at : (c : core.Memory) (r : core.Region) (index cell b k : ℕ) (xss : List (List PartShape)) (x : PartShape) (xs : List PartShape)
-    → AreMade c (record { region = r; object = index; cell = cell }) b xss → slice_get xss k ≡ Some (x ∷ xs)
-    → PartIs c (record { region = r; object = index; cell = cell + k }) 0 (b + x.offset) x.width
-made_at c r index cell b k [] x xs h e = absurd (cc e)
-made_at c r index cell b Rattle.std.proofs.Common.zero (ys ∷ yss) x xs h e =
-    let same : ys ≡ x ∷ xs = some_is ys (x ∷ xs) e in
+-- the parts of a made object's cell
+pub made_at : (c : core.Memory) (r : core.Region) (index cell b k : ℕ) (xss : List (List PartShape)) (xs : List PartShape)
+    → AreMade c (record { region = r; object = index; cell = cell }) b xss → slice_get xss k ≡ Some xs
+    → AreShaped c (record { region = r; object = index; cell = cell + k }) b 0 xs
+made_at c r index cell b k [] xs h e = absurd (cc e)
+made_at c r index cell b Rattle.std.proofs.Common.zero (ys ∷ yss) xs h e =
+    let same : ys ≡ xs = some_is ys xs e in
     let here : cell ≡ cell + 0 = omega arith in
-    subst (λ z. PartIs c (record { region = r; object = index; cell = z }) 0 (b + x.offset) x.width) here
-    (shaped_first c (record { region = r; object = index; cell = cell }) b x xs
-    (subst (λ z. AreShaped c (record { region = r; object = index; cell = cell }) b 0 z) same h.0))
+    subst (λ z. AreShaped c (record { region = r; object = index; cell = z }) b 0 xs) here
+    (subst (λ z. AreShaped c (record { region = r; object = index; cell = cell }) b 0 z) same h.0)
   where
     some_is : (s z : List PartShape) → Some s ≡ Some z → s ≡ z
     some_is s z f = cc f
-made_at c r index cell b (suc k) (ys ∷ yss) x xs h e =
+made_at c r index cell b (suc k) (ys ∷ yss) xs h e =
     let next : cell + 1 + k ≡ cell + suc k = omega arith in
-    subst (λ z. PartIs c (record { region = r; object = index; cell = z }) 0 (b + x.offset) x.width) next
-    (made_at c r index (cell + 1) b k yss x xs h.1 e)
+    subst (λ z. AreShaped c (record { region = r; object = index; cell = z }) b 0 xs) next
+    (made_at c r index (cell + 1) b k yss xs h.1 e)
+
+-- cleared, a cell's value's parts have what they begin with
+pub cleared_holds : (l : Layout) (r : core.Region) (index b : ℕ) (c : core.Memory) (k j : ℕ) (xs : List PartShape) (p : Placed) (qs : List Piece)
+    (others : List PartShape) → k < length l.cells → slice_get l.cells k ≡ Some xs
+    → ((i : ℕ) → slice_get xs (j + i) ≡ slice_get (map (part_shape_of p) qs ++ others) i)
+    → AreShaped c (record { region = r; object = index; cell = k }) b j (map (part_shape_of p) qs ++ others)
+    → PartsHold (cleared l 1 (record { region = r; object = index; cell = 0 }) c) (record { region = r; object = index; cell = k }) j (firsts_of qs)
+cleared_holds l r index b c k j xs p [] others less is same shaped = tt
+cleared_holds l r index b c k j xs p (q ∷ qs) others less is same shaped =
+    let x : PartShape = part_shape_of p q in
+    let more : List PartShape = map (part_shape_of p) qs ++ others in
+    let old : Part = record { offset = b + x.offset; width = x.width; content = shaped.0.content } in (
+      (record old { content = x.first }, (cleared_here l r index c k j xs x old less is (here_on xs more j x same) shaped.0.is, refl)),
+      cleared_holds l r index b c k (suc j) xs p qs others less is (further_on xs more j x same) shaped.1,
+    )

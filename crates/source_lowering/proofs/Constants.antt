@@ -1,5 +1,5 @@
 -- The globals' constants are stored before `main` is entered; Core's data have them from the start.
-use Rattle.std.proofs.Common.{◌≡◌, inl, None, ℕ, suc, ◌+◌, ◌-◌, ◌%◌, ◌^◌, ◌<◌, List, [], ◌∷◌, true, false, refl, sym, ◌∙◌, subst, arith}
+use Rattle.std.proofs.Common.{◌≡◌, inl, None, ℕ, suc, ◌+◌, ◌-◌, ◌%◌, ◌^◌, ◌<◌, List, [], ◌∷◌, true, false, refl, sym, ap, ◌∙◌, subst, arith}
 use Rattle.cyc_tree.specs.Tree as tree
 use Rattle.cyc_tree.specs.Tree.{Initial, Item, Constant}
 use Rattle.source_meaning.specs.Shapes.{
@@ -19,7 +19,7 @@ use Rattle.source_meaning.specs.Shapes.{
   settled,
 }
 use Rattle.source_meaning.specs.Memory as source
-use Rattle.source_meaning.specs.Memory.{IntegerType, AsInt, AsUnsigned, AsChar, Integer, Thin, Scalar}
+use Rattle.source_meaning.specs.Memory.{IntegerType, AsInt, AsUnsigned, AsChar, Integer, Thin, Wide, Scalar, Holds}
 use Rattle.source_meaning.specs.Steps as steps
 use Rattle.source_meaning.specs.Steps.{World}
 use Rattle.source_meaning.specs.Conversions.{converted}
@@ -27,27 +27,28 @@ use Rattle.source_meaning.specs.Values.{write_cells}
 use Rattle.source_meaning.specs.Calls.{number_type}
 use Rattle.source_meaning.specs.Programs.{constant_value, constant_shape, integer_shape, global_shape, global_stored, globals_stored, globals_from, heap_spot}
 use Rattle.core_meaning.specs.Memory as core
-use Rattle.core_meaning.specs.Memory.{Content, Word, Part, with_part}
+use Rattle.core_meaning.specs.Memory.{Word}
 use Rattle.core_meaning.specs.Core.{Program}
 use Rattle.core_meaning.specs.Steps as core_steps
-use Rattle.source_lowering.specs.Lowered.{width_of}
 use Rattle.source_lowering.specs.Programs.{word_in, constant_word, constant_content}
 use Rattle.source_lowering.specs.Taken.{IsIntegerShape, IsNullable, TakesConstant}
 use Rattle.source_lowering.specs.Lowerable.{IsObject, TakesGlobal, TakesProgram}
-use Rattle.source_lowering.proofs.Relations.{at, Leads, Shown, Agree, Later, AreLed, Same, nothing}
-use Rattle.source_lowering.proofs.Keeping.{same_part, later_self, all_led_later, m_written}
+use Rattle.source_lowering.proofs.Relations.{at, Leads, Shown, Agree, Later, AreLed, Same, nothing, VariableLeads}
+use Rattle.source_lowering.proofs.Keeping.{later_self, all_led_later, m_written}
+use Rattle.source_lowering.proofs.CellParts.{agree_shown, later_shown}
 use Rattle.source_lowering.proofs.Operators.{modulo_small}
-use Rattle.source_lowering.proofs.Integers.{IsWordShape, limit, word_shown, object_word}
-use Rattle.source_lowering.proofs.Cells.{plain_of, write_same}
+use Rattle.source_lowering.proofs.Integers.{limit, word_shown, integer_word}
+use Rattle.source_lowering.proofs.ValueCells.{IsCell, cell_of, CellAt, cell_there, cell_writes}
 use Rattle.source_lowering.proofs.WrittenTypes.{object_settled}
-use Rattle.source_lowering.proofs.Heap.{part_of, constant_single, IsStored, AreStored}
+use Rattle.source_lowering.proofs.ObjectShapes.{object_leads}
+use Rattle.source_lowering.proofs.Heap.{constant_is_value, constant_contents, word_contents, IsStored, AreStored}
 
 -- ---- the value of a constant
 
 -- a constant's value, converted to a global's shape
 record IsConverted (w : World) (c : Constant) (s : Shape) : Type 0 where
   value : Scalar
-  shown : (m : source.Memory) (k : core.Memory) → Shown w m k s value (constant_content c s ∷ [])
+  shown : (m : source.Memory) (k : core.Memory) → Shown w m k s value (constant_contents c s)
   gives : (k : List Scalar → source.Memory → steps.Step) (m : source.Memory) → constant_value w.strings c (λ v. converted w s (constant_shape c) (v ∷ []) k) m
       ≡ k (value ∷ []) m
 
@@ -82,7 +83,7 @@ number_converted w c s t from h small content gives =
     record {
       value = Integer one.0 (word_in s (constant_word c));
       shown = λ m k.
-          subst (λ x. Shown w m k s (Integer one.0 (word_in s (constant_word c))) (x ∷ [])) (sym content)
+          subst (λ xs. Shown w m k s (Integer one.0 (word_in s (constant_word c))) xs) (sym (word_contents c s (integer_word s h) ∙ ap (λ x. x ∷ []) content))
           (subst (λ z. Shown w m k z (Integer one.0 (word_in s (constant_word c))) (Word (word_in s (constant_word c)) ∷ [])) (sym one.1.0)
           (word_shown w m k one.0 (word_in s (constant_word c)) one.1.1.0));
       gives = λ k m. gives k m ∙ one.1.1.1 k m;
@@ -100,7 +101,11 @@ null_converted w at IntShape h = absurd h
 null_converted w at UnsignedShape h = absurd h
 null_converted w at CharShape h = absurd h
 null_converted w at VoidShape h = absurd h
-null_converted w at (FatShape to) h = absurd h
+null_converted w at (FatShape to) h = record {
+  value = Wide None;
+  shown = λ m k. inl (record { word = 0; value = refl; shown = refl; small = omega arith });
+  gives = λ k m. refl;
+}
 null_converted w at HandleShape h = absurd h
 null_converted w at KeyShape h = absurd h
 null_converted w at (StructShape tag) h = absurd h
@@ -128,28 +133,28 @@ pub record Begins (w : World) (fs : Program) (n : ℕ) (c : core.Memory) (s : so
 -- one global's constant is stored
 one_stored : (w : World) (fs : Program) (n : ℕ) (initial : Initial) (shape : Shape) (i : ℕ) (m : source.Memory) (c : core.Memory)
     (s : Unit {0} → source.Memory → steps.Step) (k : core_steps.Step) → TakesGlobal shape initial → IsObject w.structs shape → Agree w m c
-    → Leads w m c (global_shape initial shape) (heap_spot i) 0 → IsStored c initial shape i
+    → VariableLeads w m c (global_shape initial shape) (heap_spot i) → IsStored c initial shape i
     → ((m' : source.Memory) → Agree w m' c → Later nothing m c m' c → Same w fs n (s tt m') k) → Same w fs n (global_stored w initial shape (heap_spot i) s m) k
 one_stored w fs n Initial.Unset shape i m c s k h object agree leads part go = go m agree (later_self nothing m c)
-one_stored w fs n (Initial.Elements count) shape i m c s k h object agree leads part go = absurd h
+one_stored w fs n (Initial.Elements count) shape i m c s k h object agree leads part go = go m agree (later_self nothing m c)
 one_stored w fs n (Initial.Given constant) shape i m c s k h object agree leads part go =
     subst (λ z. Same w fs n z k) (sym (o.gives (λ vs. write_cells (heap_spot i) vs s) m))
-    (write_same w fs n shape (width_of shape) m c (heap_spot i) 0 o.value x s k (plain_of w shape word) agree leads (o.shown m c)
-    (λ y. go (m_written m (heap_spot i) shape o.value) (subst (λ z. Agree w (m_written m (heap_spot i) shape o.value) z) same
-    y.agree)
-    (subst (λ z. Later nothing m c (m_written m (heap_spot i) shape o.value) z) same (y.later nothing))))
+    (cell_writes w fs n shape m c (heap_spot i) 0 o.value (constant_contents constant shape) s k one agree leads_to (o.shown m c)
+    (λ y. go (m_written m (heap_spot i) shape o.value)
+    (agree_shown w m c (heap_spot i) shape here.has.content o.value (constant_contents constant shape) agree here.has.is part (o.shown m c))
+    (later_shown nothing m c (heap_spot i) shape here.has.content (Holds o.value) here.has.is)))
   where
-    word : IsWordShape shape
-    word = object_word w.structs shape object (constant_single constant shape h)
+    one : IsCell w shape
+    one = cell_of w shape (constant_is_value w constant shape h object)
 
     o : IsConverted w constant shape
     o = constant_converted w constant shape h
 
-    x : Content
-    x = constant_content constant shape
+    leads_to : Leads w m c shape (heap_spot i) 0
+    leads_to = object_leads w.structs w m c shape (heap_spot i) object leads
 
-    same : with_part c (at (heap_spot i)) 0 (part_of (width_of shape) x) ≡ c
-    same = same_part c (at (heap_spot i)) (part_of (width_of shape) x) part
+    here : CellAt m c (heap_spot i) 0 shape
+    here = cell_there w m c (heap_spot i) 0 shape one leads_to
 
 pub globals_same : (w : World) (fs : Program) (n : ℕ) (items : List Item) (i : ℕ) (m : source.Memory) (c : core.Memory)
     (s : Unit {0} → source.Memory → steps.Step) (k : core_steps.Step) → TakesProgram w items → Agree w m c → AreLed w m c w.globals
@@ -162,7 +167,8 @@ globals_same w fs n (tree.UnionItem u ∷ items) i m c s k h agree led here stor
 globals_same w fs n (tree.FunctionItem f ∷ items) i m c s k h agree led here stored begins = globals_same w fs n items i m c s k h.1 agree led here stored
     begins
 globals_same w fs n (tree.GlobalItem g ∷ items) i m c s k h agree led here stored begins =
-    one_stored w fs n g.initial (settled (written g.of)) i m c (λ u. globals_stored w items (suc i) s) k h.0.1 (object_settled w.structs g.of h.0.0) agree here.0
+    one_stored w fs n g.initial (settled (written g.of)) i m c (λ u. globals_stored w items (suc i) s) k h.0.1
+    (object_settled w.structs g.of h.0.0) agree here.0
     stored.0
     (λ m' agree' later.
     globals_same w fs n items (suc i) m' c s k h.1 agree' (all_led_later nothing w m m' c c w.globals later led) (all_led_later nothing w m m' c c

@@ -1,6 +1,7 @@
 -- A struct's object is copied to a local: the source reads all cells and writes them one by one, and Core copies the object's parts at once.
-use Rattle.std.proofs.Common.{◌≡◌, ℕ, suc, ◌+◌, ◌<◌, List, [], ◌∷◌, length, Bool, true, false, not, nat_eq, Option, Some, None, refl, sym, ap, ◌∙◌, subst, arith}
-use Rattle.std.specs.Prelude.{◌&&◌, ◌-◌, if◌then◌else◌, nat_lt, nat_le, slice_get}
+use Rattle.std.proofs.Common.{◌≡◌, ℕ, suc, ◌+◌, ◌<◌, List, [], ◌∷◌, length, Bool, true, false, not, nat_eq, Option, Some, None, refl, sym, ap, ◌∙◌, subst}
+use Rattle.std.proofs.Common.{arith, ◌++◌}
+use Rattle.std.specs.Prelude.{◌&&◌, ◌-◌, if◌then◌else◌, nat_lt, nat_le, slice_get, map}
 use Rattle.std.proofs.lemmas.Bool.{eq-eqb}
 use Rattle.std.proofs.lemmas.Bool.Decides.{nat_tests}
 use Rattle.source_meaning.specs.Shapes.{
@@ -28,40 +29,43 @@ use Rattle.core_meaning.specs.Core.{Program}
 use Rattle.core_meaning.specs.Steps as core_steps
 use Rattle.core_meaning.specs.Operations.{same_object, cells_on, part_of, on_from, copied}
 use Rattle.core_meaning.proofs.Spots.{region_self}
+use Rattle.core_meaning.proofs.Wholes.{beyond_none, beyond_both}
 use Rattle.source_meaning.specs.Conversions.{cells_of}
-use Rattle.source_lowering.specs.Layouts.{layout_of, first_part}
-use Rattle.source_lowering.specs.Lowered.{width_of}
-use Rattle.source_lowering.specs.Lowerable.{IsWordShape, IsObject, AreStructs}
-use Rattle.source_lowering.proofs.StructCells.{AreWordShapes}
-use Rattle.source_lowering.proofs.Relations.{at, HasShape, PartIs, AreCells, AreMade, PartsHold, Shown, Agree, Bound, nothing, IsFree, Later, Same}
-use Rattle.source_lowering.proofs.Keeping.{named_free, free_nothing, free_object, later_self, later_on, shown_later, later_written, agree_written, m_written, same_part}
+use Rattle.source_lowering.specs.Layouts.{layout_of, Piece, pieces_of, part_shape_of}
+use Rattle.source_lowering.specs.Lowerable.{IsObject, AreStructs}
+use Rattle.source_lowering.proofs.StructCells.{AreValueShapes}
+use Rattle.source_lowering.proofs.Relations.{at, HasShape, PartIs, AreCells, AreMade, PartsHold, Shown, Agree, Bound, nothing, IsFree, Later, Same, AreShaped}
+use Rattle.source_lowering.proofs.Keeping.{named_free, free_nothing, free_object, later_self, later_on, shown_later, m_written}
 use Rattle.source_lowering.proofs.Runs.{stuck_same}
 use Rattle.source_lowering.proofs.Making.{cell_spot}
-use Rattle.source_lowering.proofs.Cells.{plain_of}
-use Rattle.source_lowering.proofs.Members.{core_beyond_on, core_beyond_zero}
-use Rattle.source_lowering.proofs.Clearing.{held_still, new_object, layout_first, made_at}
+use Rattle.source_lowering.proofs.CellParts.{FitPieces, agree_shown, later_shown}
+use Rattle.source_lowering.proofs.ValueCells.{cell_of}
+use Rattle.source_lowering.proofs.Integers.{IsValueShape}
+use Rattle.source_meaning.specs.Placing.{Placed}
+use Rattle.source_lowering.proofs.ElementsMade.{here_on, further_on}
+use Rattle.source_lowering.proofs.Clearing.{held_still, new_object, layout_first, made_at, placed_at}
 
 -- ---- the source reads an object
 
-owner_still : (s : Shape) → IsWordShape s → is_moved s ≡ false
+owner_still : (s : Shape) → IsValueShape s → is_moved s ≡ false
 owner_still IntShape h = refl
 owner_still UnsignedShape h = refl
 owner_still CharShape h = refl
 owner_still VoidShape h = absurd h
 owner_still (ThinShape b owner to) h = ap source.is_alone h.0
-owner_still (FatShape to) h = absurd h
+owner_still (FatShape to) h = refl
 owner_still HandleShape h = refl
 owner_still KeyShape h = absurd h
 owner_still (StructShape tag) h = absurd h
 owner_still (UnionShape tag) h = absurd h
 owner_still (ArrayShape count of) h = absurd h
 
-none_moved : (xs : List Shape) → AreWordShapes xs → any_moved xs ≡ false
+none_moved : (xs : List Shape) → AreValueShapes xs → any_moved xs ≡ false
 none_moved [] h = refl
 none_moved (x ∷ xs) h = ap (λ b. if b then true else any_moved xs) (owner_still x h.0) ∙ none_moved xs h.1
 
 -- an object of words is copied as it is looked at
-pub whole_taken : (xs : List Shape) (t : Spot) (s : List Scalar → source.Memory → steps.Step) (m : source.Memory) → AreWordShapes xs
+pub whole_taken : (xs : List Shape) (t : Spot) (s : List Scalar → source.Memory → steps.Step) (m : source.Memory) → AreValueShapes xs
     → take_cells xs t s m ≡ read_cells (length xs) t s m
 whole_taken xs t s m h = rw (none_moved xs h) refl
 
@@ -103,11 +107,12 @@ read_all w fs n (x ∷ xs) m t s k cells go = by (is_live m t.region) refl
 
 -- ---- the source writes what Core's parts show already
 
--- a cell's part shows a value
+-- a cell's parts show a value
 pub record IsCellShown (w : World) (m : source.Memory) (c : core.Memory) (t : core.Spot) (shape : Shape) (v : Scalar) : Type 0 where
-  pub part : Part
-  pub is : c.parts t 0 ≡ Some part
-  pub shown : Shown w m c shape v (part.content ∷ [])
+  pub contents : List Content
+  pub fit : FitPieces (pieces_of shape) contents
+  pub held : PartsHold c t 0 contents
+  pub shown : Shown w m c shape v contents
 
 abbrev pub AllShown : World → source.Memory → core.Memory → core.Spot → List Shape → List Scalar → Type 0
 AllShown w m c t [] [] = Unit {0}
@@ -117,42 +122,42 @@ AllShown w m c t (x ∷ xs) [] = ⊥
 
 -- later, where these parts are as they were
 pub all_shown_kept : (b : Bound) (w : World) (m m' : source.Memory) (c c' : core.Memory) (t : core.Spot) (xs : List Shape) (vs : List Scalar)
-    → Later b m c m' c' → ((i : ℕ) → i < length xs → c'.parts (core.beyond t i) 0 ≡ c.parts (core.beyond t i) 0)
+    → Later b m c m' c' → ((i j : ℕ) → i < length xs → c'.parts (core.beyond t i) j ≡ c.parts (core.beyond t i) j)
     → AllShown w m c t xs vs → AllShown w m' c' t xs vs
 all_shown_kept b w m m' c c' t [] [] l same h = tt
 all_shown_kept b w m m' c c' t [] (v ∷ vs) l same h = absurd h
 all_shown_kept b w m m' c c' t (x ∷ xs) [] l same h = absurd h
 all_shown_kept b w m m' c c' t (x ∷ xs) (v ∷ vs) l same h = (
   record {
-    part = h.0.part;
-    is = subst (λ z. c'.parts z 0 ≡ c.parts z 0) (sym (core_beyond_zero t)) (same 0 (omega arith)) ∙ h.0.is;
-    shown = shown_later b w m m' c c' x v (h.0.part.content ∷ []) l h.0.shown;
+    contents = h.0.contents;
+    fit = h.0.fit;
+    held = held_still c c' t 0 h.0.contents (λ j. subst (λ z. c'.parts z j ≡ c.parts z j) (sym (beyond_none t)) (same 0 j (omega arith))) h.0.held;
+    shown = shown_later b w m m' c c' x v h.0.contents l h.0.shown;
   },
   all_shown_kept b w m m' c c' (core.beyond t 1) xs vs l
-      (λ i less.
-      subst (λ z. c'.parts z 0 ≡ c.parts z 0) (sym (core_beyond_on t 1 i (suc i) (omega arith))) (same (suc i) (omega (arith, less)))) h.1,
+      (λ i j less.
+      subst (λ z. c'.parts z j ≡ c.parts z j) (sym (beyond_both t 1 i (suc i) (omega arith))) (same (suc i) j (omega (arith, less)))) h.1,
 )
 
 pub all_shown_later : (b : Bound) (w : World) (m m' : source.Memory) (c : core.Memory) (t : core.Spot) (xs : List Shape) (vs : List Scalar) → Later b m c m' c
     → AllShown w m c t xs vs → AllShown w m' c t xs vs
-all_shown_later b w m m' c t xs vs l h = all_shown_kept b w m m' c c t xs vs l (λ i less. refl) h
+all_shown_later b w m m' c t xs vs l h = all_shown_kept b w m m' c c t xs vs l (λ i j less. refl) h
 
 -- what the source's cells hold is shown
-pub held_shown : (w : World) (m : source.Memory) (c : core.Memory) (s : Spot) (xs : List Shape) (vs : List Scalar) → Agree w m c → AreWordShapes xs
+pub held_shown : (w : World) (m : source.Memory) (c : core.Memory) (s : Spot) (xs : List Shape) (vs : List Scalar) → Agree w m c → AreValueShapes xs
     → AllHeld m s xs vs → AllShown w m c (at s) xs vs
-held_shown w m c s [] [] a words h = tt
-held_shown w m c s [] (v ∷ vs) a words h = absurd h
-held_shown w m c s (x ∷ xs) [] a words h = absurd h
-held_shown w m c s (x ∷ xs) (v ∷ vs) a words h =
-    let here = a.cells s x v h.0 in
-    let word = (plain_of w x words.0).one m c v here.contents here.shown in
-    let hold : PartsHold c (at s) 0 (word.word ∷ []) = subst (λ z. PartsHold c (at s) 0 z) word.is here.held in (
+held_shown w m c s [] [] a values h = tt
+held_shown w m c s [] (v ∷ vs) a values h = absurd h
+held_shown w m c s (x ∷ xs) [] a values h = absurd h
+held_shown w m c s (x ∷ xs) (v ∷ vs) a values h =
+    let here = a.cells s x v h.0 in (
       record {
-        part = hold.0.0;
-        is = hold.0.1.0;
-        shown = subst (λ z. Shown w m c x v (z ∷ [])) (sym hold.0.1.1) (subst (λ z. Shown w m c x v z) word.is here.shown);
+        contents = here.contents;
+        fit = (cell_of w x values.0).fit m c v here.contents here.shown;
+        held = here.held;
+        shown = here.shown;
       },
-      held_shown w m c (source.beyond s 1) xs vs a words.1 h.1,
+      held_shown w m c (source.beyond s 1) xs vs a values.1 h.1,
     )
 
 cells_kept : (b : Bound) (m m' : source.Memory) (c : core.Memory) (s : Spot) (xs : List Shape) → Later b m c m' c → AreCells m s xs → AreCells m' s xs
@@ -166,14 +171,10 @@ record IsHeld (w : World) (m : source.Memory) (c : core.Memory) (s : Spot) (shap
 
 held_is : (w : World) (m : source.Memory) (c : core.Memory) (s : Spot) (shape : Shape) (v : Scalar) → Agree w m c → HasShape m s shape
     → IsCellShown w m c (at s) shape v → IsHeld w m c s shape v
-held_is w m c s shape v a has one =
-    let same = same_part c (at s) one.part one.is in
-    record {
-      agree = subst (λ z. Agree w (m_written m s shape v) z) same
-          (agree_written w m c s shape has.content v one.part one.part.content a has.is one.is one.shown);
-      later = λ b. subst (λ z. Later b m c (m_written m s shape v) z) same
-          (later_written b m c s shape has.content (Holds v) one.part one.part.content has.is one.is);
-    }
+held_is w m c s shape v a has one = record {
+  agree = agree_shown w m c s shape has.content v one.contents a has.is one.held one.shown;
+  later = λ b. later_shown b m c s shape has.content (Holds v) has.is;
+}
 
 pub write_all : (w : World) (fs : Program) (n : ℕ) (b : Bound) (xs : List Shape) (vs : List Scalar) (m : source.Memory) (c : core.Memory) (t : Spot)
     (s : Unit {0} → source.Memory → steps.Step) (k : core_steps.Step) → is_live m t.region ≡ true → Agree w m c → AreCells m t xs → AllShown w m c (at t) xs vs
@@ -181,7 +182,8 @@ pub write_all : (w : World) (fs : Program) (n : ℕ) (b : Bound) (xs : List Shap
 write_all w fs n b [] [] m c t s k live a cells shown go = go m a (later_self b m c)
 write_all w fs n b [] (v ∷ vs) m c t s k live a cells shown go = absurd shown
 write_all w fs n b (x ∷ xs) [] m c t s k live a cells shown go = absurd shown
-write_all w fs n b (x ∷ xs) (v ∷ vs) m c t s k live a cells shown go = first (write_all w fs n b xs vs (m_written m t x v) c (source.beyond t 1) s k live held.agree
+write_all w fs n b (x ∷ xs) (v ∷ vs) m c t s k live a cells shown go =
+    first (write_all w fs n b xs vs (m_written m t x v) c (source.beyond t 1) s k live held.agree
     (cells_kept b m (m_written m t x v) c (source.beyond t 1) xs (held.later b) cells.1)
     (all_shown_later b w m (m_written m t x v) c (at (source.beyond t 1)) xs vs (held.later b) shown.1)
     (λ m' a' l. go m' a' (later_on b m (m_written m t x v) m' c c c (held.later b) l)))
@@ -277,6 +279,25 @@ copied_here l to from c k j xs x p q less is shape part there = rw (part, here, 
         ap (λ z. if z && nat_lt (to.cell + k) (to.cell + length l.cells) then Some (to.cell + k - to.cell) else None) after ∙
         ap (λ z. if z then Some (to.cell + k - to.cell) else None) within_it ∙ ap (λ z. Some z) none
 
+-- the parts of a cell's value hold what those that they come from do
+copied_holds : (l : Layout) (to from : core.Spot) (c : core.Memory) (byte k j : ℕ) (xs : List PartShape) (p : Placed) (qs : List Piece)
+    (others : List PartShape) (cs : List Content) → k < length l.cells → slice_get l.cells k ≡ Some xs
+    → ((i : ℕ) → slice_get xs (j + i) ≡ slice_get (map (part_shape_of p) qs ++ others) i)
+    → AreShaped c (core.beyond to k) byte j (map (part_shape_of p) qs ++ others) → FitPieces qs cs → PartsHold c (core.beyond from k) j cs
+    → PartsHold (copied l to from c) (core.beyond to k) j cs
+copied_holds l to from c byte k j xs p qs others [] less is same shaped fit held = tt
+copied_holds l to from c byte k j xs p [] others (x ∷ cs) less is same shaped fit held = absurd fit
+copied_holds l to from c byte k j xs p (q ∷ qs) others (x ∷ cs) less is same shaped fit held =
+    let y : PartShape = part_shape_of p q in
+    let more : List PartShape = map (part_shape_of p) qs ++ others in
+    let target : Part = record { offset = byte + y.offset; width = y.width; content = shaped.0.content } in (
+      (
+        record target { content = held.0.0.content },
+        (copied_here l to from c k j xs y target held.0.0 less is (here_on xs more j y same) shaped.0.is held.0.1.0, held.0.1.1),
+      ),
+      copied_holds l to from c byte k (suc j) xs p qs others cs less is (further_on xs more j y same) shaped.1 fit.1 held.1,
+    )
+
 pub copied_later : (b : Bound) (m : source.Memory) (c : core.Memory) (l : Layout) (to from : core.Spot) → IsFree b to
     → Later b m c m (copied l to from c)
 copied_later b m c l to from free = record {
@@ -328,9 +349,9 @@ all_copied w m c to from byte shape k [] (v ∷ vs) structs object made same hel
 all_copied w m c to from byte shape k (x ∷ xs) [] structs object made same held = absurd held
 all_copied w m c to from byte shape k (x ∷ xs) (v ∷ vs) structs object made same held = (
   one,
-  subst (λ z. AllShown w m c' z xs vs) (sym (core_beyond_on to k 1 (suc k) next))
+  subst (λ z. AllShown w m c' z xs vs) (sym (beyond_both to k 1 (suc k) next))
       (all_copied w m c to from byte shape (suc k) xs vs structs object made (λ i. ap (slice_get (cells_of w shape)) (one_on k i) ∙ same (suc i))
-      (subst (λ z. AllShown w m c z xs vs) (core_beyond_on from k 1 (suc k) next) held.1)),
+      (subst (λ z. AllShown w m c z xs vs) (beyond_both from k 1 (suc k) next) held.1)),
 )
   where
     layout : Layout
@@ -351,25 +372,26 @@ all_copied w m c to from byte shape k (x ∷ xs) (v ∷ vs) structs object made 
     one : IsCellShown w m c' (core.beyond to k) x v
     one =
         let first = layout_first w shape k x structs object (ap (slice_get (cells_of w shape)) (no_more k) ∙ same 0) in
-        let y : PartShape = record { offset = first.offset; width = width_of x; first = first_part x } in
-        let there : PartIs c (core.beyond to k) 0 (byte + first.offset) (width_of x) =
-        made_at c to.region to.object to.cell byte k layout.cells y first.others made first.is in
-        let target : Part = record { offset = byte + first.offset; width = width_of x; content = there.content } in
-        let q : Part = held.0.part in
+        let parts : List PartShape = map (part_shape_of (placed_at first.offset x)) (pieces_of x) ++ first.others in
         record {
-          part = record target { content = q.content };
-          is = copied_here layout to from c k 0 (y ∷ first.others) y target q first.less first.is refl there.is held.0.is;
-          shown = shown_later nothing w m m c c' x v (q.content ∷ []) (copied_later nothing m c layout to from (free_nothing to)) held.0.shown;
+          contents = held.0.contents;
+          fit = held.0.fit;
+          held = copied_holds layout to from c byte k 0 parts (placed_at first.offset x) (pieces_of x) first.others held.0.contents first.less first.is
+              (λ i. ap (slice_get parts) (zero_on i)) (made_at c to.region to.object to.cell byte k layout.cells parts made first.is) held.0.fit held.0.held;
+          shown = shown_later nothing w m m c c' x v held.0.contents (copied_later nothing m c layout to from (free_nothing to)) held.0.shown;
         }
+      where
+        zero_on : (i : ℕ) → 0 + i ≡ i
+        zero_on i = omega arith
 
 -- an object as a whole
 pub whole_copied : (w : World) (m : source.Memory) (c : core.Memory) (to from : core.Spot) (byte : ℕ) (shape : Shape) (vs : List Scalar)
     → AreStructs w.unions w.structs → IsObject w.structs shape → AreMade c to byte (layout_of w shape).cells → AllShown w m c from (cells_of w shape) vs
     → AllShown w m (copied (layout_of w shape) to from c) to (cells_of w shape) vs
 whole_copied w m c to from byte shape vs structs object made held =
-    subst (λ z. AllShown w m (copied (layout_of w shape) to from c) z (cells_of w shape) vs) (sym (core_beyond_zero to))
+    subst (λ z. AllShown w m (copied (layout_of w shape) to from c) z (cells_of w shape) vs) (sym (beyond_none to))
     (all_copied w m c to from byte shape 0 (cells_of w shape) vs structs object made (λ i. ap (slice_get (cells_of w shape)) (zero_on i))
-    (subst (λ z. AllShown w m c z (cells_of w shape) vs) (core_beyond_zero from) held))
+    (subst (λ z. AllShown w m c z (cells_of w shape) vs) (beyond_none from) held))
   where
     zero_on : (i : ℕ) → 0 + i ≡ i
     zero_on i = omega arith

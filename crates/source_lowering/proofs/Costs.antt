@@ -1,9 +1,10 @@
 -- What code takes: temporaries, words passed to calls, words of locals, operations.
-use Rattle.std.proofs.Common.{◌≡◌, ℕ, ◌+◌, ◌≤◌, List, [], ◌∷◌, ◌++◌, max, arith}
-use Rattle.core_meaning.specs.Core.{Statement}
+use Rattle.std.proofs.Common.{◌≡◌, ℕ, suc, ◌+◌, ◌≤◌, List, [], ◌∷◌, ◌++◌, max, arith}
+use Rattle.core_meaning.specs.Core as core
+use Rattle.core_meaning.specs.Core.{Statement, Do, If, Raise, Statements, NoStatements, MoreStatements}
 use Rattle.source_lowering.specs.Lowered.{all_of}
-use Rattle.source_lowering.specs.Programs.{statement_temporaries, temporaries_of, statement_passes, passed_by}
-use Rattle.source_lowering.specs.Bounds.{statement_words, block_words, statement_operations, operations_of}
+use Rattle.source_lowering.specs.Temporaries.{operation_temporaries, statement_temporaries, temporaries_of, statement_passes, passed_by}
+use Rattle.source_lowering.specs.Bounds.{statement_words, block_words, operation_count, branch_count, statement_operations, operations_of}
 
 pub record Costs (t p l o : ℕ) (code : List Statement) : Type 0 where
   pub temporaries : temporaries_of (all_of code) ≤ t
@@ -67,3 +68,42 @@ more_costs t p l o t' p' l' o' xs f g h k a = record {
   locals = let e = a.locals in omega (arith, e, h);
   operations = let e = a.operations in omega (arith, e, k);
 }
+
+-- ---- operations
+
+-- one operation
+pub does_one : (t p : ℕ) (o : core.Operation) → operation_temporaries o ≤ t → Costs t p 0 (operation_count o) (Do o ∷ [])
+does_one t p o h = one_costs t p 0 (operation_count o) (Do o) h (omega arith) (omega arith) (omega arith)
+
+-- one before others
+pub does_then : (t p n : ℕ) (o : core.Operation) (others : List Statement) → operation_temporaries o ≤ t → Costs t p 0 n others
+    → Costs t p 0 (operation_count o + n) (Do o ∷ others)
+does_then t p n o others h c = both_cost t p 0 (operation_count o) 0 n (Do o ∷ []) others (does_one t p o h) c
+
+pub at_most : (t p o o' : ℕ) (xs : List Statement) → o ≤ o' → Costs t p 0 o xs → Costs t p 0 o' xs
+at_most t p o o' xs h c = more_costs t p 0 o t p 0 o' xs (omega arith) (omega arith) (omega arith) h c
+
+pub nothing : (t p o : ℕ) → Costs t p 0 o []
+nothing t p o = at_most t p 0 o [] (omega arith) (no_costs t p)
+
+-- one operation where there is room for more
+pub does_few : (t p n : ℕ) (o : core.Operation) → operation_temporaries o ≤ t → operation_count o ≤ n → Costs t p 0 n (Do o ∷ [])
+does_few t p n o h k = at_most t p (operation_count o) n _ k (does_one t p o h)
+
+-- ---- choices
+
+branch_less : (ss : Statements) (n : ℕ) → branch_count ss n ≤ n
+branch_less NoStatements n = omega arith
+branch_less (MoreStatements (Raise kind) NoStatements) n = omega arith
+branch_less ss n = omega arith
+
+-- a choice of two
+pub if_costs : (t p d l l' o o' : ℕ) (these those : List Statement) → suc d ≤ t → Costs t p l o these → Costs t p l' o' those
+    → Costs t p (l + l') (1 + (o + o')) (If d (all_of these) (all_of those) ∷ [])
+if_costs t p d l l' o o' these those h x y =
+    let a = x.temporaries in let b = x.passes in let e = x.locals in let f = x.operations in
+    let a' = y.temporaries in let b' = y.passes in let e' = y.locals in let f' = y.operations in
+    let k = branch_less (all_of these) (operations_of (all_of these)) in
+    let k' = branch_less (all_of those) (operations_of (all_of those)) in
+    one_costs t p (l + l') (1 + (o + o')) (If d (all_of these) (all_of those)) (omega (arith, h, a, a')) (omega (arith, b, b')) (omega (arith, e, e'))
+    (omega (arith, f, f', k, k'))

@@ -8,11 +8,12 @@ use Rattle.source_meaning.specs.Calls.{function_of, called, converted_all, read_
 use Rattle.core_meaning.specs.Core.{Statement, Do, Getchar}
 use Rattle.source_lowering.specs.Lowered.{number_of, result_shape, call_shape, parameter_shapes, call_parameters, function_call, call_code}
 use Rattle.source_lowering.proofs.Relations.{Place}
-use Rattle.source_lowering.proofs.Integers.{IsWordShape}
+use Rattle.source_lowering.proofs.Integers.{IsValueShape}
 use Rattle.source_lowering.proofs.Names.{AreParameters, IsPlainWorld, FoundFunction, find_function}
 use Rattle.source_lowering.proofs.Variables.{Agrees, stuck_agrees}
 use Rattle.source_lowering.proofs.Forms.{value_agrees}
-use Rattle.source_lowering.proofs.Calls.{CallsAs, ArgumentsAs, called_gives, read_gives, stuck_read, write_gives}
+use Rattle.source_lowering.proofs.Calls.{CallsAs, ArgumentsAs, called_gives}
+use Rattle.source_lowering.proofs.ByteCalls.{read_gives, stuck_read, write_gives}
 
 -- the arguments that a call's function takes
 abbrev pub Passed : Place → ℕ → ℕ → ℕ → List Shape → List Sense → List Statement → Type 0
@@ -25,13 +26,15 @@ own_call : (p : Place) (n d count : ℕ) (name : List ℕ) (es : List Sense) (co
 own_call p n d count name es code plain calls passed =
     ⊎_elim
     (λ (f : FoundFunction p.world p.world.functions name).
-    let arguments : Passed p n d count (part_shapes f.routine.parameters) es code = subst (λ z. Passed p n d count (parameter_shapes z) es code) f.found
-    passed in
+    let arguments : Passed p n d count (part_shapes f.routine.parameters) es code =
+    subst (λ z. Passed p n d count (parameter_shapes z) es code) f.found passed in
     let gives = called_gives p n d count name f.routine (converted_all p.world (part_shapes f.routine.parameters) es) code f.numbered f.is calls arguments in
-    subst (λ z. Agrees p n d (called p.world z es) (result_shape z) (code ++ function_call z (number_of p.world.functions name) count d)) (sym f.found)
+    subst (λ z. Agrees p n d (called p.world z es) (result_shape z)
+    (code ++ function_call z (number_of p.world.functions name) count d)) (sym f.found)
     (value_agrees p n d f.routine.result f.routine.result _ _ refl f.is.result gives))
     (λ (none : function_of p.world.functions name ≡ None).
-    subst (λ z. Agrees p n d (called p.world z es) (result_shape z) (code ++ function_call z (number_of p.world.functions name) count d)) (sym none)
+    subst (λ z. Agrees p n d (called p.world z es) (result_shape z)
+    (code ++ function_call z (number_of p.world.functions name) count d)) (sym none)
     (stuck_agrees p n d (code ++ [])))
     (find_function p.world p.world.functions name plain.functions)
 
@@ -46,7 +49,8 @@ read_call p n d (e ∷ es) code none = value_agrees p n d IntShape IntShape (rea
 abbrev parameters_by : Bool → Bool → Option Routine → List Shape
 parameters_by reads writes f = (if reads then [] else (if writes then IntShape ∷ [] else parameter_shapes f))
 
-pub call_agrees : (p : Place) (n d count : ℕ) (name : List ℕ) (es : List Sense) (code : List Statement) → IsPlainWorld p.world → has_tag p.world.structs name ≡ false → CallsAs p.world p.program n
+pub call_agrees : (p : Place) (n d count : ℕ) (name : List ℕ) (es : List Sense) (code : List Statement) → IsPlainWorld p.world
+    → has_tag p.world.structs name ≡ false → CallsAs p.world p.program n
     → (call_parameters p.world name ≡ [] → code ≡ []) → Passed p n d count (call_parameters p.world name) es code
     → Agrees p n d (call_sense p.world name es) (call_shape p.world name) (code ++ call_code p.world name count d)
 call_agrees p n d count name es code plain no_tag calls none passed = by (bytes_eq name (codes "getchar")) (bytes_eq name (codes "putchar")) refl refl
@@ -66,26 +70,26 @@ call_agrees p n d count name es code plain no_tag calls none passed = by (bytes_
         (λ b. parameters_by false b (function_of p.world.functions name)) f) passed in
         rw (e, f, no_tag) (own_call p n d count name es code plain calls arguments)
 
--- what a name's function takes are words
-abbrev pub AllWords : List Shape → Type 0
-AllWords [] = Unit {0}
-AllWords (s ∷ ss) = IsWordShape s × AllWords ss
+-- what a name's function takes are values
+abbrev pub AllValues : List Shape → Type 0
+AllValues [] = Unit {0}
+AllValues (s ∷ ss) = IsValueShape s × AllValues ss
 
-parameters_words : (ps : List Part) → AreParameters ps → AllWords (part_shapes ps)
-parameters_words [] h = tt
-parameters_words (p ∷ ps) h = (h.0, parameters_words ps h.1)
+parameters_values : (ps : List Part) → AreParameters ps → AllValues (part_shapes ps)
+parameters_values [] h = tt
+parameters_values (p ∷ ps) h = (h.0, parameters_values ps h.1)
 
-pub call_words : (w : World) (name : List ℕ) → IsPlainWorld w → AllWords (call_parameters w name)
-call_words w name plain = by (bytes_eq name (codes "getchar")) (bytes_eq name (codes "putchar"))
+pub call_values : (w : World) (name : List ℕ) → IsPlainWorld w → AllValues (call_parameters w name)
+call_values w name plain = by (bytes_eq name (codes "getchar")) (bytes_eq name (codes "putchar"))
   where
-    own : AllWords (parameter_shapes (function_of w.functions name))
+    own : AllValues (parameter_shapes (function_of w.functions name))
     own = ⊎_elim
-        (λ (f : FoundFunction w w.functions name). subst (λ z. AllWords (parameter_shapes z)) (sym f.found) (parameters_words f.routine.parameters
+        (λ (f : FoundFunction w w.functions name). subst (λ z. AllValues (parameter_shapes z)) (sym f.found) (parameters_values f.routine.parameters
         f.is.parameters))
-        (λ (none : function_of w.functions name ≡ None). subst (λ z. AllWords (parameter_shapes z)) (sym none) tt)
+        (λ (none : function_of w.functions name ≡ None). subst (λ z. AllValues (parameter_shapes z)) (sym none) tt)
         (find_function w w.functions name plain.functions)
 
-    by : (reads writes : Bool) → AllWords (parameters_by reads writes (function_of w.functions name))
+    by : (reads writes : Bool) → AllValues (parameters_by reads writes (function_of w.functions name))
     by true writes = tt
     by false true = (tt, tt)
     by false false = own

@@ -1,8 +1,8 @@
 -- Each declaration that is taken does the same as its code.
-use Rattle.std.proofs.Common.{◌≡◌, ℕ, suc, ◌≤◌, List, [], ◌∷◌, ◌++◌, refl, sym, ◌∙◌, subst}
+use Rattle.std.proofs.Common.{◌≡◌, ℕ, suc, ◌+◌, ◌≤◌, List, ◌∷◌, ◌++◌, refl, sym, ◌∙◌, subst, arith}
 use Rattle.std.proofs.lemmas.List.{append-nil}
 use Rattle.cyc_tree.specs.Tree as tree
-use Rattle.cyc_tree.specs.Tree.{Expression, TypeName, Initializer, Declaration, Statement, BlockItems, NoItems, Declare, Execute}
+use Rattle.cyc_tree.specs.Tree.{Expression, TypeName, Initializer, Declaration}
 use Rattle.source_meaning.specs.Shapes.{
   Shape,
   IntShape,
@@ -26,19 +26,21 @@ use Rattle.source_meaning.specs.Expressions.{sense}
 use Rattle.source_meaning.specs.Regions.{declared, local_with, initialised}
 use Rattle.source_meaning.specs.Statements as meaning_of
 use Rattle.core_meaning.specs.Core as core
-use Rattle.core_meaning.specs.Core.{Do, Put}
 use Rattle.core_meaning.specs.Meaning as meaning
 use Rattle.source_lowering.specs.Layouts.{layout_of}
-use Rattle.source_lowering.specs.Lowered.{Named, put, width_of, conversion_code, static_shape, place_code, expression_code}
-use Rattle.source_lowering.specs.Programs.{block_shapes, local_shape, named_here, unset_code, value_code, declaration_code}
-use Rattle.source_lowering.specs.Lowerable.{IsTarget, IsObject, IsObjectType, AreObjects, HasBeginning, Takes, TakesPlace, TakesValue, TakesDeclaration, TakesItems}
-use Rattle.source_lowering.proofs.Relations.{Place, SameAt, around}
+use Rattle.source_lowering.specs.Lowered.{Named, put, put_local, conversion_code, static_shape, place_code, expression_code}
+use Rattle.source_lowering.specs.Members.{words_in}
+use Rattle.source_lowering.specs.Programs.{local_shape, named_here, unset_code, value_code, declaration_code}
+use Rattle.source_lowering.specs.Lowerable.{IsTarget, IsObject, IsVariable, IsStructShape, IsObjectType, HasBeginning, Takes, TakesPlace, TakesValue}
+use Rattle.source_lowering.specs.Lowerable.{TakesDeclaration}
+use Rattle.source_lowering.proofs.Relations.{Place, SameAt, around, contents_in}
 use Rattle.source_lowering.proofs.Keeping.{less_self, later_on, later_items, blocks_of}
 use Rattle.source_lowering.proofs.Runs.{put_all}
-use Rattle.source_lowering.proofs.Integers.{IsTaken, IsWordShape, word_taken, taken_target}
+use Rattle.source_lowering.proofs.Integers.{IsTaken, IsValueShape, value_taken, taken_target}
+use Rattle.source_lowering.proofs.AnyValues.{value_given}
 use Rattle.source_lowering.proofs.WrittenTypes.{type_settles, object_settled}
 use Rattle.source_lowering.proofs.Values.{put_three}
-use Rattle.source_lowering.proofs.Variables.{Agrees, value_of}
+use Rattle.source_lowering.proofs.Variables.{Agrees}
 use Rattle.source_lowering.proofs.Conversions.{converted_gives}
 use Rattle.source_lowering.proofs.Calls.{CallsAs}
 use Rattle.source_lowering.proofs.EachExpression.{Known, place_in, IsKnown, place_same, expression_same, whole_same}
@@ -46,6 +48,8 @@ use Rattle.source_lowering.proofs.Making.{local_spot}
 use Rattle.source_lowering.proofs.Statements.{RunsAs, ways_later}
 use Rattle.source_lowering.proofs.Declaring.{local_with_same}
 use Rattle.source_lowering.proofs.Beginning.{declared_same}
+use Rattle.source_lowering.proofs.ArrayBeginning.{array_begins}
+use Rattle.source_lowering.proofs.ObjectShapes.{object_named}
 use Rattle.source_lowering.proofs.Initialising.{copy_code, placed_begins}
 use Rattle.source_lowering.proofs.LexicalRegions.{region_declared}
 use Rattle.std.specs.Prelude.{if◌then◌else◌}
@@ -54,7 +58,7 @@ use Rattle.source_lowering.specs.Whole.{is_made, expression_values, whole_values
 use Rattle.source_lowering.specs.Programs.{regions_with, source_code, initial_values, declaration_values, ending_code}
 use Rattle.source_lowering.specs.Lowerable.{TakesWhole}
 use Rattle.source_lowering.proofs.Numbered.{AreNumbered}
-use Rattle.source_lowering.proofs.WholeObjects.{unmade_place}
+use Rattle.source_lowering.proofs.WholeObjects.{unmade_place, unmade_struct}
 use Rattle.source_lowering.proofs.WholeStatements.{whole_begins}
 
 -- ---- declarations
@@ -67,7 +71,7 @@ known_more k name shape pending =
 abbrev pub scope_more : Scope → Known → List ℕ → Shape → Scope
 scope_more scope k name shape = with_binding scope name (Variable shape (local_spot scope.frame k.made))
 
-pub known_still : (scope : Scope) (k : Known) (name : List ℕ) (shape : Shape) (pending : List Shape) → IsObject scope.world.structs shape
+pub known_still : (scope : Scope) (k : Known) (name : List ℕ) (shape : Shape) (pending : List Shape) → IsVariable scope.world.structs shape
     → IsKnown scope k
     → IsKnown (scope_more scope k name shape) (known_more k name shape pending)
 known_still scope k name shape pending object known = record {
@@ -95,28 +99,52 @@ unset_same n scope k result name shape shapes then_act others known object begin
       }));
 }
 
+-- an array
+array_same : (n : ℕ) (scope : Scope) (k : Known) (result : Shape) (name : List ℕ) (count : ℕ) (of : Shape) (shapes : List Shape)
+    (then_act : Scope → Act Flow) (others : List core.Statement) → IsKnown scope k → IsObject scope.world.structs of
+    → k.pending ≡ ArrayShape count of ∷ shapes
+    → RunsAs (place_in (scope_more scope k name (ArrayShape count of)) (known_more k name (ArrayShape count of) shapes)) n scope.frame result
+    (then_act (scope_more scope k name (ArrayShape count of))) others
+    → RunsAs (place_in scope k) n scope.frame result
+    (declared scope name (ArrayShape count of) (meaning_of.first_array scope.world count of) then_act)
+    (unset_code scope.world (ArrayShape count of) k.regions.all k.made ++ others)
+array_same n scope k result name count of shapes then_act others known object pending more = record {
+  same = λ m c next rest after fits ways.
+      subst (λ z. SameAt (place_in scope k) n (declared scope name (ArrayShape count of) (meaning_of.first_array scope.world count of) then_act next m)
+      (meaning.statements z after c)) (sym (put_all (unset_code scope.world (ArrayShape count of) k.regions.all k.made) others rest))
+      (array_begins (place_in scope k) n scope name count of shapes then_act next m c (put others rest) after refl refl known.world.structs object pending
+      fits
+      (record {
+        go = λ m2 c2 fits2 later2 blocks2 kept2.
+            more.same m2 c2 next rest after fits2
+            (ways_later scope.world k.program n k.regions (around (place_in scope k) scope.frame) (around (place_in scope k) scope.frame) m m2 c c2 result next
+            (meaning.statements rest after) after (less_self (around (place_in scope k) scope.frame)) later2 blocks2 kept2 ways);
+      }));
+}
+
 value_same : (n : ℕ) (scope : Scope) (k : Known) (result : Shape) (name : List ℕ) (shape : Shape) (shapes : List Shape) (e : Sense) (from : Shape)
-    (first : List core.Statement) (then_act : Scope → Act Flow) (others : List core.Statement) → IsWordShape shape → k.pending ≡ shape ∷ shapes
+    (first : List core.Statement) (then_act : Scope → Act Flow) (others : List core.Statement) → IsValueShape shape → k.pending ≡ shape ∷ shapes
     → Agrees (place_in scope k) n k.regions.all e from first
     → RunsAs (place_in (scope_more scope k name shape) (known_more k name shape shapes)) n scope.frame result (then_act (scope_more scope k name shape)) others
-    → RunsAs (place_in scope k) n scope.frame result (initialised scope name shape e then_act) ((first ++ (conversion_code shape from k.regions.all ++
-    (Do (Put 0 k.made (width_of shape) k.regions.all) ∷ []))) ++ others)
-value_same n scope k result name shape shapes e from first then_act others is_word pending one more = record {
+    → RunsAs (place_in scope k) n scope.frame result (initialised scope name shape e then_act)
+    ((first ++ (conversion_code scope.world shape from k.regions.all ++ put_local shape k.regions.all 0 k.made)) ++ others)
+value_same n scope k result name shape shapes e from first then_act others is_value pending one more = record {
   same = λ m c next rest after fits ways.
       subst (λ z. SameAt p n (initialised scope name shape e then_act next m) (meaning.statements z after c))
-      (sym (put_all (first ++ (conversion_code shape from k.regions.all ++ stores)) others rest ∙ put_three first (conversion_code shape from k.regions.all) stores (put others rest)
-      ∙ sym (put_all first (conversion_code shape from k.regions.all) (put stores (put others rest)))))
-      ((converted_gives p n k.regions.all shape e from first (word_taken shape is_word) one).same m c (λ vs. local_with scope name shape vs then_act next)
+      (sym (put_all (first ++ (conversion_code scope.world shape from d ++ stores)) others rest
+      ∙ put_three first (conversion_code scope.world shape from d) stores (put others rest)
+      ∙ sym (put_all first (conversion_code scope.world shape from d) (put stores (put others rest)))))
+      ((converted_gives p n d shape e from first (value_taken shape is_value) one).same m c (λ vs. local_with scope name shape vs then_act next)
       (put stores (put others rest)) after fits (record {
         go = λ m1 c1 vs fits1 later1 kept1 given1.
-            local_with_same p n k.regions.all scope name shape shapes vs then_act next m1 c1 (put others rest) after refl refl is_word pending fits1
-            (value_of p.world m1 c1.memory shape vs (c1.temps k.regions.all) is_word given1) (record {
+            local_with_same p n (d + words_in shape) d scope name shape shapes vs then_act next m1 c1 (put others rest) after refl refl is_value (omega arith)
+            pending fits1 (value_given p.world m1 c1.memory shape vs (contents_in d shape c1.temps) is_value given1) (record {
               go = λ m2 c2 fits2 later2 temps2 blocks2.
                   more.same m2 c2 next rest after fits2
                   (ways_later scope.world k.program n k.regions (around p scope.frame) (around p scope.frame) m m2 c c2 result next
                   (meaning.statements rest after) after (less_self (around p scope.frame))
                   (later_on (around p scope.frame) m m1 m2 c.memory c1.memory c2.memory (later_items p m m1 c c1 later1) later2)
-                  (blocks2 ∙ blocks_of p m m1 c c1 fits fits1) (λ i small. temps2 i ∙ kept1 i small) ways);
+                  (blocks2 ∙ blocks_of p m m1 c c1 fits fits1) (λ i small. temps2 i (omega (arith, small)) ∙ kept1 i small) ways);
             });
       }));
 }
@@ -124,38 +152,43 @@ value_same n scope k result name shape shapes e from first then_act others is_wo
     p : Place
     p = place_in scope k
 
-    stores : List core.Statement
-    stores = Do (Put 0 k.made (width_of shape) k.regions.all) ∷ []
+    d : ℕ
+    d = k.regions.all
 
--- a local with an initializer: a word's value is put there, and a struct's object is copied
-word_initialised : (n : ℕ) (scope : Scope) (k : Known) (result : Shape) (name : List ℕ) (of : TypeName) (shape : Shape) (e : Expression)
+    stores : List core.Statement
+    stores = put_local shape d 0 k.made
+
+-- a local with an initializer: a value is put there, and a struct's object is copied
+value_initialised : (n : ℕ) (scope : Scope) (k : Known) (result : Shape) (name : List ℕ) (of : TypeName) (shape : Shape) (e : Expression)
     (value : ℕ) (shapes : List Shape) (then_act : Scope → Act Flow) (others : List core.Statement) → IsObjectType scope.world.structs of
-    → settled (written of) ≡ shape → IsWordShape shape → Takes scope.world k.names e
+    → settled (written of) ≡ shape → IsValueShape shape → Takes scope.world k.names e
     → AreNumbered k.owned value (expression_values scope.world k.names e) → k.kept ≤ value → IsKnown scope k → CallsAs scope.world k.program n
     → k.pending ≡ shape ∷ shapes
     → RunsAs (place_in (scope_more scope k name shape) (known_more k name shape shapes)) n scope.frame result (then_act (scope_more scope k name shape)) others
     → RunsAs (place_in scope k) n scope.frame result (initialised scope name (settled_by (written of) (sense e scope).shape) (sense e scope) then_act)
-    ((expression_code scope.world k.names e k.regions.all value ++ (conversion_code shape (static_shape scope.world k.names e) k.regions.all ++
-    (Do (Put 0 k.made (width_of shape) k.regions.all) ∷ []))) ++ others)
-word_initialised n scope k result name of shape e value shapes then_act others type is word h numbered less known calls pending more =
+    ((expression_code scope.world k.names e k.regions.all value ++
+    (conversion_code scope.world shape (static_shape scope.world k.names e) k.regions.all ++ put_local shape k.regions.all 0 k.made)) ++ others)
+value_initialised n scope k result name of shape e value shapes then_act others type is is_value h numbered less known calls pending more =
     let one = expression_same e scope k h known n calls k.regions.all value numbered less in
     subst (λ z. RunsAs (place_in scope k) n scope.frame result (initialised scope name z (sense e scope) then_act)
-    ((expression_code scope.world k.names e k.regions.all value ++ (conversion_code shape (static_shape scope.world k.names e) k.regions.all ++
-    (Do (Put 0 k.made (width_of shape) k.regions.all) ∷ []))) ++ others))
+    ((expression_code scope.world k.names e k.regions.all value ++
+    (conversion_code scope.world shape (static_shape scope.world k.names e) k.regions.all ++ put_local shape k.regions.all 0 k.made)) ++ others))
     (sym (type_settles scope.world.structs of type (sense e scope).shape (taken_target (sense e scope).shape
     (subst (λ z. IsTaken z) (sym one.shape_is) one.taken)) ∙ is))
     (value_same n scope k result name shape shapes (sense e scope) (static_shape scope.world k.names e)
-    (expression_code scope.world k.names e k.regions.all value) then_act others word pending one more)
+    (expression_code scope.world k.names e k.regions.all value) then_act others is_value pending one more)
 
 place_initialised : (n : ℕ) (scope : Scope) (k : Known) (result : Shape) (name tag : List ℕ) (of : TypeName) (e : Expression)
     (value : ℕ) (shapes : List Shape) (then_act : Scope → Act Flow) (others : List core.Statement) → IsObjectType scope.world.structs of
     → settled (written of) ≡ StructShape tag → IsObject scope.world.structs (StructShape tag) → TakesPlace scope.world k.names e
-    → AreNumbered k.owned value (expression_values scope.world k.names e) → k.kept ≤ value → IsKnown scope k → CallsAs scope.world k.program n → k.pending ≡ StructShape tag ∷ shapes
+    → IsStructShape scope.world.structs (static_shape scope.world k.names e)
+    → AreNumbered k.owned value (expression_values scope.world k.names e) → k.kept ≤ value → IsKnown scope k → CallsAs scope.world k.program n
+    → k.pending ≡ StructShape tag ∷ shapes
     → RunsAs (place_in (scope_more scope k name (StructShape tag)) (known_more k name (StructShape tag) shapes)) n scope.frame result
     (then_act (scope_more scope k name (StructShape tag))) others
     → RunsAs (place_in scope k) n scope.frame result (initialised scope name (settled_by (written of) (sense e scope).shape) (sense e scope) then_act)
     ((place_code scope.world k.names e k.regions.all value ++ copy_code (place_in scope k) (layout_of scope.world (StructShape tag))) ++ others)
-place_initialised n scope k result name tag of e value shapes then_act others type is object h numbered less known calls pending more =
+place_initialised n scope k result name tag of e value shapes then_act others type is object h whole numbered less known calls pending more =
     let one = place_same e scope k h known n calls k.regions.all value numbered less in
     subst (λ z. RunsAs (place_in scope k) n scope.frame result (initialised scope name z (sense e scope) then_act)
     ((place_code scope.world k.names e k.regions.all value ++ copies) ++ others))
@@ -166,7 +199,8 @@ place_initialised n scope k result name tag of e value shapes then_act others ty
           (sym (put_all (place_code scope.world k.names e k.regions.all value ++ copies) others rest ∙
           put_all (place_code scope.world k.names e k.regions.all value) copies (put others rest)))
           (placed_begins (place_in scope k) n scope name tag shapes (sense e scope) (static_shape scope.world k.names e)
-          (place_code scope.world k.names e k.regions.all value) then_act next m c (put others rest) after refl refl known.world.structs object pending fits one
+          (place_code scope.world k.names e k.regions.all value) then_act next m c (put others rest)
+          after refl refl known.world.structs object pending fits one whole
           (record {
             go = λ m2 c2 fits2 later2 blocks2 kept2.
                 more.same m2 c2 next rest after fits2
@@ -182,7 +216,8 @@ place_initialised n scope k result name tag of e value shapes then_act others ty
 made_initialised : (n : ℕ) (scope : Scope) (k : Known) (result : Shape) (name tag : List ℕ) (of : TypeName) (e : Expression) (value : ℕ)
     (shapes : List Shape) (then_act : Scope → Act Flow) (others : List core.Statement) → IsObjectType scope.world.structs of
     → settled (written of) ≡ StructShape tag → IsObject scope.world.structs (StructShape tag) → TakesWhole scope.world k.names e
-    → AreNumbered k.owned value (whole_values scope.world k.names e) → k.kept ≤ value → IsKnown scope k → CallsAs scope.world k.program n → k.pending ≡ StructShape tag ∷ shapes
+    → AreNumbered k.owned value (whole_values scope.world k.names e) → k.kept ≤ value → IsKnown scope k → CallsAs scope.world k.program n
+    → k.pending ≡ StructShape tag ∷ shapes
     → RunsAs (place_in (scope_more scope k name (StructShape tag)) (known_more k name (StructShape tag) shapes)) n scope.frame result
     (then_act (scope_more scope k name (StructShape tag))) others
     → RunsAs (place_in scope k) n scope.frame result (initialised scope name (settled_by (written of) (sense e scope).shape) (sense e scope) then_act)
@@ -233,18 +268,21 @@ struct_initialised n scope k result name tag of e value shapes then_act others t
     by true made =
         subst goal (sym made)
         (made_initialised n scope k result name tag of e value shapes then_act others type is object h
-        (subst (λ z. AreNumbered k.owned value (if z then whole_values scope.world k.names e else expression_values scope.world k.names e)) made numbered) less known calls
+        (subst (λ z. AreNumbered k.owned value (if z then whole_values scope.world k.names e else expression_values scope.world k.names e))
+        made numbered) less known calls
         pending more)
     by false made =
         subst goal (sym made)
         (place_initialised n scope k result name tag of e value shapes then_act others type is object (unmade_place scope.world k.names e h made)
+        (unmade_struct scope.world k.names e h made)
         (subst (λ z. AreNumbered k.owned value (if z then whole_values scope.world k.names e else expression_values scope.world k.names e)) made numbered) less
         known calls pending more)
 
 initialised_same : (n : ℕ) (scope : Scope) (k : Known) (result : Shape) (name : List ℕ) (of : TypeName) (e : Expression) (value : ℕ)
     (shapes : List Shape) (then_act : Scope → Act Flow) (others : List core.Statement) → IsObjectType scope.world.structs of
     → TakesValue scope.world k.names (settled (written of)) e
-    → AreNumbered k.owned value (initial_values scope.world k.names (settled (written of)) e) → k.kept ≤ value → IsKnown scope k → CallsAs scope.world k.program n
+    → AreNumbered k.owned value (initial_values scope.world k.names (settled (written of)) e) → k.kept ≤ value → IsKnown scope k
+    → CallsAs scope.world k.program n
     → k.pending ≡ settled (written of) ∷ shapes
     → RunsAs (place_in (scope_more scope k name (settled (written of))) (known_more k name (settled (written of)) shapes)) n scope.frame result
     (then_act (scope_more scope k name (settled (written of)))) others
@@ -263,16 +301,19 @@ initialised_same n scope k result name of e value shapes then_act others type h 
         → goal s
     by (StructShape tag) is object takes numbers first on =
         struct_initialised n scope k result name tag of e value shapes then_act others type is object takes numbers less known calls first on
-    by IntShape is object takes numbers first on = word_initialised n scope k result name of IntShape e value shapes then_act others type is tt takes numbers less known calls first on
+    by IntShape is object takes numbers first on =
+        value_initialised n scope k result name of IntShape e value shapes then_act others type is tt takes numbers less known calls first on
     by UnsignedShape is object takes numbers first on =
-        word_initialised n scope k result name of UnsignedShape e value shapes then_act others type is tt takes numbers less known calls first on
-    by CharShape is object takes numbers first on = word_initialised n scope k result name of CharShape e value shapes then_act others type is tt takes numbers less known calls first on
+        value_initialised n scope k result name of UnsignedShape e value shapes then_act others type is tt takes numbers less known calls first on
+    by CharShape is object takes numbers first on =
+        value_initialised n scope k result name of CharShape e value shapes then_act others type is tt takes numbers less known calls first on
     by (ThinShape b owner to) is object takes numbers first on =
-        word_initialised n scope k result name of (ThinShape b owner to) e value shapes then_act others type is object takes numbers less known calls first on
+        value_initialised n scope k result name of (ThinShape b owner to) e value shapes then_act others type is object takes numbers less known calls first on
     by VoidShape is object takes numbers first on = absurd object
-    by (FatShape to) is object takes numbers first on = absurd object
+    by (FatShape to) is object takes numbers first on =
+        value_initialised n scope k result name of (FatShape to) e value shapes then_act others type is object takes numbers less known calls first on
     by HandleShape is object takes numbers first on =
-        word_initialised n scope k result name of HandleShape e value shapes then_act others type is tt takes numbers less known calls first on
+        value_initialised n scope k result name of HandleShape e value shapes then_act others type is tt takes numbers less known calls first on
     by KeyShape is object takes numbers first on = absurd object
     by (UnionShape tag) is object takes numbers first on = absurd object
     by (ArrayShape count from) is object takes numbers first on = absurd object
@@ -281,7 +322,7 @@ initialised_same n scope k result name of e value shapes then_act others type h 
 abbrev pub known_behind : Known → Declaration → List Shape → Known
 known_behind k d pending = record (known_more k (tree.local_of d).text (local_shape d) pending) { regions = regions_with d k.regions }
 
-pub known_next : (scope : Scope) (k : Known) (d : Declaration) (pending : List Shape) → IsObject scope.world.structs (local_shape d) → IsKnown scope k
+pub known_next : (scope : Scope) (k : Known) (d : Declaration) (pending : List Shape) → IsVariable scope.world.structs (local_shape d) → IsKnown scope k
     → IsKnown (scope_more scope k (tree.local_of d).text (local_shape d)) (known_behind k d pending)
 known_next scope k d pending object known =
     let still = known_still scope k (tree.local_of d).text (local_shape d) pending object known in
@@ -300,7 +341,10 @@ declaration_same n (tree.Local of name Initializer.Unset) value scope k result s
     (sym (append-nil others))
     (unset_same n scope k result name.text (settled (written of)) shapes then_act others known (object_settled scope.world.structs of h.0) h.1 pending more)
 declaration_same n (tree.Local of name (Initializer.Elements count)) value scope k result shapes then_act others h numbered less known calls pending more =
-    absurd h.1
+    subst (λ z. RunsAs (place_in scope k) n scope.frame result (declared scope name.text (ArrayShape count (settled (written of)))
+    (meaning_of.first_array scope.world count (settled (written of))) then_act)
+    (unset_code scope.world (ArrayShape count (settled (written of))) k.regions.all k.made ++ z)) (sym (append-nil others))
+    (array_same n scope k result name.text count (settled (written of)) shapes then_act others known (object_settled scope.world.structs of h.0) pending more)
 declaration_same n (tree.Local of name (Initializer.Value e)) value scope k result shapes then_act others h numbered less known calls pending more =
     subst (λ z. RunsAs (place_in scope k) n scope.frame result
     (initialised scope name.text (settled_by (written of) (sense e scope).shape) (sense e scope) then_act)
@@ -312,18 +356,12 @@ declaration_same n (tree.Open at region handle key) value scope k result shapes 
 declaration_same n (tree.Alias at region of alias pointer) value scope k result shapes then_act others h numbered less known calls pending more = absurd h
 declaration_same n (tree.NewKey at region key) value scope k result shapes then_act others h numbered less known calls pending more = absurd h
 
--- a local is an object
-pub shape_object : (w : World) (names : List Named) (d : Declaration) → TakesDeclaration w names d → IsObject w.structs (local_shape d)
-shape_object w names (tree.Local of name initializer) h = object_settled w.structs of h.0
+-- a local is an object, or an array
+pub shape_object : (w : World) (names : List Named) (d : Declaration) → TakesDeclaration w names d → IsVariable w.structs (local_shape d)
+shape_object w names (tree.Local of name Initializer.Unset) h = object_named w.structs (settled (written of)) (object_settled w.structs of h.0)
+shape_object w names (tree.Local of name (Initializer.Elements count)) h = (h.1.0, object_settled w.structs of h.0)
+shape_object w names (tree.Local of name (Initializer.Value e)) h = object_named w.structs (settled (written of)) (object_settled w.structs of h.0)
 shape_object w names (tree.Region at region handle) h = tt
 shape_object w names (tree.Open at region handle key) h = absurd h
 shape_object w names (tree.Alias at region of alias pointer) h = absurd h
 shape_object w names (tree.NewKey at region key) h = absurd h
-
--- the locals of a block are objects
-pub block_objects : (w : World) (result : Shape) (names : List Named) (index : ℕ) (items : BlockItems) → TakesItems w result names index items
-    → AreObjects w.structs (block_shapes items)
-block_objects w result names index NoItems h = tt
-block_objects w result names index (Declare d others) h =
-    (shape_object w names d h.0, block_objects w result (named_here (tree.local_of d).text (local_shape d) index ∷ names) (suc index) others h.1)
-block_objects w result names index (Execute s others) h = block_objects w result names index others h.1

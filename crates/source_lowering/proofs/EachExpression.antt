@@ -2,8 +2,9 @@
 use Rattle.std.proofs.Common.{ℕ, suc, ◌+◌, ◌<◌, ◌≤◌, List, [], ◌∷◌, ◌++◌, length, max, refl, sym, ap, ◌∙◌, subst, arith}
 use Rattle.std.proofs.lemmas.List.{append_assoc, append-nil}
 use Rattle.cyc_tree.specs.declared.expression.Prefix.TheVariants as prefix
-use Rattle.cyc_tree.specs.Tree.{Expression, Expressions, NoExpressions, MoreExpressions, Links, NoLinks, MoreLinks, Made, One, Array}
-use Rattle.source_meaning.specs.Shapes.{Shape, IntShape, StructShape, Part, part_shapes, parts_of}
+use Rattle.cyc_tree.specs.Tree.{Expression, Expressions, NoExpressions, MoreExpressions, Links, NoLinks, MoreLinks, Suffixes, NoSuffixes, Index, Dot, Arrow}
+use Rattle.cyc_tree.specs.Tree.{Made, One, Array}
+use Rattle.source_meaning.specs.Shapes.{Shape, IntShape, StructShape, Part, part_shapes, parts_of, pointee}
 use Rattle.source_meaning.specs.Sizes.{Extent, rounded_up, laid_out, no_extent}
 use Rattle.source_meaning.specs.Steps.{Act, Scope, ◌>>=◌}
 use Rattle.source_meaning.specs.Operators.{operator_shape}
@@ -14,44 +15,27 @@ use Rattle.source_meaning.specs.Calls.{applied, converted_all, handle_maker}
 use Rattle.source_meaning.specs.Expressions.{sense, senses, linked}
 use Rattle.core_meaning.specs.Core.{Statement, Do, HeapHandle}
 use Rattle.source_lowering.specs.Layouts.{extent_of}
-use Rattle.source_lowering.specs.Lowered.{
-  count_of,
-  static_shape,
-  new_shape,
-  linked_shape,
-  operator_code,
-  call_parameters,
-  values_by,
-  expression_values,
-  all_values,
-  link_values,
-  new_values,
-  whole_values,
-  made_values,
-  expression_code,
-  place_code,
-  put_code,
-  links_code,
-  all_code,
-  any_code,
-  arguments_code,
-  new_code,
-  whole_code,
-  members_code,
-  member_code,
-}
+use Rattle.source_lowering.specs.Members.{words_in}
+use Rattle.source_lowering.specs.Lowered.{argument_words, static_shape, new_shape, linked_shape, operator_code, call_parameters, values_by, expression_values}
+use Rattle.source_lowering.specs.Lowered.{suffix_values, all_values, link_values, new_values, whole_values, made_values, expression_code, place_code, put_code}
+use Rattle.source_lowering.specs.Lowered.{links_code, all_code, any_code, arguments_code, new_code, whole_code, members_code, member_code}
 use Rattle.source_lowering.specs.Lowerable.{AreObjects, TakesPlace, Takes, TakesAll, TakesLinks, TakesNew, TakesWhole, TakesMade}
 use Rattle.source_lowering.proofs.Structs.{struct_made as struct_is_made}
 use Rattle.source_lowering.proofs.StructCells.{AllHaveCells}
 use Rattle.source_lowering.proofs.Members.{have_cells}
 use Rattle.source_lowering.proofs.Relations.{keeping}
 use Rattle.source_lowering.proofs.Integers.{IsNoStruct, target_taken}
-use Rattle.source_lowering.proofs.Variables.{Agrees, variable_agrees, variable_stores}
+use Rattle.source_lowering.proofs.Variables.{Agrees}
+use Rattle.source_lowering.proofs.VariableForms.{variable_agrees, variable_stores}
+use Rattle.source_lowering.proofs.Counting.{counted_agrees}
 use Rattle.source_lowering.proofs.Forms.{number_agrees, character_agrees, applied_agrees, value_agrees, assigned_agrees}
-use Rattle.source_lowering.proofs.Places.{IsPlaced, variable_placed, place_stores, address_agrees, null_agrees}
-use Rattle.source_lowering.proofs.Reaching.{suffixes_same}
-use Rattle.source_lowering.proofs.Tests.{AllAs, all_none, all_more, all_gives, AnyAs, any_none, any_more, any_gives}
-use Rattle.source_lowering.proofs.EachCall.{Passed, AllWords, call_words, call_agrees}
+use Rattle.source_lowering.proofs.Places.{IsPlaced, variable_placed, address_agrees, null_agrees}
+use Rattle.source_lowering.proofs.ValuePlaces.{target_stored}
+use Rattle.source_lowering.proofs.Reaching.{placed_reached}
+use Rattle.source_lowering.proofs.Indices.{TakesIndices, IndicesAs}
+use Rattle.source_lowering.proofs.Suffixed.{primary_left, left_shape, suffixed_same}
+use Rattle.source_lowering.proofs.Joined.{AllAs, all_none, all_more, all_gives, AnyAs, any_none, any_more, any_gives}
+use Rattle.source_lowering.proofs.EachCall.{Passed, AllValues, call_values, call_agrees}
 use Rattle.source_lowering.proofs.Calls.{CallsAs, no_arguments, stuck_arguments, more_arguments}
 use Rattle.source_lowering.proofs.Numbered.{AreNumbered, numbered_first, numbered_after, numbered_one, numbered_more}
 use Rattle.source_lowering.proofs.ExpressionForms.{
@@ -77,34 +61,31 @@ mutual
       → AreNumbered k.owned own (expression_values scope.world k.names e) → k.kept ≤ own
       → IsStored (place_in scope k) n d (sense e scope) (static_shape scope.world k.names e) (put_code scope.world k.names e d own)
   named_same (Expression.Variable name) scope k h single known n calls d own numbered less =
-      let one = variable_agrees (place_in scope k) n d name.text known.locals known.words known.world.globals single in
+      let one = variable_agrees (place_in scope k) n d name.text known.locals known.words known.world.globals known.world.structs single in
       record {
         shape_is = one.shape_is;
         taken = one.taken;
-        stores = variable_stores (place_in scope k) n d name.text known.locals known.words
-            known.world.globals single;
+        stores = variable_stores (place_in scope k) n d name.text known.locals known.words known.world.globals known.world.structs single;
       }
   named_same (Expression.Grouped at inner) scope k h single known n calls d own numbered less =
       named_same inner scope k h single known n calls d own numbered less
   named_same (Expression.Prefixed at prefix.Dereference operand) scope k h single known n calls d own numbered less =
-      let to = contents_are (place_in scope k) n (d + 1) (sense operand scope) (static_shape scope.world k.names operand)
-      (expression_code scope.world k.names operand (d + 1) own) (expression_same operand scope k h known n calls (d + 1) own numbered less) in
+      let to = pointee (static_shape scope.world k.names operand) in
+      let p = d + words_in to in
+      let one = contents_are (place_in scope k) n p (sense operand scope) (static_shape scope.world k.names operand)
+      (expression_code scope.world k.names operand p own) (expression_same operand scope k h known n calls p own numbered less) in
       record {
-        shape_is = to.shape_is;
-        taken = target_taken _ to.target single;
-        stores = place_stores (place_in scope k) n d _ _ _ single to.placed;
+        shape_is = one.shape_is;
+        taken = target_taken to one.target single;
+        stores = target_stored (place_in scope k) n d 0 0 to _ _ one.target single (placed_reached (place_in scope k) n p to _ _ one.placed);
       }
-  named_same (Expression.Prefixed at prefix.Negate operand) scope k h single known n calls d own numbered less = absurd h
-  named_same (Expression.Prefixed at prefix.Complement operand) scope k h single known n calls d own numbered less = absurd h
-  named_same (Expression.Prefixed at prefix.Not operand) scope k h single known n calls d own numbered less = absurd h
-  named_same (Expression.Prefixed at prefix.AddressOf operand) scope k h single known n calls d own numbered less = absurd h
   named_same (Expression.Suffixed primary suffixes) scope k h single known n calls d own numbered less =
-      suffixes_stored (place_in scope k) n d suffixes (sense (Expression.Suffixed primary suffixes) scope) (static_shape scope.world k.names primary)
-      (expression_code scope.world k.names primary (d + 1) own) (place_code scope.world k.names primary (d + 1) own) single
-      (suffixes_same suffixes scope (place_in scope k) n (d + 1) (sense primary scope) (static_shape scope.world k.names primary)
-      (expression_code scope.world k.names primary (d + 1) own) (place_code scope.world k.names primary (d + 1) own) (Takes scope.world k.names primary)
-      (TakesPlace scope.world k.names primary) refl known.world.structs (λ g. expression_same primary scope k g known n calls (d + 1) own numbered less)
-      (λ g. place_same primary scope k g known n calls (d + 1) own numbered less) h)
+      suffixes_stored (place_in scope k) n d (sense (Expression.Suffixed primary suffixes) scope)
+      (static_shape scope.world k.names (Expression.Suffixed primary suffixes)) _ (left_shape scope.world k.names primary suffixes own) single
+      (suffixed_same primary suffixes scope k h known n own numbered less
+      (λ first nums below g d. expression_same primary scope k g known n calls d first nums below)
+      (λ first nums below g d. place_same primary scope k g known n calls d first nums below)
+      (λ g nums. indices_same suffixes scope k g known n calls own nums less))
   named_same _ scope k h single known n calls d own numbered less = absurd h
 
   pub place_same : (e : Expression) (scope : Scope) (k : Known) → TakesPlace scope.world k.names e → IsKnown scope k → (n : ℕ)
@@ -116,17 +97,13 @@ mutual
   place_same (Expression.Prefixed at prefix.Dereference operand) scope k h known n calls d own numbered less =
       contents_are (place_in scope k) n d (sense operand scope) (static_shape scope.world k.names operand) (expression_code scope.world k.names operand d own)
       (expression_same operand scope k h known n calls d own numbered less)
-  place_same (Expression.Prefixed at prefix.Negate operand) scope k h known n calls d own numbered less = absurd h
-  place_same (Expression.Prefixed at prefix.Complement operand) scope k h known n calls d own numbered less = absurd h
-  place_same (Expression.Prefixed at prefix.Not operand) scope k h known n calls d own numbered less = absurd h
-  place_same (Expression.Prefixed at prefix.AddressOf operand) scope k h known n calls d own numbered less = absurd h
   place_same (Expression.Suffixed primary suffixes) scope k h known n calls d own numbered less =
-      suffixes_placed (place_in scope k) n d suffixes (sense (Expression.Suffixed primary suffixes) scope) (static_shape scope.world k.names primary)
-      (expression_code scope.world k.names primary d own) (place_code scope.world k.names primary d own)
-      (suffixes_same suffixes scope (place_in scope k) n d (sense primary scope) (static_shape scope.world k.names primary)
-      (expression_code scope.world k.names primary d own) (place_code scope.world k.names primary d own) (Takes scope.world k.names primary)
-      (TakesPlace scope.world k.names primary) refl known.world.structs (λ g. expression_same primary scope k g known n calls d own numbered less)
-      (λ g. place_same primary scope k g known n calls d own numbered less) h)
+      suffixes_placed (place_in scope k) n d (sense (Expression.Suffixed primary suffixes) scope)
+      (static_shape scope.world k.names (Expression.Suffixed primary suffixes)) _ (left_shape scope.world k.names primary suffixes own)
+      (suffixed_same primary suffixes scope k h known n own numbered less
+      (λ first nums below g d. expression_same primary scope k g known n calls d first nums below)
+      (λ first nums below g d. place_same primary scope k g known n calls d first nums below)
+      (λ g nums. indices_same suffixes scope k g known n calls own nums less))
   place_same _ scope k h known n calls d own numbered less = absurd h
 
   pub expression_same : (e : Expression) (scope : Scope) (k : Known) → Takes scope.world k.names e → IsKnown scope k → (n : ℕ)
@@ -137,41 +114,32 @@ mutual
   expression_same (Expression.Null at) scope k h known n calls d own numbered less = null_agrees (place_in scope k) n d
   expression_same (Expression.HeapRegion at) scope k h known n calls d own numbered less = heap_agrees (place_in scope k) n d
   expression_same (Expression.Variable name) scope k h known n calls d own numbered less =
-      variable_agrees (place_in scope k) n d name.text known.locals known.words
-      known.world.globals h
+      variable_agrees (place_in scope k) n d name.text known.locals known.words known.world.globals known.world.structs h
   expression_same (Expression.Call name arguments) scope k h known n calls d own numbered less =
-      call_agrees (place_in scope k) n d (count_of arguments) name.text (senses arguments scope) (arguments_code scope.world k.names
-      (call_parameters scope.world name.text) arguments d own) known.world h.0 calls
+      call_agrees (place_in scope k) n d (argument_words (call_parameters scope.world name.text) arguments) name.text (senses arguments scope)
+      (arguments_code scope.world k.names (call_parameters scope.world name.text) arguments d own) known.world h.0 calls
       (λ e. no_shapes scope.world k.names (call_parameters scope.world name.text) arguments d own e)
-      (arguments_same arguments scope k h.1 known n calls (call_parameters scope.world name.text) (call_words scope.world name.text known.world) d own
+      (arguments_same arguments scope k h.1 known n calls (call_parameters scope.world name.text) (call_values scope.world name.text known.world) d own
       numbered less)
+  expression_same (Expression.NumElts at operand) scope k h known n calls d own numbered less =
+      counted_agrees (place_in scope k) n d (sense operand scope) (static_shape scope.world k.names operand)
+      (expression_code scope.world k.names operand d own) (expression_same operand scope k h known n calls d own numbered less)
   expression_same (Expression.Grouped at inner) scope k h known n calls d own numbered less = expression_same inner scope k h known n calls d own numbered less
   expression_same (Expression.Suffixed primary suffixes) scope k h known n calls d own numbered less =
-      suffixes_value (place_in scope k) n d suffixes (sense (Expression.Suffixed primary suffixes) scope) (static_shape scope.world k.names primary)
-      (expression_code scope.world k.names primary d own) (place_code scope.world k.names primary d own) h.1
-      (suffixes_same suffixes scope (place_in scope k) n d (sense primary scope) (static_shape scope.world k.names primary)
-      (expression_code scope.world k.names primary d own) (place_code scope.world k.names primary d own) (Takes scope.world k.names primary)
-      (TakesPlace scope.world k.names primary) refl known.world.structs (λ g. expression_same primary scope k g known n calls d own numbered less)
-      (λ g. place_same primary scope k g known n calls d own numbered less) h.0)
+      suffixes_value (place_in scope k) n d (sense (Expression.Suffixed primary suffixes) scope)
+      (static_shape scope.world k.names (Expression.Suffixed primary suffixes)) _ (left_shape scope.world k.names primary suffixes own) h.1
+      (suffixed_same primary suffixes scope k h.0 known n own numbered less
+      (λ first nums below g d. expression_same primary scope k g known n calls d first nums below)
+      (λ first nums below g d. place_same primary scope k g known n calls d first nums below)
+      (λ g nums. indices_same suffixes scope k g known n calls own nums less))
   expression_same (Expression.Prefixed at prefix.Negate operand) scope k h known n calls d own numbered less =
-      negate_agrees (place_in scope k) n d (sense operand scope) (static_shape scope.world k.names operand)
-      (expression_code scope.world k.names operand (d + 1) own)
-      (expression_code scope.world k.names operand d own) (place_code scope.world k.names operand d own)
-      (expression_same operand scope k h known n calls (d + 1) own numbered less)
+      negate_agrees (place_in scope k) n d (sense operand scope) _ _ [] [] (expression_same operand scope k h known n calls (d + 1) own numbered less)
   expression_same (Expression.Prefixed at prefix.Complement operand) scope k h known n calls d own numbered less =
-      complement_agrees (place_in scope k) n d (sense operand scope) (static_shape scope.world k.names operand)
-      (expression_code scope.world k.names operand (d + 1) own)
-      (expression_code scope.world k.names operand d own) (place_code scope.world k.names operand d own)
-      (expression_same operand scope k h known n calls (d + 1) own numbered less)
+      complement_agrees (place_in scope k) n d (sense operand scope) _ _ [] [] (expression_same operand scope k h known n calls (d + 1) own numbered less)
   expression_same (Expression.Prefixed at prefix.Not operand) scope k h known n calls d own numbered less =
-      not_agrees (place_in scope k) n d (sense operand scope) (static_shape scope.world k.names operand)
-      (expression_code scope.world k.names operand (d + 1) own)
-      (expression_code scope.world k.names operand d own) (place_code scope.world k.names operand d own)
-      (expression_same operand scope k h known n calls (d + 1) own numbered less)
+      not_agrees (place_in scope k) n d (sense operand scope) _ _ [] [] (expression_same operand scope k h known n calls (d + 1) own numbered less)
   expression_same (Expression.Prefixed at prefix.Dereference operand) scope k h known n calls d own numbered less =
-      contents_agrees (place_in scope k) n d (sense operand scope) (static_shape scope.world k.names operand)
-      (expression_code scope.world k.names operand (d + 1) own)
-      (expression_code scope.world k.names operand d own) (place_code scope.world k.names operand d own) h.1
+      contents_agrees (place_in scope k) n d (sense operand scope) (static_shape scope.world k.names operand) [] _ [] h.1
       (expression_same operand scope k h.0 known n calls d own numbered less)
   expression_same (Expression.Prefixed at prefix.AddressOf operand) scope k h known n calls d own numbered less =
       let to = place_same operand scope k h known n calls d own numbered less in
@@ -222,26 +190,39 @@ mutual
       let to = named_same place scope k h.0 h.1.1 known n calls d behind (numbered_after k.owned own values more numbered) (omega (arith, less)) in
       assigned_agrees (place_in scope k) n d (sense place scope) (sense value scope) (static_shape scope.world k.names place)
       (static_shape scope.world k.names value) (expression_code scope.world k.names value d own) (put_code scope.world k.names place d behind)
-      to.shape_is to.taken to.stores
-      (expression_same value scope k h.1.0 known n calls d own (numbered_first k.owned own values more numbered) less)
+      to.shape_is to.taken to.stores (expression_same value scope k h.1.0 known n calls d own (numbered_first k.owned own values more numbered) less)
   expression_same _ scope k h known n calls d own numbered less = absurd h
 
   pub arguments_same : (es : Expressions) (scope : Scope) (k : Known) → TakesAll scope.world k.names es → IsKnown scope k → (n : ℕ)
-      → CallsAs scope.world k.program n → (shapes : List Shape) → AllWords shapes → (d own : ℕ)
+      → CallsAs scope.world k.program n → (shapes : List Shape) → AllValues shapes → (d own : ℕ)
       → AreNumbered k.owned own (all_values scope.world k.names es) → k.kept ≤ own
-      → Passed (place_in scope k) n d (count_of es) shapes (senses es scope) (arguments_code scope.world k.names shapes es d own)
+      → Passed (place_in scope k) n d (argument_words shapes es) shapes (senses es scope) (arguments_code scope.world k.names shapes es d own)
   arguments_same NoExpressions scope k h known n calls [] words d own numbered less = no_arguments (place_in scope k) n d
   arguments_same NoExpressions scope k h known n calls (s ∷ ss) words d own numbered less = stuck_arguments (place_in scope k) n d 0 (s ∷ ss) []
   arguments_same (MoreExpressions e es) scope k h known n calls [] words d own numbered less =
-      stuck_arguments (place_in scope k) n d (suc (count_of es)) [] []
+      stuck_arguments (place_in scope k) n d 0 [] []
   arguments_same (MoreExpressions e es) scope k h known n calls (s ∷ ss) words d own numbered less =
       let values = expression_values scope.world k.names e in
       let more = all_values scope.world k.names es in
       let behind = own + length values in
-      more_arguments (place_in scope k) n d (count_of es) s ss (sense e scope) (senses es scope) (static_shape scope.world k.names e)
-      (expression_code scope.world k.names e d own) (arguments_code scope.world k.names ss es (d + 1) behind) words.0
+      more_arguments (place_in scope k) n d (argument_words ss es) s ss (sense e scope) (senses es scope) (static_shape scope.world k.names e)
+      (expression_code scope.world k.names e d own) (arguments_code scope.world k.names ss es (d + words_in s) behind) words.0
       (expression_same e scope k h.0 known n calls d own (numbered_first k.owned own values more numbered) less)
-      (arguments_same es scope k h.1 known n calls ss words.1 (d + 1) behind (numbered_after k.owned own values more numbered) (omega (arith, less)))
+      (arguments_same es scope k h.1 known n calls ss words.1 (d + words_in s) behind (numbered_after k.owned own values more numbered) (omega (arith, less)))
+
+  -- each index among suffixes
+  indices_same : (suffixes : Suffixes) (scope : Scope) (k : Known) → TakesIndices scope.world k.names suffixes → IsKnown scope k → (n : ℕ)
+      → CallsAs scope.world k.program n → (own : ℕ) → AreNumbered k.owned own (suffix_values scope.world k.names suffixes) → k.kept ≤ own
+      → IndicesAs (place_in scope k) n scope k.names suffixes own
+  indices_same NoSuffixes scope k h known n calls own numbered less = tt
+  indices_same (Index index others) scope k h known n calls own numbered less =
+      let values = suffix_values scope.world k.names others in
+      let more = expression_values scope.world k.names index in (
+        λ d. expression_same index scope k h.0 known n calls d (own + length values) (numbered_after k.owned own values more numbered) (omega (arith, less)),
+        indices_same others scope k h.1 known n calls own (numbered_first k.owned own values more numbered) less,
+      )
+  indices_same (Dot f others) scope k h known n calls own numbered less = indices_same others scope k h known n calls own numbered less
+  indices_same (Arrow f others) scope k h known n calls own numbered less = indices_same others scope k h known n calls own numbered less
 
   pub links_same : (links : Links) (scope : Scope) (k : Known) → TakesLinks scope.world k.names links → IsKnown scope k → (n : ℕ)
       → CallsAs scope.world k.program n → (d own : ℕ) → AreNumbered k.owned own (link_values scope.world k.names links) → k.kept ≤ own
@@ -255,15 +236,14 @@ mutual
       let more = link_values scope.world k.names others in
       let behind = own + length values in
       let right = static_shape scope.world k.names operand in
-      let row = expression_code scope.world k.names operand (d + 1) own in
+      let row = expression_code scope.world k.names operand (d + words_in shape) own in
       let rest = links_code scope.world k.names others (operator_shape operator shape right) d behind in
       let both = applied_agrees (place_in scope k) n d operator left (sense operand scope) shape right code row one
-      (expression_same operand scope k h.0 known n calls (d + 1) own (numbered_first k.owned own values more numbered) less) in
+      (expression_same operand scope k h.0 known n calls (d + words_in shape) own (numbered_first k.owned own values more numbered) less) in
       subst (λ z. Agrees (place_in scope k) n d (linked others scope (applied operator left (sense operand scope)))
       (linked_shape scope.world k.names others (operator_shape operator shape right)) z)
       (append_assoc code (row ++ operator_code operator shape right d) rest ∙ ap (λ z. code ++ z) (append_assoc row (operator_code operator shape right d)
-      rest))
-      (links_same others scope k h.1 known n calls d behind (numbered_after k.owned own values more numbered) (omega (arith, less))
+      rest)) (links_same others scope k h.1 known n calls d behind (numbered_after k.owned own values more numbered) (omega (arith, less))
       (applied operator left (sense operand scope)) (operator_shape operator shape right) (code ++ (row ++ operator_code operator shape right d)) both)
 
   pub all_of_same : (es : Expressions) (scope : Scope) (k : Known) → TakesAll scope.world k.names es → IsKnown scope k → (n : ℕ)
@@ -328,20 +308,17 @@ mutual
       (variable_placed (keeping (place_in scope k) value) n d name.text known.locals known.words known.world.globals known.world.structs)
   whole_same (Expression.Suffixed primary suffixes) scope k h known n calls d value numbered =
       let s = static_shape scope.world k.names (Expression.Suffixed primary suffixes) in
-      let values = expression_values scope.world k.names primary in
+      let values = suffix_values scope.world k.names suffixes ++ expression_values scope.world k.names primary in
       let still = keeping_known scope k value known in
-      let more = numbered_more k.owned value s values numbered in
       whole_place (place_in scope k) n d value (sense (Expression.Suffixed primary suffixes) scope) s
       (place_code scope.world k.names (Expression.Suffixed primary suffixes) d (suc value)) known.world.structs h.1
       (numbered_one k.owned value s values numbered)
-      (suffixes_placed (keeping (place_in scope k) value) n d suffixes (sense (Expression.Suffixed primary suffixes) scope)
-      (static_shape scope.world k.names primary) (expression_code scope.world k.names primary d (suc value))
-      (place_code scope.world k.names primary d (suc value))
-      (suffixes_same suffixes scope (keeping (place_in scope k) value) n d (sense primary scope) (static_shape scope.world k.names primary)
-      (expression_code scope.world k.names primary d (suc value)) (place_code scope.world k.names primary d (suc value)) (Takes scope.world k.names primary)
-      (TakesPlace scope.world k.names primary) refl known.world.structs
-      (λ g. expression_same primary scope (known_keeping k value) g still n calls d (suc value) more (omega arith))
-      (λ g. place_same primary scope (known_keeping k value) g still n calls d (suc value) more (omega arith)) h.0))
+      (suffixes_placed (keeping (place_in scope k) value) n d (sense (Expression.Suffixed primary suffixes) scope) s
+      (primary_left scope.world k.names primary suffixes (suc value)) (left_shape scope.world k.names primary suffixes (suc value))
+      (suffixed_same primary suffixes scope (known_keeping k value) h.0 still n (suc value) (numbered_more k.owned value s values numbered) (omega arith)
+      (λ first nums below g d. expression_same primary scope (known_keeping k value) g still n calls d first nums below)
+      (λ first nums below g d. place_same primary scope (known_keeping k value) g still n calls d first nums below)
+      (λ g nums. indices_same suffixes scope (known_keeping k value) g still n calls (suc value) nums (omega arith))))
   whole_same (Expression.Prefixed at prefix.Dereference operand) scope k h known n calls d value numbered =
       let s = static_shape scope.world k.names (Expression.Prefixed at prefix.Dereference operand) in
       let values = expression_values scope.world k.names operand in
@@ -352,10 +329,7 @@ mutual
       (expression_code scope.world k.names operand d (suc value))
       (expression_same operand scope (known_keeping k value) h.0 (keeping_known scope k value known) n calls d (suc value)
       (numbered_more k.owned value s values numbered) (omega arith)))
-  whole_same (Expression.Prefixed at prefix.Negate operand) scope k h known n calls d value numbered = absurd h.0
-  whole_same (Expression.Prefixed at prefix.Complement operand) scope k h known n calls d value numbered = absurd h.0
-  whole_same (Expression.Prefixed at prefix.Not operand) scope k h known n calls d value numbered = absurd h.0
-  whole_same (Expression.Prefixed at prefix.AddressOf operand) scope k h known n calls d value numbered = absurd h.0
+  whole_same (Expression.Prefixed at _ operand) scope k h known n calls d value numbered = absurd h.0
   whole_same _ scope k h known n calls d value numbered = absurd h
 
   pub members_same : (es : Expressions) (ps : List Part) (scope : Scope) (k : Known) → TakesMade scope.world k.names ps es → IsKnown scope k → (n : ℕ)
@@ -382,8 +356,7 @@ mutual
       (member_same (place_in scope k) n d value cells at own p.shape (sense e scope) (static_shape scope.world k.names e)
       (whole_values scope.world k.names e) (expression_values scope.world k.names e) (whole_code scope.world k.names e (d + 1) own)
       (expression_code scope.world k.names e (d + 1) own) (TakesWhole scope.world k.names e) (Takes scope.world k.names e) known.world.structs objects.0
-      less h.0 (numbered_first k.owned own values others numbered)
-      (λ g nums. (whole_same e scope k g known n calls (d + 1) own nums).whole)
+      less h.0 (numbered_first k.owned own values others numbered) (λ g nums. (whole_same e scope k g known n calls (d + 1) own nums).whole)
       (λ g nums. expression_same e scope (known_keeping k (suc value)) g (keeping_known scope k (suc value) known) n calls (d + 1) own nums
       (omega (arith, less))))
       (members_same es ps scope k h.1 known n calls d value (cells + length (cells_of scope.world p.shape)) total next (own + length values) objects.1 have.1

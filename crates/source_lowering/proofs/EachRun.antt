@@ -22,7 +22,8 @@ use Rattle.source_meaning.specs.Expressions.{sense}
 use Rattle.core_meaning.specs.Core.{Statement}
 use Rattle.source_lowering.specs.Lowered.{Named, static_shape, place_code, expression_code}
 use Rattle.source_lowering.specs.Lowerable.{Takes, TakesWhole, TakesAssigned, TakesDropped, TakesCalled, TakesRun}
-use Rattle.source_lowering.specs.Whole.{makes_struct, expression_values, whole_values, whole_code, assigned_code, assigned_values, dropped_code, dropped_values, run_code, run_values}
+use Rattle.source_lowering.specs.Whole.{makes_struct, expression_values, whole_values, whole_code, assigned_code, assigned_values, dropped_code, dropped_values}
+use Rattle.source_lowering.specs.Whole.{run_code, run_values}
 use Rattle.source_lowering.proofs.Calls.{CallsAs}
 use Rattle.source_lowering.proofs.EachExpression.{Known, place_in, IsKnown, place_same, expression_same, known_keeping, keeping_known, whole_same}
 use Rattle.source_lowering.proofs.Relations.{keeping}
@@ -75,34 +76,46 @@ whole_some w names _ h = absurd h
 
 -- what is assigned
 assigned_run : (s : Shape) (place value : Expression) (own : ℕ) (scope : Scope) (k : Known) → static_shape scope.world k.names place ≡ s
-    → TakesAssigned scope.world k.names s place value → AreNumbered k.owned own (assigned_values scope.world k.names s place value) → k.kept ≤ own → IsKnown scope k → (n : ℕ)
+    → TakesAssigned scope.world k.names s place value → AreNumbered k.owned own (assigned_values scope.world k.names s place value) → k.kept ≤ own
+    → IsKnown scope k → (n : ℕ)
     → CallsAs scope.world k.program n → RunsTo scope k n (Expression.Assign place value) (assigned_code scope.world k.names s place value k.regions.all own)
 assigned_run (StructShape tag) place value own scope k is h numbered less known n calls =
     let values = whole_values scope.world k.names value in
     let behind = own + length values in
     whole_assigned (place_in scope k) n own scope.result (sense place scope) (sense value scope) tag (whole_code scope.world k.names value k.regions.all own)
     (place_code scope.world k.names place (k.regions.all + 1) behind) known.world.structs h.1.1
-    (whole_same value scope k h.1.0 known n calls k.regions.all own (numbered_first k.owned own values (expression_values scope.world k.names place) numbered)).whole
+    (whole_same value scope k h.1.0 known n calls k.regions.all own
+    (numbered_first k.owned own values (expression_values scope.world k.names place) numbered)).whole
     (subst (λ z. IsPlaced (keeping (place_in scope k) (suc own)) n (k.regions.all + 1) (sense place scope) z
     (place_code scope.world k.names place (k.regions.all + 1) behind)) is
     (place_same place scope (known_keeping k (suc own)) h.0 (keeping_known scope k (suc own) known) n calls (k.regions.all + 1) behind
     (numbered_after k.owned own values (expression_values scope.world k.names place) numbered)
     (let some = whole_some scope.world k.names value h.1.0 in omega (arith, some))))
-assigned_run IntShape place value own scope k is h numbered less known n calls = word_run (Expression.Assign place value) own scope k h numbered less known n calls
-assigned_run UnsignedShape place value own scope k is h numbered less known n calls = word_run (Expression.Assign place value) own scope k h numbered less known n calls
-assigned_run CharShape place value own scope k is h numbered less known n calls = word_run (Expression.Assign place value) own scope k h numbered less known n calls
-assigned_run VoidShape place value own scope k is h numbered less known n calls = word_run (Expression.Assign place value) own scope k h numbered less known n calls
+assigned_run IntShape place value own scope k is h numbered less known n calls =
+    word_run (Expression.Assign place value) own scope k h numbered less known n calls
+assigned_run UnsignedShape place value own scope k is h numbered less known n calls =
+    word_run (Expression.Assign place value) own scope k h numbered less known n calls
+assigned_run CharShape place value own scope k is h numbered less known n calls =
+    word_run (Expression.Assign place value) own scope k h numbered less known n calls
+assigned_run VoidShape place value own scope k is h numbered less known n calls =
+    word_run (Expression.Assign place value) own scope k h numbered less known n calls
 assigned_run (ThinShape may_be_null owner to) place value own scope k is h numbered less known n calls =
     word_run (Expression.Assign place value) own scope k h numbered less known n calls
-assigned_run (FatShape to) place value own scope k is h numbered less known n calls = word_run (Expression.Assign place value) own scope k h numbered less known n calls
-assigned_run HandleShape place value own scope k is h numbered less known n calls = word_run (Expression.Assign place value) own scope k h numbered less known n calls
-assigned_run KeyShape place value own scope k is h numbered less known n calls = word_run (Expression.Assign place value) own scope k h numbered less known n calls
-assigned_run (UnionShape tag) place value own scope k is h numbered less known n calls = word_run (Expression.Assign place value) own scope k h numbered less known n calls
-assigned_run (ArrayShape count of) place value own scope k is h numbered less known n calls = word_run (Expression.Assign place value) own scope k h numbered less known n calls
+assigned_run (FatShape to) place value own scope k is h numbered less known n calls =
+    word_run (Expression.Assign place value) own scope k h numbered less known n calls
+assigned_run HandleShape place value own scope k is h numbered less known n calls =
+    word_run (Expression.Assign place value) own scope k h numbered less known n calls
+assigned_run KeyShape place value own scope k is h numbered less known n calls =
+    word_run (Expression.Assign place value) own scope k h numbered less known n calls
+assigned_run (UnionShape tag) place value own scope k is h numbered less known n calls =
+    word_run (Expression.Assign place value) own scope k h numbered less known n calls
+assigned_run (ArrayShape count of) place value own scope k is h numbered less known n calls =
+    word_run (Expression.Assign place value) own scope k h numbered less known n calls
 
 -- what is called or made
 called_run : (b : Bool) (e : Expression) (own : ℕ) (scope : Scope) (k : Known) → TakesCalled b (TakesWhole scope.world k.names e) (Takes scope.world k.names e)
-    → AreNumbered k.owned own (if b then whole_values scope.world k.names e else expression_values scope.world k.names e) → k.kept ≤ own → IsKnown scope k → (n : ℕ) → CallsAs scope.world k.program n
+    → AreNumbered k.owned own (if b then whole_values scope.world k.names e else expression_values scope.world k.names e) → k.kept ≤ own → IsKnown scope k
+    → (n : ℕ) → CallsAs scope.world k.program n
     → RunsTo scope k n e (if b then whole_code scope.world k.names e k.regions.all own else expression_code scope.world k.names e k.regions.all own)
 called_run true e own scope k h numbered less known n calls = struct_run e own scope k h numbered less known n calls
 called_run false e own scope k h numbered less known n calls = word_run e own scope k h numbered less known n calls
@@ -116,7 +129,8 @@ run_statement (Expression.Grouped at inner) own scope k h numbered less known n 
 run_statement (Expression.Call name arguments) own scope k h numbered less known n calls =
     called_run (makes_struct scope.world name.text) (Expression.Call name arguments) own scope k h numbered less known n calls
 run_statement (Expression.Number at number suffix) own scope k h numbered less known n calls =
-    dropped_run (static_shape scope.world k.names (Expression.Number at number suffix)) (Expression.Number at number suffix) own scope k h numbered less known n calls
+    dropped_run (static_shape scope.world k.names (Expression.Number at number suffix)) (Expression.Number at number suffix)
+    own scope k h numbered less known n calls
 run_statement (Expression.Character at byte) own scope k h numbered less known n calls =
     dropped_run (static_shape scope.world k.names (Expression.Character at byte)) (Expression.Character at byte) own scope k h numbered less known n calls
 run_statement (Expression.Text at bytes) own scope k h numbered less known n calls =
@@ -130,13 +144,16 @@ run_statement (Expression.UniqueRegion at) own scope k h numbered less known n c
 run_statement (Expression.Variable name) own scope k h numbered less known n calls =
     dropped_run (static_shape scope.world k.names (Expression.Variable name)) (Expression.Variable name) own scope k h numbered less known n calls
 run_statement (Expression.MakeUnion tag member inner) own scope k h numbered less known n calls =
-    dropped_run (static_shape scope.world k.names (Expression.MakeUnion tag member inner)) (Expression.MakeUnion tag member inner) own scope k h numbered less known n calls
+    dropped_run (static_shape scope.world k.names (Expression.MakeUnion tag member inner)) (Expression.MakeUnion tag member inner)
+    own scope k h numbered less known n calls
 run_statement (Expression.NumElts at operand) own scope k h numbered less known n calls =
     dropped_run (static_shape scope.world k.names (Expression.NumElts at operand)) (Expression.NumElts at operand) own scope k h numbered less known n calls
 run_statement (Expression.Suffixed primary suffixes) own scope k h numbered less known n calls =
-    dropped_run (static_shape scope.world k.names (Expression.Suffixed primary suffixes)) (Expression.Suffixed primary suffixes) own scope k h numbered less known n calls
+    dropped_run (static_shape scope.world k.names (Expression.Suffixed primary suffixes)) (Expression.Suffixed primary suffixes)
+    own scope k h numbered less known n calls
 run_statement (Expression.Prefixed at operator operand) own scope k h numbered less known n calls =
-    dropped_run (static_shape scope.world k.names (Expression.Prefixed at operator operand)) (Expression.Prefixed at operator operand) own scope k h numbered less known n calls
+    dropped_run (static_shape scope.world k.names (Expression.Prefixed at operator operand)) (Expression.Prefixed at operator operand)
+    own scope k h numbered less known n calls
 run_statement (Expression.New at new) own scope k h numbered less known n calls =
     dropped_run (static_shape scope.world k.names (Expression.New at new)) (Expression.New at new) own scope k h numbered less known n calls
 run_statement (Expression.NewIn at handle new) own scope k h numbered less known n calls =

@@ -16,16 +16,19 @@ use Rattle.core_meaning.specs.Core as core
 use Rattle.core_meaning.specs.Core.{Program, Statements}
 use Rattle.core_meaning.specs.Steps.{Config}
 use Rattle.core_meaning.specs.Meaning as meaning
-use Rattle.core_meaning.specs.Meaning.{values_of}
-use Rattle.source_lowering.specs.Lowered.{put, from_on, static_shape, expression_code}
+use Rattle.source_lowering.specs.Lowered.{put, stored_code, static_shape, expression_code}
 use Rattle.source_lowering.specs.Programs.{local_shape, block_shapes, outward, named_here, statement_code, items_code, parameter_names, parameters_code}
 use Rattle.source_lowering.specs.Lowerable.{TakesStatement, TakesItems}
-use Rattle.source_lowering.proofs.Relations.{Later, Fits, SameAt, Next, around, Bound}
-use Rattle.source_lowering.proofs.Keeping.{less_self, shown_later}
+use Rattle.source_lowering.proofs.Relations.{Later, Fits, SameAt, Next, AreKept, AValue, around, Bound, contents_in}
+use Rattle.source_lowering.proofs.Keeping.{less_self}
 use Rattle.source_lowering.proofs.Runs.{stuck_same}
-use Rattle.source_lowering.proofs.Integers.{IsTaken, word_object}
+use Rattle.source_lowering.proofs.Integers.{IsTaken, value_object}
 use Rattle.source_lowering.proofs.Names.{AreParameters}
 use Rattle.source_lowering.proofs.Calls.{AllGiven, CallsAs}
+use Rattle.source_lowering.specs.Members.{words_in, all_words}
+use Rattle.source_lowering.proofs.Values.{value_later, kept_contents}
+use Rattle.source_lowering.proofs.Runs.{put_all}
+use Rattle.std.proofs.lemmas.List.{append_assoc}
 use Rattle.source_lowering.proofs.EachExpression.{Known, place_in, IsKnown, expression_same}
 use Rattle.source_lowering.proofs.Statements.{
   WaysOn,
@@ -45,6 +48,7 @@ use Rattle.source_lowering.proofs.Blocks.{locals_outward, objects_outward, block
 use Rattle.source_lowering.specs.Programs.{in_loop, regions_with, declaration_values, statement_values, item_values}
 use Rattle.source_lowering.specs.Whole.{expression_values}
 use Rattle.source_lowering.proofs.Numbered.{AreNumbered, numbered_first, numbered_after}
+use Rattle.source_lowering.proofs.ObjectShapes.{object_named}
 use Rattle.source_lowering.proofs.EachDeclaration.{known_more, known_behind, scope_more, known_still, known_next, declaration_same, shape_object}
 use Rattle.source_lowering.proofs.EachRun.{run_statement}
 
@@ -158,59 +162,66 @@ mutual
 
 -- ---- a function's body, whose arguments are in the first temporaries
 
-pub given_later : (b : Bound) (w : World) (m m' : source.Memory) (c c' : core_memory.Memory) (shapes : List Shape) (vss : List (List Scalar)) (xs : List Content)
-    → Later b m c m' c' → AllGiven w m c shapes vss xs → AllGiven w m' c' shapes vss xs
-given_later b w m m' c c' [] [] [] l h = tt
-given_later b w m m' c c' (s ∷ ss) (vs ∷ vss) (x ∷ xs) l h = (
-  record { value = h.0.value; alone = h.0.alone; shown = shown_later b w m m' c c' s h.0.value (x ∷ []) l h.0.shown },
-  given_later b w m m' c c' ss vss xs
-      l h.1,
+pub given_later : (b : Bound) (w : World) (m m' : source.Memory) (c c' : core_memory.Memory) (shapes : List Shape) (vss : List (List Scalar)) (d : ℕ)
+    (temps : ℕ → Content) → Later b m c m' c' → AllGiven w m c shapes vss d temps → AllGiven w m' c' shapes vss d temps
+given_later b w m m' c c' [] [] d temps l h = tt
+given_later b w m m' c c' (s ∷ ss) (vs ∷ vss) d temps l h =
+    (value_later b w m m' c c' s vs (contents_in d s temps) l h.0, given_later b w m m' c c' ss vss (d + words_in s) temps l h.1)
+given_later b w m m' c c' [] (vs ∷ vss) d temps l h = absurd h
+given_later b w m m' c c' (s ∷ ss) [] d temps l h = absurd h
+
+-- the temporaries of all of them stay
+given_kept : (w : World) (m : source.Memory) (c : core_memory.Memory) (shapes : List Shape) (vss : List (List Scalar)) (d free : ℕ) (c0 c1 : Config)
+    → d + all_words shapes ≤ free → AreKept free c0 c1 → AllGiven w m c shapes vss d c0.temps → AllGiven w m c shapes vss d c1.temps
+given_kept w m c [] [] d free c0 c1 below kept h = tt
+given_kept w m c (s ∷ ss) (vs ∷ vss) d free c0 c1 below kept h = (
+  subst (λ z. AValue w m c s vs z) (sym (kept_contents s d c0 c1 (λ k less. kept k (omega (arith, less, below))))) h.0,
+  given_kept w m c ss vss (d + words_in s) free c0 c1 (omega (arith, below)) kept h.1,
 )
-given_later b w m m' c c' [] [] (x ∷ xs) l h = absurd h
-given_later b w m m' c c' [] (vs ∷ vss) xs l h = absurd h
-given_later b w m m' c c' (s ∷ ss) [] xs l h = absurd h
-given_later b w m m' c c' (s ∷ ss) (vs ∷ vss) [] l h = absurd h
+given_kept w m c [] (vs ∷ vss) d free c0 c1 below kept h = absurd h
+given_kept w m c (s ∷ ss) [] d free c0 c1 below kept h = absurd h
 
-same_values : (f g : ℕ → Content) (ts : List ℕ) → ((j : ℕ) → g j ≡ f j) → values_of f ts ≡ values_of g ts
-same_values f g [] e = refl
-same_values f g (t ∷ ts) e = ap (λ z. z ∷ values_of f ts) (sym (e t)) ∙ ap (λ z. g t ∷ z) (same_values f g ts e)
-
-pub body_same : (ps : List Part) (items : BlockItems) (scope : Scope) (k : Known) (total n : ℕ) (vss : List (List Scalar)) → AreParameters ps
+-- each parameter's words are stored, the first one's from this temporary on
+pub body_same : (ps : List Part) (items : BlockItems) (scope : Scope) (k : Known) (total n t free : ℕ) (vss : List (List Scalar)) → AreParameters ps
     → TakesItems scope.world scope.result (parameter_names ps k.made k.names) total items
     → AreNumbered k.owned 0 (item_values scope.world (parameter_names ps k.made k.names) total items) → k.kept ≤ 0
-    → IsKnown scope k → IsTaken scope.result → CallsAs scope.world k.program n → k.made + length ps ≡ total
-    → k.pending ≡ part_shapes ps ++ block_shapes items
+    → IsKnown scope k → IsTaken scope.result → CallsAs scope.world k.program n → k.made + length ps ≡ total → t + all_words (part_shapes ps) ≤ free
+    → k.regions.all ≤ free → k.pending ≡ part_shapes ps ++ block_shapes items
     → (m : source.Memory) (c : Config) (next : Flow → source.Memory → steps.Step) (rest : Statements) (after : Next) → Fits (place_in scope k) m c
-    → AllGiven scope.world m c.memory (part_shapes ps) vss (values_of c.temps (from_on k.made (length ps)))
+    → AllGiven scope.world m c.memory (part_shapes ps) vss t c.temps
     → WaysOn scope.world k.program n k.regions (around (place_in scope k) scope.frame) m c scope.result next (meaning.statements rest after) after
     → SameAt (place_in scope k) n (with_arguments ps vss (meaning_of.block_items items) scope next m) (meaning.statements
-    (put (parameters_code ps k.made ++ items_code scope.world scope.result (parameter_names ps k.made k.names) k.regions total 0 items) rest) after c)
-body_same [] items scope k total n [] integers h numbered less known result calls sum pending m c next rest after fits given ways =
+    (put (parameters_code ps k.made t free ++ items_code scope.world scope.result (parameter_names ps k.made k.names) k.regions total 0 items) rest) after c)
+body_same [] items scope k total n t free [] values h numbered less known result calls sum below regions pending m c next rest after fits given ways =
     let e : k.made ≡ total = omega (arith, sum) in
     subst (λ z. SameAt (place_in scope k) n (meaning_of.block_items items scope next m) (meaning.statements (put
     (items_code scope.world scope.result k.names k.regions z 0 items) rest) after c)) e
     ((items_same items 0 scope k (subst (λ z. TakesItems scope.world scope.result k.names z items) (sym e) h)
     (subst (λ z. AreNumbered k.owned 0 (item_values scope.world k.names z items)) (sym e) numbered) less known result n calls pending).same m c next rest
     after fits ways)
-body_same [] items scope k total n (vs ∷ vss) integers h numbered less known result calls sum pending m c next rest after fits given ways = stuck_same scope.world k.program
-    n _
-body_same (p ∷ ps) items scope k total n [] integers h numbered less known result calls sum pending m c next rest after fits given ways = stuck_same scope.world k.program n _
-body_same (p ∷ ps) items scope k total n (vs ∷ vss) integers h numbered less known result calls sum pending m c next rest after fits given ways =
+body_same [] items scope k total n t free (vs ∷ vss) values h numbered less known result calls sum below regions pending m c next rest after fits given ways =
+    stuck_same scope.world k.program n _
+body_same (p ∷ ps) items scope k total n t free [] values h numbered less known result calls sum below regions pending m c next rest after fits given ways =
+    stuck_same scope.world k.program n _
+body_same (p ∷ ps) items scope k total n t free (vs ∷ vss) values h numbered less known result calls sum below regions pending m c next rest
+    after fits given ways =
     let shapes : List Shape = part_shapes ps ++ block_shapes items in
     let more : Known = known_more k p.name p.shape shapes in
-    let code : List core.Statement = parameters_code ps (suc k.made) ++ items_code scope.world scope.result (parameter_names ps (suc k.made)
+    let others : List core.Statement = items_code scope.world scope.result (parameter_names ps (suc k.made)
     (named_here p.name p.shape k.made ∷ k.names)) k.regions total 0 items in
-    local_with_same (place_in scope k) n k.made scope p.name p.shape shapes vs (with_arguments ps vss (meaning_of.block_items items)) next m c (put code rest)
-    after refl refl integers.0 pending fits given.0 (record {
+    let code : List core.Statement = parameters_code ps (suc k.made) (t + words_in p.shape) free ++ others in
+    subst (λ z. SameAt (place_in scope k) n (with_arguments (p ∷ ps) (vs ∷ vss) (meaning_of.block_items items) scope next m) (meaning.statements z after c))
+    (sym (ap (λ z. put z rest) (append_assoc (stored_code p.shape free t 0 k.made) (parameters_code ps (suc k.made) (t + words_in p.shape) free) others)
+    ∙ put_all (stored_code p.shape free t 0 k.made) code rest))
+    (local_with_same (place_in scope k) n free t scope p.name p.shape shapes vs (with_arguments ps vss (meaning_of.block_items items)) next m c (put code rest)
+    after refl refl values.0 (omega (arith, below)) pending fits given.0 (record {
       go = λ m2 c2 fits2 later2 temps2 blocks2.
-          body_same ps items (scope_more scope k p.name p.shape) more total n vss integers.1 h numbered less (known_still scope k p.name p.shape shapes (word_object scope.world.structs p.shape integers.0) known)
-          result calls (omega (arith, sum)) refl m2 c2 next rest after fits2
-          (given_later (around (place_in scope k) scope.frame) scope.world m m2 c.memory c2.memory (part_shapes ps) vss (values_of c2.temps (from_on (suc k.made) (length ps))) later2
-          (subst (λ z. AllGiven scope.world m c.memory (part_shapes ps) vss z) (same_values c.temps c2.temps (from_on (suc k.made) (length ps)) temps2)
-          (subst (λ z. AllGiven scope.world m c.memory (part_shapes ps) vss (values_of c.temps (from_on z (length ps)))) next_is given.1)))
+          body_same ps items (scope_more scope k p.name p.shape) more total n (t + words_in p.shape) free vss values.1 h numbered less
+          (known_still scope k p.name p.shape shapes (object_named scope.world.structs p.shape (value_object scope.world.structs p.shape values.0)) known)
+          result calls (omega (arith, sum)) (omega (arith, below)) regions refl m2 c2 next rest after fits2
+          (given_later (around (place_in scope k) scope.frame) scope.world m m2 c.memory c2.memory (part_shapes ps) vss (t + words_in p.shape) c2.temps later2
+          (given_kept scope.world m c.memory (part_shapes ps) vss (t + words_in p.shape) free c c2 (omega (arith, below)) temps2 given.1))
           (ways_later scope.world k.program n k.regions (around (place_in scope k) scope.frame) (around (place_in scope k) scope.frame) m m2 c c2 scope.result
-          next (meaning.statements rest after) after (less_self (around (place_in scope k) scope.frame)) later2 blocks2 (λ i small. temps2 i) ways);
-    })
-  where
-    next_is : k.made + 1 ≡ suc k.made
-    next_is = omega arith
+          next (meaning.statements rest after) after (less_self (around (place_in scope k) scope.frame)) later2 blocks2
+          (λ i small. temps2 i (omega (arith, small, regions))) ways);
+    }))

@@ -1,7 +1,6 @@
 -- A block is entered: its region is live in both, and Core makes the blank objects of all its locals at once.
 use Rattle.std.proofs.Common.{◌≡◌, ℕ, suc, ◌+◌, ◌<◌, ◌≤◌, List, [], ◌∷◌, Bool, true, false, nat_eq, Option, Some, None, refl, sym, ap, ◌∙◌, subst, arith}
-use Rattle.std.specs.Prelude.{◌&&◌, ◌*◌, ◌/◌, ◌%◌, if◌then◌else◌, nat_lt, length, slice_get}
-use Rattle.std.proofs.Math.Nat.{div-eq_of_lt, mod-eq_of_lt}
+use Rattle.std.specs.Prelude.{◌&&◌, ◌*◌, if◌then◌else◌, length}
 use Rattle.std.proofs.lemmas.Bool.{eq-eqb}
 use Rattle.std.proofs.lemmas.Bool.Decides.{nat_tests}
 use Rattle.source_meaning.specs.Shapes.{
@@ -22,13 +21,14 @@ use Rattle.source_meaning.specs.Memory as source
 use Rattle.source_meaning.specs.Memory.{Spot, same_region, with_state, state_is_live}
 use Rattle.source_meaning.specs.Steps.{World}
 use Rattle.core_meaning.specs.Memory as core
-use Rattle.core_meaning.specs.Memory.{Content, Part, PartShape, Layout, shape_in, blank_of, with_object, with_standing, blanks}
+use Rattle.core_meaning.specs.Memory.{Content, Part, Layout, with_object, with_standing, blanks}
 use Rattle.core_meaning.specs.Core.{Local}
 use Rattle.core_meaning.specs.Meaning.{with_objects}
 use Rattle.source_lowering.specs.Layouts.{layout_of, local_of}
 use Rattle.source_lowering.specs.Programs.{locals_of}
-use Rattle.source_lowering.proofs.Relations.{region_at, at, PartIs, AreShaped, AreMade, ArePending, PartsHold, IsLexical, Agree, Bound, nothing, Later}
+use Rattle.source_lowering.proofs.Relations.{region_at, at, AreMade, ArePending, PartsHold, IsLexical, Agree, Bound, nothing, Later, LocalMade}
 use Rattle.core_meaning.proofs.Spots.{region_same, region_self}
+use Rattle.source_lowering.proofs.ElementsMade.{spot_in, HasBlanks, element_made}
 use Rattle.source_lowering.proofs.Keeping.{region_as, shown_later}
 
 -- ---- objects are made in one region alone
@@ -99,7 +99,7 @@ entered_later b w m c ls a = record {
 pub held_on : (c c' : core.Memory) (t : core.Spot) (j : ℕ) (cs : List Content) → ((t : core.Spot) (j : ℕ) (p : Part) → c.parts t j ≡ Some p
     → c'.parts t j ≡ Some p) → PartsHold c t j cs → PartsHold c' t j cs
 held_on c c' t j [] e h = tt
-held_on c c' t j (x ∷ xs) e ((q, (is, holds)), others) = ((q, (e t j q is, holds)), held_on c c' t (j + 1) xs e others)
+held_on c c' t j (x ∷ xs) e ((q, (is, holds)), others) = ((q, (e t j q is, holds)), held_on c c' t (suc j) xs e others)
 
 pub live_in : (q r : source.Region) (b : Bool) (x : source.State) (y : core.Standing) → same_region q r ≡ b → state_is_live x ≡ core.is_live y
     → state_is_live (if same_region q r then source.Live else x) ≡ core.is_live (if core.same_region (region_at q) (region_at r) then core.Live else y)
@@ -167,79 +167,21 @@ made_before r (l ∷ ls) c t j h =
     none true b e = e
     none false b e = refl
 
-abbrev pub spot_in : core.Region → ℕ → ℕ → core.Spot
-spot_in r index cell = record { region = r; object = index; cell = cell }
-
--- parts, from one on, are shaped as they are in the list
-all_shaped : (c : core.Memory) (t : core.Spot) (before j : ℕ) (all xs : List PartShape) → before ≡ 0
-    → ((i : ℕ) → slice_get all (j + i) ≡ slice_get xs i) → ((i : ℕ) (x : PartShape) → slice_get all i ≡ Some x → PartIs c t i (before + x.offset) x.width)
-    → AreShaped c t 0 j xs
-all_shaped c t before j all [] none same h = tt
-all_shaped c t before j all (x ∷ xs) none same h = (
-  subst (λ z. PartIs c t j (z + x.offset) x.width) none (h j x (ap (slice_get all) here ∙ same 0)),
-  all_shaped c t before (suc j) all xs none (λ i. ap (slice_get all) (one_on j i) ∙ same (suc i)) h,
-)
-  where
-    here : j ≡ j + 0
-    here = omega arith
-
-    one_on : (k i : ℕ) → suc k + i ≡ k + suc i
-    one_on k i = omega arith
-
--- what is known of one of an object's cells
-pub cell_blank : (l : Layout) (k j : ℕ) (xs : List PartShape) → k < length l.cells → slice_get l.cells k ≡ Some xs
-    → blanks l 1 k j ≡ blank_of (k / length l.cells * l.bytes) (slice_get xs j)
-cell_blank l k j xs less is =
-    let one : nat_lt (k / length l.cells) 1 ≡ true = ap (λ z. nat_lt z 1) (div-eq_of_lt less) in
-    ap (λ b. if b then blank_of (k / length l.cells * l.bytes) (shape_in (slice_get l.cells (k % length l.cells)) j) else None) one ∙
-    ap (λ z. blank_of (k / length l.cells * l.bytes) (shape_in z j)) (ap (slice_get l.cells) (mod-eq_of_lt less) ∙ is)
-
--- the cells of an object, from one on
-
-pub cells_made : (c : core.Memory) (r : core.Region) (index : ℕ) (l : Layout) (k : ℕ) (xs : List (List PartShape)) → k + length xs ≡ length l.cells
-    → ((i : ℕ) → slice_get l.cells (k + i) ≡ slice_get xs i)
-    → ((cell j : ℕ) (p : Part) → blanks l 1 cell j ≡ Some p → PartIs c (spot_in r index cell) j p.offset p.width)
-    → AreMade c (spot_in r index k) 0 xs
-cells_made c r index l k [] count same h = tt
-cells_made c r index l k (x ∷ xs) count same h = (
-  all_shaped c (spot_in r index k) (k / length l.cells * l.bytes) 0 x x none (λ i. ap (slice_get x) (zero_on i))
-      (λ i y e. h k i _ (cell_blank l k i x less (ap (slice_get l.cells) here ∙ same 0) ∙ ap (blank_of (k / length l.cells * l.bytes)) e)),
-  subst (λ z. AreMade c (spot_in r index z) 0 xs) next
-      (cells_made c r index l (suc k) xs (omega (arith, count)) (λ i. ap (slice_get l.cells) (one_on k i) ∙ same (suc i)) h),
-)
-  where
-    less : k < length l.cells
-    less = omega (arith, count)
-
-    none : k / length l.cells * l.bytes ≡ 0
-    none = ap (λ z. z * l.bytes) (div-eq_of_lt less) ∙ omega arith
-
-    here : k ≡ k + 0
-    here = omega arith
-
-    next : suc k ≡ k + 1
-    next = omega arith
-
-    zero_on : (i : ℕ) → 0 + i ≡ i
-    zero_on i = omega arith
-
-    one_on : (k i : ℕ) → suc k + i ≡ k + suc i
-    one_on k i = omega arith
-
--- the parts of an object of so many elements lie there
-abbrev pub HasBlanks : core.Memory → core.Region → ℕ → Layout → ℕ → Type 0
-HasBlanks c r index l count = (cell j : ℕ) (p : Part) → blanks l count cell j ≡ Some p → PartIs c (spot_in r index cell) j p.offset p.width
-
 -- one element
 one_made : (c : core.Memory) (r : core.Region) (index : ℕ) (l : Layout) → HasBlanks c r index l 1 → AreMade c (spot_in r index 0) 0 l.cells
-one_made c r index l here = cells_made c r index l 0 l.cells (omega arith) (λ i. ap (slice_get l.cells) (zero_on i)) here
+one_made c r index l here =
+    subst (λ z. AreMade c (spot_in r index 0) z l.cells) none_byte
+    (subst (λ z. AreMade c (spot_in r index z) (0 * l.bytes) l.cells) none_cell (element_made c r index l 1 0 (omega arith) here))
   where
-    zero_on : (i : ℕ) → 0 + i ≡ i
-    zero_on i = omega arith
+    none_cell : 0 * length l.cells ≡ 0
+    none_cell = omega arith
+
+    none_byte : 0 * l.bytes ≡ 0
+    none_byte = omega arith
 
 -- a local or a global
 pub local_made : (w : World) (s : Shape) (c : core.Memory) (r : core.Region) (index : ℕ)
-    → HasBlanks c r index (local_of w s).layout (local_of w s).count → AreMade c (spot_in r index 0) 0 (layout_of w s).cells
+    → HasBlanks c r index (local_of w s).layout (local_of w s).count → LocalMade w c r index s
 local_made w IntShape c r index here = one_made c r index (layout_of w IntShape) here
 local_made w UnsignedShape c r index here = one_made c r index (layout_of w UnsignedShape) here
 local_made w CharShape c r index here = one_made c r index (layout_of w CharShape) here
@@ -250,7 +192,7 @@ local_made w HandleShape c r index here = one_made c r index (layout_of w Handle
 local_made w KeyShape c r index here = one_made c r index (layout_of w KeyShape) here
 local_made w (StructShape tag) c r index here = one_made c r index (layout_of w (StructShape tag)) here
 local_made w (UnionShape tag) c r index here = one_made c r index (layout_of w (UnionShape tag)) here
-local_made w (ArrayShape count of) c r index here = tt
+local_made w (ArrayShape count of) c r index here = λ k less. element_made c r index (layout_of w of) count k less here
 
 -- what was made last
 last_made : (c : core.Memory) (r : core.Region) (index : ℕ) (o : ℕ → ℕ → Option Part) → c.objects r ≡ index → (cell j : ℕ)

@@ -18,30 +18,30 @@ use Rattle.source_meaning.specs.Shapes.{
   ArrayShape,
 }
 use Rattle.source_meaning.specs.Memory as source
-use Rattle.source_meaning.specs.Memory.{IntegerType, AsInt, AsUnsigned, AsChar, Scalar, Integer, HandleOf}
+use Rattle.source_meaning.specs.Memory.{IntegerType, AsInt, AsUnsigned, AsChar, Scalar, Integer}
 use Rattle.source_meaning.specs.Steps as steps
 use Rattle.source_meaning.specs.Steps.{give, need}
 use Rattle.source_meaning.specs.Operators as operators
-use Rattle.source_meaning.specs.Operators.{integers, operator_shape, common_shape, promoted_shape}
+use Rattle.source_meaning.specs.Operators.{operator_shape, common_shape, promoted_shape}
 use Rattle.source_meaning.specs.Conversions.{one, converted}
 use Rattle.source_meaning.specs.Values.{write_cells}
 use Rattle.source_meaning.specs.Places.{Sense, value_sense, given_by, assigned}
 use Rattle.source_meaning.specs.Calls.{constant, number_type, applied}
 use Rattle.source_meaning.specs.Programs.{integer_shape}
 use Rattle.core_meaning.specs.Memory.{Word}
-use Rattle.core_meaning.specs.Core.{Statement, Do, Constant, Statements}
-use Rattle.core_meaning.specs.Steps.{Config, with_temp}
+use Rattle.core_meaning.specs.Core.{Statement, Do, Constant}
 use Rattle.core_meaning.specs.Meaning as meaning
-use Rattle.core_meaning.specs.Operations.{does}
-use Rattle.source_lowering.specs.Lowered.{put, type_of, applied_to, operator_code, conversion_code}
-use Rattle.source_lowering.proofs.Relations.{Place, Fits, SameAt, Next, AreKept, LaterAt, Given, GoesOn, GivesAs, within}
-use Rattle.source_lowering.proofs.Keeping.{later_self, later_on}
-use Rattle.source_lowering.proofs.Runs.{put_all, stuck_same}
-use Rattle.source_lowering.proofs.Integers.{IsTaken, IsThin, limit, word_given, small_word, one_same, thin_same}
-use Rattle.source_lowering.proofs.Pointers.{thin_later, pointers_operated}
-use Rattle.source_lowering.proofs.Operators.{modulo_small, operated}
-use Rattle.source_lowering.proofs.Values.{put_value, put_three}
+use Rattle.source_lowering.specs.Lowered.{put, operator_code, conversion_code}
+use Rattle.source_lowering.proofs.Relations.{Place, Shown, SameAt, GivesAs, within, contents_in}
+use Rattle.source_lowering.proofs.Keeping.{later_self, later_on, shown_later}
+use Rattle.source_lowering.proofs.Runs.{put_all}
+use Rattle.source_lowering.proofs.Integers.{IsTaken, limit, word_given, integer_one}
+use Rattle.source_lowering.proofs.AnyValues.{value_same}
+use Rattle.source_lowering.proofs.Operands.{operands_same}
+use Rattle.source_lowering.proofs.Operators.{modulo_small}
+use Rattle.source_lowering.proofs.Values.{put_value, put_three, kept_contents}
 use Rattle.source_lowering.proofs.Conversions.{converted_gives}
+use Rattle.source_lowering.specs.Members.{words_in}
 use Rattle.source_lowering.proofs.Variables.{Agrees, StoresAs}
 
 -- ---- constants
@@ -51,7 +51,7 @@ pub constant_gives : (p : Place) (n d : ℕ) (t : IntegerType) (v value : ℕ) �
 constant_gives p n d t v value e small = record {
   same = λ m c s rest next fits goes.
       put_value p n d m c m c (integer_shape t) (Integer t v ∷ []) (Word (value % 2 ^ 32)) s (meaning.statements rest next) fits
-      (later_self (within p) m c.memory) (λ k h. refl)
+      (later_self (within p) m c.memory) (λ k h. refl) (integer_one t)
       (word_given p.world m c.memory t v (Word (value % 2 ^ 32)) small (ap (λ z. Word z) e)) goes;
 }
 
@@ -101,7 +101,7 @@ common_taken UnsignedShape t h = tt
 common_taken CharShape t h = promoted_taken t
 common_taken VoidShape t h = promoted_taken t
 common_taken (ThinShape may_be_null owner to) t h = promoted_taken t
-common_taken (FatShape to) t h = absurd h
+common_taken (FatShape to) t h = h
 common_taken HandleShape t h = promoted_taken t
 common_taken KeyShape t h = absurd h
 common_taken (StructShape tag) t h = absurd h
@@ -126,84 +126,25 @@ operator_taken operator.Multiply s t h = common_taken s t h
 operator_taken operator.Divide s t h = common_taken s t h
 operator_taken operator.Remainder s t h = common_taken s t h
 
-word_operator : (o : Operator) (t : IntegerType) (sa sb : Shape) (d : ℕ) → sa ≡ integer_shape t
-    → operator_code o sa sb d ≡ Do (applied_to o (type_of sa) (type_of sb) d d (d + 1)) ∷ []
-word_operator o t sa sb d e = subst (λ z. operator_code o z sb d ≡ Do (applied_to o (type_of z) (type_of sb) d d (d + 1)) ∷ []) (sym e) (by t)
-  where
-    by : (u : IntegerType) → operator_code o (integer_shape u) sb d ≡ Do (applied_to o (type_of (integer_shape u)) (type_of sb) d d (d + 1)) ∷ []
-    by AsInt = refl
-    by AsUnsigned = refl
-    by AsChar = refl
-
--- both operands are in their temporaries
-operator_same : (p : Place) (n d : ℕ) (o : Operator) (sa sb : Shape) (t1 t2 : IntegerType) (w1 w2 : ℕ) (m0 : source.Memory) (c0 : Config) (m : source.Memory)
-    (c : Config) (s : List Scalar → source.Memory → steps.Step) (rest : Statements) (next : Next)
-    → sa ≡ integer_shape t1 → type_of sa ≡ t1 → w1 < limit t1 → sb ≡ integer_shape t2 → type_of sb ≡ t2 → w2 < limit t2 → c.temps d ≡ Word w1
-    → c.temps (d + 1) ≡ Word w2
-    → Fits p m c → LaterAt p m0 c0 m c → AreKept d c0 c → GoesOn p n d m0 c0 (operator_shape o sa sb) s (meaning.statements rest next)
-    → SameAt p n (s (integers o t1 w1 t2 w2 ∷ []) m) (meaning.statements (put (operator_code o sa sb d) rest) next c)
-operator_same p n d o sa sb t1 t2 w1 w2 m0 c0 m c s rest next shape1 type1 small1 shape2 type2 small2 temp1 temp2 fits later kept goes =
-    let op = operated o t1 w1 t2 w2 d d (d + 1) (small_word t1 w1 small1) (small_word t2 w2 small2) in
-    let shape : operator_shape o sa sb ≡ integer_shape op.type = ap (λ z. operator_shape o z sb) shape1 ∙ ap (λ z. operator_shape o (integer_shape t1) z)
-    shape2 ∙ op.shape in
-    let is_word : operator_code o sa sb d ≡ Do (applied_to o (type_of sa) (type_of sb) d d (d + 1)) ∷ [] = word_operator o t1 sa sb d shape1 in
-    let code : does (applied_to o (type_of sa) (type_of sb) d d (d + 1)) (meaning.statements rest next) c ≡ meaning.statements rest next
-    (with_temp d (Word op.word) c) =
-    ap (λ z. does (applied_to o z (type_of sb) d d (d + 1)) (meaning.statements rest next) c) type1 ∙
-    ap (λ z. does (applied_to o t1 z d d (d + 1)) (meaning.statements rest next) c) type2 ∙ op.does c (meaning.statements rest next) temp1 temp2 in
-    subst (λ z. SameAt p n (s (integers o t1 w1 t2 w2 ∷ []) m) (meaning.statements (put z rest) next c)) (sym is_word)
-    (subst (λ z. SameAt p n (s (integers o t1 w1 t2 w2 ∷ []) m) z) (sym code)
-    (put_value p n d m0 c0 m c (operator_shape o sa sb) (integers o t1 w1 t2 w2 ∷ []) (Word op.word) s (meaning.statements rest next) fits later kept
-    (subst (λ z. Given p.world m c.memory z (integers o t1 w1 t2 w2 ∷ []) (Word op.word)) (sym shape)
-    (subst (λ z. Given p.world m c.memory (integer_shape op.type) (z ∷ []) (Word op.word)) (sym op.gives) (word_given p.world m c.memory op.type op.word
-    (Word op.word) op.small refl)))
-    goes))
-
+-- the left operand's value stays in its temporaries
 pub applied_gives : (p : Place) (n d : ℕ) (o : Operator) (a b : Sense) (sa sb : Shape) (ca cb : List Statement) → IsTaken sa → IsTaken sb
-    → GivesAs p n d sa a.look ca → GivesAs p n (d + 1) sb b.look cb → GivesAs p n d (operator_shape o sa sb) (applied o a b).look
+    → GivesAs p n d sa a.look ca → GivesAs p n (d + words_in sa) sb b.look cb → GivesAs p n d (operator_shape o sa sb) (applied o a b).look
     (ca ++ (cb ++ operator_code o sa sb d))
 applied_gives p n d o a b sa sb ca cb taken1 taken2 left right = record {
   same = λ m c s rest next fits goes.
       subst (λ z. SameAt p n ((applied o a b).look s m) (meaning.statements z next c)) (sym (put_three ca cb (operator_code o sa sb d) rest))
       (left.same m c (λ vs. first s vs) (put cb (put (operator_code o sa sb d) rest)) next fits (record {
         go = λ m1 c1 vs1 fits1 later1 kept1 given1.
-            one_same p.world p.program n sa m1 c1.memory vs1 (c1.temps d) (λ x. b.look (λ ys. second s x ys)) _ taken1 given1
-            (λ t1 w1 temp1 shape1 type1 small1.
-            right.same m1 c1 (λ ys. second s (Integer t1 w1) ys) (put (operator_code o sa sb d) rest) next fits1 (record {
-              go = λ m2 c2 vs2 fits2 later2 kept2 given2.
-                  one_same p.world p.program n sb m2 c2.memory vs2 (c2.temps (d + 1)) (λ y. third s (Integer t1 w1) y) _ taken2 given2
-                  (λ t2 w2 temp2 shape2 type2 small2.
-                  operator_same p n d o sa sb t1 t2 w1 w2 m c m2 c2 s rest next shape1 type1 small1 shape2 type2 small2 (kept2 d (omega arith) ∙ temp1) temp2
-                  fits2
-                  (later_on (within p) m m1 m2 c.memory c1.memory c2.memory later1 later2) (λ k h. kept2 k (omega (arith, h)) ∙ kept1 k h) goes)
-                  (λ v o2.
-                  thin_same p.world p.program n sb m2 c2.memory v (c2.temps (d + 1)) (λ y. third s (Integer t1 w1) y) _ o2
-                  (λ x f. stuck_same p.world p.program n _) (λ t byte x full leads. stuck_same p.world p.program n _))
-                  (λ birth2 temp2 shape2. stuck_same p.world p.program n _);
-            }))
-            (λ u o1.
+            value_same p.world p.program n sa m1 c1.memory vs1 (contents_in d sa c1.temps) (λ x. b.look (λ ys. second s x ys)) _ given1
+            (λ u shown1.
             right.same m1 c1 (λ ys. second s u ys) (put (operator_code o sa sb d) rest) next fits1 (record {
               go = λ m2 c2 vs2 fits2 later2 kept2 given2.
-                  let o1' = thin_later (within p) p.world m1 m2 c1.memory c2.memory sa u (c1.temps d) later2 o1 in
-                  one_same p.world p.program n sb m2 c2.memory vs2 (c2.temps (d + 1)) (λ y. third s u y) _ taken2 given2
-                  (λ t2 w2 temp2 shape2 type2 small2.
-                  thin_same p.world p.program n sa m2 c2.memory u (c1.temps d) (λ z. third s z (Integer t2 w2)) _ o1'
-                  (λ x f. stuck_same p.world p.program n _) (λ t byte x full leads. stuck_same p.world p.program n _))
-                  (λ v o2.
-                  pointers_operated p n d o sa sb u v m c m2 c2 s rest next
-                  (subst (λ z. IsThin p.world m2 c2.memory sa u z) (sym (kept2 d (omega arith))) o1') o2 fits2
-                  (later_on (within p) m m1 m2 c.memory c1.memory c2.memory later1 later2) (λ k h. kept2 k (omega (arith, h)) ∙ kept1 k h) goes)
-                  (λ birth2 temp2 shape2.
-                  thin_same p.world p.program n sa m2 c2.memory u (c1.temps d) (λ z. third s z (HandleOf birth2)) _ o1'
-                  (λ x f. stuck_same p.world p.program n _) (λ t byte x full leads. stuck_same p.world p.program n _));
-            }))
-            (λ birth1 temp1 shape1.
-            right.same m1 c1 (λ ys. second s (HandleOf birth1) ys) (put (operator_code o sa sb d) rest) next fits1 (record {
-              go = λ m2 c2 vs2 fits2 later2 kept2 given2.
-                  one_same p.world p.program n sb m2 c2.memory vs2 (c2.temps (d + 1)) (λ y. third s (HandleOf birth1) y) _ taken2 given2
-                  (λ t2 w2 temp2 shape2 type2 small2. stuck_same p.world p.program n _)
-                  (λ v o2. stuck_same p.world p.program n _)
-                  (λ birth2 temp2 shape2. stuck_same p.world p.program n _);
+                  value_same p.world p.program n sb m2 c2.memory vs2 (contents_in (d + words_in sa) sb c2.temps) (λ y. third s u y) _ given2
+                  (λ v shown2.
+                  operands_same p n d o sa sb u v m c m2 c2 s rest next taken1 taken2
+                  (subst (λ z. Shown p.world m2 c2.memory sa u z) (sym (kept_contents sa d c1 c2 kept2))
+                  (shown_later (within p) p.world m1 m2 c1.memory c2.memory sa u (contents_in d sa c1.temps) later2 shown1)) shown2 fits2
+                  (later_on (within p) m m1 m2 c.memory c1.memory c2.memory later1 later2) (λ k h. kept2 k (omega (arith, h)) ∙ kept1 k h) goes);
             }));
       }));
 }
@@ -223,7 +164,7 @@ pub value_agrees : (p : Place) (n d : ℕ) (shape of : Shape) (act : steps.Act (
 value_agrees p n d shape of act code same taken gives = record { shape_is = same; taken = taken; looks = gives; values = gives }
 
 pub applied_agrees : (p : Place) (n d : ℕ) (o : Operator) (a b : Sense) (sa sb : Shape) (ca cb : List Statement) → Agrees p n d a sa ca
-    → Agrees p n (d + 1) b sb cb → Agrees p n d (applied o a b) (operator_shape o sa sb) (ca ++ (cb ++ operator_code o sa sb d))
+    → Agrees p n (d + words_in sa) b sb cb → Agrees p n d (applied o a b) (operator_shape o sa sb) (ca ++ (cb ++ operator_code o sa sb d))
 applied_agrees p n d o a b sa sb ca cb x y =
     value_agrees p n d (operator_shape o a.shape b.shape) (operator_shape o sa sb) (applied o a b).look (ca ++ (cb ++ operator_code o sa sb d))
     (ap (λ z. operator_shape o z b.shape) x.shape_is ∙ ap (λ z. operator_shape o sa z) y.shape_is) (operator_taken o sa sb x.taken)
@@ -233,16 +174,16 @@ applied_agrees p n d o a b sa sb ca cb x y =
 
 pub assigned_agrees : (p : Place) (n d : ℕ) (to from : Sense) (shape of : Shape) (code stores : List Statement) → to.shape ≡ shape → IsTaken shape
     → StoresAs p n d shape to.place stores → Agrees p n d from of code → Agrees p n d (assigned p.world to from) shape
-    (code ++ (conversion_code shape of d ++ stores))
+    (code ++ (conversion_code p.world shape of d ++ stores))
 assigned_agrees p n d to from shape of code stores same taken place one = value_agrees p n d to.shape shape (assigned p.world to from).value
-    (code ++ (conversion_code shape of d ++ stores)) same taken (record {
+    (code ++ (conversion_code p.world shape of d ++ stores)) same taken (record {
       same = λ m c s rest next fits goes.
           subst (λ z. SameAt p n (from.value (λ vs. converted p.world z from.shape vs (λ us. to.place (λ t. write_cells t us (λ u. s (given_by z us))))) m)
-          (meaning.statements (put (code ++ (conversion_code shape of d ++ stores)) rest) next c)) (sym same)
+          (meaning.statements (put (code ++ (conversion_code p.world shape of d ++ stores)) rest) next c)) (sym same)
           (subst (λ z. SameAt p n (from.value (λ vs. converted p.world shape from.shape vs (λ us. to.place (λ t. write_cells t us
           (λ u. s (given_by shape us)))))
           m) (meaning.statements z next c))
-          (sym (put_three code (conversion_code shape of d) stores rest ∙ sym (put_all code (conversion_code shape of d) (put stores rest))))
+          (sym (put_three code (conversion_code p.world shape of d) stores rest ∙ sym (put_all code (conversion_code p.world shape of d) (put stores rest))))
           ((converted_gives p n d shape from of code taken one).same m c (λ us. to.place (λ t. write_cells t us (λ u. s (given_by shape us)))) (put stores rest)
           next fits (record {
             go = λ m1 c1 us fits1 later1 kept1 given1. place.same m c m1 c1 us s rest next fits1 later1 kept1 given1 goes;

@@ -31,22 +31,8 @@ use Rattle.std.specs.Prelude.{map, slice_get, if◌then◌else◌}
 use Rattle.std.proofs.lemmas.Bool.{eq-eqb}
 use Rattle.cyc_words.specs.Events as events
 use Rattle.step_trees.specs.Trees.{Says}
-use Rattle.source_meaning.specs.Shapes.{
-  Shape,
-  IntShape,
-  UnsignedShape,
-  CharShape,
-  VoidShape,
-  ThinShape,
-  FatShape,
-  HandleShape,
-  KeyShape,
-  StructShape,
-  UnionShape,
-  ArrayShape,
-  Part,
-  part_shapes,
-}
+use Rattle.source_meaning.specs.Shapes.{Shape, IntShape, UnsignedShape, CharShape, VoidShape, ThinShape, FatShape, HandleShape, KeyShape, StructShape}
+use Rattle.source_meaning.specs.Shapes.{UnionShape, ArrayShape, part_shapes}
 use Rattle.source_meaning.specs.Memory as source
 use Rattle.source_meaning.specs.Memory.{AsInt, Integer, Scalar}
 use Rattle.source_meaning.specs.Steps as steps
@@ -60,8 +46,9 @@ use Rattle.core_meaning.specs.Core.{Program, Function, Statements, NoStatements,
 use Rattle.core_meaning.specs.Steps as core_steps
 use Rattle.core_meaning.specs.Steps.{Config, with_temp}
 use Rattle.core_meaning.specs.Meaning as meaning
-use Rattle.core_meaning.specs.Meaning.{values_of, passed_in}
-use Rattle.source_lowering.specs.Lowered.{number_of, all_of, from_on}
+use Rattle.core_meaning.specs.Meaning.{passed_in}
+use Rattle.source_lowering.specs.Lowered.{number_of, all_of}
+use Rattle.source_lowering.specs.Members.{all_words}
 use Rattle.source_lowering.specs.Programs.{no_regions, locals_of, block_shapes, end_code, body_code, function_code, routine_values}
 use Rattle.source_lowering.proofs.Relations.{Shown, Agree, Later, AreLed, Same, Next, BothCalled, BothReturned, Bound, nothing}
 use Rattle.source_lowering.proofs.Keeping.{later_on, all_led_later, IsLess, later_less}
@@ -75,37 +62,6 @@ use Rattle.source_lowering.proofs.Blocks.{result_later, entered_fits, next_out, 
 use Rattle.source_lowering.proofs.EachExpression.{Known}
 use Rattle.source_lowering.proofs.Numbered.{AreNumbered}
 use Rattle.source_lowering.proofs.EachStatement.{given_later, body_same}
-
--- ---- what is passed
-
-many_given : (w : World) (m : source.Memory) (c : core.Memory) (ps : List Part) (vss : List (List Scalar)) (xs : List Content)
-    → AllGiven w m c (part_shapes ps) vss xs → length xs ≡ length ps
-many_given w m c [] [] [] h = refl
-many_given w m c (p ∷ ps) (vs ∷ vss) (x ∷ xs) h = ap suc (many_given w m c ps vss xs h.1)
-many_given w m c [] [] (x ∷ xs) h = absurd h
-many_given w m c [] (vs ∷ vss) xs h = absurd h
-many_given w m c (p ∷ ps) [] xs h = absurd h
-many_given w m c (p ∷ ps) (vs ∷ vss) [] h = absurd h
-
-values_from : (xs : List Content) (f : ℕ → Content) (d : ℕ) → ((j : ℕ) → f (d + j) ≡ passed_in xs j) → values_of f (from_on d (length xs)) ≡ xs
-values_from [] f d h = refl
-values_from (x ∷ xs) f d h =
-    let here : f d ≡ x = ap f (plus_zero d) ∙ h 0 in
-    ap (λ z. z ∷ values_of f (from_on (d + 1) (length xs))) here ∙
-    ap (λ z. x ∷ z) (values_from xs f (d + 1) (λ j. ap f (plus_one d j) ∙ h (suc j)))
-  where
-    plus_zero : (a : ℕ) → a ≡ a + 0
-    plus_zero a = omega arith
-
-    plus_one : (a j : ℕ) → a + 1 + j ≡ a + suc j
-    plus_one a j = omega arith
-
--- the arguments are in the first temporaries
-passed_first : (xs : List Content) (n : ℕ) → length xs ≡ n → values_of (passed_in xs) (from_on 0 n) ≡ xs
-passed_first xs n e = subst (λ z. values_of (passed_in xs) (from_on 0 z) ≡ xs) e (values_from xs (passed_in xs) 0 (λ j. ap (passed_in xs) (none j)))
-  where
-    none : (j : ℕ) → 0 + j ≡ j
-    none j = omega arith
 
 -- ---- the numbers of functions
 
@@ -167,13 +123,9 @@ end_same w fs n number own f m0 c0 s k m c first numbered routine goes a l = by 
         let c' : Config = with_temp 0 (Word 0) c in
         returned_same w fs n number own f m0 c0 s k m c' (Integer AsInt 0 ∷ []) (c'.temps 0 ∷ []) first numbered goes a l
         (inl (record {
-          content = c'.temps 0;
+          value = Integer AsInt 0;
           alone = refl;
-          value = record {
-            value = Integer AsInt 0;
-            alone = refl;
-            shown = subst (λ z. Shown w m c.memory z (Integer AsInt 0) (c'.temps 0 ∷ [])) (sym e) (word_shown w m c.memory AsInt 0 (omega arith));
-          };
+          shown = subst (λ z. Shown w m c.memory z (Integer AsInt 0) (c'.temps 0 ∷ [])) (sym e) (word_shown w m c.memory AsInt 0 (omega arith));
         }))
 
     main_alone : (b : Bool) (of : Shape) → is_main f.name ≡ b → f.result ≡ of → (code : Statements) → (of ≡ IntShape → code ≡ all_of (end_code IntShape))
@@ -190,7 +142,7 @@ end_same w fs n number own f m0 c0 s k m c first numbered routine goes a l = by 
     by VoidShape e taken = rw e (nothing e)
     by (ThinShape may_be_null owner to) e taken =
         rw e (main_alone (is_main f.name) (ThinShape may_be_null owner to) refl e (all_of (end_code (ThinShape may_be_null owner to))) (λ z. refl))
-    by (FatShape to) e taken = absurd taken
+    by (FatShape to) e taken = rw e (main_alone (is_main f.name) (FatShape to) refl e (all_of (end_code (FatShape to))) (λ z. refl))
     by HandleShape e taken = rw e (main_alone (is_main f.name) HandleShape refl e (all_of (end_code HandleShape)) (λ z. refl))
     by KeyShape e taken = absurd taken
     by (StructShape tag) e taken = absurd taken
@@ -200,10 +152,10 @@ end_same w fs n number own f m0 c0 s k m c first numbered routine goes a l = by 
 -- ---- a function is entered
 
 -- the body's block, from memories that agree
-entered_same : (w : World) (fs : Program) (n number : ℕ) (f : Routine) (vss : List (List Scalar)) (xs : List Content) (m : source.Memory)
+entered_same : (w : World) (fs : Program) (n number : ℕ) (f : Routine) (vss : List (List Scalar)) (m : source.Memory)
     (c : core.Memory) (c0 : Config) (s : List Scalar → source.Memory → steps.Step) (k : List Content → core.Memory → core_steps.Step)
     → IsPlainWorld w → CallsAs w fs n → slice_get w.functions number ≡ Some f → IsRoutine w f → Agree w m c0.memory → AreLed w m c0.memory w.globals
-    → AllGiven w m c0.memory (part_shapes f.parameters) vss xs → c0.temps ≡ passed_in xs → c0.blocks ≡ []
+    → AllGiven w m c0.memory (part_shapes f.parameters) vss 0 c0.temps → c0.blocks ≡ []
     → HasOwn w c0 c.calls (routine_values w f) → Later (called_before m c) m c m c0.memory
     → Returning w fs n m c f.result s k
     → Same w fs n (in_block (λ frame. with_arguments f.parameters vss (meaning_of.block_items f.body) (record {
@@ -213,15 +165,14 @@ entered_same : (w : World) (fs : Program) (n number : ℕ) (f : Routine) (vss : 
       result
           = f.result;
     })) (left_by f s) m) (meaning.statements (body_code w f) (meaning.left number c.calls k) c0)
-entered_same w fs n number f vss xs m c c0 s k plain calls numbered routine agree led given temps blocks has later goes =
-    body_same f.parameters f.body scope known (length f.parameters) n vss routine.parameters routine.body values_numbered (omega arith) (record
-    { world = plain; locals = tt; words = tt }) routine.result calls (omega arith) refl
+entered_same w fs n number f vss m c c0 s k plain calls numbered routine agree led given blocks has later goes =
+    body_same f.parameters f.body scope known (length f.parameters) n 0 (all_words (part_shapes f.parameters))
+    vss routine.parameters routine.body values_numbered
+    (omega arith) (record { world = plain; locals = tt; words = tt }) routine.result calls (omega arith) (omega arith) (omega arith) refl
     (source_in m) inside (next_out (left_by f s) m.activations) NoStatements (after_out (ended f number c.calls k) c0)
     (entered_fits w fs [] [] [] shapes m c0 c.calls (routine_values w f) 0 no_regions agree blocks has tt led)
-    (given_later nothing w m (source_in m) c0.memory inside.memory (part_shapes f.parameters) vss (values_of inside.temps (from_on 0 (length f.parameters)))
-    (entered_later nothing w m c0.memory (locals_of w shapes) agree)
-    (subst (λ z. AllGiven w m c0.memory (part_shapes f.parameters) vss z) (sym (ap (λ z. values_of z (from_on 0 (length f.parameters))) temps ∙ passed_first
-    xs (length f.parameters) (many_given w m c0.memory f.parameters vss xs given))) given))
+    (given_later nothing w m (source_in m) c0.memory inside.memory (part_shapes f.parameters) vss 0 c0.temps
+    (entered_later nothing w m c0.memory (locals_of w shapes) agree) given)
     (ways_out w fs n no_regions inside_bound shapes m c0 f.result (left_by f s) (ended f number c.calls k) agree (omega arith) (record {
       falls = λ m' c' o. end_same w fs n number c.calls f m c s k m' c' (omega arith) numbered routine goes o.agree (on m' c' o.later);
       breaks = λ m' c' o. stuck_same w fs n _;
@@ -272,18 +223,19 @@ entered_same w fs n number f vss xs m c c0 s k plain calls numbered routine agre
 -- a call of a function by its number
 pub enters_same : (w : World) (fs : Program) (n : ℕ) → IsPlainWorld w → fs.functions ≡ map (function_code w) w.functions → CallsAs w fs n → EntersAs w fs n
 enters_same w fs n plain functions calls = record {
-  same = λ name f vss xs m c s k numbered routine agree led given goes.
+  same = λ name f vss xs m c s k numbered routine agree led many given goes.
       let number : ℕ = number_of w.functions name in
       let found : slice_get fs.functions number ≡ Some (function_code w f) = ap (λ z. slice_get z number) functions ∙ mapped w w.functions number f numbered in
       let c0 : Config = meaning.entered (function_code w f) xs c in
       let locals : List Local = locals_of w (routine_values w f) in
       let more = own_later (called_before m c) w m c locals agree (omega arith) (omega arith) refl in
-      let counted : nat_eq (length xs) (length f.parameters) ≡ true = eq-eqb (length xs) (length f.parameters) (many_given w m c f.parameters vss xs given) in
+      let words : ℕ = all_words (part_shapes f.parameters) in
+      let counted : nat_eq (length xs) words ≡ true = eq-eqb (length xs) words many in
       rw (found, counted)
       (says_same w fs n (events.Called f.name) (core_steps.Called number) _ _ (BothCalled number f numbered)
-      (entered_same w fs n number f vss xs m c c0 s k plain calls numbered routine (own_agree w m c locals agree)
-      (all_led_later (called_before m c) w m m c c0.memory w.globals more led) (given_later (called_before m c) w m m c c0.memory (part_shapes f.parameters) vss xs more
-      given) refl refl (record {
+      (entered_same w fs n number f vss m c c0 s k plain calls numbered routine (own_agree w m c locals agree)
+      (all_led_later (called_before m c) w m m c c0.memory w.globals more led)
+      (given_later (called_before m c) w m m c c0.memory (part_shapes f.parameters) vss 0 (passed_in xs) more given) refl (record {
         is = refl;
         called = own_counted c locals;
         stands = own_live c locals;

@@ -25,22 +25,27 @@ use Rattle.source_meaning.specs.Memory as source
 use Rattle.source_meaning.specs.Memory.{Scalar, Spot, Holds, Object, state_is_live}
 use Rattle.source_meaning.specs.Steps.{World}
 use Rattle.source_meaning.specs.Conversions.{cells_of}
-use Rattle.source_meaning.specs.Programs.{global_objects, globals_from, heap_alone, heap_spot}
+use Rattle.source_meaning.specs.Programs.{global_shape, global_object, global_objects, globals_from, heap_alone, heap_spot}
 use Rattle.core_meaning.specs.Memory as core
 use Rattle.core_meaning.specs.Memory.{Part, blanks}
 use Rattle.core_meaning.specs.Core.{Datum}
 use Rattle.core_meaning.specs.Meaning.{datum_parts, first_memory}
-use Rattle.source_lowering.specs.Layouts.{layout_of, local_of}
+use Rattle.source_lowering.specs.Layouts.{local_of, pieces_of}
 use Rattle.source_lowering.specs.Lowered.{width_of}
 use Rattle.source_lowering.specs.Programs.{constant_content, initial_content, datum_of, global_datum, data_of}
 use Rattle.source_lowering.specs.Lowerable.{IsObject, AreStructs, TakesGlobal, TakesProgram}
-use Rattle.source_lowering.proofs.Relations.{region_at, at, AreMade, Leads, IsShown, IsLexical, Agree, AreLed}
-use Rattle.source_lowering.proofs.Integers.{IsWordShape, object_word}
+use Rattle.source_lowering.proofs.Relations.{region_at, at, IsShown, IsLexical, Agree, AreLed, VariableLeads, LocalMade, PartsHold}
+use Rattle.source_lowering.proofs.Integers.{IsWordShape, IsValueShape}
+use Rattle.source_lowering.proofs.StructCells.{object_cells}
+use Rattle.source_lowering.proofs.CellParts.{firsts_of}
+use Rattle.source_lowering.proofs.ArrayBeginning.{array_led}
 use Rattle.source_lowering.proofs.Making.{cell_with, spot_of, cells_from}
-use Rattle.source_lowering.proofs.Entering.{spot_in, local_made}
+use Rattle.source_lowering.proofs.Entering.{local_made}
 use Rattle.source_lowering.proofs.WrittenTypes.{object_settled}
-pub use Rattle.source_lowering.proofs.HeapValues.{part_of, constant_single, shape_kept}
-use Rattle.source_lowering.proofs.HeapValues.{cell_of, datum_is, content_of, object_is, cell_in, IsHeapValue, heap_value}
+pub use Rattle.source_lowering.proofs.HeapValues.{part_of, constant_is_value}
+use Rattle.source_lowering.proofs.ObjectShapes.{leads_object, object_made}
+use Rattle.source_lowering.proofs.ElementsMade.{spot_in}
+use Rattle.source_lowering.proofs.HeapValues.{cell_of, datum_is, cell_in, IsHeapValue, heap_value}
 
 -- ---- the memories at the start agree
 
@@ -97,7 +102,7 @@ heap_agrees w items structs h = record {
 
     in_heap : (object cell : ℕ) (shape : Shape) (v : Scalar) → IsHeapValue w (data_of w items) object cell shape v
         → IsShown w m c (spot (source.Born 0) object cell) shape v
-    in_heap object cell shape v o = record { contents = o.part.content ∷ []; shown = o.shown m c; held = ((o.part, (o.is, refl)), tt) }
+    in_heap object cell shape v o = record { contents = o.contents; shown = o.shown m c; held = o.held }
 
     shown_at : (r : source.Region) (object cell : ℕ) (shape : Shape) (v : Scalar) → m.cells (spot r object cell) ≡ Some (cell_of shape (Holds v))
         → IsShown w m c (spot r object cell) shape v
@@ -165,7 +170,7 @@ laid_out_as w initial (ArrayShape count of) = record { layout = refl; count = re
 
 global_made : (w : World) (initial : Initial) (s : Shape) (ds : List Datum) (c : core.Memory) (k : ℕ)
     → ((cell j : ℕ) → c.parts (spot_in (core.Born 0) k cell) j ≡ datum_parts (global_datum w initial s ∷ ds) 0 cell j)
-    → AreMade c (at (heap_spot k)) 0 (layout_of w s).cells
+    → LocalMade w c (core.Born 0) k s
 global_made w initial s ds c k h = local_made w s c (core.Born 0) k (λ cell j p e. record {
   content = d.first cell j;
   is = h cell j ∙
@@ -178,11 +183,16 @@ global_made w initial s ds c k h = local_made w s c (core.Born 0) k (λ cell j p
     laid : IsLaidOut w s d
     laid = laid_out_as w initial s
 
--- a global's part has the constant that it is given
+-- what stands for a constant: a fat pointer is NULL
+abbrev pub constant_contents : tree.Constant → Shape → List core.Content
+constant_contents x (FatShape to) = firsts_of (pieces_of (FatShape to))
+constant_contents x s = constant_content x s ∷ []
+
+-- a global's parts have the constant that it is given
 abbrev pub IsStored : core.Memory → Initial → Shape → ℕ → Type 0
 IsStored c Initial.Unset s k = Unit {0}
 IsStored c (Initial.Elements count) s k = Unit {0}
-IsStored c (Initial.Given x) s k = (c.parts (at (heap_spot k)) 0 ≡ Some (part_of (width_of s) (constant_content x s)))
+IsStored c (Initial.Given x) s k = PartsHold c (at (heap_spot k)) 0 (constant_contents x s)
 
 abbrev pub AreStored : core.Memory → List Item → ℕ → Type 0
 AreStored c [] k = Unit {0}
@@ -206,13 +216,55 @@ word_datum w initial (FatShape to) h = absurd h
 word_datum w initial (ArrayShape count of) h = absurd h
 word_datum w initial _ h = refl
 
+pub word_contents : (x : tree.Constant) (s : Shape) → IsWordShape s → constant_contents x s ≡ constant_content x s ∷ []
+word_contents x (FatShape to) h = absurd h
+word_contents x IntShape h = refl
+word_contents x UnsignedShape h = refl
+word_contents x CharShape h = refl
+word_contents x VoidShape h = refl
+word_contents x (ThinShape b owner to) h = refl
+word_contents x HandleShape h = refl
+word_contents x KeyShape h = refl
+word_contents x (StructShape tag) h = refl
+word_contents x (UnionShape tag) h = refl
+word_contents x (ArrayShape count of) h = refl
+
 is_stored : (w : World) (c : core.Memory) (initial : Initial) (s : Shape) (ds : List Datum) (k : ℕ) → TakesGlobal s initial → IsObject w.structs s
-    → c.parts (at (heap_spot k)) 0 ≡ datum_parts (global_datum w initial s ∷ ds) 0 0 0 → IsStored c initial s k
+    → ((j : ℕ) → c.parts (at (heap_spot k)) j ≡ datum_parts (global_datum w initial (global_shape initial s) ∷ ds) 0 0 j) → IsStored c initial s k
 is_stored w c Initial.Unset s ds k h object e = tt
 is_stored w c (Initial.Elements count) s ds k h object e = tt
-is_stored w c (Initial.Given x) s ds k h object e =
-    let word = object_word w.structs s object (constant_single x s h) in
-    e ∙ ap (λ z. datum_parts (z ∷ ds) 0 0 0) (word_datum w (Initial.Given x) s word) ∙ datum_is w s (constant_content x s) ds word
+is_stored w c (Initial.Given x) s ds k h object e = by s (constant_is_value w x s h object) e
+  where
+    word : (z : Shape) → IsWordShape z → ((j : ℕ) → c.parts (at (heap_spot k)) j ≡ datum_parts (global_datum w (Initial.Given x) z ∷ ds) 0 0 j)
+        → PartsHold c (at (heap_spot k)) 0 (constant_contents x z)
+    word z g f =
+        subst (λ xs. PartsHold c (at (heap_spot k)) 0 xs) (sym (word_contents x z g)) (
+          (
+            part_of (width_of z) (constant_content x z),
+            (f 0 ∙ ap (λ d. datum_parts (d ∷ ds) 0 0 0) (word_datum w (Initial.Given x) z g) ∙ datum_is w z (constant_content x z) ds g, refl),
+          ),
+          tt,
+        )
+
+    by : (z : Shape) → IsValueShape z → ((j : ℕ) → c.parts (at (heap_spot k)) j ≡ datum_parts (global_datum w (Initial.Given x) z ∷ ds) 0 0 j)
+        → PartsHold c (at (heap_spot k)) 0 (constant_contents x z)
+    by (FatShape to) g f = (
+      (record { offset = 0; width = 4; content = core.Null }, (f 0, refl)),
+      (
+        (record { offset = 4; width = 4; content = core.Word 0 }, (f 1, refl)),
+        ((record { offset = 8; width = 4; content = core.Word 0 }, (f 2, refl)), tt),
+      ),
+    )
+    by IntShape g f = word IntShape g f
+    by UnsignedShape g f = word UnsignedShape g f
+    by CharShape g f = word CharShape g f
+    by VoidShape g f = absurd g
+    by (ThinShape b owner to) g f = word (ThinShape b owner to) g f
+    by HandleShape g f = word HandleShape g f
+    by KeyShape g f = absurd g
+    by (StructShape tag) g f = absurd g
+    by (UnionShape tag) g f = absurd g
+    by (ArrayShape count of) g f = absurd g
 
 -- Core's data are there, from a global on
 abbrev ArePresent : World → core.Memory → List Item → ℕ → Type 0
@@ -225,7 +277,7 @@ stored_from w c (tree.UnionItem u ∷ items) k h e = absurd h.0
 stored_from w c (tree.FunctionItem f ∷ items) k h e = stored_from w c items k h.1 e
 stored_from w c (tree.GlobalItem g ∷ items) k h e = (
   is_stored w c g.initial (settled (written g.of)) (data_of w items) k h.0.1 (object_settled w.structs g.of h.0.0)
-      (ap (λ z. c.parts (spot_in (core.Born 0) z 0) 0) (no_more k) ∙ e 0 0 0),
+      (λ j. ap (λ z. c.parts (spot_in (core.Born 0) z 0) j) (no_more k) ∙ e 0 0 j),
   stored_from w c items (suc k) h.1 (λ i cell j. ap (λ z. c.parts (spot_in (core.Born 0) z cell) j) (one_on k i) ∙ e (suc i) cell j),
 )
 
@@ -235,27 +287,44 @@ heap_present w items i cell j = ap (λ z. (first_memory (data_of w items)).parts
 pub heap_stored : (w : World) (items : List Item) → TakesProgram w items → AreStored (first_memory (data_of w items)) items 0
 heap_stored w items h = stored_from w (first_memory (data_of w items)) items 0 h (heap_present w items)
 
-led_from : (w : World) (m : source.Memory) (c : core.Memory) (items : List Item) (k : ℕ) → TakesProgram w items
+-- an object's cells, whatever they hold
+object_led : (w : World) (m : source.Memory) (c : core.Memory) (s : Shape) (k : ℕ) (content : Shape → source.Content) → IsObject w.structs s
+    → ((cell : ℕ) → m.cells (spot_of (source.Born 0) k cell) ≡ slice_get (map (cell_with content) (cells_of w s)) cell)
+    → LocalMade w c (core.Born 0) k s → VariableLeads w m c s (heap_spot k)
+object_led w m c s k content object here made = leads_object w.structs w m c s (heap_spot k) object (
+  cells_from m (source.Born 0) k 0 content (cells_of w s) (λ i. here (0 + i) ∙ ap (slice_get (map (cell_with content) (cells_of w s))) (none_on i)),
+  object_made w.structs w c (core.Born 0) k s object made,
+)
+
+-- a global leads to what it is: an array, or one object
+global_led : (w : World) (m : source.Memory) (c : core.Memory) (initial : Initial) (s : Shape) (k : ℕ) → AreStructs w.unions w.structs → IsObject w.structs s
+    → ((cell : ℕ) → m.cells (spot_of (source.Born 0) k cell) ≡ global_object w initial s cell) → LocalMade w c (core.Born 0) k (global_shape initial s)
+    → VariableLeads w m c (global_shape initial s) (heap_spot k)
+global_led w m c Initial.Unset s k structs object here made = object_led w m c s k source.first_content object here made
+global_led w m c (Initial.Elements count) s k structs object here made =
+    array_led w m c (source.Born 0) k count s (object_cells w.unions w.structs s structs object) here made
+global_led w m c (Initial.Given x) s k structs object here made = object_led w m c s k (λ z. source.Blank) object here made
+
+led_from : (w : World) (m : source.Memory) (c : core.Memory) (items : List Item) (k : ℕ) → AreStructs w.unions w.structs → TakesProgram w items
     → ((i cell : ℕ) → m.cells (spot_of (source.Born 0) (k + i) cell) ≡ cell_in cell (slice_get (global_objects w items) i)) → ArePresent w c items k
     → AreLed w m c (globals_from items k)
-led_from w m c [] k h e present = tt
-led_from w m c (tree.StructItem s ∷ items) k h e present = led_from w m c items k h.1 e present
-led_from w m c (tree.UnionItem u ∷ items) k h e present = absurd h.0
-led_from w m c (tree.FunctionItem f ∷ items) k h e present = led_from w m c items k h.1 e present
-led_from w m c (tree.GlobalItem g ∷ items) k h e present = (
-  subst (λ z. Leads w m c z (heap_spot k) 0) (sym (shape_kept g.initial s h.0.1)) (
-    cells_from m (source.Born 0) k 0 (content_of g.initial) (cells_of w s)
-        (λ i. ap (λ z. m.cells (spot_of (source.Born 0) z (0 + i))) (no_more k) ∙ e 0 (0 + i) ∙ ap (λ f. f (0 + i)) (object_is w g.initial s h.0.1) ∙
-        ap (slice_get (map (cell_with (content_of g.initial)) (cells_of w s))) (none_on i)),
-    global_made w g.initial s (data_of w items) c k (λ cell j. ap (λ z. c.parts (spot_in (core.Born 0) z cell) j) (no_more k) ∙ present 0 cell j),
-  ),
-  led_from w m c items (suc k) h.1 (λ i cell. ap (λ z. m.cells (spot_of (source.Born 0) z cell)) (one_on k i) ∙ e (suc i) cell)
+led_from w m c [] k structs h e present = tt
+led_from w m c (tree.StructItem s ∷ items) k structs h e present = led_from w m c items k structs h.1 e present
+led_from w m c (tree.UnionItem u ∷ items) k structs h e present = absurd h.0
+led_from w m c (tree.FunctionItem f ∷ items) k structs h e present = led_from w m c items k structs h.1 e present
+led_from w m c (tree.GlobalItem g ∷ items) k structs h e present = (
+  global_led w m c g.initial s k structs (object_settled w.structs g.of h.0.0)
+      (λ cell. ap (λ z. m.cells (spot_of (source.Born 0) z cell)) (no_more k) ∙ e 0 cell)
+      (global_made w g.initial (global_shape g.initial s) (data_of w items) c k
+      (λ cell j. ap (λ z. c.parts (spot_in (core.Born 0) z cell) j) (no_more k) ∙ present 0 cell j)),
+  led_from w m c items (suc k) structs h.1 (λ i cell. ap (λ z. m.cells (spot_of (source.Born 0) z cell)) (one_on k i) ∙ e (suc i) cell)
       (λ i cell j. ap (λ z. c.parts (spot_in (core.Born 0) z cell) j) (one_on k i) ∙ present (suc i) cell j),
 )
   where
     s : Shape
     s = settled (written g.of)
 
-pub heap_led : (w : World) (items : List Item) → TakesProgram w items → AreLed w (heap_of w items) (first_memory (data_of w items)) (globals_from items 0)
-heap_led w items h = led_from w (heap_of w items) (first_memory (data_of w items)) items 0 h
+pub heap_led : (w : World) (items : List Item) → AreStructs w.unions w.structs → TakesProgram w items
+    → AreLed w (heap_of w items) (first_memory (data_of w items)) (globals_from items 0)
+heap_led w items structs h = led_from w (heap_of w items) (first_memory (data_of w items)) items 0 structs h
     (λ i cell. ap (λ z. (heap_of w items).cells (spot_of (source.Born 0) z cell)) (none_on i)) (heap_present w items)

@@ -1,7 +1,6 @@
 -- What a global's cells hold at the start, in the source and in Core.
-use Rattle.std.proofs.Common.{◌≡◌, ℕ, zero, suc, ◌+◌, List, [], ◌∷◌, length, map, Option, Some, None, refl, sym, ap, ◌∙◌, subst}
-use Rattle.std.specs.Prelude.{◌*◌, ◌/◌, slice_get, option_and_then}
-use Rattle.std.proofs.Math.Nat.{mod-eq_of_lt}
+use Rattle.std.proofs.Common.{◌≡◌, ℕ, zero, suc, ◌+◌, List, [], ◌∷◌, length, map, true, false, Option, Some, None, refl, sym, ap, ◌∙◌, subst, ◌++◌, arith, ◌<◌}
+use Rattle.std.specs.Prelude.{◌*◌, slice_get, option_and_then}
 use Rattle.std.proofs.lemmas.Option.{none-some}
 use Rattle.cyc_tree.specs.Tree as tree
 use Rattle.cyc_tree.specs.Tree.{Initial, Item}
@@ -22,7 +21,7 @@ use Rattle.source_meaning.specs.Shapes.{
   settled,
 }
 use Rattle.source_meaning.specs.Memory as source
-use Rattle.source_meaning.specs.Memory.{Scalar, Holds, Cell, Object, object_of}
+use Rattle.source_meaning.specs.Memory.{Scalar, Holds, Cell, Object, first_cell}
 use Rattle.source_meaning.specs.Steps.{World}
 use Rattle.source_meaning.specs.Conversions.{cells_of}
 use Rattle.source_meaning.specs.Programs.{global_shape, global_object, global_objects}
@@ -30,20 +29,25 @@ use Rattle.core_meaning.specs.Memory as core
 use Rattle.core_meaning.specs.Memory.{Content, Part, Layout}
 use Rattle.core_meaning.specs.Core.{Datum}
 use Rattle.core_meaning.specs.Meaning.{datum_parts}
-use Rattle.source_lowering.specs.Layouts.{layout_of, first_part}
+use Rattle.source_lowering.specs.Layouts.{layout_of, first_part, Piece, pieces_of, part_shape_of}
 use Rattle.source_lowering.specs.Lowered.{width_of}
-use Rattle.source_lowering.specs.Programs.{datum_of, first_content, global_datum, data_of}
-use Rattle.source_lowering.specs.Taken.{IsIntegerShape, IsNullable, TakesConstant}
-use Rattle.source_lowering.specs.Lowerable.{IsObject, IsNoStruct, AreStructs, TakesGlobal, TakesProgram}
-use Rattle.source_lowering.proofs.Relations.{at, Shown}
-use Rattle.source_lowering.proofs.Integers.{IsWordShape}
+use Rattle.source_lowering.specs.Programs.{datum_of, first_content, global_datum, data_of, begun_datum}
+use Rattle.source_lowering.specs.Taken.{IsNullable, TakesConstant}
+use Rattle.source_lowering.specs.Lowerable.{IsObject, AreStructs, TakesGlobal, TakesProgram}
+use Rattle.source_lowering.proofs.Relations.{Shown, HoldsFrom}
+use Rattle.source_lowering.proofs.Integers.{IsWordShape, IsValueShape, word_value, integer_word}
 use Rattle.source_lowering.proofs.Cells.{plain_of}
-use Rattle.source_lowering.proofs.StructCells.{object_cells}
+use Rattle.source_lowering.proofs.StructCells.{object_cells, HasCells}
 use Rattle.source_lowering.proofs.Making.{cell_with}
-use Rattle.source_lowering.proofs.Entering.{cell_blank}
-use Rattle.source_lowering.proofs.Clearing.{BeginsWith, layout_first}
+use Rattle.source_lowering.proofs.Clearing.{BeginsWith, layout_first, placed_at}
 use Rattle.source_lowering.proofs.Declaring.{blank_holds}
-use Rattle.source_lowering.proofs.Beginning.{IsFirstCell, first_cell_is, first_shown}
+use Rattle.source_lowering.proofs.FirstCells.{IsFirstCell, first_cell_is, first_shown}
+use Rattle.source_lowering.proofs.CellParts.{firsts_of}
+use Rattle.source_lowering.proofs.Members.{word_pieces, layout_count}
+use Rattle.source_lowering.proofs.ElementsMade.{here_on, further_on, element_blank, element_cell, cell_number}
+use Rattle.source_lowering.proofs.ArrayCells.{InElement, in_element}
+use Rattle.source_meaning.specs.Statements.{first_array}
+use Rattle.std.proofs.lemmas.List.{length-map}
 use Rattle.source_lowering.proofs.WrittenTypes.{object_settled}
 
 abbrev pub part_of : ℕ → Content → Part
@@ -70,55 +74,44 @@ datum_is w (ArrayShape count of) x ds h = absurd h
 
 -- ---- the source's object
 
--- a global that is given a constant is no struct
-integer_single : (s : Shape) → IsIntegerShape s → IsNoStruct s
-integer_single (StructShape tag) h = h
-integer_single _ h = tt
-
-nullable_single : (s : Shape) → IsNullable s → IsNoStruct s
-nullable_single (StructShape tag) h = h
-nullable_single _ h = tt
-
-pub constant_single : (c : tree.Constant) (s : Shape) → TakesConstant s c → IsNoStruct s
-constant_single (tree.Number at value suffix) s h = integer_single s h
-constant_single (tree.Negative at value suffix) s h = integer_single s h
-constant_single (tree.Character at byte) s h = integer_single s h
-constant_single (tree.Text at bytes) s h = absurd h
-constant_single (tree.Null at) s h = nullable_single s h
-
--- what the cells of a global hold before its constant is stored
-abbrev pub content_of : Initial → Shape → source.Content
-content_of Initial.Unset s = source.first_content s
-content_of (Initial.Elements count) s = source.Blank
-content_of (Initial.Given c) s = source.Blank
-
-pub object_is : (w : World) (initial : Initial) (s : Shape) → TakesGlobal s initial
-    → global_object w initial s ≡ object_of (map (cell_with (content_of initial)) (cells_of w s))
-object_is w Initial.Unset s h = refl
-object_is w (Initial.Elements count) s h = absurd h
-object_is w (Initial.Given c) s h = refl
-
-pub shape_kept : (initial : Initial) (s : Shape) → TakesGlobal s initial → global_shape initial s ≡ s
-shape_kept Initial.Unset s h = refl
-shape_kept (Initial.Elements count) s h = absurd h
-shape_kept (Initial.Given c) s h = refl
+-- what is given a constant is a value
+pub constant_is_value : (w : World) (c : tree.Constant) (s : Shape) → TakesConstant s c → IsObject w.structs s → IsValueShape s
+constant_is_value w (tree.Number place value suffix) s h object = word_value s (integer_word s h)
+constant_is_value w (tree.Negative place value suffix) s h object = word_value s (integer_word s h)
+constant_is_value w (tree.Character place byte) s h object = word_value s (integer_word s h)
+constant_is_value w (tree.Text place bytes) s h object = absurd h
+constant_is_value w (tree.Null place) s h object = nullable_value s h object
+  where
+    nullable_value : (z : Shape) → IsNullable z → IsObject w.structs z → IsValueShape z
+    nullable_value (ThinShape true owner to) g o = o
+    nullable_value (FatShape to) g o = o
+    nullable_value (ThinShape false owner to) g o = absurd g
+    nullable_value IntShape g o = absurd g
+    nullable_value UnsignedShape g o = absurd g
+    nullable_value CharShape g o = absurd g
+    nullable_value VoidShape g o = absurd g
+    nullable_value HandleShape g o = absurd g
+    nullable_value KeyShape g o = absurd g
+    nullable_value (StructShape tag) g o = absurd g
+    nullable_value (UnionShape tag) g o = absurd g
+    nullable_value (ArrayShape count of) g o = absurd g
 
 -- ---- each global
 
 abbrev pub cell_in : ℕ → Option Object → Option Cell
 cell_in cell o = option_and_then (λ f. f cell) o
 
--- a global's cell holds what its part in Core's data has
+-- a global's cell holds what its parts in Core's data have
 pub record IsHeapValue (w : World) (ds : List Datum) (i cell : ℕ) (shape : Shape) (v : Scalar) : Type 0 where
-  pub part : Part
-  pub is : datum_parts ds i cell 0 ≡ Some part
-  pub shown : (m : source.Memory) (c : core.Memory) → Shown w m c shape v (part.content ∷ [])
+  pub contents : List Content
+  pub held : HoldsFrom (datum_parts ds i cell) 0 contents
+  pub shown : (m : source.Memory) (c : core.Memory) → Shown w m c shape v contents
 
 -- what begins by its shape: a word
-word_value : (w : World) (s : Shape) (ds : List Datum) (cell : ℕ) (shape : Shape) (v : Scalar) → IsWordShape s
+word_global : (w : World) (s : Shape) (ds : List Datum) (cell : ℕ) (shape : Shape) (v : Scalar) → IsWordShape s
     → slice_get (map (cell_with source.first_content) (cells_of w s)) cell ≡ Some (cell_of shape (Holds v))
     → IsHeapValue w (datum_of w s (first_part s) ∷ ds) 0 cell shape v
-word_value w s ds cell shape v is_word e = at_cell cell (first_cell_is (s ∷ []) cell shape v (is_word, tt)
+word_global w s ds cell shape v is_word e = at_cell cell (first_cell_is (s ∷ []) cell shape v (word_value s is_word, tt)
     (ap (λ z. slice_get (map (cell_with source.first_content) z) cell) (sym (plain_of w s is_word).cells) ∙ e))
   where
     some_is : (x y : Shape) → Some x ≡ Some y → x ≡ y
@@ -129,57 +122,116 @@ word_value w s ds cell shape v is_word e = at_cell cell (first_cell_is (s ∷ []
 
     at_cell : (k : ℕ) → IsFirstCell (s ∷ []) k shape v → IsHeapValue w (datum_of w s (first_part s) ∷ ds) 0 k shape v
     at_cell zero o = record {
-      part = part_of (width_of s) (first_part s);
-      is = datum_is w s (first_part s) ds is_word;
-      shown = λ m c. subst (λ z. Shown w m c shape v (first_part z ∷ [])) (sym (some_is s shape o.here)) (first_shown w m c shape v o.word o.holds);
+      contents = first_part s ∷ [];
+      held = ((part_of (width_of s) (first_part s), (datum_is w s (first_part s) ds is_word, refl)), tt);
+      shown = λ m c.
+          subst (λ z. Shown w m c shape v z) (ap (λ z. firsts_of (pieces_of z)) (sym (some_is s shape o.here)) ∙ ap firsts_of (word_pieces s is_word))
+          (first_shown w m c shape v o.is_value o.holds);
     }
     at_cell (suc k) o = absurd (no_shape o.here)
 
--- or a struct
-struct_value : (w : World) (tag : List ℕ) (ds : List Datum) (cell : ℕ) (shape : Shape) (v : Scalar) → AreStructs w.unions w.structs
-    → IsObject w.structs (StructShape tag)
-    → slice_get (map (cell_with source.first_content) (cells_of w (StructShape tag))) cell ≡ Some (cell_of shape (Holds v))
-    → IsHeapValue w (global_datum w Initial.Unset (StructShape tag) ∷ ds) 0 cell shape v
-struct_value w tag ds cell shape v structs object e = record {
-  part = record { offset = cell / length layout.cells * layout.bytes + first.offset; width = width_of shape; content = first_part shape };
-  is = rw (cell_blank layout cell 0 _ first.less first.is)
-      (ap (λ z. filled (first_content (core.shape_in (slice_get layout.cells z) 0))) (mod-eq_of_lt first.less) ∙
-      ap (λ z. filled (first_content (core.shape_in z 0))) first.is);
-  shown = λ m c. first_shown w m c shape v o.word o.holds;
-}
+-- or what begins as its layout does, of so many elements: the parts of a cell of one
+begun_holds : (w : World) (s : Shape) (count k i : ℕ) (ds : List Datum) (shape : Shape) → AreStructs w.unions w.structs → IsObject w.structs s
+    → slice_get (cells_of w s) i ≡ Some shape → k < count
+    → HoldsFrom (datum_parts (begun_datum (record { layout = layout_of w s; count = count }) ∷ ds) 0 (element_cell (layout_of w s) k i)) 0
+    (firsts_of (pieces_of shape))
+begun_holds w s count k i ds shape structs object here less = holds 0 (pieces_of shape) (λ n. ap (slice_get parts) (zero_on n))
   where
     layout : Layout
-    layout = layout_of w (StructShape tag)
+    layout = layout_of w s
 
-    o : IsFirstCell (cells_of w (StructShape tag)) cell shape v
-    o = first_cell_is (cells_of w (StructShape tag)) cell shape v (object_cells w.unions w.structs (StructShape tag) structs object).words e
+    cell : ℕ
+    cell = element_cell layout k i
 
-    first : BeginsWith layout.cells cell shape
-    first = layout_first w (StructShape tag) cell shape structs object o.here
+    first : BeginsWith layout.cells i shape
+    first = layout_first w s i shape structs object here
 
-    filled : Content → Option Part
-    filled x = Some (record { offset = cell / length layout.cells * layout.bytes + first.offset; width = width_of shape; content = x })
+    parts : List core.PartShape
+    parts = map (part_shape_of (placed_at first.offset shape)) (pieces_of shape) ++ first.others
+
+    zero_on : (n : ℕ) → 0 + n ≡ n
+    zero_on n = omega arith
+
+    one : (j : ℕ) (x : core.PartShape) → slice_get parts j ≡ Some x
+        → datum_parts (begun_datum (record { layout = layout; count = count }) ∷ ds) 0 cell j
+        ≡ Some (record { offset = k * layout.bytes + x.offset; width = x.width; content = x.first })
+    one j x is =
+        rw (element_blank layout count k i j parts less first.less first.is, is)
+        (ap (λ z. Some (record { offset = k * layout.bytes + x.offset; width = x.width; content = z }))
+        (ap (λ z. first_content (core.shape_in (slice_get layout.cells z) j)) (cell_number layout k i first.less) ∙
+        ap (λ z. first_content (core.shape_in z j)) first.is ∙ ap first_content is))
+
+    holds : (j : ℕ) (qs : List Piece)
+        → ((n : ℕ) → slice_get parts (j + n) ≡ slice_get (map (part_shape_of (placed_at first.offset shape)) qs ++ first.others) n)
+        → HoldsFrom (datum_parts (begun_datum (record { layout = layout; count = count }) ∷ ds) 0 cell) j (firsts_of qs)
+    holds j [] same = tt
+    holds j (q ∷ qs) same =
+        let x : core.PartShape = part_shape_of (placed_at first.offset shape) q in
+        let more : List core.PartShape = map (part_shape_of (placed_at first.offset shape)) qs ++ first.others in (
+          (record { offset = k * layout.bytes + x.offset; width = x.width; content = x.first }, (one j x (here_on parts more j x same), refl)),
+          holds (suc j) qs (further_on parts more j x same),
+        )
+
+begun_value : (w : World) (s : Shape) (ds : List Datum) (cell : ℕ) (shape : Shape) (v : Scalar) → AreStructs w.unions w.structs → IsObject w.structs s
+    → slice_get (map (cell_with source.first_content) (cells_of w s)) cell ≡ Some (cell_of shape (Holds v))
+    → IsHeapValue w (begun_datum (record { layout = layout_of w s; count = 1 }) ∷ ds) 0 cell shape v
+begun_value w s ds cell shape v structs object e = record {
+  contents = firsts_of (pieces_of shape);
+  held = subst (λ z. HoldsFrom (datum_parts (begun_datum (record { layout = layout_of w s; count = 1 }) ∷ ds) 0 z) 0 (firsts_of (pieces_of shape))) same
+      (begun_holds w s 1 0 cell ds shape structs object o.here (omega arith));
+  shown = λ m c. first_shown w m c shape v o.is_value o.holds;
+}
+  where
+    o : IsFirstCell (cells_of w s) cell shape v
+    o = first_cell_is (cells_of w s) cell shape v (object_cells w.unions w.structs s structs object).values e
+
+    same : 0 * length (layout_of w s).cells + cell ≡ cell
+    same = omega arith
+
+-- an array
+pub array_value : (w : World) (of : Shape) (count : ℕ) (ds : List Datum) (cell : ℕ) (shape : Shape) (v : Scalar) → AreStructs w.unions w.structs
+    → IsObject w.structs of → first_array w count of cell ≡ Some (cell_of shape (Holds v))
+    → IsHeapValue w (begun_datum (record { layout = layout_of w of; count = count }) ∷ ds) 0 cell shape v
+array_value w of count ds cell shape v structs object e = record {
+  contents = firsts_of (pieces_of shape);
+  held = subst (λ z. HoldsFrom (datum_parts (begun_datum (record { layout = layout_of w of; count = count }) ∷ ds) 0 z) 0 (firsts_of (pieces_of shape)))
+      (sym where_is) (begun_holds w of count inside.element inside.number ds shape structs object o.here inside.less);
+  shown = λ m c. first_shown w m c shape v o.is_value o.holds;
+}
+  where
+    has : HasCells w.unions w.structs of
+    has = object_cells w.unions w.structs of structs object
+
+    inside : InElement count cell (map first_cell (cells_of w of)) (cell_of shape (Holds v))
+    inside = in_element count cell (map first_cell (cells_of w of)) (cell_of shape (Holds v)) e
+
+    o : IsFirstCell (cells_of w of) inside.number shape v
+    o = first_cell_is (cells_of w of) inside.number shape v has.values inside.is
+
+    where_is : cell ≡ element_cell (layout_of w of) inside.element inside.number
+    where_is = inside.cell_is ∙
+        ap (λ z. inside.element * z + inside.number) (length-map (cells_of w of) first_cell ∙ sym (layout_count w of has))
 
 unset_value : (w : World) (s : Shape) (ds : List Datum) (cell : ℕ) (shape : Shape) (v : Scalar) → AreStructs w.unions w.structs → IsObject w.structs s
     → slice_get (map (cell_with source.first_content) (cells_of w s)) cell ≡ Some (cell_of shape (Holds v))
     → IsHeapValue w (global_datum w Initial.Unset s ∷ ds) 0 cell shape v
-unset_value w (StructShape tag) ds cell shape v structs object e = struct_value w tag ds cell shape v structs object e
-unset_value w IntShape ds cell shape v structs object e = word_value w IntShape ds cell shape v tt e
-unset_value w UnsignedShape ds cell shape v structs object e = word_value w UnsignedShape ds cell shape v tt e
-unset_value w CharShape ds cell shape v structs object e = word_value w CharShape ds cell shape v tt e
-unset_value w (ThinShape b owner to) ds cell shape v structs object e = word_value w (ThinShape b owner to) ds cell shape v object e
+unset_value w (StructShape tag) ds cell shape v structs object e = begun_value w (StructShape tag) ds cell shape v structs object e
+unset_value w IntShape ds cell shape v structs object e = word_global w IntShape ds cell shape v tt e
+unset_value w UnsignedShape ds cell shape v structs object e = word_global w UnsignedShape ds cell shape v tt e
+unset_value w CharShape ds cell shape v structs object e = word_global w CharShape ds cell shape v tt e
+unset_value w (ThinShape b owner to) ds cell shape v structs object e = word_global w (ThinShape b owner to) ds cell shape v object e
 unset_value w VoidShape ds cell shape v structs object e = absurd object
-unset_value w (FatShape to) ds cell shape v structs object e = absurd object
-unset_value w HandleShape ds cell shape v structs object e = word_value w HandleShape ds cell shape v tt e
+unset_value w (FatShape to) ds cell shape v structs object e = begun_value w (FatShape to) ds cell shape v structs object e
+unset_value w HandleShape ds cell shape v structs object e = word_global w HandleShape ds cell shape v tt e
 unset_value w KeyShape ds cell shape v structs object e = absurd object
 unset_value w (UnionShape tag) ds cell shape v structs object e = absurd object
 unset_value w (ArrayShape count of) ds cell shape v structs object e = absurd object
 
 global_value : (w : World) (initial : Initial) (s : Shape) (ds : List Datum) (cell : ℕ) (shape : Shape) (v : Scalar) → AreStructs w.unions w.structs
     → TakesGlobal s initial → IsObject w.structs s → global_object w initial s cell ≡ Some (cell_of shape (Holds v))
-    → IsHeapValue w (global_datum w initial s ∷ ds) 0 cell shape v
+    → IsHeapValue w (global_datum w initial (global_shape initial s) ∷ ds) 0 cell shape v
 global_value w Initial.Unset s ds cell shape v structs h object e = unset_value w s ds cell shape v structs object e
-global_value w (Initial.Elements count) s ds cell shape v structs h object e = absurd h
+global_value w (Initial.Elements count) s ds cell shape v structs h object e = array_value w s count ds cell shape v structs object e
 global_value w (Initial.Given c) s ds cell shape v structs h object e = absurd (blank_holds (cells_of w s) cell shape v e)
 
 pub heap_value : (w : World) (items : List Item) (i cell : ℕ) (shape : Shape) (v : Scalar) → AreStructs w.unions w.structs → TakesProgram w items
@@ -192,4 +244,4 @@ heap_value w (tree.GlobalItem g ∷ items) zero cell shape v structs h e =
     global_value w g.initial (settled (written g.of)) (data_of w items) cell shape v structs h.0.1 (object_settled w.structs g.of h.0.0) e
 heap_value w (tree.GlobalItem g ∷ items) (suc i) cell shape v structs h e =
     let one = heap_value w items i cell shape v structs h.1 e in
-    record { part = one.part; is = one.is; shown = one.shown }
+    record { contents = one.contents; held = one.held; shown = one.shown }

@@ -12,14 +12,14 @@ use Rattle.source_meaning.specs.Places.{Sense, with_binding}
 use Rattle.source_meaning.specs.Regions.{local_with, initialised}
 use Rattle.core_meaning.specs.Memory as core
 use Rattle.core_meaning.specs.Memory.{Pointer, Layout}
-use Rattle.core_meaning.specs.Core.{Statement, Do, LocalAddress, Copy, Statements, MoreStatements}
+use Rattle.core_meaning.specs.Core.{Statement, Do, LocalAddress, Copy, Statements}
 use Rattle.core_meaning.specs.Steps as core_steps
 use Rattle.core_meaning.specs.Steps.{Config, with_temp, with_memory}
 use Rattle.core_meaning.specs.Operations.{does, are_laid, same_object, copied}
 use Rattle.core_meaning.specs.Meaning as meaning
 use Rattle.source_lowering.specs.Layouts.{layout_of}
 use Rattle.source_lowering.specs.Lowered.{put}
-use Rattle.source_lowering.specs.Lowerable.{IsObject, AreStructs}
+use Rattle.source_lowering.specs.Lowerable.{IsObject, IsStructShape, AreStructs}
 use Rattle.source_lowering.proofs.StructCells.{shapes_in}
 use Rattle.source_lowering.proofs.Relations.{at, HasShape, AreCells, AreMade, ArePending, Agree, Later, Place, Fits, SameAt, Next, Bound, around, within}
 use Rattle.source_lowering.proofs.Keeping.{later_on, fits_later, named_free, later_items, blocks_of}
@@ -64,7 +64,8 @@ copy_code p l = Do (LocalAddress (p.regions.all + 1) 0 p.made) ∷ Do (Copy (p.r
 pub struct_with_same : (p : Place) (n : ℕ) (scope : Scope) (name tag : List ℕ) (shapes : List Shape) (t : core.Spot) (byte : ℕ) (vs : List Scalar)
     (then_act : Scope → Act Flow) (next : Flow → source.Memory → steps.Step) (m : source.Memory) (c : Config) (rest : Statements) (after : Next)
     → scope.world ≡ p.world → scope.frame ≡ p.frame → AreStructs p.world.unions p.world.structs → IsObject p.world.structs (StructShape tag)
-    → p.pending ≡ StructShape tag ∷ shapes → Fits p m c → c.temps p.regions.all ≡ Pointer t byte → AreMade c.memory t byte (layout_of p.world (StructShape tag)).cells
+    → p.pending ≡ StructShape tag ∷ shapes → Fits p m c → c.temps p.regions.all ≡ Pointer t byte
+    → AreMade c.memory t byte (layout_of p.world (StructShape tag)).cells
     → AllShown p.world m c.memory t (cells_of p.world (StructShape tag)) vs → core.is_live (c.memory.standing t.region) ≡ true
     → same_object (at (local_spot p.frame p.made)) t ≡ false
     → BeginsIn p (with_local p name (StructShape tag) shapes) n m c
@@ -121,7 +122,7 @@ struct_with_same p n scope name tag shapes t byte vs then_act next m c rest afte
     m1 = m_made m p.frame (object_with p.world (λ s. source.Blank) shape)
 
     fits2 : Fits q m1 c1
-    fits2 = local_fits p m c1 name shape shapes (λ s. source.Blank) pending fits1
+    fits2 = local_fits p m c1 name shape shapes (λ s. source.Blank) object pending fits1
         (λ cell of u e. absurd (blank_holds (cells_of p.world shape) cell of u e))
 
     later2 : Later (around p p.frame) m c1.memory m1 c1.memory
@@ -174,18 +175,19 @@ pub placed_begins : (p : Place) (n : ℕ) (scope : Scope) (name tag : List ℕ) 
     (then_act : Scope → Act Flow) (next : Flow → source.Memory → steps.Step) (m : source.Memory) (c : Config) (rest : Statements) (after : Next)
     → scope.world ≡ p.world → scope.frame ≡ p.frame → AreStructs p.world.unions p.world.structs → IsObject p.world.structs (StructShape tag)
     → p.pending ≡ StructShape tag ∷ shapes → Fits p m c → IsPlaced p n p.regions.all e from code
+    → IsStructShape p.world.structs from
     → BeginsIn p (with_local p name (StructShape tag) shapes) n m c
     (λ m'. then_act (with_binding scope name (Variable (StructShape tag) (local_spot p.frame p.made))) next m') (meaning.statements rest after)
     → SameAt p n (initialised scope name (StructShape tag) e then_act next m) (meaning.statements (put code
     (put (copy_code p (layout_of p.world (StructShape tag))) rest)) after c)
-placed_begins p n scope name tag shapes e from code then_act next m c rest after world frame structs object pending fits one goes =
-    subst (λ z. SameAt p n z whole) (sym (one.value convert m))
+placed_begins p n scope name tag shapes e from code then_act next m c rest after world frame structs object pending fits one is goes =
+    subst (λ z. SameAt p n z whole) (sym (one.value is convert m))
     (subst (λ z. SameAt p n (e.place (λ t. take_cells (cells_of p.world z) t convert) m) whole) (sym one.shape_is)
     (one.placed.same m c (λ t. take_cells (cells_of p.world from) t convert)
     (put (copy_code p (layout_of p.world (StructShape tag))) rest) after fits (record {
       go = λ m1 c1 t byte fits1 later1 kept1 temp lies leads.
           let has = lies.cells in
-          subst (λ z. SameAt p n z (meaning.statements copies after c1)) (sym (whole_taken (cells_of p.world from) t convert m1 has.words))
+          subst (λ z. SameAt p n z (meaning.statements copies after c1)) (sym (whole_taken (cells_of p.world from) t convert m1 has.values))
           (read_all p.world p.program n (cells_of p.world from) m1 t convert (meaning.statements copies after c1) leads.0
           (λ vs held live.
           subst (λ z. SameAt p n (converted z (StructShape tag) e.shape vs (λ us. local_with scope name (StructShape tag) us then_act next) m1)
@@ -198,7 +200,7 @@ placed_begins p n scope name tag shapes e from code then_act next m c rest after
           struct_with_same p n scope name tag shapes (at t) byte vs then_act next m1 c1 rest after world frame structs object pending fits1 temp
           (subst (λ z. AreMade c1.memory (at t) byte (layout_of p.world z).cells) (sym same) leads.1)
           (subst (λ z. AllShown p.world m1 c1.memory (at t) (cells_of p.world z) vs) (sym same)
-          (held_shown p.world m1 c1.memory t (cells_of p.world from) vs fits1.agree has.words held))
+          (held_shown p.world m1 c1.memory t (cells_of p.world from) vs fits1.agree has.values held))
           (sym (fits1.agree.live t.region) ∙ subst (λ z. IsLiveFor m1 t z) cells live)
           (object_apart p.world m1 c1.memory p.frame p.made t _ fits1.agree fits1.made here.is)
           (record {

@@ -1,5 +1,5 @@
--- Values of one word: integers, thin pointers and handles.
-use Rattle.std.proofs.Common.{◌≡◌, ℕ, Bool, true, Some, None, ◌^◌, ◌<◌, ◌⊎◌, inl, inr, ⊎_elim, List, [], ◌∷◌, refl, sym, ap, subst, arith}
+-- The shapes of values, and values of one temporary: integers, thin pointers and handles.
+use Rattle.std.proofs.Common.{◌≡◌, ℕ, Bool, ◌^◌, ◌<◌, ◌⊎◌, inl, inr, ⊎_elim, List, [], ◌∷◌, refl, sym, ap, subst, arith}
 use Rattle.source_meaning.specs.Shapes.{
   Shape,
   Shared,
@@ -17,29 +17,26 @@ use Rattle.source_meaning.specs.Shapes.{
   ArrayShape,
 }
 use Rattle.source_meaning.specs.Memory as source
-use Rattle.source_meaning.specs.Memory.{IntegerType, AsInt, AsUnsigned, AsChar, Scalar, Integer, Thin, HandleOf, Spot}
-use Rattle.source_meaning.specs.Steps as steps
+use Rattle.source_meaning.specs.Memory.{IntegerType, AsInt, AsUnsigned, AsChar, Scalar, Integer, HandleOf}
 use Rattle.source_meaning.specs.Steps.{World}
 use Rattle.source_meaning.specs.Conversions.{one}
 use Rattle.source_meaning.specs.Programs.{integer_shape}
 use Rattle.core_meaning.specs.Memory as core
 use Rattle.core_meaning.specs.Memory.{Content, Word, Null, Pointer, Birth}
-use Rattle.core_meaning.specs.Core.{Program}
-use Rattle.core_meaning.specs.Steps as core_steps
 use Rattle.source_lowering.specs.Lowered.{type_of}
 use Rattle.source_lowering.specs.Taken.{IsIntegerShape}
-pub use Rattle.source_lowering.specs.Lowerable.{IsTarget, IsWordShape, IsObject, IsNoStruct}
-use Rattle.source_lowering.proofs.Relations.{at, IsTakenObject, Leads, Shown, ANull, APointer, AValue, ANothing, Given, Same, first_in}
-use Rattle.source_lowering.proofs.Runs.{stuck_same}
+pub use Rattle.source_lowering.specs.Lowerable.{IsTarget, IsWordShape, IsValueShape, IsObject, IsNoStruct}
+use Rattle.source_lowering.proofs.Relations.{at, contents_in, Shown, ANull, APointer, Given, first_in}
+use Rattle.source_lowering.specs.Members.{words_in}
 
--- the shapes of values: a word, or none
+-- the shapes of values: a word, a fat pointer, or none
 abbrev pub IsTaken : Shape → Type 0
 IsTaken IntShape = Unit {0}
 IsTaken UnsignedShape = Unit {0}
 IsTaken CharShape = Unit {0}
 IsTaken VoidShape = Unit {0}
 IsTaken (ThinShape may_be_null owner to) = (owner ≡ Shared) × IsTarget to
-IsTaken (FatShape to) = ⊥
+IsTaken (FatShape to) = IsTarget to
 IsTaken HandleShape = Unit {0}
 IsTaken KeyShape = ⊥
 IsTaken (StructShape tag) = ⊥
@@ -52,12 +49,25 @@ word_taken UnsignedShape h = tt
 word_taken CharShape h = tt
 word_taken VoidShape h = tt
 word_taken (ThinShape may_be_null owner to) h = h
-word_taken (FatShape to) h = h
+word_taken (FatShape to) h = absurd h
 word_taken HandleShape h = h
 word_taken KeyShape h = h
 word_taken (StructShape tag) h = h
 word_taken (UnionShape tag) h = h
 word_taken (ArrayShape count of) h = h
+
+pub value_taken : (s : Shape) → IsValueShape s → IsTaken s
+value_taken (FatShape to) h = h
+value_taken IntShape h = tt
+value_taken UnsignedShape h = tt
+value_taken CharShape h = tt
+value_taken VoidShape h = absurd h
+value_taken (ThinShape may_be_null owner to) h = h
+value_taken HandleShape h = tt
+value_taken KeyShape h = absurd h
+value_taken (StructShape tag) h = absurd h
+value_taken (UnionShape tag) h = absurd h
+value_taken (ArrayShape count of) h = absurd h
 
 abbrev pub limit : IntegerType → ℕ
 limit AsInt = 2 ^ 32
@@ -118,7 +128,7 @@ pub taken_no_struct : (s : Shape) → IsTaken s → IsNoStruct s
 taken_no_struct (StructShape tag) h = h
 taken_no_struct _ h = tt
 
--- an object is a word or a struct
+-- an object is a value or a struct
 pub object_target : (structs : List Layout) (s : Shape) → IsObject structs s → IsTarget s
 object_target structs (StructShape tag) h = tt
 object_target structs IntShape h = tt
@@ -132,31 +142,45 @@ object_target structs KeyShape h = h
 object_target structs (UnionShape tag) h = h
 object_target structs (ArrayShape count of) h = h
 
-pub object_word : (structs : List Layout) (s : Shape) → IsObject structs s → IsNoStruct s → IsWordShape s
-object_word structs (StructShape tag) h g = g
-object_word structs IntShape h g = tt
-object_word structs UnsignedShape h g = tt
-object_word structs CharShape h g = tt
-object_word structs VoidShape h g = h
-object_word structs (ThinShape may_be_null owner to) h g = h
-object_word structs (FatShape to) h g = h
-object_word structs HandleShape h g = h
-object_word structs KeyShape h g = h
-object_word structs (UnionShape tag) h g = h
-object_word structs (ArrayShape count of) h g = h
+pub object_value : (structs : List Layout) (s : Shape) → IsObject structs s → IsNoStruct s → IsValueShape s
+object_value structs (StructShape tag) h g = g
+object_value structs IntShape h g = tt
+object_value structs UnsignedShape h g = tt
+object_value structs CharShape h g = tt
+object_value structs VoidShape h g = h
+object_value structs (ThinShape may_be_null owner to) h g = h
+object_value structs (FatShape to) h g = h
+object_value structs HandleShape h g = h
+object_value structs KeyShape h g = h
+object_value structs (UnionShape tag) h g = h
+object_value structs (ArrayShape count of) h g = h
 
-pub word_object : (structs : List Layout) (s : Shape) → IsWordShape s → IsObject structs s
-word_object structs (StructShape tag) h = absurd h
-word_object structs IntShape h = tt
-word_object structs UnsignedShape h = tt
-word_object structs CharShape h = tt
-word_object structs VoidShape h = h
-word_object structs (ThinShape may_be_null owner to) h = h
-word_object structs (FatShape to) h = h
-word_object structs HandleShape h = h
-word_object structs KeyShape h = h
-word_object structs (UnionShape tag) h = h
-word_object structs (ArrayShape count of) h = h
+pub value_object : (structs : List Layout) (s : Shape) → IsValueShape s → IsObject structs s
+value_object structs (StructShape tag) h = absurd h
+value_object structs IntShape h = tt
+value_object structs UnsignedShape h = tt
+value_object structs CharShape h = tt
+value_object structs VoidShape h = h
+value_object structs (ThinShape may_be_null owner to) h = h
+value_object structs (FatShape to) h = h
+value_object structs HandleShape h = h
+value_object structs KeyShape h = h
+value_object structs (UnionShape tag) h = h
+value_object structs (ArrayShape count of) h = h
+
+-- a word is a value
+pub word_value : (s : Shape) → IsWordShape s → IsValueShape s
+word_value IntShape h = tt
+word_value UnsignedShape h = tt
+word_value CharShape h = tt
+word_value VoidShape h = h
+word_value (ThinShape may_be_null owner to) h = h
+word_value (FatShape to) h = absurd h
+word_value HandleShape h = tt
+word_value KeyShape h = h
+word_value (StructShape tag) h = h
+word_value (UnionShape tag) h = h
+word_value (ArrayShape count of) h = h
 
 pub not_void : (shape : Shape) → IsWordShape shape → shape ≡ VoidShape → ⊥
 not_void shape h e = subst (λ z. IsWordShape z) e h
@@ -183,8 +207,8 @@ pub pointer_is : (w : World) (m : source.Memory) (c : core.Memory) (to : Shape) 
     → x ≡ Pointer (at p.spot) p.byte
 pointer_is w m c to x v p = ap (first_in x) p.shown
 
--- what stands for a value of a taken shape is its word, a pointer or a birth
-pub shown_one : (w : World) (m : source.Memory) (c : core.Memory) (s : Shape) (v : Scalar) (x : Content) → IsTaken s → Shown w m c s v (x ∷ [])
+-- what stands for a value of a word's shape is its word, a pointer or a birth
+pub shown_one : (w : World) (m : source.Memory) (c : core.Memory) (s : Shape) (v : Scalar) (x : Content) → IsWordShape s → Shown w m c s v (x ∷ [])
     → IsWord s v x ⊎ (IsThin w m c s v x ⊎ IsHandle s v x)
 shown_one w m c IntShape v x h o = inl (record {
   type = AsInt;
@@ -236,7 +260,7 @@ shown_word w m c s v x h o =
     ⊎_elim (λ (one : IsWord s v x). one)
     (⊎_elim (λ (thin : IsThin w m c s v x). absurd (subst (λ z. IsIntegerShape z) thin.shape_is h))
     (λ (handle : IsHandle s v x). absurd (subst (λ z. IsIntegerShape z) handle.shape_is h)))
-    (shown_one w m c s v x (word_taken s (integer_word s h)) o)
+    (shown_one w m c s v x (integer_word s h) o)
 
 -- and a word stands for its value
 pub word_shown : (w : World) (m : source.Memory) (c : core.Memory) (t : IntegerType) (n : ℕ) → n < limit t
@@ -246,7 +270,7 @@ word_shown w m c AsUnsigned n h = record { word = n; value = refl; shown = refl;
 word_shown w m c AsChar n h = record { word = n; value = refl; shown = refl; small = h }
 
 pub word_given : (w : World) (m : source.Memory) (c : core.Memory) (t : IntegerType) (n : ℕ) (x : Content) → n < limit t → x ≡ Word n
-    → Given w m c (integer_shape t) (Integer t n ∷ []) x
+    → Given w m c (integer_shape t) (Integer t n ∷ []) (x ∷ [])
 word_given w m c t n x h e = inl (record {
   value = Integer t n;
   alone = refl;
@@ -259,35 +283,26 @@ small_word AsInt n h = h
 small_word AsUnsigned n h = h
 small_word AsChar n h = omega (arith, h)
 
--- where one value is needed: without one the source is stuck
-pub one_same : (w : World) (fs : Program) (n : ℕ) (shape : Shape) (m : source.Memory) (c : core.Memory) (vs : List Scalar) (x : Content)
-    (s : Scalar → source.Memory → steps.Step) (k : core_steps.Step) → IsTaken shape → Given w m c shape vs x
-    → ((t : IntegerType) (word : ℕ) → x ≡ Word word → shape ≡ integer_shape t → type_of shape ≡ t → word < limit t → Same w fs n (s (Integer t word) m) k)
-    → ((v : Scalar) → IsThin w m c shape v x → Same w fs n (s v m) k)
-    → ((birth : ℕ) → x ≡ Birth birth → shape ≡ HandleShape → Same w fs n (s (HandleOf birth) m) k) → Same w fs n (one vs s m) k
-one_same w fs n shape m c vs x s k taken given go_word go_thin go_handle = ⊎_elim value nothing given
-  where
-    value : AValue w m c shape vs x → Same w fs n (one vs s m) k
-    value v =
-        subst (λ z. Same w fs n (one z s m) k) (sym v.alone)
-        (⊎_elim
-        (λ (o : IsWord shape v.value x). subst (λ z. Same w fs n (s z m) k) (sym o.value) (go_word o.type o.word o.shown o.shape_is o.type_is o.small))
-        (⊎_elim (λ (o : IsThin w m c shape v.value x). go_thin v.value o)
-        (λ (o : IsHandle shape v.value x). subst (λ z. Same w fs n (s z m) k) (sym o.value) (go_handle o.birth o.shown o.shape_is)))
-        (shown_one w m c shape v.value x taken v.shown))
+-- ---- values of one temporary
 
-    nothing : ANothing shape vs → Same w fs n (one vs s m) k
-    nothing v = subst (λ z. Same w fs n (one z s m) k) (sym v.none) (stuck_same w fs n k)
+pub one_word : (s : Shape) → IsWordShape s → words_in s ≡ 1
+one_word (FatShape to) h = absurd h
+one_word _ h = refl
 
--- NULL, or a pointer to a place
-pub thin_same : (w : World) (fs : Program) (n : ℕ) (shape : Shape) (m : source.Memory) (c : core.Memory) (v : Scalar) (x : Content)
-    (s : Scalar → source.Memory → steps.Step) (k : core_steps.Step) (o : IsThin w m c shape v x)
-    → (x ≡ Null → o.may_be_null ≡ true → Same w fs n (s (Thin None) m) k)
-    → ((t : Spot) (byte : ℕ) → x ≡ Pointer (at t) byte → IsTakenObject w o.to → Leads w m c o.to t byte → Same w fs n (s (Thin (Some t)) m) k)
-    → Same w fs n (s v m) k
-thin_same w fs n shape m c v x s k o go_null go_spot =
-    ⊎_elim
-    (λ (z : ANull o.may_be_null v (x ∷ [])). subst (λ u. Same w fs n (s u m) k) (sym z.value) (go_null (null_is x o.may_be_null v z) z.allowed))
-    (λ (z : APointer w m c o.to v (x ∷ [])).
-    subst (λ u. Same w fs n (s u m) k) (sym z.value) (go_spot z.spot z.byte (pointer_is w m c o.to x v z) z.lies z.leads))
-    o.shown
+pub integer_one : (t : IntegerType) → words_in (integer_shape t) ≡ 1
+integer_one AsInt = refl
+integer_one AsUnsigned = refl
+integer_one AsChar = refl
+
+pub one_content : (s : Shape) → words_in s ≡ 1 → (d : ℕ) (temps : ℕ → Content) → contents_in d s temps ≡ temps d ∷ []
+one_content (FatShape to) h d temps = absurd (omega (arith, h))
+one_content _ h d temps = refl
+
+-- it is given in that temporary
+pub one_given : (w : World) (m : source.Memory) (c : core.Memory) (s : Shape) (vs : List Scalar) (d : ℕ) (temps : ℕ → Content) → words_in s ≡ 1
+    → Given w m c s vs (contents_in d s temps) → Given w m c s vs (temps d ∷ [])
+one_given w m c s vs d temps one given = subst (λ z. Given w m c s vs z) (one_content s one d temps) given
+
+pub given_one : (w : World) (m : source.Memory) (c : core.Memory) (s : Shape) (vs : List Scalar) (d : ℕ) (temps : ℕ → Content) → words_in s ≡ 1
+    → Given w m c s vs (temps d ∷ []) → Given w m c s vs (contents_in d s temps)
+given_one w m c s vs d temps one given = subst (λ z. Given w m c s vs z) (sym (one_content s one d temps)) given

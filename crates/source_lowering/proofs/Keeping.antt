@@ -1,5 +1,5 @@
 -- What keeps the relation: a cell is written, moved or lent; a region ends.
-use Rattle.std.proofs.Common.{◌≡◌, ℕ, ◌+◌, ◌≤◌, List, [], ◌∷◌, Bool, true, false, nat_eq, Option, Some, None, refl, sym, ap, ◌∙◌, subst, arith}
+use Rattle.std.proofs.Common.{◌≡◌, ℕ, suc, ◌≤◌, List, [], ◌∷◌, Bool, true, false, nat_eq, Option, Some, None, refl, sym, ap, ◌∙◌, subst, arith}
 use Rattle.std.specs.Prelude.{◌&&◌, if◌then◌else◌}
 use Rattle.std.proofs.lemmas.Bool.{eqb-true, and_parts}
 use Rattle.source_meaning.specs.Shapes.{Shape}
@@ -43,21 +43,21 @@ pub use Rattle.source_lowering.proofs.Lasting.{
 
 -- ---- cells
 
-abbrev shape_in : Shape → Option Cell → Shape
+abbrev pub shape_in : Shape → Option Cell → Shape
 shape_in s None = s
 shape_in s (Some c) = c.shape
 
-abbrev content_in : source.Content → Option Cell → source.Content
+abbrev pub content_in : source.Content → Option Cell → source.Content
 content_in v None = v
 content_in v (Some c) = c.content
 
-abbrev value_in : Scalar → source.Content → Scalar
+abbrev pub value_in : Scalar → source.Content → Scalar
 value_in v (Holds u) = u
 value_in v source.Blank = v
 value_in v source.Gone = v
 value_in v source.Lent = v
 
-abbrev cell : Shape → source.Content → Cell
+abbrev pub cell : Shape → source.Content → Cell
 cell shape content = record { shape = shape; content = content }
 
 -- ---- a cell gets another content, and no part changes or one does
@@ -72,7 +72,7 @@ shape_kept m s shape old new is t other has = by (same_spot t s) refl
         record { content = new; is = ap (λ b. if b then Some (cell shape new) else m.cells t) e ∙ ap (λ x. Some (cell x new)) same }
     by false e = record { content = has.content; is = ap (λ b. if b then Some (cell shape new) else m.cells t) e ∙ has.is }
 
-part_kept : (c : core.Memory) (s : core.Spot) (j : ℕ) (old : Part) (x : Content) → c.parts s j ≡ Some old → (t : core.Spot) (i offset width : ℕ)
+pub part_kept : (c : core.Memory) (s : core.Spot) (j : ℕ) (old : Part) (x : Content) → c.parts s j ≡ Some old → (t : core.Spot) (i offset width : ℕ)
     → PartIs c t i offset width → PartIs (with_part c s j (record old { content = x })) t i offset width
 part_kept c s j old x is t i offset width p = by (core.same_spot t s && nat_eq i j) refl
   where
@@ -112,7 +112,7 @@ held_other c s t p j [] e h = tt
 held_other c s t p j (x ∷ xs) e ((q, (is, holds)), others) = (
   (q, (ap (λ b. if b && nat_eq j 0 then Some p else c.parts t j) e ∙ is, holds)),
   held_other c s t
-      p (j + 1) xs e others,
+      p (suc j) xs e others,
 )
 
 pub unmade_kept : (m : source.Memory) (s : Spot) (shape : Shape) (old new : source.Content) → m.cells s ≡ Some (cell shape old)
@@ -145,7 +145,7 @@ c_written c s part x = with_part c (at s) 0 (record part { content = x })
 pub held_same : (c c' : core.Memory) (t : core.Spot) (j : ℕ) (cs : List Content) → ((t : core.Spot) (j : ℕ) → c'.parts t j ≡ c.parts t j) → PartsHold c t j cs
     → PartsHold c' t j cs
 held_same c c' t j [] e h = tt
-held_same c c' t j (x ∷ xs) e ((q, (is, holds)), others) = ((q, (e t j ∙ is, holds)), held_same c c' t (j + 1) xs e others)
+held_same c c' t j (x ∷ xs) e ((q, (is, holds)), others) = ((q, (e t j ∙ is, holds)), held_same c c' t (suc j) xs e others)
 
 -- a value of one part is written in both
 pub agree_written : (w : World) (m : source.Memory) (c : core.Memory) (s : Spot) (shape : Shape) (old : source.Content) (v : Scalar) (part : Part)

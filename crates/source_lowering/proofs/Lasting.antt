@@ -51,6 +51,8 @@ use Rattle.source_lowering.proofs.Relations.{
   ArePending,
   IsLed,
   AreLed,
+  VariableLeads,
+  LocalMade,
 }
 
 -- ---- spots
@@ -212,8 +214,42 @@ shown_later b w m m' c c' (StructShape tag) v cs l h = h
 shown_later b w m m' c c' (UnionShape tag) v cs l h = h
 shown_later b w m m' c c' (ArrayShape count of) v cs l h = h
 
+variable_later : (b : Bound) (w : World) (m m' : source.Memory) (c c' : core.Memory) (shape : Shape) (s : Spot) → Later b m c m' c'
+    → VariableLeads w m c shape s → VariableLeads w m' c' shape s
+variable_later b w m m' c c' IntShape s l h = leads_later b w m m' c c' IntShape s 0 l h
+variable_later b w m m' c c' UnsignedShape s l h = leads_later b w m m' c c' UnsignedShape s 0 l h
+variable_later b w m m' c c' CharShape s l h = leads_later b w m m' c c' CharShape s 0 l h
+variable_later b w m m' c c' VoidShape s l h = leads_later b w m m' c c' VoidShape s 0 l h
+variable_later b w m m' c c' (ThinShape n o to) s l h = leads_later b w m m' c c' (ThinShape n o to) s 0 l h
+variable_later b w m m' c c' (FatShape to) s l h = leads_later b w m m' c c' (FatShape to) s 0 l h
+variable_later b w m m' c c' HandleShape s l h = leads_later b w m m' c c' HandleShape s 0 l h
+variable_later b w m m' c c' KeyShape s l h = leads_later b w m m' c c' KeyShape s 0 l h
+variable_later b w m m' c c' (StructShape tag) s l h = leads_later b w m m' c c' (StructShape tag) s 0 l h
+variable_later b w m m' c c' (UnionShape tag) s l h = leads_later b w m m' c c' (UnionShape tag) s 0 l h
+variable_later b w m m' c c' (ArrayShape count of) s l h = λ k less. leads_later b w m m' c c' of _ _ l (h k less)
+
+local_later : (b : Bound) (w : World) (m m' : source.Memory) (c c' : core.Memory) (r : core.Region) (index : ℕ) (s : Shape) → Later b m c m' c'
+    → LocalMade w c r index s → LocalMade w c' r index s
+local_later b w m m' c c' r index IntShape l h = made_later b m m' c c' (record { region = r; object = index; cell = 0 }) 0 (layout_of w IntShape).cells l h
+local_later b w m m' c c' r index UnsignedShape l h =
+    made_later b m m' c c' (record { region = r; object = index; cell = 0 }) 0 (layout_of w UnsignedShape).cells l h
+local_later b w m m' c c' r index CharShape l h = made_later b m m' c c' (record { region = r; object = index; cell = 0 }) 0 (layout_of w CharShape).cells l h
+local_later b w m m' c c' r index VoidShape l h = made_later b m m' c c' (record { region = r; object = index; cell = 0 }) 0 (layout_of w VoidShape).cells l h
+local_later b w m m' c c' r index (ThinShape n o to) l h =
+    made_later b m m' c c' (record { region = r; object = index; cell = 0 }) 0 (layout_of w (ThinShape n o to)).cells l h
+local_later b w m m' c c' r index (FatShape to) l h =
+    made_later b m m' c c' (record { region = r; object = index; cell = 0 }) 0 (layout_of w (FatShape to)).cells l h
+local_later b w m m' c c' r index HandleShape l h =
+    made_later b m m' c c' (record { region = r; object = index; cell = 0 }) 0 (layout_of w HandleShape).cells l h
+local_later b w m m' c c' r index KeyShape l h = made_later b m m' c c' (record { region = r; object = index; cell = 0 }) 0 (layout_of w KeyShape).cells l h
+local_later b w m m' c c' r index (StructShape tag) l h =
+    made_later b m m' c c' (record { region = r; object = index; cell = 0 }) 0 (layout_of w (StructShape tag)).cells l h
+local_later b w m m' c c' r index (UnionShape tag) l h =
+    made_later b m m' c c' (record { region = r; object = index; cell = 0 }) 0 (layout_of w (UnionShape tag)).cells l h
+local_later b w m m' c c' r index (ArrayShape count of) l h = λ k less. made_later b m m' c c' _ _ (layout_of w of).cells l (h k less)
+
 pub led_later : (b : Bound) (w : World) (m m' : source.Memory) (c c' : core.Memory) (e : Entity) → Later b m c m' c' → IsLed w m c e → IsLed w m' c' e
-led_later b w m m' c c' (Variable shape s) l h = leads_later b w m m' c c' shape s 0 l h
+led_later b w m m' c c' (Variable shape s) l h = variable_later b w m m' c c' shape s l h
 led_later b w m m' c c' (Fixed shape v) l h = tt
 
 pub all_led_later : (b : Bound) (w : World) (m m' : source.Memory) (c c' : core.Memory) (bs : List Binding) → Later b m c m' c' → AreLed w m c bs
@@ -225,7 +261,7 @@ pub pending_later : (b : Bound) (w : World) (m m' : source.Memory) (c c' : core.
     → ArePending w c r index ss → ArePending w c' r index ss
 pending_later b w m m' c c' r index [] l h = tt
 pending_later b w m m' c c' r index (s ∷ ss) l (one, others) =
-    (made_later b m m' c c' _ 0 (layout_of w s).cells l one, pending_later b w m m' c c' r (suc index) ss l others)
+    (local_later b w m m' c c' r index s l one, pending_later b w m m' c c' r (suc index) ss l others)
 
 -- an activation that is the same
 abbrev first_number : List ℕ → ℕ

@@ -1,27 +1,27 @@
 -- A lexical region does the same as its code: it is born, its handle goes to its local and stays in a temporary, and it is freed on each way out of its block.
-use Rattle.std.proofs.Common.{◌≡◌, ℕ, suc, ◌<◌, List, [], ◌∷◌, ◌++◌, refl, sym, ap, ◌∙◌, subst, arith}
+use Rattle.std.proofs.Common.{◌≡◌, ℕ, suc, ◌+◌, ◌<◌, List, [], ◌∷◌, ◌++◌, refl, sym, ap, ◌∙◌, subst, arith}
 use Rattle.source_meaning.specs.Shapes.{Shape, HandleShape}
 use Rattle.source_meaning.specs.Memory as source
-use Rattle.source_meaning.specs.Memory.{HandleOf, Scalar}
+use Rattle.source_meaning.specs.Memory.{HandleOf}
 use Rattle.source_meaning.specs.Steps as steps
 use Rattle.source_meaning.specs.Steps.{Variable, Scope, Flow, Act}
 use Rattle.source_meaning.specs.Places.{with_binding}
 use Rattle.source_meaning.specs.Regions.{lexical_region, local_with, region_freed}
-use Rattle.core_meaning.specs.Memory.{Birth, Content}
+use Rattle.core_meaning.specs.Memory.{Birth}
 use Rattle.core_meaning.specs.Core.{Do, MoreStatements, Put, RegionFree, RegionNew, Statement, Statements}
 use Rattle.core_meaning.specs.Steps as core_steps
 use Rattle.core_meaning.specs.Steps.{Config, with_memory, with_temp}
 use Rattle.core_meaning.specs.Meaning as meaning
 use Rattle.source_lowering.specs.Lowered.{put}
 use Rattle.source_lowering.specs.Programs.{RegionsAround}
-use Rattle.source_lowering.proofs.Relations.{Bound, Fits, Later, Next, Place, SameAt, activation, around, nothing, within}
+use Rattle.source_lowering.proofs.Relations.{Fits, Next, Place, SameAt, around, nothing, within}
 use Rattle.source_lowering.proofs.Keeping.{fits_later, later_on}
 use Rattle.source_lowering.proofs.Runs.{put_all}
 use Rattle.source_lowering.proofs.Values.{other_temp, put_temp, temp_fits}
 use Rattle.source_lowering.proofs.Making.{local_spot}
 use Rattle.source_lowering.proofs.Declaring.{local_with_same, with_local}
-use Rattle.source_lowering.proofs.Calls.{ResultIs}
-use Rattle.source_lowering.proofs.Regions.{core_born, core_freed, region_born_agree, region_born_later, region_born_same, region_freed_agree, region_freed_later}
+use Rattle.source_lowering.proofs.Regions.{core_born, core_freed, region_born_agree, region_born_later, region_born_same, region_freed_agree}
+use Rattle.source_lowering.proofs.Regions.{region_freed_later}
 use Rattle.source_lowering.proofs.Regions.{region_freed_same, source_born, source_freed}
 use Rattle.source_lowering.proofs.Ways.{Onward, RunsAs, WaysOn, freed}
 use Rattle.source_lowering.proofs.Blocks.{result_later}
@@ -118,7 +118,8 @@ region_declared p n scope name shapes result then_act others world frame pending
       let inside = put (others ++ free_code d) rest in
       region_born_same p.world p.program n d m c (λ z. local_with scope name HandleShape (HandleOf z ∷ []) then_act (after_scope next z))
       (meaning.statements (MoreStatements (Do (Put 0 p.made 4 d)) inside) after) fits.agree
-      (local_with_same p n d scope name HandleShape shapes (HandleOf r ∷ []) then_act (after_scope next r) m1 c1 inside after world frame tt pending fits1
+      (local_with_same p n (d + 1) d scope name HandleShape shapes (HandleOf r ∷ []) then_act (after_scope next r) m1 c1 inside after world frame tt
+      (omega arith) pending fits1
       (record {
         value = HandleOf r;
         alone = refl;
@@ -130,13 +131,13 @@ region_declared p n scope name shapes result then_act others world frame pending
             (meaning.statements z after c2)) (sym (put_all others (free_code d) rest))
             (more.same m2 c2 (after_scope next r) (put (free_code d) rest) after (fits_in_scope p name shapes m2 c2 fits2)
             (ways_freed p n r result m m2 c c2 next rest after fits.agree.heap
-            (temps2 d ∙ put_temp d (Birth r) (with_memory (core_born c.memory) c))
+            (temps2 d (omega arith) ∙ put_temp d (Birth r) (with_memory (core_born c.memory) c))
             (record {
               agree = fits2.agree;
               later =
                   later_on (around p p.frame) m m1 m2 c.memory c1.memory c2.memory (region_born_later (around p p.frame) m c.memory) later2;
               active = active2;
-              kept = λ k less. temps2 k ∙ other_temp d k (Birth r) (with_memory (core_born c.memory) c) less;
+              kept = λ k less. temps2 k (omega (arith, less)) ∙ other_temp d k (Birth r) (with_memory (core_born c.memory) c) less;
             }) ways));
       }));
 }

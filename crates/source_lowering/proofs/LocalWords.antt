@@ -16,9 +16,10 @@ use Rattle.source_meaning.specs.Shapes.{
 }
 use Rattle.source_meaning.specs.Steps.{World}
 use Rattle.source_lowering.specs.Layouts.{extent_of, local_of}
+use Rattle.source_lowering.specs.Members.{words_in}
+use Rattle.source_lowering.specs.Lowerable.{IsWordShape, IsValueShape}
 use Rattle.source_lowering.specs.Programs.{locals_of}
 use Rattle.source_lowering.specs.Bounds.{words_of, shape_words, value_words, local_words}
-use Rattle.source_lowering.proofs.Integers.{IsWordShape}
 
 -- a local has all bytes of its shape
 local_bytes : (w : World) (s : Shape) → (local_of w s).count * (local_of w s).layout.bytes ≡ (extent_of w s).size
@@ -38,6 +39,16 @@ pub many_words : (w : World) (ss : List Shape) → local_words (locals_of w ss) 
 many_words w [] = refl
 many_words w (s ∷ ss) =
     ap (λ z. words_of z + local_words (locals_of w ss)) (local_bytes w s) ∙ ap (λ z. shape_words w s + z) (many_words w ss)
+
+-- a value takes as many as it has temporaries
+pub words_same : (w : World) (s : Shape) → IsValueShape s → shape_words w s ≡ words_in s
+words_same w IntShape h = refl
+words_same w UnsignedShape h = refl
+words_same w CharShape h = refl
+words_same w (ThinShape b owner to) h = refl
+words_same w (FatShape to) h = refl
+words_same w HandleShape h = refl
+words_same w _ h = absurd h
 
 -- a word takes one
 pub word_words : (w : World) (s : Shape) → IsWordShape s → shape_words w s ≡ 1

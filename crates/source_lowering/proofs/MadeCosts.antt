@@ -1,32 +1,16 @@
 -- What stands around the code of values takes: structs that are copied, members, and the requests of `new` and `rnew`.
 use Rattle.std.proofs.Common.{ℕ, suc, ◌+◌, ◌*◌, ◌≤◌, List, [], ◌∷◌, ◌++◌, arith}
-use Rattle.source_meaning.specs.Shapes.{
-  Shape,
-  IntShape,
-  UnsignedShape,
-  CharShape,
-  VoidShape,
-  ThinShape,
-  FatShape,
-  HandleShape,
-  KeyShape,
-  StructShape,
-  UnionShape,
-  ArrayShape,
-}
+use Rattle.source_meaning.specs.Shapes.{Shape, StructShape}
 use Rattle.source_meaning.specs.Steps.{World}
-use Rattle.core_meaning.specs.Core.{Constant, Copy, Do, HeapHandle, Offset, OwnAddress, RegionAlloc, Statement, Store}
+use Rattle.core_meaning.specs.Core.{Constant, Copy, Do, HeapHandle, Offset, OwnAddress, RegionAlloc, Statement}
 use Rattle.source_lowering.specs.Layouts.{layout_of}
-use Rattle.source_lowering.specs.Lowered.{distance, width_of, copied_code, word_member_code, member_code, request_code, new_code_by}
+use Rattle.source_lowering.specs.Members.{words_in}
+use Rattle.source_lowering.specs.Lowered.{stores_code, copied_code, word_member_code, member_code, request_code, new_code_by}
 use Rattle.source_lowering.specs.Lowerable.{TakesMember}
-use Rattle.source_lowering.proofs.Costs.{Costs, both_cost}
-use Rattle.source_lowering.proofs.PartCosts.{IsCheap, IsPointed, does_one, conversion_costs}
-
--- operands with their operators, members with their stores
-pub record ArePassed (t p n : ℕ) (code : List Statement) : Type 0 where
-  pub operations : ℕ
-  pub costs : Costs t p 0 operations code
-  pub less : operations ≤ 8 * n
+use Rattle.source_lowering.proofs.Costs.{Costs, both_cost, does_one, does_then}
+use Rattle.source_lowering.proofs.ValueCosts.{words_few, kept_costs}
+use Rattle.source_lowering.proofs.PartCosts.{IsCheap, ArePassed, conversion_costs}
+use Rattle.source_lowering.proofs.PrefixCosts.{IsPointed}
 
 -- a struct leaves two operations to what is done with it
 pub record IsWhole (t p n : ℕ) (code : List Statement) : Type 0 where
@@ -34,7 +18,7 @@ pub record IsWhole (t p n : ℕ) (code : List Statement) : Type 0 where
   pub costs : Costs t p 0 operations code
   pub less : operations + 2 ≤ 8 * n
 
--- what is made takes two operations more than its value's nodes have: those of `new` itself
+-- what is made takes two operations more than its value's tokens have: those of `new` itself
 pub record IsMade (t p n : ℕ) (code : List Statement) : Type 0 where
   pub operations : ℕ
   pub costs : Costs t p 0 operations code
@@ -59,21 +43,21 @@ read_costs w s t p d own n place h a =
 -- ---- members
 
 pub member_costs : (w : World) (s from : Shape) (t p d cells bytes n : ℕ) (whole word : List Statement) (for_whole for_word : Type 0)
-    → TakesMember s for_whole for_word → (for_whole → IsWhole t p n whole) → (for_word → IsCheap t p n word) → d + 3 ≤ t
-    → ArePassed t p n (member_code w s from d cells bytes whole word)
+    → TakesMember s for_whole for_word → (for_whole → IsWhole t p n whole) → (for_word → IsCheap t p n word) → d + 1 + 4 ≤ t
+    → ArePassed t p (1 + n) (member_code w s from d cells bytes whole word)
 member_costs w s from t p d cells bytes n whole word for_whole for_word takes as_whole as_word h = by s takes
   where
-    as_a_word : (of : Shape) → for_word → ArePassed t p n (word ++ word_member_code of from d cells bytes)
+    as_a_word : (of : Shape) → for_word → ArePassed t p (1 + n) (word ++ word_member_code w of from d cells bytes)
     as_a_word of takes =
         let a = as_word takes in let l = a.less in
         record {
-          operations = a.operations + (2 + 1);
-          costs = both_cost t p 0 a.operations 0 (2 + 1) _ _ a.costs (both_cost t p 0 2 0 1 _ _ (conversion_costs t p (d + 1) of from (omega (arith, h)))
-              (does_one t p (Store d (distance cells bytes (width_of of)) (d + 1)) (omega (arith, h))));
+          operations = a.operations + (4 + 3);
+          costs = both_cost t p 0 a.operations 0 (4 + 3) _ _ a.costs (both_cost t p 0 4 0 3 _ _ (conversion_costs w t p (d + 1) of from h)
+              (kept_costs of t p d (d + 1) cells bytes (omega (arith, h)) (omega (arith, h))));
           less = omega (arith, l);
         }
 
-    by : (of : Shape) → TakesMember of for_whole for_word → ArePassed t p n (member_code w of from d cells bytes whole word)
+    by : (of : Shape) → TakesMember of for_whole for_word → ArePassed t p (1 + n) (member_code w of from d cells bytes whole word)
     by (StructShape tag) takes =
         let a = as_whole takes in let l = a.less in
         record {
@@ -87,21 +71,22 @@ member_costs w s from t p d cells bytes n whole word for_whole for_word takes as
 -- ---- what `new` and `rnew` make
 
 -- the request counts twice
-request_costs : (w : World) (s : Shape) (t p d : ℕ) → d + 3 ≤ t → Costs t p 0 3 (request_code w s d)
-request_costs w s t p d h = both_cost t p 0 1 0 2 (Do (Constant (d + 2) 1) ∷ []) _ (does_one t p _ (omega (arith, h)))
-    (does_one t p (RegionAlloc d d (d + 2) (layout_of w s)) (omega (arith, h)))
+request_costs : (w : World) (s : Shape) (t p d count : ℕ) → suc d ≤ t → suc count ≤ t → Costs t p 0 3 (request_code w s d count)
+request_costs w s t p d count g h =
+    does_then t p 2 (Constant count 1) _ (omega (arith, h)) (does_one t p (RegionAlloc d d count (layout_of w s)) (omega (arith, g, h)))
 
 pub made_costs : (w : World) (s : Shape) (t p d n : ℕ) (whole word : List Statement) (for_whole for_word : Type 0) → TakesMember s for_whole for_word
-    → (for_whole → IsWhole t p n whole) → (for_word → IsCheap t p n word) → d + 3 ≤ t → IsMade t p n (new_code_by w s d whole word)
+    → (for_whole → IsWhole t p n whole) → (for_word → IsCheap t p n word) → d + 5 ≤ t → IsMade t p n (new_code_by w s d whole word)
 made_costs w s t p d n whole word for_whole for_word takes as_whole as_word h = by s takes
   where
-    as_a_word : (of : Shape) → for_word → IsMade t p n (word ++ (request_code w of d ++ (Do (Store d (distance 0 0 (width_of of)) (d + 1)) ∷ [])))
+    as_a_word : (of : Shape) → for_word → IsMade t p n (word ++ (request_code w of d (d + 1 + words_in of) ++ stores_code of d (d + 1) 0 0))
     as_a_word of takes =
-        let a = as_word takes in let l = a.less in
+        let a = as_word takes in let l = a.less in let few = words_few of in
         record {
-          operations = a.operations + (3 + 1);
-          costs = both_cost t p 0 a.operations 0 (3 + 1) _ _ a.costs (both_cost t p 0 3 0 1 _ _ (request_costs w of t p d h)
-              (does_one t p (Store d (distance 0 0 (width_of of)) (d + 1)) (omega (arith, h))));
+          operations = a.operations + (3 + 3);
+          costs = both_cost t p 0 a.operations 0 (3 + 3) _ _ a.costs
+              (both_cost t p 0 3 0 3 _ _ (request_costs w of t p d (d + 1 + words_in of) (omega (arith, h)) (omega (arith, h, few)))
+              (kept_costs of t p d (d + 1) 0 0 (omega (arith, h)) (omega (arith, h))));
           less = omega (arith, l);
         }
 
@@ -110,7 +95,8 @@ made_costs w s t p d n whole word for_whole for_word takes as_whole as_word h = 
         let a = as_whole takes in let l = a.less in
         record {
           operations = a.operations + (3 + 1);
-          costs = both_cost t p 0 a.operations 0 (3 + 1) _ _ a.costs (both_cost t p 0 3 0 1 _ _ (request_costs w (StructShape tag) t p d h)
+          costs = both_cost t p 0 a.operations 0 (3 + 1) _ _ a.costs
+              (both_cost t p 0 3 0 1 _ _ (request_costs w (StructShape tag) t p d (d + 2) (omega (arith, h)) (omega (arith, h)))
               (does_one t p (Copy d (d + 1) (layout_of w (StructShape tag))) (omega (arith, h))));
           less = omega (arith, l);
         }

@@ -1,52 +1,36 @@
 -- A struct is made of its members: one after the other each is converted, and goes where it lies in the unnamed value.
-use Rattle.std.proofs.Common.{◌≡◌, ℕ, suc, ◌+◌, ◌<◌, List, [], ◌∷◌, ◌++◌, length, Bool, true, false, nat_eq, Some, None, refl, sym, ap, ◌∙◌, subst, arith}
-use Rattle.std.specs.Prelude.{◌&&◌, if◌then◌else◌, nat_le}
-use Rattle.std.proofs.lemmas.Bool.{eqb-true, eq-eqb, and_parts}
+use Rattle.std.proofs.Common.{◌≡◌, ℕ, suc, ◌+◌, ◌<◌, List, [], ◌∷◌, ◌++◌, length, true, false, nat_eq, None, refl, sym, ◌∙◌, subst, arith}
+use Rattle.std.specs.Prelude.{nat_le}
+use Rattle.std.proofs.lemmas.Bool.{eq-eqb}
 use Rattle.std.proofs.lemmas.Bool.Decides.{nat_tests}
 use Rattle.source_meaning.specs.Shapes.{Shape, StructShape}
 use Rattle.source_meaning.specs.Memory as source
 use Rattle.source_meaning.specs.Memory.{Scalar, Spot}
 use Rattle.source_meaning.specs.Steps as steps
-use Rattle.source_meaning.specs.Steps.{World, ◌>>=◌}
+use Rattle.source_meaning.specs.Steps.{◌>>=◌}
 use Rattle.source_meaning.specs.Conversions.{cells_of, converted}
 use Rattle.source_meaning.specs.Places.{Sense}
 use Rattle.core_meaning.specs.Memory as core
-use Rattle.core_meaning.specs.Memory.{Content, Pointer, Part, Layout, with_part}
-use Rattle.core_meaning.specs.Core.{Statement, Do, Offset, Copy, Store, Statements}
+use Rattle.core_meaning.specs.Memory.{Content, Pointer, Layout}
+use Rattle.core_meaning.specs.Core.{Statement, Do, Offset, Copy, Statements}
 use Rattle.core_meaning.specs.Steps as core_steps
 use Rattle.core_meaning.specs.Steps.{Config, with_temp, with_memory}
-use Rattle.core_meaning.specs.Operations.{does, are_laid, same_object, cells_on, copied, fitting, reaches}
+use Rattle.core_meaning.specs.Operations.{does, are_laid, same_object, cells_on, copied, reaches}
 use Rattle.core_meaning.specs.Meaning as meaning
-use Rattle.core_meaning.proofs.Spots.{spot_same, spot_self}
-use Rattle.source_lowering.specs.Layouts.{layout_of}
-use Rattle.source_lowering.specs.Lowered.{put, distance, width_of, conversion_code}
-use Rattle.source_lowering.specs.Lowerable.{IsObject, AreStructs, IsWordShape}
+use Rattle.source_lowering.specs.Layouts.{Piece, layout_of, pieces_of}
+use Rattle.source_lowering.specs.Lowered.{put, stores_code, conversion_code}
+use Rattle.source_lowering.specs.Lowerable.{IsObject, AreStructs, IsValueShape}
 use Rattle.source_lowering.specs.Whole.{struct_member_code, word_member_code}
-use Rattle.source_lowering.proofs.Relations.{
-  at,
-  PartIs,
-  AreMade,
-  Agree,
-  nothing,
-  Later,
-  Place,
-  Fits,
-  SameAt,
-  Next,
-  AreKept,
-  around,
-  before_value,
-  keeping,
-  AValue,
-  first_in,
-}
+use Rattle.source_lowering.proofs.Relations.{at, AreMade, nothing, Later, Place, Fits, SameAt, Next, AreKept, around, before_value, keeping, AValue}
+use Rattle.source_lowering.proofs.Relations.{contents_in}
 use Rattle.source_lowering.proofs.Keeping.{made_later, later_on, later_less, shown_later, free_nothing, fits_on}
 use Rattle.source_lowering.proofs.Runs.{put_all}
-use Rattle.source_lowering.proofs.Integers.{word_taken}
-use Rattle.source_lowering.proofs.Cells.{plain_of}
-use Rattle.source_lowering.proofs.Making.{ahead_later}
+use Rattle.source_lowering.proofs.Integers.{value_taken}
+use Rattle.source_lowering.proofs.AnyValues.{value_given}
+use Rattle.source_lowering.proofs.CellParts.{with_values, all_other, none_written, all_hold, later_put}
+use Rattle.source_lowering.proofs.Loading.{stores_does}
 use Rattle.source_lowering.proofs.Values.{kept_temp, temp_fits, put_three}
-use Rattle.source_lowering.proofs.Variables.{Agrees, value_of}
+use Rattle.source_lowering.proofs.Variables.{Agrees}
 use Rattle.source_lowering.proofs.Conversions.{converted_gives}
 use Rattle.source_lowering.proofs.Clearing.{laid_there}
 use Rattle.source_lowering.proofs.Copying.{AllShown, copied_later, copied_nowhere, whole_copied}
@@ -54,6 +38,7 @@ use Rattle.source_lowering.proofs.StructCells.{object_cells}
 use Rattle.source_lowering.proofs.Members.{first_part_of, first_reached}
 use Rattle.source_lowering.proofs.SameShapes.{shapes_same}
 use Rattle.source_lowering.proofs.Initialising.{converted_whole}
+use Rattle.source_lowering.proofs.ValueCells.{IsCell, cell_of, shaped_have}
 use Rattle.source_lowering.proofs.Wholes.{own_spot, IsWhole, fits_keeping, fits_kept, before_less, own_free, agree_parts, agree_own_copied, value_made}
 
 -- ---- forms
@@ -64,7 +49,7 @@ member_spot own value cells = core.beyond (own_spot own value 0) cells
 
 -- the cells of a value before one are as they were
 abbrev pub AreBefore : Place → ℕ → ℕ → Config → Config → Type 0
-AreBefore p value cells c0 c = (i : ℕ) → i < cells → c.memory.parts (member_spot p.own value i) 0 ≡ c0.memory.parts (member_spot p.own value i) 0
+AreBefore p value cells c0 c = (i j : ℕ) → i < cells → c.memory.parts (member_spot p.own value i) j ≡ c0.memory.parts (member_spot p.own value i) j
 
 -- a member has its value
 pub record MemberGoesOn (p : Place) (n d value cells : ℕ) (m0 : source.Memory) (c0 : Config) (shape : Shape) (s : List Scalar → source.Memory → steps.Step)
@@ -79,28 +64,7 @@ pub record MemberGoes (p : Place) (n d value cells byte : ℕ) (shape : Shape) (
       → c.temps d ≡ Pointer (own_spot p.own value 0) 0 → AreMade c.memory (member_spot p.own value cells) (0 + byte) (layout_of p.world shape).cells
       → MemberGoesOn p n d value cells m c shape s (meaning.statements rest next) → SameAt p n (act s m) (meaning.statements (put code rest) next c)
 
--- ---- a word
-
-part_stored : (c : Config) (d own value cells byte width : ℕ) (old x : Content) (next : Config → core_steps.Step)
-    → c.temps d ≡ Pointer (own_spot own value 0) 0 → core.is_live (c.memory.standing (core.Own own)) ≡ true → c.temps (d + 1) ≡ x
-    → c.memory.parts (member_spot own value cells) 0 ≡ Some (record { offset = 0 + byte; width = width; content = old })
-    → does (Store d (distance cells byte width) (d + 1)) next c
-    ≡ next (with_memory (with_part c.memory (member_spot own value cells) 0 (record { offset = 0 + byte; width = width; content = fitting width x })) c)
-part_stored c d own value cells byte width old x next temp live here part =
-    rw (temp, live, part, here, eq-eqb (0 + byte) (0 + byte) refl, eq-eqb width width refl) refl
-
--- what has no part gets none
-none_written : (c : core.Memory) (t : core.Spot) (p q : Part) → c.parts t 0 ≡ Some p → (u : core.Spot) (j : ℕ) → c.parts u j ≡ None
-    → (with_part c t 0 q).parts u j ≡ None
-none_written c t p q is u j e = by (core.same_spot u t && nat_eq j 0) refl
-  where
-    by : (b : Bool) → (core.same_spot u t && nat_eq j 0) ≡ b → (with_part c t 0 q).parts u j ≡ None
-    by false f = ap (λ b. if b then Some q else c.parts u j) f ∙ e
-    by true f =
-        let two = and_parts (core.same_spot u t) (nat_eq j 0) f in
-        let none : None ≡ Some p =
-        sym e ∙ ap (λ z. c.parts z j) (spot_same u t two.0) ∙ ap (λ z. c.parts t z) (eqb-true j 0 two.1) ∙ is in
-        absurd (cc none)
+-- ---- a value
 
 spots_apart : (s : Spot) (own value cells : ℕ) → core.same_spot (at s) (member_spot own value cells) ≡ false
 spots_apart s own value cells = by s.region
@@ -109,79 +73,70 @@ spots_apart s own value cells = by s.region
     by (source.Frame k) = refl
     by (source.Born k) = refl
 
-agree_stored : (w : World) (m : source.Memory) (c : core.Memory) (own value cells : ℕ) (old : Part) (x : Content) → Agree w m c
-    → c.parts (member_spot own value cells) 0 ≡ Some old
-    → Agree w m (with_part c (member_spot own value cells) 0 (record old { content = x }))
-agree_stored w m c own value cells old x a is =
-    agree_parts w m c (with_part c (member_spot own value cells) 0 (record old { content = x })).parts a
-    (ahead_later nothing m c (member_spot own value cells) old x (free_nothing (member_spot own value cells)) is)
-    (λ s j. ap (λ b. if b && nat_eq j 0 then Some (record old { content = x }) else c.parts (at s) j) (spots_apart s own value cells))
-    (λ t j e. none_written c (member_spot own value cells) old (record old { content = x }) is t j e)
-
 -- another cell of the value stays as it was
 cells_apart : (own value i cells : ℕ) → i < cells → core.same_spot (member_spot own value i) (member_spot own value cells) ≡ false
 cells_apart own value i cells less =
     let other : nat_eq (0 + i) (0 + cells) ≡ false = grind (arith, nat_tests, less) in
     rw (eq-eqb own own refl, eq-eqb value value refl, other) refl
 
-pub word_member : (p : Place) (n d value cells byte : ℕ) (shape : Shape) (e : Sense) (from : Shape) (first : List Statement) → IsWordShape shape
+pub value_member : (p : Place) (n d value cells byte : ℕ) (shape : Shape) (e : Sense) (from : Shape) (first : List Statement) → IsValueShape shape
     → Agrees (keeping p (suc value)) n (d + 1) e from first
-    → MemberGoes p n d value cells byte shape (e.value >>= converted p.world shape e.shape) (first ++ word_member_code shape from d cells byte)
-word_member p n d value cells byte shape e from first is_word one = record {
+    → MemberGoes p n d value cells byte shape (e.value >>= converted p.world shape e.shape) (first ++ word_member_code p.world shape from d cells byte)
+value_member p n d value cells byte shape e from first is_value one = record {
   same = λ m c s rest next fits temp made goes.
       subst (λ z. SameAt p n (e.value (λ vs. converted p.world shape e.shape vs s) m) (meaning.statements z next c))
-      (sym (put_three first (conversion_code shape from (d + 1)) stores rest ∙ sym (put_all first (conversion_code shape from (d + 1)) (put stores rest))))
-      ((converted_gives (keeping p (suc value)) n (d + 1) shape e from first (word_taken shape is_word) one).same m c s (put stores rest) next
+      (sym (put_three first (conversion_code p.world shape from (d + 1)) stores rest ∙
+      sym (put_all first (conversion_code p.world shape from (d + 1)) (put stores rest))))
+      ((converted_gives (keeping p (suc value)) n (d + 1) shape e from first (value_taken shape is_value) one).same m c s (put stores rest) next
       (fits_keeping p (suc value) m c fits) (record {
         go = λ m1 c1 vs fits1 later1 kept1 given1.
             stored m c s rest next goes m1 c1 vs (fits_kept p (suc value) m1 c1 fits1)
             (later_less (before_value p (suc value)) (before_value p value) m m1 c.memory c1.memory (before_less p value (suc value) (omega arith)) later1)
-            (λ i less. later1.owned p.own (member_spot p.own value i) 0 refl (omega arith, λ f. omega arith)) kept1
+            (λ i j less. later1.owned p.own (member_spot p.own value i) j refl (omega arith, λ f. omega arith)) kept1
             (kept1 d (omega arith) ∙ temp) (made_later (before_value p (suc value)) m m1 c.memory c1.memory (member_spot p.own value cells) (0 + byte)
-            (layout_of p.world shape).cells later1 made) (value_of p.world m1 c1.memory shape vs (c1.temps (d + 1)) is_word given1);
+            (layout_of p.world shape).cells later1 made)
+            (value_given p.world m1 c1.memory shape vs (contents_in (d + 1) shape c1.temps) is_value given1);
       }));
 }
   where
     stores : List Statement
-    stores = Do (Store d (distance cells byte (width_of shape)) (d + 1)) ∷ []
+    stores = stores_code shape d (d + 1) cells byte
 
     stored : (m : source.Memory) (c : Config) (s : List Scalar → source.Memory → steps.Step) (rest : Statements) (next : Next)
         → MemberGoesOn p n d value cells m c shape s (meaning.statements rest next) → (m1 : source.Memory) (c1 : Config) (vs : List Scalar) → Fits p m1 c1
         → Later (before_value p value) m c.memory m1 c1.memory → AreBefore p value cells c c1 → AreKept (d + 1) c c1
         → c1.temps d ≡ Pointer (own_spot p.own value 0) 0
         → AreMade c1.memory (member_spot p.own value cells) (0 + byte) (layout_of p.world shape).cells
-        → AValue p.world m1 c1.memory shape vs (c1.temps (d + 1)) → SameAt p n (s vs m1) (meaning.statements (put stores rest) next c1)
+        → AValue p.world m1 c1.memory shape vs (contents_in (d + 1) shape c1.temps) → SameAt p n (s vs m1) (meaning.statements (put stores rest) next c1)
     stored m c s rest next goes m1 c1 vs fits1 later1 before1 kept1 temp made v =
-        let plain = plain_of p.world shape is_word in
-        let x : Content = c1.temps (d + 1) in
+        let one : IsCell p.world shape = cell_of p.world shape is_value in
+        let qs : List Piece = pieces_of shape in
+        let xs : List Content = contents_in (d + 1) shape c1.temps in
         let spot : core.Spot = member_spot p.own value cells in
-        let there : PartIs c1.memory spot 0 (0 + byte + 0) (width_of shape) =
-        (subst (λ z. AreMade c1.memory spot (0 + byte) z) plain.layout made).0.0 in
-        let close : 0 + byte + 0 ≡ 0 + byte = omega arith in
-        let here : PartIs c1.memory spot 0 (0 + byte) (width_of shape) = subst (λ z. PartIs c1.memory spot 0 z (width_of shape)) close there in
-        let old : Part = record { offset = 0 + byte; width = width_of shape; content = here.content } in
-        let word = plain.one m1 c1.memory v.value (x ∷ []) v.shown in
-        let same : x ≡ word.word = ap (first_in x) word.is in
-        let fitted : fitting (width_of shape) x ≡ x = ap (fitting (width_of shape)) same ∙ word.fits ∙ sym same in
-        let c2 : Config = with_memory (with_part c1.memory spot 0 (record old { content = x })) c1 in
-        let puts = ahead_later (before_value p value) m1 c1.memory spot old x (own_free p value value (0 + cells) (omega arith)) here.is in
-        let around_puts = ahead_later (around p (suc p.frame)) m1 c1.memory spot old x (own_free p 0 value (0 + cells) (omega arith)) here.is in
-        let agree = agree_stored p.world m1 c1.memory p.own value cells old x fits1.agree here.is in
+        let have = shaped_have c1.memory spot (0 + byte) 0 shape qs (subst (λ z. AreMade c1.memory spot (0 + byte) z) one.layout made).0 in
+        let fit = one.fit m1 c1.memory v.value xs v.shown in
+        let c2 : Config = with_memory (with_values c1.memory spot (0 + byte) qs xs) c1 in
+        let puts = later_put (before_value p value) m1 c1.memory spot (0 + byte) qs have.contents xs
+        (own_free p value value (0 + cells) (omega arith)) have.are in
+        let around_puts = later_put (around p (suc p.frame)) m1 c1.memory spot (0 + byte) qs have.contents xs
+        (own_free p 0 value (0 + cells) (omega arith)) have.are in
+        let still = later_put nothing m1 c1.memory spot (0 + byte) qs have.contents xs (free_nothing spot) have.are in
+        let agree = agree_parts p.world m1 c1.memory c2.memory.parts fits1.agree still
+        (λ t j. all_other c1.memory.parts spot (0 + byte) 0 qs xs (at t) j (spots_apart t p.own value cells))
+        (λ t j e. none_written c1.memory spot (0 + byte) 0 qs have.contents xs have.are t j e) in
         subst (λ z. SameAt p n (s vs m1) z)
-        (sym (part_stored c1 d p.own value cells byte (width_of shape) here.content x (meaning.statements rest next) temp fits1.stands refl here.is ∙
-        ap (λ z. meaning.statements rest next (with_memory (with_part c1.memory spot 0 (record old { content = z })) c1)) fitted))
+        (sym (stores_does shape is_value c1 d (d + 1) cells byte 0 (own_spot p.own value 0) have.contents rest next temp fits1.stands have.are fit))
         (goes.go m1 c2 vs (fits_on p m1 m1 c1 c2 fits1 agree around_puts refl)
         (later_on (before_value p value) m m1 m1 c.memory c1.memory c2.memory later1 puts)
-        (λ i less.
-        ap (λ b. if b && nat_eq 0 0 then Some (record old { content = x }) else c1.memory.parts (member_spot p.own value i) 0)
-        (cells_apart p.own value i cells less) ∙ before1 i less) kept1
-        (subst (λ z. AllShown p.world m1 c2.memory spot z vs) (sym plain.cells)
+        (λ i j less. all_other c1.memory.parts spot (0 + byte) 0 qs xs (member_spot p.own value i) j (cells_apart p.own value i cells less) ∙ before1 i j less)
+        kept1
+        (subst (λ z. AllShown p.world m1 c2.memory spot z vs) (sym one.cells)
         (subst (λ z. AllShown p.world m1 c2.memory spot (shape ∷ []) z) (sym v.alone) (
           record {
-            part = record old { content = x };
-            is = rw (spot_self spot) refl;
-            shown = shown_later nothing p.world m1 m1 c1.memory c2.memory shape v.value (x ∷ [])
-                (ahead_later nothing m1 c1.memory spot old x (free_nothing spot) here.is) v.shown;
+            contents = xs;
+            fit = fit;
+            held = all_hold c1.memory spot (0 + byte) 0 qs xs fit;
+            shown = shown_later nothing p.world m1 m1 c1.memory c2.memory shape v.value xs still v.shown;
           },
           tt,
         ))))
@@ -224,7 +179,7 @@ struct_member p n d value cells byte other tag e code structs object after one =
             let same : shape ≡ StructShape one.tag = shapes_same shape e.shape equal ∙ one.shape_is in
             copy_same m c s rest next goes m1 c1 vs fits1
             (later_less (before_value p other) (before_value p value) m m1 c.memory c1.memory (before_less p value other (omega (arith, after))) later1)
-            (λ i less. later1.owned p.own (member_spot p.own value i) 0 refl (omega arith, λ f. after)) kept1 (kept1 d (omega arith) ∙ temp) temp1
+            (λ i j less. later1.owned p.own (member_spot p.own value i) j refl (omega arith, λ f. after)) kept1 (kept1 d (omega arith) ∙ temp) temp1
             (made_later (before_value p other) m m1 c.memory c1.memory (member_spot p.own value cells) (0 + byte) layout.cells later1 made)
             (subst (λ z. AreMade c1.memory (own_spot p.own other 0) 0 (layout_of p.world z).cells) (sym same)
             (value_made p m1 c1 other (StructShape one.tag) fits1 one.numbered))
@@ -264,8 +219,8 @@ struct_member p n d value cells byte other tag e code structs object after one =
         (values_apart p.own value cells other after)))
         (goes.go m1 c2 vs (fits_on p m1 m1 middle c2 (temp_fits p m1 c1 (d + 2) (Pointer spot (0 + byte)) fits1) agree around_copying refl)
         (later_on (before_value p value) m m1 m1 c.memory c1.memory c2.memory later1 copying)
-        (λ i less.
-        copied_nowhere layout spot from c1.memory (member_spot p.own value i) 0 (cells_before_copied p.own value i cells (length layout.cells) less) ∙
-        before1 i less)
+        (λ i j less.
+        copied_nowhere layout spot from c1.memory (member_spot p.own value i) j (cells_before_copied p.own value i cells (length layout.cells) less) ∙
+        before1 i j less)
         (kept_temp (d + 1) (d + 2) (Pointer spot (0 + byte)) c c1 (omega arith) kept1)
         (whole_copied p.world m1 c1.memory spot from (0 + byte) shape vs structs object made shown))

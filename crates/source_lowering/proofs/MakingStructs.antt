@@ -17,6 +17,7 @@ use Rattle.core_meaning.specs.Core.{Statement, Do, OwnAddress, Statements}
 use Rattle.core_meaning.specs.Steps as core_steps
 use Rattle.core_meaning.specs.Steps.{Config, with_temp}
 use Rattle.core_meaning.specs.Meaning as meaning
+use Rattle.core_meaning.proofs.Wholes.{beyond_none, beyond_both}
 use Rattle.source_lowering.specs.Layouts.{padded, placed_of, extent_of}
 use Rattle.source_lowering.specs.Lowered.{put}
 use Rattle.source_lowering.specs.Lowerable.{IsObject, AreStructs}
@@ -25,7 +26,7 @@ use Rattle.source_lowering.proofs.Keeping.{made_later, later_self, later_on}
 use Rattle.source_lowering.proofs.Runs.{put_all}
 use Rattle.source_lowering.proofs.Structs.{IsMade, struct_made as struct_is_made}
 use Rattle.source_lowering.proofs.StructCells.{AllHaveCells}
-use Rattle.source_lowering.proofs.Members.{parts_made, core_beyond_on, core_beyond_zero}
+use Rattle.source_lowering.proofs.Members.{parts_made}
 use Rattle.source_lowering.proofs.Values.{put_temp, kept_temp, temp_fits}
 use Rattle.source_lowering.proofs.Copying.{AllShown, all_shown_kept}
 use Rattle.source_lowering.proofs.Wholes.{own_spot, IsWhole, value_made}
@@ -33,13 +34,13 @@ use Rattle.source_lowering.proofs.MakingMembers.{member_spot, AreBefore, MemberG
 
 all_shown_both : (w : World) (m : source.Memory) (c : core.Memory) (t : core.Spot) (xs ys : List Shape) (vs us : List Scalar) → AllShown w m c t xs vs
     → AllShown w m c (core.beyond t (length xs)) ys us → AllShown w m c t (xs ++ ys) (vs ++ us)
-all_shown_both w m c t [] ys [] us h g = subst (λ z. AllShown w m c z ys us) (sym (core_beyond_zero t)) g
+all_shown_both w m c t [] ys [] us h g = subst (λ z. AllShown w m c z ys us) (sym (beyond_none t)) g
 all_shown_both w m c t [] ys (v ∷ vs) us h g = absurd h
 all_shown_both w m c t (x ∷ xs) ys [] us h g = absurd h
 all_shown_both w m c t (x ∷ xs) ys (v ∷ vs) us h g = (
   h.0,
   all_shown_both w m c (core.beyond t 1) xs ys vs us h.1
-      (subst (λ z. AllShown w m c z ys us) (sym (core_beyond_on t 1 (length xs) (suc (length xs)) (omega arith))) g),
+      (subst (λ z. AllShown w m c z ys us) (sym (beyond_both t 1 (length xs) (suc (length xs)) (omega arith))) g),
 )
 
 -- ---- forms
@@ -62,7 +63,7 @@ pub record MembersGo (p : Place) (n d value cells total bytes : ℕ) (ps : List 
 
 pub no_members : (p : Place) (n d value cells total bytes : ℕ) → MembersGo p n d value cells total bytes [] (give []) []
 no_members p n d value cells total bytes = record {
-  same = λ m c s rest next fits temp made goes. goes.go m c [] fits (later_self (before_value p value) m c.memory) (λ i h. refl) (λ k h. refl) tt;
+  same = λ m c s rest next fits temp made goes. goes.go m c [] fits (later_self (before_value p value) m c.memory) (λ i j h. refl) (λ k h. refl) tt;
 }
 
 pub more_members : (p : Place) (n d value cells total : ℕ) (so_far : Extent) (part : Part) (ps : List Part) (act : steps.Act (List Scalar))
@@ -80,20 +81,20 @@ more_members p n d value cells total so_far part ps act acts code codes have roo
         go = λ m1 c1 vs fits1 later1 before1 kept1 shown1.
             more.same m1 c1 (λ vss. s (vs ∷ vss)) rest next fits1 (kept1 d (omega arith) ∙ temp)
             (subst (λ z. AreMade c1.memory z 0 (padded (extent_of p.world) total (all_placed (placed_of p.world) (extent_of p.world) next_bytes ps)))
-            (core_beyond_on (own_spot p.own value 0) cells count (cells + count) refl)
+            (beyond_both (own_spot p.own value 0) cells count (cells + count) refl)
             (made_later (before_value p value) m m1 c.memory c1.memory (core.beyond (member_spot p.own value cells) count) 0
             (padded (extent_of p.world) total (all_placed (placed_of p.world) (extent_of p.world) next_bytes ps)) later1 both.1)) (record {
               go = λ m2 c2 vss fits2 later2 before2 kept2 shown2.
                   goes.go m2 c2 (vs ∷ vss) fits2 (later_on (before_value p value) m m1 m2 c.memory c1.memory c2.memory later1 later2)
-                  (λ i less. before2 i (omega (arith, less)) ∙ before1 i less) (λ k h. kept2 k h ∙ kept1 k h)
+                  (λ i j less. before2 i j (omega (arith, less)) ∙ before1 i j less) (λ k h. kept2 k h ∙ kept1 k h)
                   (all_shown_both p.world m2 c2.memory (member_spot p.own value cells) (cells_of p.world part.shape) (all_cells (cells_of p.world) ps) vs
                   (flat vss)
                   (all_shown_kept (before_value p value) p.world m1 m2 c1.memory c2.memory (member_spot p.own value cells) (cells_of p.world part.shape) vs
-                  later2 (λ i less.
-                  subst (λ z. c2.memory.parts z 0 ≡ c1.memory.parts z 0) (sym (core_beyond_on (own_spot p.own value 0) cells i (cells + i) refl))
-                  (before2 (cells + i) (omega (arith, less)))) shown1)
+                  later2 (λ i j less.
+                  subst (λ z. c2.memory.parts z j ≡ c1.memory.parts z j) (sym (beyond_both (own_spot p.own value 0) cells i (cells + i) refl))
+                  (before2 (cells + i) j (omega (arith, less)))) shown1)
                   (subst (λ z. AllShown p.world m2 c2.memory z (all_cells (cells_of p.world) ps) (flat vss))
-                  (sym (core_beyond_on (own_spot p.own value 0) cells count (cells + count) refl)) shown2));
+                  (sym (beyond_both (own_spot p.own value 0) cells count (cells + count) refl)) shown2));
             });
       }));
 }
@@ -122,7 +123,7 @@ made_whole p n d value tag es codes structs object numbered members = record {
       (meaning.statements (put codes rest) next (with_temp d (Pointer (own_spot z value 0) 0) c))) (sym fits.own)
       (members.same m c1 (λ vss. s (flat vss)) rest next fits1 (put_temp d (Pointer (own_spot p.own value 0) 0) c)
       (subst (λ z. AreMade c.memory z 0 (padded (extent_of p.world) (extent_of p.world (StructShape tag)).size
-      (all_placed (placed_of p.world) (extent_of p.world) 0 parts))) (core_beyond_zero (own_spot p.own value 0))
+      (all_placed (placed_of p.world) (extent_of p.world) 0 parts))) (beyond_none (own_spot p.own value 0))
       (subst (λ z. AreMade c.memory (own_spot p.own value 0) 0 (padded (extent_of p.world) (extent_of p.world (StructShape tag)).size z)) made.placed
       (value_made p m c value (StructShape tag) fits numbered))) (record {
         go = λ m2 c2 vss fits2 later2 before2 kept2 shown2.
@@ -130,7 +131,7 @@ made_whole p n d value tag es codes structs object numbered members = record {
             (λ k h. kept2 k (omega (arith, h)) ∙ kept_temp d d (Pointer (own_spot p.own value 0) 0) c c (omega arith) (λ j g. refl) k h)
             (kept2 d (omega arith) ∙ put_temp d (Pointer (own_spot p.own value 0) 0) c)
             (subst (λ z. AllShown p.world m2 c2.memory (own_spot p.own value 0) z (flat vss)) (sym made.cells)
-            (subst (λ z. AllShown p.world m2 c2.memory z (all_cells (cells_of p.world) parts) (flat vss)) (sym (core_beyond_zero (own_spot p.own value 0)))
+            (subst (λ z. AllShown p.world m2 c2.memory z (all_cells (cells_of p.world) parts) (flat vss)) (sym (beyond_none (own_spot p.own value 0)))
             shown2));
       }));
 }

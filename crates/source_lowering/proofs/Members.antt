@@ -1,30 +1,5 @@
 -- A member of an object lies where the struct has it, in the source and in Core.
-use Rattle.std.proofs.Common.{
-  ◌≡◌,
-  ℕ,
-  zero,
-  suc,
-  ◌+◌,
-  ◌-◌,
-  ◌≤◌,
-  List,
-  [],
-  ◌∷◌,
-  ◌++◌,
-  map,
-  length,
-  max,
-  Bool,
-  true,
-  false,
-  Some,
-  refl,
-  sym,
-  ap,
-  ◌∙◌,
-  subst,
-  arith,
-}
+use Rattle.std.proofs.Common.{◌≡◌, ℕ, suc, ◌+◌, ◌-◌, ◌≤◌, List, [], ◌∷◌, ◌++◌, map, length, max, Bool, true, false, Some, refl, sym, ap, ◌∙◌, subst, arith}
 use Rattle.std.specs.Prelude.{bytes_eq, nat_lt}
 use Rattle.std.proofs.lemmas.Bool.{eq-eqb, or_right}
 use Rattle.std.proofs.lemmas.List.{length-map}
@@ -58,12 +33,15 @@ use Rattle.source_meaning.specs.Places.{struct_parts}
 use Rattle.core_meaning.specs.Memory as core
 use Rattle.core_meaning.specs.Memory.{Content}
 use Rattle.core_meaning.specs.Operations.{too_far, lies_at, reaches}
+use Rattle.core_meaning.proofs.Wholes.{beyond_none, beyond_both}
 use Rattle.source_lowering.specs.Layouts.{Piece, piece, pieces_of, first_part, part_shape_of, padding, next_at, padded, layout_of, extent_of, bytes_before}
+use Rattle.source_lowering.specs.Layouts.{placed_of}
 use Rattle.source_lowering.specs.Lowered.{width_of, member_shape}
-use Rattle.source_lowering.specs.Lowerable.{IsWordShape, IsObject, AreObjects, AreStructs}
+use Rattle.source_lowering.specs.Lowerable.{IsWordShape, IsValueShape, IsObject, AreObjects, AreStructs}
 use Rattle.source_lowering.proofs.Structs.{cells_in, placed_in, extent_in, IsMade, struct_made}
-use Rattle.source_lowering.proofs.StructCells.{AllHaveCells, HasCells, shapes_in, shapes_count, AreWordShapes, object_cells}
+use Rattle.source_lowering.proofs.StructCells.{AllHaveCells, HasCells, shapes_in, shapes_count, AreValueShapes, object_cells}
 use Rattle.source_lowering.proofs.Relations.{at, PartIs, AreShaped, AreMade, AreCells, Leads, IsTakenObject}
+use Rattle.source_lowering.proofs.MovedParts.{made_moved, padded_moved}
 
 -- ---- the first part
 
@@ -80,6 +58,33 @@ word_pieces (StructShape tag) h = absurd h
 word_pieces (UnionShape tag) h = absurd h
 word_pieces (ArrayShape count of) h = absurd h
 
+-- a value's pieces behind the first one
+abbrev pub pieces_behind : Shape → List Piece
+pieces_behind (FatShape to) = piece 4 4 (core.Word 0) ∷ piece 8 4 (core.Word 0) ∷ []
+pieces_behind s = []
+
+pub value_pieces : (s : Shape) → IsValueShape s → pieces_of s ≡ piece 0 (width_of s) (first_part s) ∷ pieces_behind s
+value_pieces IntShape h = refl
+value_pieces UnsignedShape h = refl
+value_pieces CharShape h = refl
+value_pieces VoidShape h = absurd h
+value_pieces (ThinShape may_be_null owner to) h = refl
+value_pieces (FatShape to) h = refl
+value_pieces HandleShape h = refl
+value_pieces KeyShape h = absurd h
+value_pieces (StructShape tag) h = absurd h
+value_pieces (UnionShape tag) h = absurd h
+value_pieces (ArrayShape count of) h = absurd h
+
+padded_count : (extent : Shape → Extent) (bytes : ℕ) (ps : List Placed) → length (padded extent bytes ps) ≡ length ps
+padded_count extent bytes [] = refl
+padded_count extent bytes (p ∷ ps) = ap suc (padded_count extent bytes ps)
+
+-- Core has as many cells as the source
+pub layout_count : (w : World) (s : Shape) → HasCells w.unions w.structs s → length (layout_of w s).cells ≡ length (cells_of w s)
+layout_count w s has =
+    padded_count (extent_of w) (extent_of w s).size (placed_of w s) ∙ sym (shapes_count (placed_of w s)) ∙ ap length has.shapes
+
 -- the part at the spot and the byte where an object begins
 pub record FirstPart (c : core.Memory) (t : core.Spot) (byte : ℕ) : Type 0 where
   pub width : ℕ
@@ -94,8 +99,8 @@ first_part_of w c shape t byte has there = record {
   is = one.is ∙ ap (λ o. Some (record { offset = o; width = width_of has.first.shape; content = one.content })) (first_byte has.first.offset has.begins);
 }
   where
-    words : AreWordShapes (has.first.shape ∷ shapes_in has.others)
-    words = subst AreWordShapes (sym has.shapes ∙ ap shapes_in has.is) has.words
+    values : AreValueShapes (has.first.shape ∷ shapes_in has.others)
+    values = subst AreValueShapes (sym has.shapes ∙ ap shapes_in has.is) has.values
 
     cells_from : List Placed → List (List core.PartShape)
     cells_from ps = padded (extent_of w) (extent_of w shape).size ps
@@ -109,8 +114,9 @@ first_part_of w c shape t byte has there = record {
     made : AreMade c t byte (cells_from (has.first ∷ has.others))
     made = subst (λ z. AreMade c t byte (cells_from z)) has.is there
 
-    shaped : AreShaped c t byte 0 (map (part_shape_of has.first) (piece 0 (width_of has.first.shape) (first_part has.first.shape) ∷ []) ++ pad)
-    shaped = subst (λ z. AreShaped c t byte 0 (map (part_shape_of has.first) z ++ pad)) (word_pieces has.first.shape words.0) made.0
+    shaped : AreShaped c t byte 0 (map (part_shape_of has.first)
+        (piece 0 (width_of has.first.shape) (first_part has.first.shape) ∷ pieces_behind has.first.shape) ++ pad)
+    shaped = subst (λ z. AreShaped c t byte 0 (map (part_shape_of has.first) z ++ pad)) (value_pieces has.first.shape values.0) made.0
 
     one : PartIs c t 0 (byte + (has.first.offset + 0)) (width_of has.first.shape)
     one = shaped.0
@@ -130,20 +136,8 @@ beyond_on s a b c e = λ i. record s { cell = same i }
     same : s.cell + a + b ≡ s.cell + c
     same = omega (arith, e)
 
-pub core_beyond_on : (s : core.Spot) (a b c : ℕ) → a + b ≡ c → core.beyond (core.beyond s a) b ≡ core.beyond s c
-core_beyond_on s a b c e = λ i. record s { cell = same i }
-  where
-    same : s.cell + a + b ≡ s.cell + c
-    same = omega (arith, e)
-
 pub beyond_zero : (s : Spot) → s ≡ source.beyond s 0
 beyond_zero s = λ i. record s { cell = same i }
-  where
-    same : s.cell ≡ s.cell + 0
-    same = omega arith
-
-pub core_beyond_zero : (s : core.Spot) → s ≡ core.beyond s 0
-core_beyond_zero s = λ i. record s { cell = same i }
   where
     same : s.cell ≡ s.cell + 0
     same = omega arith
@@ -172,67 +166,12 @@ member_cells m cells none (p ∷ ps) f s h = by (bytes_eq p.name f) refl (member
 
 -- ---- Core's parts
 
--- parts that lie so many bytes on in another list, which may have more
-abbrev Moved : ℕ → List core.PartShape → List core.PartShape → Type 0
-Moved a [] xs = Unit {0}
-Moved a (y ∷ ys) [] = ⊥
-Moved a (y ∷ ys) (x ∷ xs) = (x.offset ≡ a + y.offset) × ((x.width ≡ y.width) × Moved a ys xs)
-
-abbrev AllMoved : ℕ → List (List core.PartShape) → List (List core.PartShape) → Type 0
-AllMoved a [] xss = Unit {0}
-AllMoved a (ys ∷ yss) [] = ⊥
-AllMoved a (ys ∷ yss) (xs ∷ xss) = Moved a ys xs × AllMoved a yss xss
-
-shaped_moved : (c : core.Memory) (t : core.Spot) (b a j : ℕ) (ys xs : List core.PartShape) → Moved a ys xs → AreShaped c t b j xs
-    → AreShaped c t (b + a) j ys
-shaped_moved c t b a j [] xs e h = tt
-shaped_moved c t b a j (y ∷ ys) [] e h = absurd e
-shaped_moved c t b a j (y ∷ ys) (x ∷ xs) e h = (
-  subst (λ z. PartIs c t j z y.width) same (subst (λ z. PartIs c t j (b + x.offset) z) e.1.0 h.0),
-  shaped_moved c t b a (suc j) ys xs e.1.1 h.1,
-)
-  where
-    same : b + x.offset ≡ b + a + y.offset
-    same = let f = e.0 in omega (arith, f)
-
-made_moved : (c : core.Memory) (t : core.Spot) (b a : ℕ) (yss xss : List (List core.PartShape)) → AllMoved a yss xss → AreMade c t b xss
-    → AreMade c t (b + a) yss
-made_moved c t b a [] xss e h = tt
-made_moved c t b a (ys ∷ yss) [] e h = absurd e
-made_moved c t b a (ys ∷ yss) (xs ∷ xss) e h = (shaped_moved c t b a 0 ys xs e.0 h.0, made_moved c (core.beyond t 1) b a yss xss e.1 h.1)
-
-padding_moved : (a e e' n n' : ℕ) → e' ≡ a + e → n ≤ n' → Moved a (padding e n) (padding e' n')
-padding_moved a e e' zero n' same less = tt
-padding_moved a e e' (suc n) zero same less = absurd (omega (arith, less))
-padding_moved a e e' (suc n) (suc n') same less = (same, (refl, padding_moved a (e + 1) (e' + 1) n n' (omega (arith, same)) (omega (arith, less))))
-
-pieces_moved : (a : ℕ) (p : Placed) (qs : List Piece) (ys xs : List core.PartShape) → Moved a ys xs
-    → Moved a (map (part_shape_of p) qs ++ ys) (map (part_shape_of (moved a p)) qs ++ xs)
-pieces_moved a p [] ys xs h = h
-pieces_moved a p (q ∷ qs) ys xs h = (omega arith, (refl, pieces_moved a p qs ys xs h))
-
-pub next_moved : (size bytes a : ℕ) (ps qs : List Placed) → a + size ≤ next_at bytes qs → a + next_at size ps ≤ next_at bytes (map (moved a) ps ++ qs)
-next_moved size bytes a [] qs h = h
-next_moved size bytes a (p ∷ ps) qs h = omega arith
-
-padded_moved : (extent : Shape → Extent) (size bytes a : ℕ) (ps qs : List Placed) → a + size ≤ next_at bytes qs
-    → AllMoved a (padded extent size ps) (padded extent bytes (map (moved a) ps ++ qs))
-padded_moved extent size bytes a [] qs h = tt
-padded_moved extent size bytes a (p ∷ ps) qs h =
-    let more = next_moved size bytes a ps qs h in
-    let end : ℕ = p.offset + (extent p.shape).size in
-    let far : ℕ = a + p.offset + (extent p.shape).size in (
-      pieces_moved a p (pieces_of p.shape) (padding end (next_at size ps - end)) (padding far (next_at bytes (map (moved a) ps ++ qs) - far))
-          (padding_moved a end far (next_at size ps - end) (next_at bytes (map (moved a) ps ++ qs) - far) (omega arith) (omega (arith, more))),
-      padded_moved extent size bytes a ps qs h,
-    )
-
 -- the cells after others
 made_after : (c : core.Memory) (t : core.Spot) (b bytes : ℕ) (extent : Shape → Extent) (ps qs : List Placed) → AreMade c t b (padded extent bytes (ps ++ qs))
     → AreMade c (core.beyond t (length ps)) b (padded extent bytes qs)
-made_after c t b bytes extent [] qs h = subst (λ z. AreMade c z b (padded extent bytes qs)) (core_beyond_zero t) h
+made_after c t b bytes extent [] qs h = subst (λ z. AreMade c z b (padded extent bytes qs)) (beyond_none t) h
 made_after c t b bytes extent (p ∷ ps) qs h =
-    subst (λ z. AreMade c z b (padded extent bytes qs)) (core_beyond_on t 1 (length ps) (suc (length ps)) (omega arith))
+    subst (λ z. AreMade c z b (padded extent bytes qs)) (beyond_both t 1 (length ps) (suc (length ps)) (omega arith))
     (made_after c (core.beyond t 1) b bytes extent ps qs h.1)
 
 pub have_cells : (unions structs : List Layout) (ps : List Part) → AreStructs unions structs → AreObjects structs (part_shapes ps)
@@ -315,7 +254,7 @@ member_made c unions structs bytes so_far (p ∷ ps) f t b h room made = by (byt
         (placed_in unions structs of))
 
     here : goal 0 a p.shape
-    here = subst (λ z. AreMade c z (b + a) (padded extent e.size (placed_in unions structs p.shape))) (core_beyond_zero t)
+    here = subst (λ z. AreMade c z (b + a) (padded extent e.size (placed_in unions structs p.shape))) (beyond_none t)
         (made_moved c t b a (padded extent e.size (placed_in unions structs p.shape)) _
         (padded_moved extent e.size bytes a (placed_in unions structs p.shape) others (next_after unions structs bytes next ps h.1 room)) made)
 
@@ -331,7 +270,7 @@ member_made c unions structs bytes so_far (p ∷ ps) f t b h room made = by (byt
     by false g rest =
         rw g (subst (λ z. AreMade c z (b + bytes_before (extent_in unions structs) (a + e.size) ps f)
         (padded (extent_in unions structs) (extent_in unions structs (part_shape ps f)).size (placed_in unions structs (part_shape ps f))))
-        (core_beyond_on t _ (cells_before (cells_in structs) ps f) (length (cells_in structs p.shape) + cells_before (cells_in structs) ps f)
+        (beyond_both t _ (cells_before (cells_in structs) ps f) (length (cells_in structs p.shape) + cells_before (cells_in structs) ps f)
         (ap (λ z. z + cells_before (cells_in structs) ps f) count)) rest)
 
 -- ---- members

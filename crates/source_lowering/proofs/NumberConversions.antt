@@ -18,7 +18,7 @@ use Rattle.source_meaning.specs.Memory as source
 use Rattle.source_meaning.specs.Memory.{IntegerType, AsChar, Scalar, Integer}
 use Rattle.source_meaning.specs.Steps as steps
 use Rattle.source_meaning.specs.Steps.{World}
-use Rattle.source_meaning.specs.Conversions.{one, converted}
+use Rattle.source_meaning.specs.Conversions.{converted}
 use Rattle.source_meaning.specs.Programs.{integer_shape}
 use Rattle.core_meaning.specs.Memory as core
 use Rattle.core_meaning.specs.Memory.{Content, Word}
@@ -28,14 +28,15 @@ use Rattle.core_meaning.specs.Steps.{Config, with_temp}
 use Rattle.core_meaning.specs.Meaning as meaning
 use Rattle.core_meaning.specs.Operations.{does}
 use Rattle.source_lowering.specs.Lowered.{put}
-use Rattle.source_lowering.proofs.Relations.{at, Shown, Place, Fits, SameAt, Next, AreKept, LaterAt, AValue, ANothing, Given, GoesOn}
-use Rattle.source_lowering.proofs.Integers.{IsWord, limit, shown_word, word_given, small_word}
+use Rattle.source_lowering.proofs.Relations.{Shown, Place, Fits, SameAt, Next, AreKept, LaterAt, AValue, ANothing, Given, GoesOn, contents_in}
+use Rattle.source_lowering.proofs.Integers.{IsWord, limit, shown_word, word_given, small_word, integer_one, one_given, given_one}
+use Rattle.source_lowering.specs.Members.{words_in}
 use Rattle.source_lowering.proofs.Values.{put_value}
 
 -- a value of a shape in a temporary becomes one of another
 pub record ConvertsAs (p : Place) (n d : ℕ) (to from : Shape) (code : List Statement) : Type 0 where
   pub same : (m0 : source.Memory) (c0 : Config) (m : source.Memory) (c : Config) (vs : List Scalar) (s : List Scalar → source.Memory → steps.Step)
-      (rest : Statements) (next : Next) → Fits p m c → LaterAt p m0 c0 m c → AreKept d c0 c → Given p.world m c.memory from vs (c.temps d)
+      (rest : Statements) (next : Next) → Fits p m c → LaterAt p m0 c0 m c → AreKept d c0 c → Given p.world m c.memory from vs (contents_in d from c.temps)
       → GoesOn p n d m0 c0 to s (meaning.statements rest next)
       → SameAt p n (converted p.world to from vs s m) (meaning.statements (put code rest) next c)
 
@@ -60,6 +61,10 @@ number_word w m c (StructShape tag) v x h o = absurd h
 number_word w m c (UnionShape tag) v x h o = absurd h
 number_word w m c (ArrayShape count of) v x h o = absurd h
 
+number_one : (s : Shape) → IsNumber s → words_in s ≡ 1
+number_one (FatShape to) h = absurd h
+number_one _ h = refl
+
 -- the source is stuck at each value of an integer, and at none
 pub stuck_converts : (p : Place) (n d : ℕ) (to from : Shape) (code : List Statement) → IsNumber from
     → ((t : IntegerType) (word : ℕ) (s : List Scalar → source.Memory → steps.Step) (m : source.Memory) (k : core_steps.Step) → from ≡ integer_shape t
@@ -68,13 +73,13 @@ pub stuck_converts : (p : Place) (n d : ℕ) (to from : Shape) (code : List Stat
 stuck_converts p n d to from code taken word none = record {
   same = λ m0 c0 m c vs s rest next fits later kept given goes.
       ⊎_elim
-      (λ (v : AValue p.world m c.memory from vs (c.temps d)).
+      (λ (v : AValue p.world m c.memory from vs (c.temps d ∷ [])).
       let o = number_word p.world m c.memory from v.value (c.temps d) taken v.shown in
       subst (λ z. SameAt p n (converted p.world to from z s m) (meaning.statements (put code rest) next c)) (sym (v.alone ∙ ap (λ z. z ∷ []) o.value))
       (word o.type o.word s m _ o.shape_is))
       (λ (v : ANothing from vs).
       subst (λ z. SameAt p n (converted p.world to from z s m) (meaning.statements (put code rest) next c)) (sym v.none) (none s m _ v.void))
-      given;
+      (one_given p.world m c.memory from vs d c.temps (number_one from taken) given);
 }
 
 -- the value as it is, of another type
@@ -86,15 +91,16 @@ pub kept_converts : (p : Place) (n d : ℕ) (t : IntegerType) (from : Shape) →
 kept_converts p n d t from taken wide same none = record {
   same = λ m0 c0 m c vs s rest next fits later kept given goes.
       ⊎_elim
-      (λ (v : AValue p.world m c.memory from vs (c.temps d)).
+      (λ (v : AValue p.world m c.memory from vs (c.temps d ∷ [])).
       let o = number_word p.world m c.memory from v.value (c.temps d) taken v.shown in
       subst (λ z. SameAt p n (converted p.world (integer_shape t) from z s m) (meaning.statements rest next c)) (sym (v.alone ∙ ap (λ z. z ∷ []) o.value))
       (subst (λ z. SameAt p n z (meaning.statements rest next c)) (sym (same o.type o.word s m))
       (goes.go m c (Integer t o.word ∷ []) fits later kept
-      (word_given p.world m c.memory t o.word (c.temps d) (subst (λ z. o.word < z) (sym wide) (small_word o.type o.word o.small)) o.shown))))
+      (given_one p.world m c.memory (integer_shape t) (Integer t o.word ∷ []) d c.temps (integer_one t)
+      (word_given p.world m c.memory t o.word (c.temps d) (subst (λ z. o.word < z) (sym wide) (small_word o.type o.word o.small)) o.shown)))))
       (λ (v : ANothing from vs).
       subst (λ z. SameAt p n (converted p.world (integer_shape t) from z s m) (meaning.statements rest next c)) (sym v.none) (none s m _ v.void))
-      given;
+      (one_given p.world m c.memory from vs d c.temps (number_one from taken) given);
 }
 
 narrowed : (c : Config) (d x : ℕ) (next : Config → core_steps.Step) → c.temps d ≡ Word x → does (Narrow d d) next c ≡ next (with_temp d (Word (x % 256)) c)
@@ -108,18 +114,18 @@ pub low_converts : (p : Place) (n d : ℕ) (from : Shape) → IsNumber from → 
 low_converts p n d from taken same none = record {
   same = λ m0 c0 m c vs s rest next fits later kept given goes.
       ⊎_elim
-      (λ (v : AValue p.world m c.memory from vs (c.temps d)).
+      (λ (v : AValue p.world m c.memory from vs (c.temps d ∷ [])).
       let o = number_word p.world m c.memory from v.value (c.temps d) taken v.shown in
       subst (λ z. SameAt p n (converted p.world CharShape from z s m) (meaning.statements (MoreStatements (Do (Narrow d d)) rest) next c))
       (sym (v.alone ∙ ap (λ z. z ∷ []) o.value))
       (subst (λ z. SameAt p n z (meaning.statements (MoreStatements (Do (Narrow d d)) rest) next c)) (sym (same o.type o.word s m))
       (subst (λ z. SameAt p n (s (Integer AsChar (o.word % 256) ∷ []) m) z) (sym (narrowed c d o.word (meaning.statements rest next) o.shown))
-      (put_value p n d m0 c0 m c CharShape (Integer AsChar (o.word % 256) ∷ []) (Word (o.word % 256)) s (meaning.statements rest next) fits later kept
+      (put_value p n d m0 c0 m c CharShape (Integer AsChar (o.word % 256) ∷ []) (Word (o.word % 256)) s (meaning.statements rest next) fits later kept refl
       (word_given p.world m c.memory AsChar (o.word % 256) (Word (o.word % 256)) (low o.word) refl) goes))))
       (λ (v : ANothing from vs).
       subst (λ z. SameAt p n (converted p.world CharShape from z s m) (meaning.statements (MoreStatements (Do (Narrow d d)) rest) next c)) (sym v.none)
       (none s m _ v.void))
-      given;
+      (one_given p.world m c.memory from vs d c.temps (number_one from taken) given);
 }
   where
     low : (x : ℕ) → x % 256 < 256
@@ -130,7 +136,7 @@ pub char_converts : (p : Place) (n d : ℕ) → ConvertsAs p n d CharShape CharS
 char_converts p n d = record {
   same = λ m0 c0 m c vs s rest next fits later kept given goes.
       ⊎_elim
-      (λ (v : AValue p.world m c.memory CharShape vs (c.temps d)).
+      (λ (v : AValue p.world m c.memory CharShape vs (c.temps d ∷ [])).
       let small = v.shown.small in
       let same : v.shown.word % 256 ≡ v.shown.word = low v.shown.word small in
       subst (λ z. SameAt p n (converted p.world CharShape CharShape z s m) (meaning.statements rest next c)) (sym (v.alone ∙ ap (λ z. z ∷ []) v.shown.value))
@@ -162,7 +168,7 @@ pub void_converts : (p : Place) (n d : ℕ) → ConvertsAs p n d VoidShape VoidS
 void_converts p n d = record {
   same = λ m0 c0 m c vs s rest next fits later kept given goes.
       ⊎_elim
-      (λ (v : AValue p.world m c.memory VoidShape vs (c.temps d)). absurd v.shown)
+      (λ (v : AValue p.world m c.memory VoidShape vs (c.temps d ∷ [])). absurd v.shown)
       (λ (v : ANothing VoidShape vs).
       subst (λ z. SameAt p n (converted p.world VoidShape VoidShape z s m) (meaning.statements rest next c)) (sym v.none)
       (goes.go m c [] fits later kept (inr (record { void = refl; none = refl }))))

@@ -5,7 +5,8 @@ use Rattle.std.proofs.lemmas.Nat.{and_le_l, or_of_32, xor_of_32}
 use Rattle.std.proofs.Math.Nat.{div-le_self, mod-le}
 use Rattle.cyc_tree.specs.declared.expression.Operator.{Operator}
 use Rattle.cyc_tree.specs.declared.expression.Operator.TheVariants as operator
-use Rattle.cyc_words.specs.Words.{sum_of, difference_of, product_of, quotient, unsigned_quotient, remainder, unsigned_remainder, shifted_left, shifted_right, shifted_right_signed}
+use Rattle.cyc_words.specs.Words.{sum_of, difference_of, product_of, quotient, unsigned_quotient, remainder, unsigned_remainder, shifted_left, shifted_right}
+use Rattle.cyc_words.specs.Words.{shifted_right_signed}
 use Rattle.source_meaning.specs.Memory.{IntegerType, AsInt, AsUnsigned, AsChar, Integer}
 use Rattle.source_meaning.specs.Operators.{truth_value, promoted, common, by_type, below, integers, common_shape, promoted_shape, operator_shape}
 use Rattle.source_meaning.specs.Programs.{integer_shape}

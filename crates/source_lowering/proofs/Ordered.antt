@@ -27,14 +27,20 @@ use Rattle.source_lowering.specs.Lowered.{width_of}
 use Rattle.source_lowering.specs.Lowerable.{IsObject, AreObjects, IsStruct, AreStructs}
 use Rattle.source_lowering.proofs.Structs.{placed_in, extent_in}
 use Rattle.source_lowering.proofs.StructCells.{AllHaveCells}
-use Rattle.source_lowering.proofs.Members.{next_moved, next_after, have_cells}
+use Rattle.source_lowering.proofs.Members.{next_after, have_cells}
+use Rattle.source_lowering.proofs.MovedParts.{next_moved}
 
 -- ---- cells one after the other
+
+-- how many bytes a value takes: a fat pointer three words
+abbrev pub bytes_taken : Shape → ℕ
+bytes_taken (FatShape to) = 12
+bytes_taken s = width_of s
 
 -- each ends where the next begins, or before, the last within so many bytes
 abbrev pub AreOrdered : ℕ → List Placed → Type 0
 AreOrdered end [] = Unit {0}
-AreOrdered end (p ∷ ps) = (p.offset + width_of p.shape ≤ next_at end ps) × AreOrdered end ps
+AreOrdered end (p ∷ ps) = (p.offset + bytes_taken p.shape ≤ next_at end ps) × AreOrdered end ps
 
 -- a word lies at a multiple of 4, in an object that is aligned to 4
 abbrev pub AreEven : ℕ → List Placed → Type 0
@@ -139,7 +145,7 @@ parts_even unions structs final so_far (p ∷ ps) h all same =
 -- ---- objects
 
 word_ordered : (unions structs : List Layout) (s : Shape) → placed_in unions structs s ≡ (record { offset = 0; shape = s }) ∷ []
-    → (extent_in unions structs s).size ≡ 4 → (extent_in unions structs s).align ≡ 4 → width_of s ≡ 4 → IsOrdered unions structs s
+    → (extent_in unions structs s).size ≡ 4 → (extent_in unions structs s).align ≡ 4 → bytes_taken s ≡ 4 → IsOrdered unions structs s
 word_ordered unions structs s placed size align width = record {
   ordered = subst (λ z. AreOrdered (extent_in unions structs s).size z) (sym placed) (omega (arith, size, width), tt);
   aligned = record { one = inr align; even = λ e. ap (λ z. z % 4) size };
@@ -158,7 +164,11 @@ object_by unions structs CharShape all o = record {
 }
 object_by unions structs VoidShape all o = absurd o
 object_by unions structs (ThinShape b owner to) all o = word_ordered unions structs (ThinShape b owner to) refl refl refl refl
-object_by unions structs (FatShape to) all o = absurd o
+object_by unions structs (FatShape to) all o = record {
+  ordered = (omega arith, tt);
+  aligned = record { one = inr refl; even = λ e. refl };
+  even = (inr (refl, refl), tt);
+}
 object_by unions structs HandleShape all o = word_ordered unions structs HandleShape refl refl refl refl
 object_by unions structs KeyShape all o = absurd o
 object_by unions structs (UnionShape tag) all o = absurd o

@@ -208,7 +208,7 @@ all_are w m c t [] [] h = tt
 all_are w m c t [] (v ∷ vs) h = absurd h
 all_are w m c t (x ∷ xs) [] h = absurd h
 all_are w m c t (x ∷ xs) (v ∷ vs) h = (
-  record { contents = h.0.part.content ∷ []; shown = h.0.shown; held = ((h.0.part, (h.0.is, refl)), tt) },
+  record { contents = h.0.contents; shown = h.0.shown; held = h.0.held },
   all_are w m c (source.beyond t 1) xs vs h.1,
 )
 

@@ -36,32 +36,21 @@ use Rattle.source_meaning.specs.Steps.{World, need}
 use Rattle.source_meaning.specs.Operators as operators
 use Rattle.source_meaning.specs.Operators.{same_thin, equality, operator_shape, truth_value}
 use Rattle.core_meaning.specs.Memory as core
-use Rattle.core_meaning.specs.Memory.{Content, Word, Null, Pointer}
-use Rattle.core_meaning.specs.Core.{Statements}
+use Rattle.core_meaning.specs.Memory.{Content, Word, Pointer}
+use Rattle.core_meaning.specs.Core.{Operation, SamePlace, Statements}
 use Rattle.core_meaning.specs.Words as words
 use Rattle.core_meaning.specs.Steps as core_steps
 use Rattle.core_meaning.specs.Steps.{Config, with_temp}
 use Rattle.core_meaning.specs.Meaning as meaning
-use Rattle.core_meaning.specs.Operations.{same_place}
-use Rattle.source_lowering.specs.Lowered.{put, pointers_code, operator_code, turned_code}
-use Rattle.source_lowering.proofs.Relations.{at, region_at, ANull, APointer, Agree, Later, Place, Fits, SameAt, Next, AreKept, LaterAt, GoesOn, Bound}
-use Rattle.source_lowering.proofs.Keeping.{spot_as, shown_later}
+use Rattle.core_meaning.specs.Operations.{does, same_place}
+use Rattle.source_lowering.specs.Lowered.{put, compared_code, pointers_code, operator_code, turned_code}
+use Rattle.source_lowering.proofs.Relations.{at, region_at, ANull, APointer, Agree, Place, Fits, SameAt, Next, AreKept, LaterAt, GoesOn}
+use Rattle.source_lowering.proofs.Keeping.{spot_as}
 use Rattle.source_lowering.proofs.Runs.{stuck_same}
 use Rattle.source_lowering.proofs.Integers.{IsThin, null_is, pointer_is}
 use Rattle.source_lowering.proofs.Members.{first_part_of}
 use Rattle.source_lowering.proofs.Values.{put_temp, temp_fits, kept_temp}
 use Rattle.source_lowering.proofs.Tests.{put_truth, turned_does}
-
--- a pointer's value stays one in later memories
-pub thin_later : (b : Bound) (w : World) (m m' : source.Memory) (c c' : core.Memory) (shape : Shape) (v : Scalar) (x : Content) → Later b m c m' c'
-    → IsThin w m c shape v x → IsThin w m' c' shape v x
-thin_later b w m m' c c' shape v x later o = record {
-  may_be_null = o.may_be_null;
-  to = o.to;
-  taken = o.taken;
-  shape_is = o.shape_is;
-  shown = shown_later b w m m' c c' (ThinShape o.may_be_null Shared o.to) v (x ∷ []) later o.shown;
-}
 
 -- ---- what a comparison gives
 
@@ -164,39 +153,39 @@ turned_truth : (b : Bool) → words.truth (nat_eq (words.truth b) 0) ≡ words.t
 turned_truth true = refl
 turned_truth false = refl
 
--- with the answer in hand
-answered : (p : Place) (n d : ℕ) (o : Operator) (sa sb : Shape) (b : Bool) (m0 : source.Memory) (c0 : Config) (m : source.Memory) (c : Config)
-    (s : List Scalar → source.Memory → steps.Step) (rest : Statements) (next : Next)
-    → ((k : ℕ → core_steps.Step) → same_place c.memory (c.temps d) (c.temps (d + 1)) k ≡ k (words.truth b)) → Fits p m c → LaterAt p m0 c0 m c
+-- with an operation that gives the answer
+pub answered : (p : Place) (n d : ℕ) (o : Operator) (sa sb : Shape) (b : Bool) (same : Operation) (m0 : source.Memory) (c0 : Config) (m : source.Memory)
+    (c : Config) (s : List Scalar → source.Memory → steps.Step) (rest : Statements) (next : Next)
+    → ((k : Config → core_steps.Step) → does same k c ≡ k (with_temp d (Word (words.truth b)) c)) → Fits p m c → LaterAt p m0 c0 m c
     → AreKept d c0 c → GoesOn p n d m0 c0 (operator_shape o sa sb) s (meaning.statements rest next)
-    → SameAt p n (need (equality o b) (λ r. s (r ∷ [])) m) (meaning.statements (put (pointers_code o d) rest) next c)
-answered p n d operator.Equal sa sb b m0 c0 m c s rest next does fits later kept goes =
-    subst (λ z. SameAt p n (s (truth_value b ∷ []) m) z) (sym (does (λ k. meaning.statements rest next (with_temp d (Word k) c))))
+    → SameAt p n (need (equality o b) (λ r. s (r ∷ [])) m) (meaning.statements (put (compared_code o same d) rest) next c)
+answered p n d operator.Equal sa sb b same m0 c0 m c s rest next is fits later kept goes =
+    subst (λ z. SameAt p n (s (truth_value b ∷ []) m) z) (sym (is (meaning.statements rest next)))
     (put_truth p n d m0 c0 m c b s (meaning.statements rest next) fits later kept goes)
-answered p n d operator.NotEqual sa sb b m0 c0 m c s rest next does fits later kept goes =
+answered p n d operator.NotEqual sa sb b same m0 c0 m c s rest next is fits later kept goes =
     let here : Config = with_temp d (Word (words.truth b)) c in
     let over : Config = with_temp (d + 1) (Word 0) here in
     subst (λ z. SameAt p n (s (truth_value (not b) ∷ []) m) z)
-    (sym (does (λ k. meaning.statements (put (turned_code d) rest) next (with_temp d (Word k) c)) ∙
+    (sym (is (meaning.statements (put (turned_code d) rest) next) ∙
     turned_does d (words.truth b) here rest next (put_temp d (Word (words.truth b)) c) ∙
     ap (λ z. meaning.statements rest next (with_temp d (Word z) over)) (turned_truth b)))
     (put_truth p n d m0 c0 m over (not b) s (meaning.statements rest next)
     (temp_fits p m here (d + 1) (Word 0) (temp_fits p m c d (Word (words.truth b)) fits)) later
     (kept_temp d (d + 1) (Word 0) c0 here (omega arith) (kept_temp d d (Word (words.truth b)) c0 c (omega arith) kept)) goes)
-answered p n d operator.BitOr sa sb b m0 c0 m c s rest next does fits later kept goes = stuck_same p.world p.program n _
-answered p n d operator.BitXor sa sb b m0 c0 m c s rest next does fits later kept goes = stuck_same p.world p.program n _
-answered p n d operator.BitAnd sa sb b m0 c0 m c s rest next does fits later kept goes = stuck_same p.world p.program n _
-answered p n d operator.Less sa sb b m0 c0 m c s rest next does fits later kept goes = stuck_same p.world p.program n _
-answered p n d operator.LessEqual sa sb b m0 c0 m c s rest next does fits later kept goes = stuck_same p.world p.program n _
-answered p n d operator.Greater sa sb b m0 c0 m c s rest next does fits later kept goes = stuck_same p.world p.program n _
-answered p n d operator.GreaterEqual sa sb b m0 c0 m c s rest next does fits later kept goes = stuck_same p.world p.program n _
-answered p n d operator.ShiftLeft sa sb b m0 c0 m c s rest next does fits later kept goes = stuck_same p.world p.program n _
-answered p n d operator.ShiftRight sa sb b m0 c0 m c s rest next does fits later kept goes = stuck_same p.world p.program n _
-answered p n d operator.Add sa sb b m0 c0 m c s rest next does fits later kept goes = stuck_same p.world p.program n _
-answered p n d operator.Subtract sa sb b m0 c0 m c s rest next does fits later kept goes = stuck_same p.world p.program n _
-answered p n d operator.Multiply sa sb b m0 c0 m c s rest next does fits later kept goes = stuck_same p.world p.program n _
-answered p n d operator.Divide sa sb b m0 c0 m c s rest next does fits later kept goes = stuck_same p.world p.program n _
-answered p n d operator.Remainder sa sb b m0 c0 m c s rest next does fits later kept goes = stuck_same p.world p.program n _
+answered p n d operator.BitOr sa sb b same m0 c0 m c s rest next is fits later kept goes = stuck_same p.world p.program n _
+answered p n d operator.BitXor sa sb b same m0 c0 m c s rest next is fits later kept goes = stuck_same p.world p.program n _
+answered p n d operator.BitAnd sa sb b same m0 c0 m c s rest next is fits later kept goes = stuck_same p.world p.program n _
+answered p n d operator.Less sa sb b same m0 c0 m c s rest next is fits later kept goes = stuck_same p.world p.program n _
+answered p n d operator.LessEqual sa sb b same m0 c0 m c s rest next is fits later kept goes = stuck_same p.world p.program n _
+answered p n d operator.Greater sa sb b same m0 c0 m c s rest next is fits later kept goes = stuck_same p.world p.program n _
+answered p n d operator.GreaterEqual sa sb b same m0 c0 m c s rest next is fits later kept goes = stuck_same p.world p.program n _
+answered p n d operator.ShiftLeft sa sb b same m0 c0 m c s rest next is fits later kept goes = stuck_same p.world p.program n _
+answered p n d operator.ShiftRight sa sb b same m0 c0 m c s rest next is fits later kept goes = stuck_same p.world p.program n _
+answered p n d operator.Add sa sb b same m0 c0 m c s rest next is fits later kept goes = stuck_same p.world p.program n _
+answered p n d operator.Subtract sa sb b same m0 c0 m c s rest next is fits later kept goes = stuck_same p.world p.program n _
+answered p n d operator.Multiply sa sb b same m0 c0 m c s rest next is fits later kept goes = stuck_same p.world p.program n _
+answered p n d operator.Divide sa sb b same m0 c0 m c s rest next is fits later kept goes = stuck_same p.world p.program n _
+answered p n d operator.Remainder sa sb b same m0 c0 m c s rest next is fits later kept goes = stuck_same p.world p.program n _
 
 -- both operands are in their temporaries
 pub pointers_operated : (p : Place) (n d : ℕ) (o : Operator) (sa sb : Shape) (u v : Scalar) (m0 : source.Memory) (c0 : Config) (m : source.Memory) (c : Config)
@@ -207,13 +196,16 @@ pub pointers_operated : (p : Place) (n d : ℕ) (o : Operator) (sa sb : Shape) (
 pointers_operated p n d o sa sb u v m0 c0 m c s rest next a b fits later kept goes =
     subst (λ z. SameAt p n (need (operators.operated m o u v) (λ r. s (r ∷ [])) m) (meaning.statements (put (operator_code o z sb d) rest) next c))
     (sym a.shape_is)
+    (subst (λ z. SameAt p n (need (operators.operated m o u v) (λ r. s (r ∷ [])) m)
+    (meaning.statements (put (operator_code o (ThinShape a.may_be_null Shared a.to) z d) rest) next c)) (sym b.shape_is)
     (subst (λ z. SameAt p n (need (operators.operated m o z v) (λ r. s (r ∷ [])) m) code) (sym both.first_is)
     (subst (λ z. SameAt p n (need (operators.operated m o (Thin both.first) z) (λ r. s (r ∷ [])) m) code) (sym both.second_is)
     (⊎_elim
     (λ (none : same_thin m both.first both.second ≡ None). rw none (stuck_same p.world p.program n code))
     (λ (one : Compared m c.memory both.first both.second (c.temps d) (c.temps (d + 1))).
-    rw one.is (answered p n d o sa sb one.answer m0 c0 m c s rest next one.does fits later kept goes))
-    both.compares)))
+    rw one.is
+    (answered p n d o sa sb one.answer (SamePlace d d (d + 1)) m0 c0 m c s rest next (λ k. one.does (λ z. k (with_temp d (Word z) c))) fits later kept goes))
+    both.compares))))
   where
     both : ArePointers m c.memory u v (c.temps d) (c.temps (d + 1))
     both = both_pointers p.world m c.memory sa sb u v (c.temps d) (c.temps (d + 1)) fits.agree a b

@@ -1,17 +1,35 @@
 -- The theorem: on each input and with each amount of fuel, Core does what the program does, where the program isn't stuck.
-use Rattle.std.proofs.Common.{◌≡◌, ℕ, suc, ◌⊎◌, inl, ⊎_elim, List, [], ◌∷◌, ◌++◌, map, Some, None, refl, sym, ap, ◌∙◌, subst, arith}
+use Rattle.std.proofs.Common.{◌≡◌, ℕ, suc, ◌⊎◌, ◌^◌, inl, ⊎_elim, List, [], ◌∷◌, ◌++◌, map, Some, None, refl, sym, ap, ◌∙◌, subst, arith}
 use Rattle.std.proofs.lemmas.List.{append-nil}
 use Rattle.std.specs.Prelude.{codes, slice_get}
 use Rattle.cyc_words.specs.Events.{AreBytes, SourceEnding}
 use Rattle.step_trees.specs.Trees.{Stops}
 use Rattle.cyc_tree.specs.Tree as tree
-use Rattle.cyc_tree.specs.Tree.{Base, TypeName, Pointer, Member, Function, Item}
-use Rattle.source_meaning.specs.Shapes.{Shape, IntShape, Part, part_of, part_shapes, written, settled}
+use Rattle.cyc_tree.specs.Tree.{Base, TypeName, Pointer, Member, Initial, Function, Item}
+use Rattle.source_meaning.specs.Shapes.{
+  Shape,
+  IntShape,
+  UnsignedShape,
+  CharShape,
+  VoidShape,
+  ThinShape,
+  FatShape,
+  HandleShape,
+  KeyShape,
+  StructShape,
+  UnionShape,
+  ArrayShape,
+  Part,
+  part_of,
+  part_shapes,
+  written,
+  settled,
+}
 use Rattle.source_meaning.specs.Memory as source
-use Rattle.source_meaning.specs.Memory.{Scalar}
+use Rattle.source_meaning.specs.Memory.{IntegerType, AsInt, AsUnsigned, AsChar, Scalar}
 use Rattle.source_meaning.specs.Steps as steps
 use Rattle.source_meaning.specs.Steps.{World, Routine, need, ◌>>=◌}
-use Rattle.source_meaning.specs.Conversions.{one, integer}
+use Rattle.source_meaning.specs.Conversions.{one, integer, size_of}
 use Rattle.source_meaning.specs.Calls.{function_of}
 use Rattle.source_meaning.specs.Strings.{program_strings}
 use Rattle.source_meaning.specs.Programs.{
@@ -34,12 +52,15 @@ use Rattle.core_meaning.specs.Memory.{Content}
 use Rattle.core_meaning.specs.Core.{Program}
 use Rattle.core_meaning.specs.Steps as core_steps
 use Rattle.core_meaning.specs.Meaning as meaning
-use Rattle.core_meaning.specs.Meaning.{core}
+use Rattle.core_meaning.specs.Meaning.{core, passed_in}
 use Rattle.source_lowering.specs.Lowered.{number_of}
+use Rattle.source_lowering.specs.Members.{all_words}
 use Rattle.source_lowering.specs.Programs.{data_of, program_code}
 use Rattle.source_lowering.specs.Taken.{IsVoidBase}
 use Rattle.source_lowering.specs.Lowerable.{
   IsObject,
+  IsVariable,
+  TakesGlobal,
   TakesResult,
   GivesWord,
   GivesNothing,
@@ -48,17 +69,36 @@ use Rattle.source_lowering.specs.Lowerable.{
   TakesProgram,
   IsLowerable,
 }
-use Rattle.source_lowering.proofs.Relations.{Agree, AreLed, SameOutcome, Same}
+use Rattle.source_lowering.proofs.Relations.{
+  AnInteger,
+  ANull,
+  APointer,
+  AFatNull,
+  AFat,
+  Shown,
+  Agree,
+  AreLed,
+  AValue,
+  SameOutcome,
+  Same,
+}
 use Rattle.source_lowering.proofs.Runs.{stuck_same, stops_same}
-use Rattle.source_lowering.proofs.Integers.{IsTaken, word_taken, shown_one, IsWord, IsThin, IsHandle, thin_same}
+use Rattle.source_lowering.proofs.Integers.{IsTaken, value_taken}
 use Rattle.source_lowering.proofs.Names.{AreGlobals, AreParameters, IsRoutine, AreRoutines, IsPlainWorld, FoundFunction, find_function}
-use Rattle.source_lowering.proofs.Calls.{AllGiven, OneResult, NoResult, ResultIs, EntersAs}
-use Rattle.source_lowering.proofs.WrittenTypes.{object_settled, word_settled}
+use Rattle.source_lowering.proofs.Calls.{AllGiven, NoResult, ResultIs, EntersAs}
+use Rattle.source_lowering.proofs.WrittenTypes.{object_settled, value_settled}
+use Rattle.source_lowering.proofs.ObjectShapes.{object_named}
 use Rattle.source_lowering.proofs.Functions.{enters_always}
-use Rattle.source_lowering.proofs.Heap.{shape_kept, heap_of, heap_agrees, heap_stored, heap_led}
+use Rattle.source_lowering.proofs.Heap.{heap_of, heap_agrees, heap_stored, heap_led}
 use Rattle.source_lowering.proofs.Constants.{globals_same}
 
 -- ---- a program of words
+
+-- an array's count is a word
+pub global_variable : (w : World) (initial : Initial) (s : Shape) → TakesGlobal s initial → IsObject w.structs s → IsVariable w.structs (global_shape initial s)
+global_variable w Initial.Unset s h object = object_named w.structs s object
+global_variable w (Initial.Elements count) s h object = (h.0, object)
+global_variable w (Initial.Given c) s h object = object_named w.structs s object
 
 globals_are : (w : World) (items : List Item) (k : ℕ) → TakesProgram w items → AreGlobals w.structs (globals_from items k)
 globals_are w [] k h = tt
@@ -70,14 +110,14 @@ globals_are w (tree.GlobalItem g ∷ items) k h = (
     shape = global_shape g.initial (settled (written g.of));
     number = k;
     is = refl;
-    is_object = subst (λ z. IsObject w.structs z) (sym (shape_kept g.initial (settled (written g.of)) h.0.1)) (object_settled w.structs g.of h.0.0);
+    is_variable = global_variable w g.initial (settled (written g.of)) h.0.1 (object_settled w.structs g.of h.0.0);
   },
   globals_are w items (suc k) h.1,
 )
 
 parameters_are : (ms : List Member) → AreWords ms → AreParameters (map part_of ms)
 parameters_are [] h = tt
-parameters_are (m ∷ ms) h = (word_settled m.of h.0, parameters_are ms h.1)
+parameters_are (m ∷ ms) h = (value_settled m.of h.0, parameters_are ms h.1)
 
 void_taken : (b : Base) (ps : List Pointer) (at : ℕ) → ps ≡ [] → IsVoidBase b → IsTaken (settled (written (record { at = at; base = b; pointers = ps })))
 void_taken b ps at e h = subst (λ z. IsTaken (settled (written (record { at = at; base = b; pointers = z })))) (sym e) (by b h)
@@ -93,7 +133,7 @@ void_taken b ps at e h = subst (λ z. IsTaken (settled (written (record { at = a
     by (tree.Key region) h = absurd h
 
 result_taken : (t : TypeName) → TakesResult t → IsTaken (settled (written t))
-result_taken t (GivesWord h) = word_taken (settled (written t)) (word_settled t h)
+result_taken t (GivesWord h) = value_taken (settled (written t)) (value_settled t h)
 result_taken t (GivesNothing h) = void_taken t.base t.pointers t.at h.pointers h.base
 
 int_written : (t : TypeName) → t.pointers ≡ [] → t.base ≡ tree.Int → settled (written t) ≡ IntShape
@@ -116,7 +156,7 @@ routines_are w (tree.UnionItem u ∷ items) h = absurd h.0
 routines_are w (tree.GlobalItem g ∷ items) h = routines_are w items h.1
 routines_are w (tree.FunctionItem f ∷ items) h = (routine_is w f h.0, routines_are w items h.1)
 
-world_plain : (p : tree.Program) → IsLowerable p → IsPlainWorld (world_of p)
+pub world_plain : (p : tree.Program) → IsLowerable p → IsPlainWorld (world_of p)
 world_plain p h = record {
   structs = h.structs;
   globals = globals_are (world_of p) p 0 h.items;
@@ -133,23 +173,36 @@ status_same : (w : World) (fs : Program) (n : ℕ) (shape : Shape) (m : source.M
     → IsTaken shape → ResultIs w m c shape vs xs → Same w fs n (status vs m) (meaning.status_of xs c)
 status_same w fs n shape m c vs xs taken r =
     ⊎_elim
-    (λ (o : OneResult w m c shape vs xs).
-    subst (λ z. Same w fs n (status z m) (meaning.status_of xs c)) (sym o.value.alone)
-    (⊎_elim
-    (λ (word : IsWord shape o.value.value o.content).
-    subst (λ z. Same w fs n (status (z ∷ []) m) (meaning.status_of xs c)) (sym word.value)
-    (subst (λ z. Same w fs n (Stops (SourceEnding.Ended word.word)) (meaning.status_of z c)) (sym (o.alone ∙ ap (λ z. z ∷ []) word.shown))
-    (stops_same w fs n (SourceEnding.Ended word.word))))
-    (⊎_elim
-    (λ (thin : IsThin w m c shape o.value.value o.content).
-    thin_same w fs n shape m c o.value.value o.content (λ v. status (v ∷ [])) (meaning.status_of xs c) thin
-    (λ x b. stuck_same w fs n (meaning.status_of xs c)) (λ t byte x full leads. stuck_same w fs n (meaning.status_of xs c)))
-    (λ (handle : IsHandle shape o.value.value o.content).
-    subst (λ z. Same w fs n (status (z ∷ []) m) (meaning.status_of xs c)) (sym handle.value) (stuck_same w fs n (meaning.status_of xs c))))
-    (shown_one w m c shape o.value.value o.content taken o.value.shown)))
+    (λ (v : AValue w m c shape vs xs). subst (λ z. Same w fs n (status z m) (meaning.status_of xs c)) (sym v.alone) (by shape taken v.value v.shown))
     (λ (o : NoResult shape vs xs). subst (λ z. Same w fs n (status z m) (meaning.status_of xs c)) (sym o.value.none)
     (stuck_same w fs n (meaning.status_of xs c)))
     r
+  where
+    goal : Scalar → Type 0
+    goal v = Same w fs n (status (v ∷ []) m) (meaning.status_of xs c)
+
+    stuck : Same w fs n (Stops SourceEnding.Stuck) (meaning.status_of xs c)
+    stuck = stuck_same w fs n (meaning.status_of xs c)
+
+    word : (t : IntegerType) (below : ℕ) (v : Scalar) → AnInteger t below v xs → goal v
+    word t below v o =
+        subst (λ z. Same w fs n (status (z ∷ []) m) (meaning.status_of xs c)) (sym o.value)
+        (subst (λ z. Same w fs n (Stops (SourceEnding.Ended o.word)) (meaning.status_of z c)) (sym o.shown) (stops_same w fs n (SourceEnding.Ended o.word)))
+
+    by : (of : Shape) → IsTaken of → (v : Scalar) → Shown w m c of v xs → goal v
+    by IntShape h v o = word AsInt (2 ^ 32) v o
+    by UnsignedShape h v o = word AsUnsigned (2 ^ 32) v o
+    by CharShape h v o = word AsChar 256 v o
+    by VoidShape h v o = absurd o
+    by (ThinShape b owner to) h v o =
+        ⊎_elim (λ (z : ANull b v xs). subst goal (sym z.value) stuck) (λ (z : APointer w m c to v xs). subst goal (sym z.value) stuck) o
+    by (FatShape to) h v o =
+        ⊎_elim (λ (z : AFatNull v xs). subst goal (sym z.value) stuck) (λ (z : AFat w m c to (size_of w to) v xs). subst goal (sym z.value) stuck) o
+    by HandleShape h v o = subst goal (sym o.value) stuck
+    by KeyShape h v o = absurd h
+    by (StructShape tag) h v o = absurd h
+    by (UnionShape tag) h v o = absurd h
+    by (ArrayShape count from) h v o = absurd h
 
 -- without arguments a function that takes some is stuck
 stuck_entered : (w : World) (fs : Program) (n : ℕ) (name : List ℕ) (result : Shape) (p : Part) (ps : List Part) (body : tree.BlockItems) (m : source.Memory)
@@ -161,7 +214,8 @@ main_by : (w : World) (fs : Program) (n : ℕ) (f : Routine) (ps : List Part) (m
     → Same w fs n (entered f w [] status m) (meaning.called fs.functions (record { function = number_of w.functions (codes "main"); arguments = [] })
     meaning.status_of c)
 main_by w fs n f [] m c e routine enters agree led numbered =
-    enters.same (codes "main") f [] [] m c status meaning.status_of numbered routine agree led (subst (λ z. AllGiven w m c (part_shapes z) [] []) (sym e) tt)
+    enters.same (codes "main") f [] [] m c status meaning.status_of numbered routine agree led (sym (ap (λ z. all_words (part_shapes z)) e))
+    (subst (λ z. AllGiven w m c (part_shapes z) [] 0 (passed_in [])) (sym e) tt)
     (record {
       go = λ m2 c2 vs xs a l r. status_same w fs n f.result m2 c2 vs xs routine.result r;
     })
@@ -203,7 +257,7 @@ program_same p h n =
     let w : World = world_of p in
     let plain = world_plain p h in
     let enters = enters_always w (program_code p) n plain refl in
-    let led = heap_led w p h.items in
+    let led = heap_led w p h.structs h.items in
     subst (λ z. Same w (program_code p) n (globals_stored w p 0 (λ u. (need (function_of w.functions (codes "main")) >>= λ f. entered f w []) status) z)
     (meaning.start (program_code p))) (sym (heap_is p h.strings))
     (globals_same w (program_code p) n p 0 (heap_of w p) (meaning.first_memory (data_of w p)) (λ u. (need (function_of w.functions (codes "main")) >>= λ f.

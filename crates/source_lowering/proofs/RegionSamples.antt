@@ -16,7 +16,7 @@ use Rattle.core_meaning.specs.Meaning.{core}
 use Rattle.source_lowering.specs.Bounds.{items_left}
 use Rattle.source_lowering.specs.Lowered.{all_of}
 use Rattle.source_lowering.specs.Programs.{function_code, no_regions, program_code}
-use Rattle.source_lowering.proofs.Samples.{member, nullable, struct_of}
+use Rattle.source_lowering.proofs.Samples.{member, nullable}
 
 -- struct pair { int a; int b; };
 -- int main() { region<..> h; struct pair *p = rnew(h) pair(1, 2); while (1) { region<..> g; { region<..> k; break; } } return 7; }

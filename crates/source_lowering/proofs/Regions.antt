@@ -274,27 +274,27 @@ request_size w s structs object =
     let less : nat_lt (size_of w s) (2 ^ 32) ≡ true = grind (arith, nat_tests, small) in
     ap saturated one ∙ ap (λ b. if b then size_of w s else 2 ^ 32 - 1) less
 
-requested : (w : World) (d r : ℕ) (shape : Shape) (c : Config) (rest : Statements) (next : Next) → c.temps d ≡ Birth r
-    → core.is_live (c.memory.standing (core.Born r)) ≡ true → meaning.statements (put (request_code w shape d) rest) next c
+requested : (w : World) (d e r : ℕ) (shape : Shape) (c : Config) (rest : Statements) (next : Next) → d < e → c.temps d ≡ Birth r
+    → core.is_live (c.memory.standing (core.Born r)) ≡ true → meaning.statements (put (request_code w shape d e) rest) next c
     ≡ Says (core_steps.Visible (events.RegionAlloc r (saturated (1 * (layout_of w shape).bytes)))) (meaning.statements rest next
-    (with_temp d (Pointer (first_spot c.memory (core.Born r)) 0) (with_memory (core_granted w c.memory r shape) (with_temp (d + 2) (Word 1) c))))
-requested w d r shape c rest next temp live = rw (other_temp (d + 2) d (Word 1) c (omega arith) ∙ temp, put_temp (d + 2) (Word 1) c, live) refl
+    (with_temp d (Pointer (first_spot c.memory (core.Born r)) 0) (with_memory (core_granted w c.memory r shape) (with_temp e (Word 1) c))))
+requested w d e r shape c rest next less temp live = rw (other_temp e d (Word 1) c less ∙ temp, put_temp e (Word 1) c, live) refl
 
 -- a block is asked for in the region of a handle that is in a temporary, which gets a pointer to it; the source is stuck where the region isn't live
-pub request_same : (w : World) (fs : Program) (n d r : ℕ) (shape : Shape) (m : source.Memory) (c : Config) (s : Spot → source.Memory → steps.Step)
-    (rest : Statements) (next : Next) → AreStructs w.unions w.structs → IsObject w.structs shape → Agree w m c.memory → c.temps d ≡ Birth r
+pub request_same : (w : World) (fs : Program) (n d e r : ℕ) (shape : Shape) (m : source.Memory) (c : Config) (s : Spot → source.Memory → steps.Step)
+    (rest : Statements) (next : Next) → AreStructs w.unions w.structs → IsObject w.structs shape → Agree w m c.memory → d < e → c.temps d ≡ Birth r
     → Same w fs n (s (next_spot m (source.Born r)) (source_granted w m r shape)) (meaning.statements rest next
-    (with_temp d (Pointer (at (next_spot m (source.Born r))) 0) (with_memory (core_granted w c.memory r shape) (with_temp (d + 2) (Word 1) c))))
-    → Same w fs n (ask (InRegion r) (size_of w shape) (blank_object (cells_of w shape)) s m) (meaning.statements (put (request_code w shape d) rest) next c)
-request_same w fs n d r shape m c s rest next structs object a temp go = by (is_live m (source.Born r)) refl
+    (with_temp d (Pointer (at (next_spot m (source.Born r))) 0) (with_memory (core_granted w c.memory r shape) (with_temp e (Word 1) c))))
+    → Same w fs n (ask (InRegion r) (size_of w shape) (blank_object (cells_of w shape)) s m) (meaning.statements (put (request_code w shape d e) rest) next c)
+request_same w fs n d e r shape m c s rest next structs object a less temp go = by (is_live m (source.Born r)) refl
   where
     after : core_steps.Step
-    after = meaning.statements (put (request_code w shape d) rest) next c
+    after = meaning.statements (put (request_code w shape d e) rest) next c
 
     by : (b : Bool) → is_live m (source.Born r) ≡ b → Same w fs n (ask (InRegion r) (size_of w shape) (blank_object (cells_of w shape)) s m) after
-    by false e = rw e (stuck_same w fs n after)
-    by true e =
-        let live : core.is_live (c.memory.standing (core.Born r)) ≡ true = sym (a.live (source.Born r)) ∙ e in
-        rw (e, requested w d r shape c rest next temp live, request_size w shape structs object, sym (granted_spot w m c.memory r a))
+    by false f = rw f (stuck_same w fs n after)
+    by true f =
+        let live : core.is_live (c.memory.standing (core.Born r)) ≡ true = sym (a.live (source.Born r)) ∙ f in
+        rw (f, requested w d e r shape c rest next less temp live, request_size w shape structs object, sym (granted_spot w m c.memory r a))
         (says_same w fs n _ _ (make_object (source.Born r) (blank_object (cells_of w shape)) s m) _ (BothVisible (events.RegionAlloc r (size_of w shape)))
-        (rw e go))
+        (rw f go))

@@ -98,10 +98,25 @@ AreCells m s (x ∷ xs) = HasShape m s x × AreCells m (source.beyond s 1) xs
 abbrev pub Leads : World → source.Memory → core.Memory → Shape → Spot → ℕ → Type 0
 Leads w m c shape s byte = AreCells m s (cells_of w shape) × AreMade c (at s) byte (layout_of w shape).cells
 
+-- there are so many, one after the other
+abbrev pub LeadsAll : World → source.Memory → core.Memory → Shape → ℕ → Spot → ℕ → Type 0
+LeadsAll w m c of count s byte = (k : ℕ) → k < count → Leads w m c of (source.beyond s (k * length (cells_of w of))) (byte + k * size_of w of)
+
+-- a variable's: an array's elements, or one object
+abbrev pub VariableLeads : World → source.Memory → core.Memory → Shape → Spot → Type 0
+VariableLeads w m c (ArrayShape count of) s = LeadsAll w m c of count s 0
+VariableLeads w m c shape s = Leads w m c shape s 0
+
+-- an object as Core has made it, of so many elements where it is an array
+abbrev pub LocalMade : World → core.Memory → core.Region → ℕ → Shape → Type 0
+LocalMade w c r index (ArrayShape count of) = (k : ℕ) → k < count
+    → AreMade c (record { region = r; object = index; cell = k * length (layout_of w of).cells }) (k * size_of w of) (layout_of w of).cells
+LocalMade w c r index s = AreMade c (record { region = r; object = index; cell = 0 }) 0 (layout_of w s).cells
+
 -- the objects of a region, from a number on, as Core has made them: those of a block that the source makes later, and a function's unnamed values
 abbrev pub ArePending : World → core.Memory → core.Region → ℕ → List Shape → Type 0
 ArePending w c r index [] = Unit {0}
-ArePending w c r index (s ∷ ss) = AreMade c (record { region = r; object = index; cell = 0 }) 0 (layout_of w s).cells × ArePending w c r (suc index) ss
+ArePending w c r index (s ∷ ss) = LocalMade w c r index s × ArePending w c r (suc index) ss
 
 -- ---- values: a scalar of a static shape, and the words that stand for it
 
@@ -166,9 +181,14 @@ Shown w m c (ArrayShape count of) v cs = ⊥
 
 -- ---- memories agree
 
+-- parts, from one on, hold contents
+abbrev pub HoldsFrom : (ℕ → Option Part) → ℕ → List Content → Type 0
+HoldsFrom parts j [] = Unit {0}
+HoldsFrom parts j (x ∷ xs) = ((p : Part) × ((parts j ≡ Some p) × (p.content ≡ x))) × HoldsFrom parts (suc j) xs
+
+-- those of a cell
 abbrev pub PartsHold : core.Memory → core.Spot → ℕ → List Content → Type 0
-PartsHold c t j [] = Unit {0}
-PartsHold c t j (x ∷ xs) = ((p : Part) × ((c.parts t j ≡ Some p) × (p.content ≡ x))) × PartsHold c t (j + 1) xs
+PartsHold c t j xs = HoldsFrom (c.parts t) j xs
 
 pub record IsShown (w : World) (m : source.Memory) (c : core.Memory) (s : Spot) (shape : Shape) (v : Scalar) : Type 0 where
   pub contents : List Content
@@ -245,7 +265,7 @@ AreLocals blocks [] (l ∷ ls) = ⊥
 AreLocals blocks (b ∷ bs) [] = ⊥
 
 abbrev pub IsLed : World → source.Memory → core.Memory → Entity → Type 0
-IsLed w m c (Variable shape s) = Leads w m c shape s 0
+IsLed w m c (Variable shape s) = VariableLeads w m c shape s
 IsLed w m c (Fixed shape v) = Unit {0}
 
 -- the variables lie where their names say
@@ -331,27 +351,32 @@ before_value p value = record { frames = suc p.frame; standing = suc p.own; own 
 abbrev pub LaterAt : Place → source.Memory → Config → source.Memory → Config → Type 0
 LaterAt p m0 c0 m c = Later (within p) m0 c0.memory m c.memory
 
--- a value of one word
-pub record AValue (w : World) (m : source.Memory) (c : core.Memory) (shape : Shape) (vs : List Scalar) (x : Content) : Type 0 where
+-- the contents of the temporaries that a value of a shape takes, from one on
+abbrev pub contents_in : ℕ → Shape → (ℕ → Content) → List Content
+contents_in d (FatShape to) temps = temps d ∷ temps (d + 1) ∷ temps (d + 2) ∷ []
+contents_in d s temps = temps d ∷ []
+
+-- a value
+pub record AValue (w : World) (m : source.Memory) (c : core.Memory) (shape : Shape) (vs : List Scalar) (cs : List Content) : Type 0 where
   pub value : Scalar
   pub alone : vs ≡ value ∷ []
-  pub shown : Shown w m c shape value (x ∷ [])
+  pub shown : Shown w m c shape value cs
 
 -- no value
 pub record ANothing (shape : Shape) (vs : List Scalar) : Type 0 where
   pub void : shape ≡ VoidShape
   pub none : vs ≡ []
 
-abbrev pub Given : World → source.Memory → core.Memory → Shape → List Scalar → Content → Type 0
-Given w m c shape vs x = AValue w m c shape vs x ⊎ ANothing shape vs
+abbrev pub Given : World → source.Memory → core.Memory → Shape → List Scalar → List Content → Type 0
+Given w m c shape vs cs = AValue w m c shape vs cs ⊎ ANothing shape vs
 
--- a value is in a temporary, and those below it are as they were
+-- a value is in the temporaries from one on, and those below are as they were
 pub record GoesOn (p : Place) (n d : ℕ) (m0 : source.Memory) (c0 : Config) (shape : Shape) (s : List Scalar → source.Memory → steps.Step)
     (k : Config → core_steps.Step) : Type 0 where
   pub go : (m : source.Memory) (c : Config) (vs : List Scalar) → Fits p m c → LaterAt p m0 c0 m c → AreKept d c0 c
-      → Given p.world m c.memory shape vs (c.temps d) → SameAt p n (s vs m) (k c)
+      → Given p.world m c.memory shape vs (contents_in d shape c.temps) → SameAt p n (s vs m) (k c)
 
--- an act gives what its code leaves in a temporary
+-- an act gives what its code leaves in the temporaries from one on
 pub record GivesAs (p : Place) (n d : ℕ) (shape : Shape) (act : steps.Act (List Scalar)) (code : List Statement) : Type 0 where
   pub same : (m : source.Memory) (c : Config) (s : List Scalar → source.Memory → steps.Step) (rest : Statements) (next : Next) → Fits p m c
       → GoesOn p n d m c shape s (meaning.statements rest next) → SameAt p n (act s m) (meaning.statements (put code rest) next c)

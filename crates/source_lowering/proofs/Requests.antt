@@ -33,12 +33,13 @@ use Rattle.source_lowering.specs.Lowerable.{AreStructs, IsObject, TakesMember}
 use Rattle.source_lowering.proofs.Relations.{AreKept, Fits, GivesAs, LaterAt, Next, Place, SameAt, within}
 use Rattle.source_lowering.proofs.Keeping.{later_self}
 use Rattle.source_lowering.proofs.Runs.{stuck_same, put_all}
-use Rattle.source_lowering.proofs.Integers.{object_target, one_same, thin_same}
+use Rattle.source_lowering.proofs.Integers.{object_target}
+use Rattle.source_lowering.proofs.AnyValues.{one_same, thin_same, fat_same}
 use Rattle.source_lowering.proofs.Values.{put_temp, kept_temp, temp_fits, put_value}
 use Rattle.source_lowering.proofs.Variables.{Agrees}
 use Rattle.source_lowering.proofs.Numbered.{AreNumbered}
 use Rattle.source_lowering.proofs.WholeForms.{IsWholeAs}
-use Rattle.source_lowering.proofs.StoredRequests.{MakesAs, made_act, struct_makes, word_makes}
+use Rattle.source_lowering.proofs.StoredRequests.{MakesAs, made_act, struct_makes, value_makes}
 
 -- the handle of a region is in a temporary
 pub record MakerGoesOn (p : Place) (n d : ℕ) (m0 : source.Memory) (c0 : Config) (s : Maker → source.Memory → steps.Step)
@@ -61,7 +62,7 @@ heap_agrees p n d = record { shape_is = refl; taken = tt; looks = gives; values 
     gives = record {
       same = λ m c s rest next fits goes.
           put_value p n d m c m c HandleShape (HandleOf 0 ∷ []) (Birth 0) s (meaning.statements rest next) fits (later_self (within p) m c.memory)
-          (λ k h. refl) (inl (record { value = HandleOf 0; alone = refl; shown = record { birth = 0; value = refl; shown = refl } })) goes;
+          (λ k h. refl) refl (inl (record { value = HandleOf 0; alone = refl; shown = record { birth = 0; value = refl; shown = refl } })) goes;
     }
 
 -- and gives the heap to make something in
@@ -79,12 +80,15 @@ handle_gives p n d e shape code agrees = record {
   same = λ m c s rest next fits goes.
       agrees.looks.same m c (λ vs. one vs (λ v. maker_of v s)) rest next fits (record {
         go = λ m1 c1 vs fits1 later1 kept1 given1.
-            one_same p.world p.program n shape m1 c1.memory vs (c1.temps d) (λ v. maker_of v s) _ agrees.taken given1
+            one_same p.world p.program n shape m1 c1.memory vs d c1.temps (λ v. maker_of v s) _ agrees.taken given1
             (λ t word temp shape_is type_is small. stuck_same p.world p.program n _)
             (λ v o.
             thin_same p.world p.program n shape m1 c1.memory v (c1.temps d) (λ u. maker_of u s) _ o
             (λ x b. stuck_same p.world p.program n _) (λ t byte x lies leads. stuck_same p.world p.program n _))
-            (λ birth x shape_is. goes.go m1 c1 birth fits1 later1 kept1 x);
+            (λ birth x shape_is. goes.go m1 c1 birth fits1 later1 kept1 x)
+            (λ v o.
+            fat_same p.world p.program n shape m1 c1.memory v (c1.temps d) (c1.temps (d + 1)) (c1.temps (d + 2)) (λ u. maker_of u s) _ o
+            (λ x. stuck_same p.world p.program n _) (λ span byte x. stuck_same p.world p.program n _));
       });
 }
 
@@ -129,17 +133,18 @@ made_agrees p n d own to e shape whole_values word_values code whole word takes_
     by (StructShape tag) o t nums as_struct as_word =
         let one = as_struct t nums in after (StructShape tag) o one.shape_is (struct_makes p n d own tag e whole structs o less one)
     by IntShape o t nums as_struct as_word =
-        let one = as_word t nums in after IntShape o one.shape_is (word_makes p n d IntShape e word structs tt one)
+        let one = as_word t nums in after IntShape o one.shape_is (value_makes p n d IntShape e word structs tt one)
     by UnsignedShape o t nums as_struct as_word =
-        let one = as_word t nums in after UnsignedShape o one.shape_is (word_makes p n d UnsignedShape e word structs tt one)
+        let one = as_word t nums in after UnsignedShape o one.shape_is (value_makes p n d UnsignedShape e word structs tt one)
     by CharShape o t nums as_struct as_word =
-        let one = as_word t nums in after CharShape o one.shape_is (word_makes p n d CharShape e word structs tt one)
+        let one = as_word t nums in after CharShape o one.shape_is (value_makes p n d CharShape e word structs tt one)
     by (ThinShape b owner q) o t nums as_struct as_word =
-        let one = as_word t nums in after (ThinShape b owner q) o one.shape_is (word_makes p n d (ThinShape b owner q) e word structs o one)
+        let one = as_word t nums in after (ThinShape b owner q) o one.shape_is (value_makes p n d (ThinShape b owner q) e word structs o one)
     by HandleShape o t nums as_struct as_word =
-        let one = as_word t nums in after HandleShape o one.shape_is (word_makes p n d HandleShape e word structs tt one)
+        let one = as_word t nums in after HandleShape o one.shape_is (value_makes p n d HandleShape e word structs tt one)
     by VoidShape o t nums as_struct as_word = absurd o
-    by (FatShape q) o t nums as_struct as_word = absurd o
+    by (FatShape q) o t nums as_struct as_word =
+        let one = as_word t nums in after (FatShape q) o one.shape_is (value_makes p n d (FatShape q) e word structs o one)
     by KeyShape o t nums as_struct as_word = absurd o
     by (UnionShape tag) o t nums as_struct as_word = absurd o
     by (ArrayShape count of) o t nums as_struct as_word = absurd o

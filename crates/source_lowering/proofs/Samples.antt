@@ -4,7 +4,8 @@ use Rattle.cyc_tree.specs.declared.expression.Operator.TheVariants.{Less, Add, M
 use Rattle.cyc_tree.specs.declared.expression.Prefix.TheVariants.{Not, Dereference, AddressOf}
 use Rattle.cyc_tree.specs.declared.name.Sign.TheVariants.{Nullable, NotNull}
 use Rattle.cyc_tree.specs.Tree as tree
-use Rattle.cyc_tree.specs.Tree.{Expression, NoExpressions, MoreExpressions, NoLinks, MoreLinks, NoSuffixes, Dot, Arrow, Initializer, Statement, NoItems, Constant, Initial, Program}
+use Rattle.cyc_tree.specs.Tree.{Expression, NoExpressions, MoreExpressions, NoLinks, MoreLinks, NoSuffixes, Dot, Arrow, Initializer, Statement, NoItems}
+use Rattle.cyc_tree.specs.Tree.{Constant, Initial, Program}
 use Rattle.cyc_words.specs.declared.faults.Kind.TheVariants.{NullException}
 use Rattle.cyc_words.specs.Events.{ByteRead, ByteWritten, SourceEnding}
 use Rattle.source_meaning.proofs.Trees.{named, variable, number, typed, ◌▸◌, ◌▹◌, function}
@@ -235,9 +236,9 @@ struct_forms_taken = record {
             body = (
               (record { pointers = tt; base = tt; known = refl }, tt),
               (
-                (record { pointers = ((tt, tt), tt); base = tt; known = tt }, (tt, (refl, tt))),
+                (record { pointers = (tt, tt); base = tt; known = tt }, (tt, (refl, tt))),
                 (
-                  (record { pointers = ((tt, tt), tt); base = tt; known = tt }, (tt, (tt, tt))),
+                  (record { pointers = (tt, tt); base = tt; known = tt }, (tt, (tt, tt))),
                   (
                     ((tt, ((refl, tt), tt)), (tt, tt)),
                     (

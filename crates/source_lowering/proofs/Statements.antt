@@ -1,7 +1,5 @@
 -- Each form of a statement does the same as its code, where its parts do.
-use Rattle.std.proofs.Common.{◌≡◌, ℕ, zero, suc, ◌≤◌, inl, inr, ⊎_elim, List, [], ◌∷◌, ◌++◌, Bool, true, false, nat_eq, refl, sym, ap, ◌∙◌, subst, arith}
-use Rattle.std.specs.Prelude.{not, ◌&&◌}
-use Rattle.cyc_words.specs.Events as events
+use Rattle.std.proofs.Common.{◌≡◌, ℕ, zero, suc, ◌≤◌, inl, inr, ⊎_elim, List, [], ◌∷◌, ◌++◌, Bool, true, false, refl, sym, ap, ◌∙◌, subst, arith}
 use Rattle.step_trees.specs.Trees.{Turns}
 use Rattle.cyc_tree.specs.Tree as tree
 use Rattle.cyc_tree.specs.Tree.{Expression}
@@ -29,25 +27,25 @@ use Rattle.source_meaning.specs.Calls.{truth}
 use Rattle.source_meaning.specs.Expressions.{sense}
 use Rattle.source_meaning.specs.Statements as source_statements
 use Rattle.source_meaning.specs.Programs as programs
-use Rattle.core_meaning.specs.Memory.{Content, Blank, Word, Null, Pointer, Birth, Born, Dead, is_lexical, with_standing}
-use Rattle.core_meaning.specs.Core.{Program, Statement, If, While, Break, Continue, Return, RegionFree, Statements, NoStatements, MoreStatements}
-use Rattle.core_meaning.specs.Operations.{does, says}
+use Rattle.core_meaning.specs.Core.{Statement, If, While, Break, Continue, Return, Statements, NoStatements, MoreStatements}
 use Rattle.core_meaning.specs.Steps as core_steps
-use Rattle.core_meaning.specs.Steps.{Config, Exit, birth_of, checked, with_memory}
+use Rattle.core_meaning.specs.Steps.{Config}
 use Rattle.core_meaning.specs.Meaning as meaning
 use Rattle.core_meaning.specs.Meaning.{values_of}
 use Rattle.source_lowering.specs.Lowered.{put, all_of, results_in, conversion_code}
-use Rattle.source_lowering.specs.Programs.{RegionsAround, in_loop, leaving_code}
-use Rattle.source_lowering.proofs.Relations.{Agree, Bound, Later, Place, Fits, SameAt, Same, Next, AreKept, LaterAt, activation, around, AValue, ANothing, Given, GivesAs}
-use Rattle.source_lowering.proofs.Keeping.{IsLess, less_self, around_items, later_self, later_on, later_less, later_around, blocks_of, fits_on}
-use Rattle.source_lowering.proofs.Runs.{turns_same, less_fuel, put_all}
-use Rattle.source_lowering.proofs.Integers.{IsTaken, IsWordShape}
+use Rattle.source_lowering.specs.Programs.{in_loop, leaving_code}
+use Rattle.source_lowering.proofs.Relations.{Bound, Place, Fits, SameAt, Next, around, AValue, ANothing, Given, GivesAs, contents_in}
+use Rattle.source_lowering.proofs.Keeping.{less_self, around_items, later_self, later_less, later_around, blocks_of, fits_on}
+use Rattle.source_lowering.proofs.Runs.{turns_same, put_all}
+use Rattle.source_lowering.proofs.Integers.{IsTaken, IsValueShape}
+use Rattle.source_lowering.proofs.AnyValues.{value_given}
 use Rattle.source_lowering.proofs.Values.{put_three}
 use Rattle.source_lowering.proofs.Variables.{Agrees}
 use Rattle.source_lowering.proofs.Conversions.{converted_gives}
 use Rattle.source_lowering.proofs.Tests.{Decides, truth_decided}
 use Rattle.source_lowering.proofs.Calls.{ResultIs}
-pub use Rattle.source_lowering.proofs.Ways.{freed, Onward, WaysOn, RunsAs, onward_self, onward_behind, onward_on, ways_less, ways_later, ways_inside, leaving_runs, free_by, each_birth, freed_keeps}
+pub use Rattle.source_lowering.proofs.Ways.{freed, Onward, WaysOn, RunsAs, onward_self, onward_behind, onward_on, ways_less, ways_later, ways_inside}
+pub use Rattle.source_lowering.proofs.Ways.{leaving_runs, free_by, each_birth, freed_keeps}
 
 -- ---- simple statements
 
@@ -84,28 +82,26 @@ run_same p n result e shape code one = record {
       });
 }
 
--- a result in a temporary
-result_here : (w : World) (d : ℕ) (m : source.Memory) (c : Config) (shape : Shape) (vs : List Scalar) → IsTaken shape → Given w m c.memory shape vs (c.temps d)
-    → ResultIs w m c.memory shape vs (values_of c.temps (results_in shape d))
+-- a result in its temporaries
+result_here : (w : World) (d : ℕ) (m : source.Memory) (c : Config) (shape : Shape) (vs : List Scalar) → IsTaken shape
+    → Given w m c.memory shape vs (contents_in d shape c.temps) → ResultIs w m c.memory shape vs (values_of c.temps (results_in shape d))
 result_here w d m c shape vs taken given = by shape taken given
   where
-    some : (of : Shape) → IsWordShape of → Given w m c.memory of vs (c.temps d) → ResultIs w m c.memory of vs (c.temps d ∷ [])
-    some of is_word g =
-        ⊎_elim (λ (v : AValue w m c.memory of vs (c.temps d)). inl (record { content = c.temps d; alone = refl; value = v }))
-        (λ (v : ANothing of vs). absurd (subst (λ z. IsWordShape z) v.void is_word)) g
+    some : (of : Shape) → IsValueShape of → Given w m c.memory of vs (contents_in d of c.temps) → ResultIs w m c.memory of vs (contents_in d of c.temps)
+    some of is_value g = inl (value_given w m c.memory of vs (contents_in d of c.temps) is_value g)
 
-    none : Given w m c.memory VoidShape vs (c.temps d) → ResultIs w m c.memory VoidShape vs []
+    none : Given w m c.memory VoidShape vs (c.temps d ∷ []) → ResultIs w m c.memory VoidShape vs []
     none g =
-        ⊎_elim (λ (v : AValue w m c.memory VoidShape vs (c.temps d)). absurd v.shown)
+        ⊎_elim (λ (v : AValue w m c.memory VoidShape vs (c.temps d ∷ [])). absurd v.shown)
         (λ (v : ANothing VoidShape vs). inr (record { nothing = refl; value = v })) g
 
-    by : (of : Shape) → IsTaken of → Given w m c.memory of vs (c.temps d) → ResultIs w m c.memory of vs (values_of c.temps (results_in of d))
+    by : (of : Shape) → IsTaken of → Given w m c.memory of vs (contents_in d of c.temps) → ResultIs w m c.memory of vs (values_of c.temps (results_in of d))
     by IntShape h g = some IntShape tt g
     by UnsignedShape h g = some UnsignedShape tt g
     by CharShape h g = some CharShape tt g
     by VoidShape h g = none g
     by (ThinShape may_be_null owner to) h g = some (ThinShape may_be_null owner to) h g
-    by (FatShape to) h g = absurd h
+    by (FatShape to) h g = some (FatShape to) h g
     by HandleShape h g = some HandleShape tt g
     by KeyShape h g = absurd h
     by (StructShape tag) h g = absurd h
@@ -115,12 +111,12 @@ result_here w d m c shape vs taken given = by shape taken given
 pub return_same : (p : Place) (n : ℕ) (result : Shape) (e : Sense) (from : Shape) (code : List Statement) → IsTaken result
     → Agrees p n p.regions.all e from code
     → RunsAs p n (suc p.frame) result (e.value >>= converted p.world result e.shape >>= λ vs. give (steps.Returns vs))
-    (code ++ (conversion_code result from p.regions.all ++
+    (code ++ (conversion_code p.world result from p.regions.all ++
     (leaving_code p.regions.all p.regions.all ++ (Return (results_in result p.regions.all) ∷ []))))
 return_same p n result e from code taken one = record {
   same = λ m c next rest after fits ways.
       subst (λ z. SameAt p n (e.value (λ vs. converted p.world result e.shape vs (λ us. next (steps.Returns us))) m) (meaning.statements z after c))
-      (sym (put_three code (conversion_code result from d) leaves rest ∙ sym (put_all code (conversion_code result from d) (put leaves rest))))
+      (sym (put_three code (conversion_code p.world result from d) leaves rest ∙ sym (put_all code (conversion_code p.world result from d) (put leaves rest))))
       ((converted_gives p n d result e from code taken one).same m c (λ us. next (steps.Returns us)) (put leaves rest) after fits
       (record {
         go = λ m2 c2 vs fits2 later2 kept2 given2.
@@ -180,7 +176,8 @@ choice_same p n result condition shape test first second these those looks one o
   same = λ m c next rest after fits ways.
       subst (λ z. SameAt p n (truth condition (λ t. choose t first second next) m) (meaning.statements z after c))
       (sym (put_all test (If p.regions.all (all_of these) (all_of those) ∷ []) rest))
-      (truth_decided p n p.regions.all condition shape test m c (λ t. choose t first second next) (MoreStatements (If p.regions.all (all_of these) (all_of those)) rest) after
+      (truth_decided p n p.regions.all condition shape test m c (λ t. choose t first second next)
+      (MoreStatements (If p.regions.all (all_of these) (all_of those)) rest) after
       looks.taken looks.looks fits (record {
         go = λ m2 c2 t fits2 later2 kept2 decides2.
             choice_by t p n (suc p.frame) result first second these those m2 c2 next rest after decides2 one other fits2

@@ -1,4 +1,4 @@
--- The cells of objects: as many, placed and not, each a word; the first begins the object.
+-- The cells of objects: as many, placed and not, each a value; the first begins the object.
 use Rattle.std.proofs.Common.{◌≡◌, ℕ, suc, ◌+◌, List, [], ◌∷◌, ◌++◌, map, length, Bool, true, false, refl, sym, ap, ◌∙◌, subst, arith}
 use Rattle.std.specs.Prelude.{bytes_eq, if◌then◌else◌}
 use Rattle.std.proofs.lemmas.Bool.{false≢true}
@@ -22,7 +22,7 @@ use Rattle.source_meaning.specs.Shapes.{
 }
 use Rattle.source_meaning.specs.Sizes.{rounded_up, all_cells, struct_cells}
 use Rattle.source_meaning.specs.Placing.{Placed, moved, all_placed, struct_placed}
-use Rattle.source_lowering.specs.Lowerable.{IsWordShape, IsObject, AreObjects, HasMember, IsStruct, AreStructs}
+use Rattle.source_lowering.specs.Lowerable.{IsValueShape, IsObject, AreObjects, HasMember, IsStruct, AreStructs}
 use Rattle.source_lowering.proofs.Structs.{cells_in, placed_in, extent_in, rounded_zero}
 
 -- ---- cells
@@ -43,19 +43,19 @@ pub shapes_count : (ps : List Placed) → length (shapes_in ps) ≡ length ps
 shapes_count [] = refl
 shapes_count (p ∷ ps) = ap suc (shapes_count ps)
 
--- each cell is a word
-abbrev pub AreWordShapes : List Shape → Type 0
-AreWordShapes [] = Unit {0}
-AreWordShapes (s ∷ ss) = IsWordShape s × AreWordShapes ss
+-- each cell is a value
+abbrev pub AreValueShapes : List Shape → Type 0
+AreValueShapes [] = Unit {0}
+AreValueShapes (s ∷ ss) = IsValueShape s × AreValueShapes ss
 
-words_both : (ss ts : List Shape) → AreWordShapes ss → AreWordShapes ts → AreWordShapes (ss ++ ts)
-words_both [] ts h g = g
-words_both (s ∷ ss) ts h g = (h.0, words_both ss ts h.1 g)
+values_both : (ss ts : List Shape) → AreValueShapes ss → AreValueShapes ts → AreValueShapes (ss ++ ts)
+values_both [] ts h g = g
+values_both (s ∷ ss) ts h g = (h.0, values_both ss ts h.1 g)
 
--- the cells of an object are the same, placed and not, and each is a word; the first of them begins with it
+-- the cells of an object are the same, placed and not, and each is a value; the first of them begins with it
 pub record HasCells (unions structs : List Layout) (s : Shape) : Type 0 where
   pub shapes : shapes_in (placed_in unions structs s) ≡ cells_in structs s
-  pub words : AreWordShapes (cells_in structs s)
+  pub values : AreValueShapes (cells_in structs s)
   pub first : Placed
   pub others : List Placed
   pub is : placed_in unions structs s ≡ first ∷ others
@@ -64,13 +64,13 @@ pub record HasCells (unions structs : List Layout) (s : Shape) : Type 0 where
 -- a struct's
 record HaveCells (unions structs : List Layout) (so_far : ℕ) (ps : List Part) : Type 0 where
   shapes : shapes_in (all_placed (placed_in unions structs) (extent_in unions structs) so_far ps) ≡ all_cells (cells_in structs) ps
-  words : AreWordShapes (all_cells (cells_in structs) ps)
+  values : AreValueShapes (all_cells (cells_in structs) ps)
 
-word_cells : (unions structs : List Layout) (s : Shape) → AreWordShapes (s ∷ []) → placed_in unions structs s ≡ (record { offset = 0; shape = s }) ∷ []
+value_cells : (unions structs : List Layout) (s : Shape) → AreValueShapes (s ∷ []) → placed_in unions structs s ≡ (record { offset = 0; shape = s }) ∷ []
     → cells_in structs s ≡ s ∷ [] → HasCells unions structs s
-word_cells unions structs s word placed cells = record {
+value_cells unions structs s word placed cells = record {
   shapes = ap shapes_in placed ∙ sym cells;
-  words = subst AreWordShapes (sym cells) word;
+  values = subst AreValueShapes (sym cells) word;
   first = record { offset = 0; shape = s };
   others = [];
   is = placed;
@@ -83,7 +83,7 @@ AllHaveCells unions structs [] = Unit {0}
 AllHaveCells unions structs (p ∷ ps) = HasCells unions structs p.shape × AllHaveCells unions structs ps
 
 parts_cells : (unions structs : List Layout) (so_far : ℕ) (ps : List Part) → AllHaveCells unions structs ps → HaveCells unions structs so_far ps
-parts_cells unions structs so_far [] h = record { shapes = refl; words = tt }
+parts_cells unions structs so_far [] h = record { shapes = refl; values = tt }
 parts_cells unions structs so_far (p ∷ ps) h =
     let at = rounded_up so_far (extent_in unions structs p.shape).align in
     let one = h.0 in
@@ -93,7 +93,7 @@ parts_cells unions structs so_far (p ∷ ps) h =
       shapes = shapes_both (map (moved at) (placed_in unions structs p.shape)) others ∙
           ap (λ z. z ++ shapes_in others) (shapes_moved at (placed_in unions structs p.shape) ∙ one.shapes) ∙
           ap (λ z. cells_in structs p.shape ++ z) more.shapes;
-      words = words_both (cells_in structs p.shape) (all_cells (cells_in structs) ps) one.words more.words;
+      values = values_both (cells_in structs p.shape) (all_cells (cells_in structs) ps) one.values more.values;
     }
 
 -- the first member begins the struct
@@ -123,13 +123,13 @@ begun unions structs (p ∷ ps) h cells =
 object_by : (unions structs : List Layout) (s : Shape) → ((tag : List ℕ) → has_tag structs tag ≡ true → HasCells unions structs (StructShape tag))
     → IsObject structs s → HasCells unions structs s
 object_by unions structs (StructShape tag) all o = all tag o
-object_by unions structs IntShape all o = word_cells unions structs IntShape (tt, tt) refl refl
-object_by unions structs UnsignedShape all o = word_cells unions structs UnsignedShape (tt, tt) refl refl
-object_by unions structs CharShape all o = word_cells unions structs CharShape (tt, tt) refl refl
+object_by unions structs IntShape all o = value_cells unions structs IntShape (tt, tt) refl refl
+object_by unions structs UnsignedShape all o = value_cells unions structs UnsignedShape (tt, tt) refl refl
+object_by unions structs CharShape all o = value_cells unions structs CharShape (tt, tt) refl refl
 object_by unions structs VoidShape all o = absurd o
-object_by unions structs (ThinShape may_be_null owner to) all o = word_cells unions structs (ThinShape may_be_null owner to) (o, tt) refl refl
-object_by unions structs (FatShape to) all o = absurd o
-object_by unions structs HandleShape all o = word_cells unions structs HandleShape (tt, tt) refl refl
+object_by unions structs (ThinShape may_be_null owner to) all o = value_cells unions structs (ThinShape may_be_null owner to) (o, tt) refl refl
+object_by unions structs (FatShape to) all o = value_cells unions structs (FatShape to) (o, tt) refl refl
+object_by unions structs HandleShape all o = value_cells unions structs HandleShape (tt, tt) refl refl
 object_by unions structs KeyShape all o = absurd o
 object_by unions structs (UnionShape tag) all o = absurd o
 object_by unions structs (ArrayShape count of) all o = absurd o
@@ -151,7 +151,7 @@ parts_struct unions earlier l tag e some members =
     ap (λ b. if b then all_placed (placed_in unions earlier) (extent_in unions earlier) 0 l.parts else struct_placed unions earlier tag) e in
     record {
       shapes = ap shapes_in placed ∙ all.shapes ∙ sym cells;
-      words = subst AreWordShapes (sym cells) all.words;
+      values = subst AreValueShapes (sym cells) all.values;
       first = first.first;
       others = first.others;
       is = placed ∙ first.is;
@@ -167,7 +167,7 @@ struct_still unions earlier l tag e one =
     ap (λ b. if b then all_placed (placed_in unions earlier) (extent_in unions earlier) 0 l.parts else struct_placed unions earlier tag) e in
     record {
       shapes = ap shapes_in placed ∙ one.shapes ∙ sym cells;
-      words = subst AreWordShapes (sym cells) one.words;
+      values = subst AreValueShapes (sym cells) one.values;
       first = one.first;
       others = one.others;
       is = placed ∙ one.is;

@@ -78,7 +78,7 @@ still unions earlier l UnsignedShape new h = record { cells = refl; placed = ref
 still unions earlier l CharShape new h = record { cells = refl; placed = refl; extent = refl }
 still unions earlier l VoidShape new h = absurd h
 still unions earlier l (ThinShape may_be_null owner to) new h = record { cells = refl; placed = refl; extent = refl }
-still unions earlier l (FatShape to) new h = absurd h
+still unions earlier l (FatShape to) new h = record { cells = refl; placed = refl; extent = refl }
 still unions earlier l HandleShape new h = record { cells = refl; placed = refl; extent = refl }
 still unions earlier l KeyShape new h = absurd h
 still unions earlier l (UnionShape tag) new h = absurd h
@@ -216,7 +216,7 @@ object_small unions structs UnsignedShape h o = omega arith
 object_small unions structs CharShape h o = omega arith
 object_small unions structs VoidShape h o = absurd o
 object_small unions structs (ThinShape may_be_null owner to) h o = omega arith
-object_small unions structs (FatShape to) h o = absurd o
+object_small unions structs (FatShape to) h o = omega arith
 object_small unions structs HandleShape h o = omega arith
 object_small unions structs KeyShape h o = absurd o
 object_small unions structs (UnionShape tag) h o = absurd o

@@ -1,92 +1,123 @@
--- What the code of members takes.
-use Rattle.std.proofs.Common.{◌≡◌, ℕ, zero, suc, ◌+◌, ◌*◌, ◌≤◌, List, [], ◌++◌, subst, arith}
-use Rattle.cyc_tree.specs.Tree.{Suffixes, NoSuffixes, Index, Dot, Arrow}
+-- What the code of members and elements takes.
+use Rattle.std.proofs.Common.{ℕ, zero, suc, ◌+◌, ◌*◌, ◌≤◌, List, ◌++◌, arith}
 use Rattle.source_meaning.specs.Shapes.{Shape, pointee}
 use Rattle.source_meaning.specs.Steps.{World}
 use Rattle.core_meaning.specs.Core.{Statement}
-use Rattle.source_lowering.specs.Lowered.{check_code, offset_code, Left, left_of, member_at, suffixed_code, suffixed_place}
-use Rattle.source_lowering.specs.Lowerable.{TakesSuffixes}
-use Rattle.source_lowering.specs.Bounds.{suffix_nodes}
-use Rattle.source_lowering.proofs.Costs.{Costs, no_costs, both_cost}
-use Rattle.source_lowering.proofs.PartCosts.{IsCheap, IsPointed, does_one, at_most, check_costs}
+use Rattle.source_lowering.specs.Members.{loads_code, stores_code, reach_code, index_code, offset_code, Left, member_at, member_behind, element_at, pointer_to}
+use Rattle.source_lowering.specs.Members.{store_to}
+use Rattle.source_lowering.proofs.Costs.{Costs, both_cost, does_one, nothing}
+use Rattle.source_lowering.proofs.ValueCosts.{loads_costs, kept_costs, reach_costs, index_costs}
+use Rattle.source_lowering.proofs.PartCosts.{IsCheap, ArePassed}
+use Rattle.source_lowering.proofs.PrefixCosts.{IsPointed}
 
--- what stands on the left of a suffix: its pointer is less than its value
-pub record IsLeft (t p n : ℕ) (left : Left) : Type 0 where
-  pub pointer_operations : ℕ
-  pub pointer : Costs t p 0 pointer_operations left.pointer
-  pub pointer_less : pointer_operations + 8 ≤ 8 * n
-  pub value_operations : ℕ
-  pub value : Costs t p 0 value_operations left.value
-  pub value_less : value_operations + 4 ≤ 8 * n
+-- a pointer leaves an operation more than one with its check: that to a member behind it
+pub record IsReached (t p n : ℕ) (code : List Statement) : Type 0 where
+  pub operations : ℕ
+  pub costs : Costs t p 0 operations code
+  pub less : operations + 8 ≤ 8 * n
 
-member_costs : (w : World) (s : Shape) (pointer : List Statement) (cells bytes : ℕ) (f : List ℕ) (t p d n o : ℕ) → suc d ≤ t → Costs t p 0 o pointer
-    → o + 2 ≤ 8 * n → IsLeft t p (n + 1) (member_at w s pointer cells bytes f d)
-member_costs w s pointer cells bytes f t p d n o h c less = record {
-  pointer_operations = o;
-  pointer = c;
-  pointer_less = omega (arith, less);
-  value_operations = o + 1;
-  value = both_cost t p 0 o 0 1 pointer _ c (does_one t p _ (omega (arith, h)));
-  value_less = omega (arith, less);
+-- what stands on the left of a suffix, wherever it comes, by its nodes and tokens
+pub record IsLeft (t p m n : ℕ) (left : Left) : Type 0 where
+  pub enough : 2 ≤ m
+  pub pointer : (d : ℕ) → d + 2 * m ≤ t → IsReached t p n (left.pointer d)
+  pub value : (d : ℕ) → d + 2 * m ≤ t → IsCheap t p n (left.value d)
+
+pub more_left : (t p m n m' n' : ℕ) (left : Left) → m ≤ m' → n ≤ n' → IsLeft t p m n left → IsLeft t p m' n' left
+more_left t p m n m' n' left g h one = record {
+  enough = let e = one.enough in omega (arith, e, g);
+  pointer = λ d f. let a = one.pointer d (omega (arith, f, g)) in let l = a.less in
+      record { operations = a.operations; costs = a.costs; less = omega (arith, l, h) };
+  value = λ d f. let a = one.value d (omega (arith, f, g)) in let l = a.less in
+      record { operations = a.operations; costs = a.costs; less = omega (arith, l, h) };
 }
 
-suffixes_costs : (w : World) (suffixes : Suffixes) (t p d n m : ℕ) (left : Left) → suc d ≤ t → n + suffix_nodes suffixes ≡ m → IsLeft t p n left
-    → IsLeft t p m (suffixed_code w suffixes d left)
-suffixes_costs w NoSuffixes t p d n m left h e one =
-    let same : n ≡ m = omega (arith, e) in subst (λ z. IsLeft t p z left) same one
-suffixes_costs w (Index index others) t p d n m left h e one =
-    let l = one.pointer_less in
-    record {
-      pointer_operations = 0;
-      pointer = no_costs t p;
-      pointer_less = omega (arith, l, e);
-      value_operations = 0;
-      value = no_costs t p;
-      value_less = omega (arith, l, e);
-    }
-suffixes_costs w (Dot f others) t p d n m left h e one =
-    suffixes_costs w others t p d (n + 1) m (member_at w left.shape left.pointer left.cells left.bytes f.text d) h (omega (arith, e))
-    (member_costs w left.shape left.pointer left.cells left.bytes f.text t p d n one.pointer_operations h one.pointer
-    (let l = one.pointer_less in omega (arith, l)))
-suffixes_costs w (Arrow f others) t p d n m left h e one =
-    suffixes_costs w others t p d (n + 1) m (member_at w (pointee left.shape) (left.value ++ check_code left.shape d) 0 0 f.text d) h (omega (arith, e))
-    (member_costs w (pointee left.shape) (left.value ++ check_code left.shape d) 0 0 f.text t p d n (one.value_operations + 2) h
-    (both_cost t p 0 one.value_operations 0 2 left.value (check_code left.shape d) one.value (check_costs t p d left.shape h))
-    (let l = one.value_less in omega (arith, l)))
+-- a suffix has two tokens at least
+pub member_left : (w : World) (s : Shape) (pointer : ℕ → List Statement) (cells bytes : ℕ) (f : List ℕ) (t p m n : ℕ) → 2 ≤ m
+    → ((d : ℕ) → d + 2 * m ≤ t → ArePassed t p n (pointer d)) → IsLeft t p (m + 2) (n + 2) (member_at w s pointer cells bytes f)
+member_left w s pointer cells bytes f t p m n enough c = record {
+  enough = omega (arith, enough);
+  pointer = λ d g. let a = c d (omega (arith, g)) in let l = a.less in record { operations = a.operations; costs = a.costs; less = omega (arith, l) };
+  value = λ d g.
+      let left : Left = member_at w s pointer cells bytes f in
+      let a = c d (omega (arith, g)) in let l = a.less in
+      record {
+        operations = a.operations + 3;
+        costs = both_cost t p 0 a.operations 0 3 (pointer d) _ a.costs (loads_costs left.shape t p d left.cells left.bytes (omega (arith, g)));
+        less = omega (arith, l);
+      };
+}
 
--- suffixes on a primary expression
-pub primary_costs : (w : World) (suffixes : Suffixes) (t p d n : ℕ) (shape : Shape) (value pointer : List Statement) (for_value for_place : Type 0) → suc d ≤ t
-    → TakesSuffixes w suffixes shape for_value for_place → (for_value → IsCheap t p n value) → (for_place → IsPointed t p n pointer)
-    → IsLeft t p (n + suffix_nodes suffixes) (suffixed_code w suffixes d (left_of shape value pointer))
-primary_costs w NoSuffixes t p d n shape value pointer for_value for_place h takes cheap pointed = absurd takes
-primary_costs w (Index index others) t p d n shape value pointer for_value for_place h takes cheap pointed = absurd takes
-primary_costs w (Dot f others) t p d n shape value pointer for_value for_place h takes cheap pointed =
-    let c = pointed takes.0 in let l = c.less in
-    suffixes_costs w others t p d (n + 1) (n + (1 + suffix_nodes others)) (member_at w shape pointer 0 0 f.text d) h (omega arith)
-    (member_costs w shape pointer 0 0 f.text t p d n c.operations h c.costs (omega (arith, l)))
-primary_costs w (Arrow f others) t p d n shape value pointer for_value for_place h takes cheap pointed =
-    let c = cheap takes.0 in let l = c.less in
-    suffixes_costs w others t p d (n + 1) (n + (1 + suffix_nodes others)) (member_at w (pointee shape) (value ++ check_code shape d) 0 0 f.text d) h
-    (omega arith)
-    (member_costs w (pointee shape) (value ++ check_code shape d) 0 0 f.text t p d n (c.operations + 2) h
-    (both_cost t p 0 c.operations 0 2 value (check_code shape d) c.costs (check_costs t p d shape h)) (omega (arith, l)))
+-- a member of what has a place
+pub dot_left : (w : World) (left : Left) (f : List ℕ) (t p m n : ℕ) → IsLeft t p m n left
+    → IsLeft t p (m + 2) (n + 2) (member_at w left.shape left.pointer left.cells left.bytes f)
+dot_left w left f t p m n one =
+    member_left w left.shape left.pointer left.cells left.bytes f t p m n one.enough
+    (λ d g. let a = one.pointer d g in let l = a.less in record { operations = a.operations; costs = a.costs; less = omega (arith, l) })
+
+-- a member of what a value leads to
+pub arrow_left : (w : World) (left : Left) (f : List ℕ) (t p m n : ℕ) → 2 ≤ m → ((d : ℕ) → d + 2 * m ≤ t → IsCheap t p n (left.value d))
+    → IsLeft t p (m + 2) (n + 2) (member_behind w left f)
+arrow_left w left f t p m n enough value =
+    member_left w (pointee left.shape) (λ d. left.value d ++ reach_code w left.shape d) 0 0 f t p m n enough
+    (λ d g. let a = value d g in let l = a.less in record {
+      operations = a.operations + 4;
+      costs = both_cost t p 0 a.operations 0 4 (left.value d) (reach_code w left.shape d) a.costs (reach_costs w left.shape t p d (omega (arith, g, enough)));
+      less = omega (arith, l);
+    })
+
+-- an element of what a value leads to
+pub element_left : (w : World) (to : Shape) (index value : ℕ → List Statement) (t p m n k j : ℕ) → 2 ≤ m
+    → ((d : ℕ) → d + 2 * k ≤ t → IsCheap t p j (index d)) → ((d : ℕ) → d + 2 * m ≤ t → IsCheap t p n (value d))
+    → IsLeft t p (m + (2 + k)) (n + (2 + j)) (element_at w to index value)
+element_left w to index value t p m n k j enough indexed valued = record {
+  enough = omega (arith, enough);
+  pointer = reached;
+  value = λ d g.
+      let a = reached d g in let l = a.less in
+      record {
+        operations = a.operations + 3;
+        costs = both_cost t p 0 a.operations 0 3 (index d ++ (value (d + 1) ++ index_code w to d)) (loads_code to d 0 0) a.costs
+            (loads_costs to t p d 0 0 (omega (arith, g, enough)));
+        less = omega (arith, l);
+      };
+}
+  where
+    reached : (d : ℕ) → d + 2 * (m + (2 + k)) ≤ t → IsReached t p (n + (2 + j)) (index d ++ (value (d + 1) ++ index_code w to d))
+    reached d g =
+        let a = indexed d (omega (arith, g)) in let l = a.less in
+        let b = valued (d + 1) (omega (arith, g)) in let r = b.less in
+        record {
+          operations = a.operations + (b.operations + 5);
+          costs = both_cost t p 0 a.operations 0 (b.operations + 5) (index d) _ a.costs
+              (both_cost t p 0 b.operations 0 5 (value (d + 1)) (index_code w to d) b.costs (index_costs w to t p d (omega (arith, g, enough))));
+          less = omega (arith, l, r);
+        }
+
+-- ---- what is done with it
 
 offset_costs : (t p d cells bytes : ℕ) → suc d ≤ t → Costs t p 0 1 (offset_code d cells bytes)
-offset_costs t p d zero zero h = at_most t p 0 1 [] (omega arith) (no_costs t p)
+offset_costs t p d zero zero h = nothing t p 1
 offset_costs t p d zero (suc bytes) h = does_one t p _ (omega (arith, h))
 offset_costs t p d (suc cells) bytes h = does_one t p _ (omega (arith, h))
 
 -- a pointer to what suffixes lead to
-pub pointed_costs : (w : World) (suffixes : Suffixes) (t p d n : ℕ) (shape : Shape) (value pointer : List Statement) (for_value for_place : Type 0) → suc d ≤ t
-    → TakesSuffixes w suffixes shape for_value for_place → (for_value → IsCheap t p n value) → (for_place → IsPointed t p n pointer)
-    → IsPointed t p (n + suffix_nodes suffixes) (suffixed_place w suffixes shape d value pointer)
-pointed_costs w suffixes t p d n shape value pointer for_value for_place h takes cheap pointed =
-    let left : Left = suffixed_code w suffixes d (left_of shape value pointer) in
-    let one = primary_costs w suffixes t p d n shape value pointer for_value for_place h takes cheap pointed in
-    let l = one.pointer_less in
+pub pointed_left : (t p m n d : ℕ) (left : Left) → d + 2 * m ≤ t → IsLeft t p m n left → IsPointed t p n (pointer_to left d)
+pointed_left t p m n d left g one =
+    let a = one.pointer d g in let l = a.less in let e = one.enough in
     record {
-      operations = one.pointer_operations + 1;
-      costs = both_cost t p 0 one.pointer_operations 0 1 left.pointer (offset_code d left.cells left.bytes) one.pointer
-          (offset_costs t p d left.cells left.bytes h);
+      operations = a.operations + 1;
+      costs = both_cost t p 0 a.operations 0 1 (left.pointer d) (offset_code d left.cells left.bytes) a.costs
+          (offset_costs t p d left.cells left.bytes (omega (arith, g, e)));
+      less = omega (arith, l);
+    }
+
+-- a value is stored there
+pub stored_left : (t p m n x d : ℕ) (left : Left) → x + 2 * m ≤ t → d + 3 ≤ t → IsLeft t p m n left → IsCheap t p n (store_to left x d)
+stored_left t p m n x d left g h one =
+    let a = one.pointer x g in let l = a.less in let e = one.enough in
+    record {
+      operations = a.operations + 3;
+      costs = both_cost t p 0 a.operations 0 3 (left.pointer x) (stores_code left.shape x d left.cells left.bytes) a.costs
+          (kept_costs left.shape t p x d left.cells left.bytes (omega (arith, g, e)) h);
       less = omega (arith, l);
     }

@@ -1,4 +1,4 @@
--- Conditions: an operand that is tested, `&&`, `||` and `!`.
+-- Conditions: an operand that is tested, and `!`.
 use Rattle.std.proofs.Common.{◌≡◌, ℕ, ◌+◌, List, [], ◌∷◌, ◌++◌, Bool, true, false, not, nat_eq, refl, sym, ap, ◌∙◌, subst, arith}
 use Rattle.std.specs.Prelude.{if◌then◌else◌}
 use Rattle.std.proofs.lemmas.Bool.Decides.{nat_tests}
@@ -11,24 +11,24 @@ use Rattle.source_meaning.specs.Operators.{truth_value, is_true}
 use Rattle.source_meaning.specs.Conversions.{one}
 use Rattle.source_meaning.specs.Places.{Sense}
 use Rattle.source_meaning.specs.Programs.{integer_shape}
-use Rattle.source_meaning.specs.Calls.{all_true, any_true, tested, inverted, truth}
+use Rattle.source_meaning.specs.Calls.{tested, inverted, truth}
 use Rattle.core_meaning.specs.Memory as core_memory
 use Rattle.core_meaning.specs.Memory.{Content, Word, Null, Pointer}
 use Rattle.core_meaning.specs.Core as core
-use Rattle.core_meaning.specs.Core.{Statement, Do, If, Constant, Apply, IsNull, Statements, NoStatements, MoreStatements}
+use Rattle.core_meaning.specs.Core.{Statement, Do, Constant, Apply, IsNull, Statements}
 use Rattle.core_meaning.specs.Words as words
 use Rattle.core_meaning.specs.Steps as core_steps
 use Rattle.core_meaning.specs.Steps.{Config, with_temp}
 use Rattle.core_meaning.specs.Meaning as meaning
 use Rattle.core_meaning.specs.Operations.{does}
-use Rattle.source_lowering.specs.Lowered.{put, all_of, truth_code, turned_code, word_code, not_code}
-use Rattle.source_lowering.proofs.Relations.{at, Place, Fits, SameAt, Next, AreKept, LaterAt, Given, GoesOn, GivesAs, within}
-use Rattle.source_lowering.proofs.Keeping.{later_on}
+use Rattle.source_lowering.specs.Lowered.{put, truth_code, turned_code, word_code, not_code}
+use Rattle.source_lowering.proofs.Relations.{at, Place, Fits, SameAt, Next, AreKept, LaterAt, Given, GoesOn, GivesAs}
 use Rattle.source_lowering.proofs.Runs.{stuck_same, put_all}
 use Rattle.core_meaning.proofs.Results.{truth_below}
 use Rattle.source_lowering.proofs.Operators.{truth_is}
-use Rattle.source_lowering.proofs.Integers.{IsTaken, word_given, one_same, thin_same}
-use Rattle.source_lowering.proofs.Values.{put_temp, other_temp, kept_temp, temp_fits, put_value, put_three}
+use Rattle.source_lowering.proofs.Integers.{IsTaken, word_given}
+use Rattle.source_lowering.proofs.AnyValues.{one_same, thin_same, fat_same}
+use Rattle.source_lowering.proofs.Values.{put_temp, other_temp, kept_temp, temp_fits, put_value}
 
 -- 0 or 1 is put where a test's value goes
 pub put_truth : (p : Place) (n d : ℕ) (m0 : source.Memory) (c0 : Config) (m : source.Memory) (c : Config) (b : Bool)
@@ -36,16 +36,16 @@ pub put_truth : (p : Place) (n d : ℕ) (m0 : source.Memory) (c0 : Config) (m : 
     → Fits p m c → LaterAt p m0 c0 m c → AreKept d c0 c → GoesOn p n d m0 c0 IntShape s k
     → SameAt p n (s (truth_value b ∷ []) m) (k (with_temp d (Word (words.truth b)) c))
 put_truth p n d m0 c0 m c b s k fits later kept goes =
-    put_value p n d m0 c0 m c IntShape (truth_value b ∷ []) (Word (words.truth b)) s k fits later kept
-    (subst (λ z. Given p.world m c.memory IntShape (z ∷ []) (Word (words.truth b))) (sym (truth_is b)) (word_given p.world m c.memory AsInt (words.truth b)
+    put_value p n d m0 c0 m c IntShape (truth_value b ∷ []) (Word (words.truth b)) s k fits later kept refl
+    (subst (λ z. Given p.world m c.memory IntShape (z ∷ []) (Word (words.truth b) ∷ [])) (sym (truth_is b)) (word_given p.world m c.memory AsInt (words.truth b)
     (Word (words.truth b)) (truth_below b) refl)) goes
 
-two_words : (op : core.Binary) (c : Config) (t x y a b : ℕ) (next : Config → core_steps.Step) → c.temps x ≡ Word a → c.temps y ≡ Word b
+pub two_words : (op : core.Binary) (c : Config) (t x y a b : ℕ) (next : Config → core_steps.Step) → c.temps x ≡ Word a → c.temps y ≡ Word b
     → does (Apply op t x y) next c ≡ next (with_temp t (Word (words.two op a b)) c)
 two_words op c t x y a b next e f = rw (e, f) refl
 
 -- 0 stays 0, another word becomes 1
-truth_same : (p : Place) (n d : ℕ) (m0 : source.Memory) (c0 : Config) (m : source.Memory) (c : Config) (word : ℕ)
+pub truth_same : (p : Place) (n d : ℕ) (m0 : source.Memory) (c0 : Config) (m : source.Memory) (c : Config) (word : ℕ)
     (s : List Scalar → source.Memory → steps.Step) (rest : Statements) (next : Next)
     → c.temps d ≡ Word word → Fits p m c → LaterAt p m0 c0 m c → AreKept d c0 c → GoesOn p n d m0 c0 IntShape s (meaning.statements rest next)
     → SameAt p n (s (truth_value (not (nat_eq word 0)) ∷ []) m) (meaning.statements (put (truth_code d) rest) next c)
@@ -86,7 +86,7 @@ pub truth_decided : (p : Place) (n d : ℕ) (e : Sense) (shape : Shape) (code : 
 truth_decided p n d e shape code m c s rest next taken gives fits tests =
     gives.same m c (λ vs. one vs (λ v. need (is_true v) s)) rest next fits (record {
       go = λ m1 c1 vs fits1 later1 kept1 given1.
-          one_same p.world p.program n shape m1 c1.memory vs (c1.temps d) (λ v. need (is_true v) s) _ taken given1
+          one_same p.world p.program n shape m1 c1.memory vs d c1.temps (λ v. need (is_true v) s) _ taken given1
           (λ t word temp shape_is type_is small.
           tests.go m1 c1 (not (nat_eq word 0)) fits1 later1 kept1 (word_decides word (c1.temps d) temp))
           (λ v o.
@@ -94,7 +94,12 @@ truth_decided p n d e shape code m c s rest next taken gives fits tests =
           (λ x b. tests.go m1 c1 false fits1 later1 kept1 (record { branches = λ these those. ap (λ z. meaning.branch z these those) x }))
           (λ t byte x full leads.
           tests.go m1 c1 true fits1 later1 kept1 (record { branches = λ these those. ap (λ z. meaning.branch z these those) x })))
-          (λ birth x shape_is. stuck_same p.world p.program n _);
+          (λ birth x shape_is. stuck_same p.world p.program n _)
+          (λ v o.
+          fat_same p.world p.program n shape m1 c1.memory v (c1.temps d) (c1.temps (d + 1)) (c1.temps (d + 2)) (λ u. need (is_true u) s) _ o
+          (λ x. tests.go m1 c1 false fits1 later1 kept1 (record { branches = λ these those. ap (λ z. meaning.branch z these those) x }))
+          (λ span byte x.
+          tests.go m1 c1 true fits1 later1 kept1 (record { branches = λ these those. ap (λ z. meaning.branch z these those) x })));
     })
 
 -- what comes after a test: the source has a truth, Core a word
@@ -122,10 +127,10 @@ turned_kept d word c0 c kept =
     kept_temp d d (Word (words.truth (nat_eq word 0))) c0 (with_temp (d + 1) (Word 0) c) (omega arith)
     (kept_temp d (d + 1) (Word 0) c0 c (omega arith) kept)
 
-null_is_one : (c : Config) (d e : ℕ) (next : Config → core_steps.Step) → c.temps e ≡ Null → does (IsNull d e) next c ≡ next (with_temp d (Word 1) c)
+pub null_is_one : (c : Config) (d e : ℕ) (next : Config → core_steps.Step) → c.temps e ≡ Null → does (IsNull d e) next c ≡ next (with_temp d (Word 1) c)
 null_is_one c d e next x = rw x refl
 
-spot_is_zero : (c : Config) (d e byte : ℕ) (t : core_memory.Spot) (next : Config → core_steps.Step) → c.temps e ≡ Pointer t byte
+pub spot_is_zero : (c : Config) (d e byte : ℕ) (t : core_memory.Spot) (next : Config → core_steps.Step) → c.temps e ≡ Pointer t byte
     → does (IsNull d e) next c ≡ next (with_temp d (Word 0) c)
 spot_is_zero c d e byte t next x = rw x refl
 
@@ -159,7 +164,7 @@ truth_tested p n d e shape code m c s rest next taken gives fits tests =
     subst (λ z. SameAt p n (truth e s m) (meaning.statements z next c)) (sym (put_all code (word_code shape d) rest))
     (gives.same m c (λ vs. one vs (λ v. need (is_true v) s)) (put (word_code shape d) rest) next fits (record {
       go = λ m1 c1 vs fits1 later1 kept1 given1.
-          one_same p.world p.program n shape m1 c1.memory vs (c1.temps d) (λ v. need (is_true v) s) _ taken given1
+          one_same p.world p.program n shape m1 c1.memory vs d c1.temps (λ v. need (is_true v) s) _ taken given1
           (λ t word temp shape_is type_is small.
           subst (λ z. SameAt p n (s (not (nat_eq word 0)) m1) (meaning.statements (put z rest) next c1)) (sym (word_code_none t shape d shape_is))
           (tests.go m1 c1 word fits1 later1 kept1 temp))
@@ -171,145 +176,16 @@ truth_tested p n d e shape code m c s rest next taken gives fits tests =
           (null_is_one c1 d d (meaning.statements (put (turned_code d) rest) next) x) tests)
           (λ t byte x full leads. pointer_tested p n d 0 m c m1 c1 s rest next fits1 later1 kept1
           (spot_is_zero c1 d d byte (at t) (meaning.statements (put (turned_code d) rest) next) x) tests)))
-          (λ birth x shape_is. stuck_same p.world p.program n _);
+          (λ birth x shape_is. stuck_same p.world p.program n _)
+          (λ v o.
+          subst (λ z. SameAt p n (need (is_true v) s m1) (meaning.statements (put (word_code z d) rest) next c1)) (sym o.shape_is)
+          (fat_same p.world p.program n shape m1 c1.memory v (c1.temps d) (c1.temps (d + 1)) (c1.temps (d + 2)) (λ u. need (is_true u) s)
+          (does (IsNull d d) (meaning.statements (put (turned_code d) rest) next) c1) o
+          (λ x. pointer_tested p n d 1 m c m1 c1 s rest next fits1 later1 kept1
+          (null_is_one c1 d d (meaning.statements (put (turned_code d) rest) next) x) tests)
+          (λ span byte x. pointer_tested p n d 0 m c m1 c1 s rest next fits1 later1 kept1
+          (spot_is_zero c1 d d byte (at span.first) (meaning.statements (put (turned_code d) rest) next) x) tests)));
     }))
-
--- ---- &&
-
--- after operands the last of which gave the word
-pub record AllAs (p : Place) (n d : ℕ) (es : List Sense) (code : List Statement) : Type 0 where
-  pub same : (m0 : source.Memory) (c0 : Config) (m : source.Memory) (c : Config) (word : ℕ) (s : List Scalar → source.Memory → steps.Step) (rest : Statements)
-      (next : Next) → Fits p m c → LaterAt p m0 c0 m c → AreKept d c0 c → c.temps d ≡ Word word → GoesOn p n d m0 c0 IntShape s (meaning.statements rest next)
-      → SameAt p n (choose (not (nat_eq word 0)) (all_true es) (give false) (λ t. s (truth_value t ∷ [])) m) (meaning.statements
-      (put code (put (truth_code d) rest)) next c)
-
-all_left : (b : Bool) (s : List Scalar → source.Memory → steps.Step) (m : source.Memory) → choose b (all_true []) (give false) (λ t. s (truth_value t ∷ [])) m
-    ≡ s (truth_value b ∷ []) m
-all_left true s m = refl
-all_left false s m = refl
-
-pub all_none : (p : Place) (n d : ℕ) → AllAs p n d [] []
-all_none p n d = record {
-  same = λ m0 c0 m c word s rest next fits later kept temp goes.
-      subst (λ z. SameAt p n z (meaning.statements (put (truth_code d) rest) next c)) (sym (all_left (not (nat_eq word 0)) s m))
-      (truth_same p n d m0 c0 m c word s rest next temp fits later kept goes);
-}
-
-pub all_more : (p : Place) (n d : ℕ) (e : Sense) (es : List Sense) (shape : Shape) (code others : List Statement) → IsTaken shape
-    → GivesAs p n d shape e.look code → AllAs p n d es others → AllAs p n d (e ∷ es) (If d (all_of (code ++ word_code shape d)) NoStatements ∷ others)
-all_more p n d e es shape code others taken gives more = record {
-  same = λ m0 c0 m c word s rest next fits later kept temp goes. by (nat_eq word 0) m0 c0 m c
-      word s rest next refl fits later kept temp goes;
-}
-  where
-    by : (b : Bool) (m0 : source.Memory) (c0 : Config) (m : source.Memory) (c : Config) (word : ℕ) (s : List Scalar → source.Memory → steps.Step)
-        (rest : Statements) (next : Next) → nat_eq word 0 ≡ b → Fits p m c → LaterAt p m0 c0 m c → AreKept d c0 c → c.temps d ≡ Word word
-        → GoesOn p n d m0 c0 IntShape s (meaning.statements rest next)
-        → SameAt p n (choose (not (nat_eq word 0)) (all_true (e ∷ es)) (give false) (λ t. s (truth_value t ∷ [])) m)
-        (meaning.statements (MoreStatements (If d (all_of (code ++ word_code shape d)) NoStatements) (put others (put (truth_code d) rest))) next c)
-    by true m0 c0 m c word s rest next test fits later kept temp goes =
-        let after : Next = λ exit. meaning.falls_to exit (meaning.statements (put others (put (truth_code d) rest)) next) next in
-        subst (λ z. SameAt p n (choose (not (nat_eq word 0)) (all_true (e ∷ es)) (give false) (λ t. s (truth_value t ∷ [])) m) z)
-        (sym (branch_by c d word true (meaning.statements (all_of (code ++ word_code shape d)) after c) (meaning.statements NoStatements after c) temp test))
-        (subst (λ z. SameAt p n (choose (not z) (all_true (e ∷ es)) (give false) (λ t. s (truth_value t ∷ [])) m)
-        (meaning.statements (put others (put (truth_code d) rest)) next c)) (sym test)
-        (subst (λ z. SameAt p n (choose (not z) (all_true es) (give false) (λ t. s (truth_value t ∷ [])) m) (meaning.statements
-        (put others (put (truth_code d) rest)) next c)) test
-        (more.same m0 c0 m c word s rest next fits later kept temp goes)))
-    by false m0 c0 m c word s rest next test fits later kept temp goes =
-        let after : Next = λ exit. meaning.falls_to exit (meaning.statements (put others (put (truth_code d) rest)) next) next in
-        subst (λ z. SameAt p n (choose (not (nat_eq word 0)) (all_true (e ∷ es)) (give false) (λ t. s (truth_value t ∷ [])) m) z)
-        (sym (branch_by c d word false (meaning.statements (all_of (code ++ word_code shape d)) after c) (meaning.statements NoStatements after c) temp test))
-        (subst (λ z. SameAt p n (choose (not z) (all_true (e ∷ es)) (give false) (λ t. s (truth_value t ∷ [])) m)
-        (meaning.statements (all_of (code ++ word_code shape d)) after c))
-        (sym test)
-        (truth_tested p n d e shape code m c (λ t. choose t (all_true es) (give false) (λ u. s (truth_value u ∷ []))) NoStatements after taken gives fits
-        (record {
-          go = λ m2 c2 w2 fits2 later2 kept2 temp2.
-              more.same m0 c0 m2 c2 w2 s rest next fits2 (later_on (within p) m0 m m2 c0.memory c.memory c2.memory later later2)
-              (λ k h. kept2 k h ∙ kept k h) temp2 goes;
-        })))
-
-pub all_gives : (p : Place) (n d : ℕ) (e : Sense) (es : List Sense) (shape : Shape) (first others : List Statement) → IsTaken shape
-    → GivesAs p n d shape e.look first → AllAs p n d es others → GivesAs p n d IntShape (tested (all_true (e ∷ es))).look
-    ((first ++ word_code shape d) ++ (others ++ truth_code d))
-all_gives p n d e es shape first others taken gives more = record {
-  same = λ m c s rest next fits goes.
-      subst (λ z. SameAt p n ((tested (all_true (e ∷ es))).look s m) (meaning.statements z next c))
-      (sym (put_three (first ++ word_code shape d) others (truth_code d) rest))
-      (truth_tested p n d e shape first m c (λ t. choose t (all_true es) (give false) (λ u. s (truth_value u ∷ []))) (put others (put (truth_code d) rest))
-      next taken gives fits (record {
-        go = λ m2 c2 w2 fits2 later2 kept2 temp2. more.same m c m2 c2 w2 s rest next fits2 later2 kept2 temp2 goes;
-      }));
-}
-
--- ---- ||
-
-pub record AnyAs (p : Place) (n d : ℕ) (es : List Sense) (code : List Statement) : Type 0 where
-  pub same : (m0 : source.Memory) (c0 : Config) (m : source.Memory) (c : Config) (word : ℕ) (s : List Scalar → source.Memory → steps.Step) (rest : Statements)
-      (next : Next) → Fits p m c → LaterAt p m0 c0 m c → AreKept d c0 c → c.temps d ≡ Word word → GoesOn p n d m0 c0 IntShape s (meaning.statements rest next)
-      → SameAt p n (choose (not (nat_eq word 0)) (give true) (any_true es) (λ t. s (truth_value t ∷ [])) m) (meaning.statements
-      (put code (put (truth_code d) rest)) next c)
-
-any_left : (b : Bool) (s : List Scalar → source.Memory → steps.Step) (m : source.Memory) → choose b (give true) (any_true []) (λ t. s (truth_value t ∷ [])) m
-    ≡ s (truth_value b ∷ []) m
-any_left true s m = refl
-any_left false s m = refl
-
-pub any_none : (p : Place) (n d : ℕ) → AnyAs p n d [] []
-any_none p n d = record {
-  same = λ m0 c0 m c word s rest next fits later kept temp goes.
-      subst (λ z. SameAt p n z (meaning.statements (put (truth_code d) rest) next c)) (sym (any_left (not (nat_eq word 0)) s m))
-      (truth_same p n d m0 c0 m c word s rest next temp fits later kept goes);
-}
-
-pub any_more : (p : Place) (n d : ℕ) (e : Sense) (es : List Sense) (shape : Shape) (code others : List Statement) → IsTaken shape
-    → GivesAs p n d shape e.look code → AnyAs p n d es others → AnyAs p n d (e ∷ es) (If d NoStatements (all_of (code ++ word_code shape d)) ∷ others)
-any_more p n d e es shape code others taken gives more = record {
-  same = λ m0 c0 m c word s rest next fits later kept temp goes. by (nat_eq word 0) m0 c0 m c
-      word s rest next refl fits later kept temp goes;
-}
-  where
-    by : (b : Bool) (m0 : source.Memory) (c0 : Config) (m : source.Memory) (c : Config) (word : ℕ) (s : List Scalar → source.Memory → steps.Step)
-        (rest : Statements) (next : Next) → nat_eq word 0 ≡ b → Fits p m c → LaterAt p m0 c0 m c → AreKept d c0 c → c.temps d ≡ Word word
-        → GoesOn p n d m0 c0 IntShape s (meaning.statements rest next)
-        → SameAt p n (choose (not (nat_eq word 0)) (give true) (any_true (e ∷ es)) (λ t. s (truth_value t ∷ [])) m)
-        (meaning.statements (MoreStatements (If d NoStatements (all_of (code ++ word_code shape d))) (put others (put (truth_code d) rest))) next c)
-    by false m0 c0 m c word s rest next test fits later kept temp goes =
-        let after : Next = λ exit. meaning.falls_to exit (meaning.statements (put others (put (truth_code d) rest)) next) next in
-        subst (λ z. SameAt p n (choose (not (nat_eq word 0)) (give true) (any_true (e ∷ es)) (λ t. s (truth_value t ∷ [])) m) z)
-        (sym (branch_by c d word false (meaning.statements NoStatements after c) (meaning.statements (all_of (code ++ word_code shape d)) after c) temp test))
-        (subst (λ z. SameAt p n (choose (not z) (give true) (any_true (e ∷ es)) (λ t. s (truth_value t ∷ [])) m)
-        (meaning.statements (put others (put (truth_code d) rest)) next c)) (sym test)
-        (subst (λ z. SameAt p n (choose (not z) (give true) (any_true es) (λ t. s (truth_value t ∷ [])) m) (meaning.statements
-        (put others (put (truth_code d) rest)) next c)) test
-        (more.same m0 c0 m c word s rest next fits later kept temp goes)))
-    by true m0 c0 m c word s rest next test fits later kept temp goes =
-        let after : Next = λ exit. meaning.falls_to exit (meaning.statements (put others (put (truth_code d) rest)) next) next in
-        subst (λ z. SameAt p n (choose (not (nat_eq word 0)) (give true) (any_true (e ∷ es)) (λ t. s (truth_value t ∷ [])) m) z)
-        (sym (branch_by c d word true (meaning.statements NoStatements after c) (meaning.statements (all_of (code ++ word_code shape d)) after c) temp test))
-        (subst (λ z. SameAt p n (choose (not z) (give true) (any_true (e ∷ es)) (λ t. s (truth_value t ∷ [])) m)
-        (meaning.statements (all_of (code ++ word_code shape d)) after c))
-        (sym test)
-        (truth_tested p n d e shape code m c (λ t. choose t (give true) (any_true es) (λ u. s (truth_value u ∷ []))) NoStatements after taken gives fits
-        (record {
-          go = λ m2 c2 w2 fits2 later2 kept2 temp2.
-              more.same m0 c0 m2 c2 w2 s rest next fits2 (later_on (within p) m0 m m2 c0.memory c.memory c2.memory later later2)
-              (λ k h. kept2 k h ∙ kept k h) temp2 goes;
-        })))
-
-pub any_gives : (p : Place) (n d : ℕ) (e : Sense) (es : List Sense) (shape : Shape) (first others : List Statement) → IsTaken shape
-    → GivesAs p n d shape e.look first → AnyAs p n d es others → GivesAs p n d IntShape (tested (any_true (e ∷ es))).look
-    ((first ++ word_code shape d) ++ (others ++ truth_code d))
-any_gives p n d e es shape first others taken gives more = record {
-  same = λ m c s rest next fits goes.
-      subst (λ z. SameAt p n ((tested (any_true (e ∷ es))).look s m) (meaning.statements z next c))
-      (sym (put_three (first ++ word_code shape d) others (truth_code d) rest))
-      (truth_tested p n d e shape first m c (λ t. choose t (give true) (any_true es) (λ u. s (truth_value u ∷ []))) (put others (put (truth_code d) rest))
-      next taken gives fits (record {
-        go = λ m2 c2 w2 fits2 later2 kept2 temp2. more.same m c m2 c2 w2 s rest next fits2 later2 kept2 temp2 goes;
-      }));
-}
 
 -- ---- !
 
@@ -343,7 +219,7 @@ not_gives p n d e shape code taken gives = record {
       subst (λ z. SameAt p n ((tested (inverted (truth e))).look s m) (meaning.statements z next c)) (sym (put_all code (not_code shape d) rest))
       (gives.same m c (λ vs. one vs (λ v. need (is_true v) (after s))) (put (not_code shape d) rest) next fits (record {
         go = λ m2 c2 vs fits2 later2 kept2 given2.
-            one_same p.world p.program n shape m2 c2.memory vs (c2.temps (d + 1)) (λ v. need (is_true v) (after s)) _ taken given2
+            one_same p.world p.program n shape m2 c2.memory vs (d + 1) c2.temps (λ v. need (is_true v) (after s)) _ taken given2
             (λ t word temp shape_is type_is small.
             subst (λ z. SameAt p n (after s (not (nat_eq word 0)) m2) (meaning.statements (put z rest) next c2)) (sym (not_code_word t shape d shape_is))
             (word_not m c m2 c2 word s rest next fits2 later2 (below c c2 kept2) temp goes))
@@ -357,7 +233,17 @@ not_gives p n d e shape code taken gives = record {
             (λ t byte x full leads.
             not_put p n d false m c m2 c2 c2 s _ (meaning.statements rest next) (spot_is_zero c2 d (d + 1) byte (at t) (meaning.statements rest next) x) fits2
             later2 (below c c2 kept2) goes)))
-            (λ birth x shape_is. stuck_same p.world p.program n _);
+            (λ birth x shape_is. stuck_same p.world p.program n _)
+            (λ v o.
+            subst (λ z. SameAt p n (need (is_true v) (after s) m2) (meaning.statements (put (not_code z d) rest) next c2)) (sym o.shape_is)
+            (fat_same p.world p.program n shape m2 c2.memory v (c2.temps (d + 1)) (c2.temps (d + 1 + 1)) (c2.temps (d + 1 + 2))
+            (λ u. need (is_true u) (after s)) (does (IsNull d (d + 1)) (meaning.statements rest next) c2) o
+            (λ x.
+            not_put p n d true m c m2 c2 c2 s _ (meaning.statements rest next) (null_is_one c2 d (d + 1) (meaning.statements rest next) x) fits2 later2
+            (below c c2 kept2) goes)
+            (λ span byte x.
+            not_put p n d false m c m2 c2 c2 s _ (meaning.statements rest next)
+            (spot_is_zero c2 d (d + 1) byte (at span.first) (meaning.statements rest next) x) fits2 later2 (below c c2 kept2) goes)));
       }));
 }
   where

@@ -1,51 +1,24 @@
 -- What comes after a statement for each way out of it, and the regions that are freed on it.
-use Rattle.std.proofs.Common.{◌≡◌, ℕ, zero, suc, ◌≤◌, inl, inr, ⊎_elim, List, [], ◌∷◌, ◌++◌, Bool, true, false, nat_eq, refl, sym, ap, ◌∙◌, subst, arith}
+use Rattle.std.proofs.Common.{◌≡◌, ℕ, zero, suc, ◌≤◌, List, nat_eq, refl, ap, ◌∙◌}
 use Rattle.std.specs.Prelude.{not, ◌&&◌}
 use Rattle.cyc_words.specs.Events as events
-use Rattle.step_trees.specs.Trees.{Turns}
-use Rattle.cyc_tree.specs.Tree as tree
-use Rattle.cyc_tree.specs.Tree.{Expression}
-use Rattle.source_meaning.specs.Shapes.{
-  Shape,
-  IntShape,
-  UnsignedShape,
-  CharShape,
-  VoidShape,
-  ThinShape,
-  FatShape,
-  HandleShape,
-  KeyShape,
-  StructShape,
-  UnionShape,
-  ArrayShape,
-}
+use Rattle.source_meaning.specs.Shapes.{Shape}
 use Rattle.source_meaning.specs.Memory as source
 use Rattle.source_meaning.specs.Memory.{Scalar}
 use Rattle.source_meaning.specs.Steps as steps
-use Rattle.source_meaning.specs.Steps.{World, Scope, Flow, Act, give, choose, ◌>>=◌, ◌>>◌}
-use Rattle.source_meaning.specs.Conversions.{converted}
-use Rattle.source_meaning.specs.Places.{Sense}
-use Rattle.source_meaning.specs.Calls.{truth}
-use Rattle.source_meaning.specs.Expressions.{sense}
-use Rattle.source_meaning.specs.Statements as source_statements
-use Rattle.source_meaning.specs.Programs as programs
+use Rattle.source_meaning.specs.Steps.{World, Flow, Act}
 use Rattle.core_meaning.specs.Memory.{Content, Blank, Word, Null, Pointer, Birth, Born, Dead, is_lexical, with_standing}
-use Rattle.core_meaning.specs.Core.{Program, Statement, If, While, Break, Continue, Return, RegionFree, Statements, NoStatements, MoreStatements}
+use Rattle.core_meaning.specs.Core.{Program, Statement, RegionFree, Statements, NoStatements}
 use Rattle.core_meaning.specs.Operations.{does, says}
 use Rattle.core_meaning.specs.Steps as core_steps
-use Rattle.core_meaning.specs.Steps.{Config, Exit, birth_of, checked, with_memory}
+use Rattle.core_meaning.specs.Steps.{Config, birth_of, checked, with_memory}
 use Rattle.core_meaning.specs.Meaning as meaning
 use Rattle.core_meaning.specs.Meaning.{values_of}
-use Rattle.source_lowering.specs.Lowered.{put, all_of, results_in, conversion_code}
-use Rattle.source_lowering.specs.Programs.{RegionsAround, in_loop, leaving_code}
-use Rattle.source_lowering.proofs.Relations.{Agree, Bound, Later, Place, Fits, SameAt, Same, Next, AreKept, LaterAt, activation, around, AValue, ANothing, Given, GivesAs}
-use Rattle.source_lowering.proofs.Keeping.{IsLess, less_self, around_items, later_self, later_on, later_less, later_around, blocks_of, fits_on}
-use Rattle.source_lowering.proofs.Runs.{turns_same, less_fuel, put_all}
-use Rattle.source_lowering.proofs.Integers.{IsTaken, IsWordShape}
-use Rattle.source_lowering.proofs.Values.{put_three}
-use Rattle.source_lowering.proofs.Variables.{Agrees}
-use Rattle.source_lowering.proofs.Conversions.{converted_gives}
-use Rattle.source_lowering.proofs.Tests.{Decides, truth_decided}
+use Rattle.source_lowering.specs.Lowered.{put}
+use Rattle.source_lowering.specs.Programs.{RegionsAround, leaving_code}
+use Rattle.source_lowering.proofs.Relations.{Agree, Bound, Later, Place, Fits, SameAt, Same, Next, AreKept, LaterAt, activation, around}
+use Rattle.source_lowering.proofs.Keeping.{IsLess, later_self, later_on, later_less, later_around, blocks_of}
+use Rattle.source_lowering.proofs.Runs.{less_fuel}
 use Rattle.source_lowering.proofs.Calls.{ResultIs}
 
 -- of so many regions in scope the innermost are freed, one after the other

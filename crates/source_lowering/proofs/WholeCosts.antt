@@ -1,30 +1,32 @@
 -- What the code of initializers and of expressions that are statements takes, structs too.
-use Rattle.std.proofs.Common.{◌≡◌, refl, ℕ, ◌+◌, ◌*◌, ◌≤◌, Bool, true, false, List, [], ◌∷◌, ◌++◌, length, arith}
+use Rattle.std.proofs.Common.{◌≡◌, refl, ℕ, ◌+◌, ◌*◌, ◌≤◌, Bool, true, false, List, length, arith}
 use Rattle.std.specs.Prelude.{if◌then◌else◌}
-use Rattle.cyc_tree.specs.Tree.{Expression}
+use Rattle.cyc_tree.specs.Tree.{Name, Expression, Expressions}
 use Rattle.source_meaning.specs.Shapes.{Shape, StructShape}
 use Rattle.source_meaning.specs.Steps.{World}
-use Rattle.core_meaning.specs.Core.{Copy, Statement}
+use Rattle.core_meaning.specs.Core.{Copy}
 use Rattle.source_lowering.specs.Layouts.{layout_of}
-use Rattle.source_lowering.specs.Lowered.{Named, expression_code, static_shape}
+use Rattle.source_lowering.specs.Lowered.{Named, arguments_code, call_parameters, expression_code, static_shape}
 use Rattle.source_lowering.specs.Programs.{source_code}
 use Rattle.source_lowering.specs.Whole.{makes_struct, is_made, whole_values, whole_code, assigned_code, dropped_code, run_code}
 use Rattle.source_lowering.specs.Lowerable.{Takes, TakesWhole, TakesAssigned, TakesDropped, TakesCalled, TakesRun}
-use Rattle.source_lowering.specs.Bounds.{nodes_of}
-use Rattle.source_lowering.proofs.Costs.{both_cost}
-use Rattle.source_lowering.proofs.PartCosts.{does_one}
-use Rattle.source_lowering.proofs.MadeCosts.{ArePassed, IsWhole}
-use Rattle.source_lowering.proofs.ExpressionCosts.{nodes_positive, place_costs, expression_costs, whole_costs}
+use Rattle.source_lowering.specs.Bounds.{frame_nodes, run_nodes, tokens_of}
+use Rattle.source_lowering.proofs.Costs.{both_cost, does_one}
+use Rattle.source_lowering.proofs.PartCosts.{ArePassed, made_result}
+use Rattle.source_lowering.proofs.MadeCosts.{IsWhole}
+use Rattle.source_lowering.proofs.Counted.{two_nodes}
+use Rattle.source_lowering.proofs.ExpressionCosts.{arguments_costs, place_costs, expression_costs, whole_costs}
+use Rattle.source_lowering.proofs.OperandCosts.{called_cheap}
 use Rattle.source_lowering.proofs.WholeObjects.{unmade_place}
 
 -- ---- initializers
 
 -- a struct's initializer
-pub source_costs : (w : World) (names : List Named) (e : Expression) (t p d own : ℕ) → TakesWhole w names e → d + nodes_of e + 1 ≤ t → nodes_of e ≤ p
-    → IsWhole t p (nodes_of e) (source_code w names (is_made w e) e d own)
+pub source_costs : (w : World) (names : List Named) (e : Expression) (t p d own : ℕ) → TakesWhole w names e → d + 2 * frame_nodes e ≤ t → 2 * frame_nodes e ≤ p
+    → IsWhole t p (tokens_of e) (source_code w names (is_made w e) e d own)
 source_costs w names e t p d own h f g = by (is_made w e) refl
   where
-    by : (made : Bool) → is_made w e ≡ made → IsWhole t p (nodes_of e) (source_code w names made e d own)
+    by : (made : Bool) → is_made w e ≡ made → IsWhole t p (tokens_of e) (source_code w names made e d own)
     by true is = whole_costs w names e t p d own h f g
     by false is =
         let a = place_costs w names e t p d own (unmade_place w names e h is) f g in let l = a.less in
@@ -32,23 +34,23 @@ source_costs w names e t p d own h f g = by (is_made w e) refl
 
 -- ---- expressions that are statements
 
-word_run : (w : World) (names : List Named) (e : Expression) (t p d own : ℕ) → Takes w names e → d + nodes_of e + 1 ≤ t → nodes_of e ≤ p
-    → ArePassed t p (nodes_of e) (expression_code w names e d own)
+word_run : (w : World) (names : List Named) (e : Expression) (t p d own : ℕ) → Takes w names e → d + 2 * frame_nodes e ≤ t → 2 * frame_nodes e ≤ p
+    → ArePassed t p (tokens_of e) (expression_code w names e d own)
 word_run w names e t p d own h f g =
     let a = expression_costs w names e t p d own h f g in let l = a.less in
     record { operations = a.operations; costs = a.costs; less = omega (arith, l) }
 
-whole_run : (w : World) (names : List Named) (e : Expression) (t p d own : ℕ) → TakesWhole w names e → d + nodes_of e + 1 ≤ t → nodes_of e ≤ p
-    → ArePassed t p (nodes_of e) (whole_code w names e d own)
+whole_run : (w : World) (names : List Named) (e : Expression) (t p d own : ℕ) → TakesWhole w names e → d + 2 * frame_nodes e ≤ t → 2 * frame_nodes e ≤ p
+    → ArePassed t p (tokens_of e) (whole_code w names e d own)
 whole_run w names e t p d own h f g =
     let a = whole_costs w names e t p d own h f g in let l = a.less in
     record { operations = a.operations; costs = a.costs; less = omega (arith, l) }
 
 assigned_costs : (w : World) (names : List Named) (s : Shape) (place value : Expression) (t p d own : ℕ) → TakesAssigned w names s place value
-    → d + (nodes_of place + (1 + nodes_of value)) + 1 ≤ t → nodes_of place + (1 + nodes_of value) ≤ p
-    → ArePassed t p (nodes_of place + (1 + nodes_of value)) (assigned_code w names s place value d own)
+    → d + 2 * (frame_nodes place + (1 + frame_nodes value)) ≤ t → 2 * (frame_nodes place + (1 + frame_nodes value)) ≤ p
+    → ArePassed t p (tokens_of place + (1 + tokens_of value)) (assigned_code w names s place value d own)
 assigned_costs w names (StructShape tag) place value t p d own h f g =
-    let n = nodes_positive value in
+    let n = two_nodes value in
     let a = whole_costs w names value t p d own h.1.0 (omega (arith, f)) (omega (arith, g)) in
     let b = place_costs w names place t p (d + 1) (own + length (whole_values w names value)) h.0 (omega (arith, f, n)) (omega (arith, g)) in
     let l = a.less in let k = b.less in
@@ -60,22 +62,37 @@ assigned_costs w names (StructShape tag) place value t p d own h f g =
     }
 assigned_costs w names _ place value t p d own h f g = word_run w names (Expression.Assign place value) t p d own h f g
 
-dropped_costs : (w : World) (names : List Named) (s : Shape) (e : Expression) (t p d own : ℕ) → TakesDropped w names s e → d + nodes_of e + 1 ≤ t
-    → nodes_of e ≤ p → ArePassed t p (nodes_of e) (dropped_code w names s e d own)
+dropped_costs : (w : World) (names : List Named) (s : Shape) (e : Expression) (t p d own : ℕ) → TakesDropped w names s e → d + 2 * frame_nodes e ≤ t
+    → 2 * frame_nodes e ≤ p → ArePassed t p (tokens_of e) (dropped_code w names s e d own)
 dropped_costs w names (StructShape tag) e t p d own h f g = whole_run w names e t p d own h f g
 dropped_costs w names _ e t p d own h f g = word_run w names e t p d own h f g
 
-called_costs : (made : Bool) (for_whole for_word : Type 0) (t p n : ℕ) (whole word : List Statement) → TakesCalled made for_whole for_word
-    → (for_whole → ArePassed t p n whole) → (for_word → ArePassed t p n word) → ArePassed t p n (if made then whole else word)
-called_costs true for_whole for_word t p n whole word h as_whole as_word = as_whole h
-called_costs false for_whole for_word t p n whole word h as_whole as_word = as_word h
+-- a call may have no value
+call_run : (w : World) (names : List Named) (name : Name) (arguments : Expressions) (t p d own : ℕ)
+    → TakesCalled (makes_struct w name.text) (TakesWhole w names (Expression.Call name arguments)) (Takes w names (Expression.Call name arguments))
+    → d + 2 * run_nodes w (Expression.Call name arguments) ≤ t → 2 * run_nodes w (Expression.Call name arguments) ≤ p
+    → ArePassed t p (tokens_of (Expression.Call name arguments)) (run_code w names (Expression.Call name arguments) d own)
+call_run w names name arguments t p d own h f g = by (makes_struct w name.text) refl h
+  where
+    e : Expression
+    e = Expression.Call name arguments
 
-pub run_costs : (w : World) (names : List Named) (e : Expression) (t p d own : ℕ) → TakesRun w names e → d + nodes_of e + 1 ≤ t → nodes_of e ≤ p
-    → ArePassed t p (nodes_of e) (run_code w names e d own)
+    by : (made : Bool) → makes_struct w name.text ≡ made → TakesCalled made (TakesWhole w names e) (Takes w names e)
+        → ArePassed t p (tokens_of e) (if made then whole_code w names e d own else expression_code w names e d own)
+    by true is h = let one = made_result w name.text is in whole_run w names e t p d own h (omega (arith, f, one)) (omega (arith, g, one))
+    by false is h =
+        let a = called_cheap w name.text (call_parameters w name.text) arguments (arguments_code w names (call_parameters w name.text) arguments d own)
+        t p d (omega (arith, f))
+        (omega (arith, f)) (omega (arith, g))
+        (arguments_costs w names (call_parameters w name.text) arguments t p d own h.1 (omega (arith, f)) (omega (arith, g))) in
+        let l = a.less in
+        record { operations = a.operations; costs = a.costs; less = omega (arith, l) }
+
+pub run_costs : (w : World) (names : List Named) (e : Expression) (t p d own : ℕ) → TakesRun w names e → d + 2 * run_nodes w e ≤ t → 2 * run_nodes w e ≤ p
+    → ArePassed t p (tokens_of e) (run_code w names e d own)
 run_costs w names (Expression.Assign place value) t p d own h f g = assigned_costs w names (static_shape w names place) place value t p d own h f g
-run_costs w names (Expression.Grouped at inner) t p d own h f g = run_costs w names inner t p d own h f g
-run_costs w names (Expression.Call name arguments) t p d own h f g =
-    let e = Expression.Call name arguments in
-    called_costs (makes_struct w name.text) (TakesWhole w names e) (Takes w names e) t p (nodes_of e) (whole_code w names e d own)
-    (expression_code w names e d own) h (λ k. whole_run w names e t p d own k f g) (λ k. word_run w names e t p d own k f g)
+run_costs w names (Expression.Grouped at inner) t p d own h f g =
+    let a = run_costs w names inner t p d own h f g in let l = a.less in
+    record { operations = a.operations; costs = a.costs; less = omega (arith, l) }
+run_costs w names (Expression.Call name arguments) t p d own h f g = call_run w names name arguments t p d own h f g
 run_costs w names e t p d own h f g = dropped_costs w names (static_shape w names e) e t p d own h f g

@@ -30,7 +30,7 @@ use Rattle.source_lowering.proofs.Variables.{Agrees}
 use Rattle.source_lowering.proofs.Places.{IsPlaced}
 use Rattle.source_lowering.proofs.Numbered.{AreNumbered}
 use Rattle.source_lowering.proofs.Wholes.{IsWhole, place_whole}
-use Rattle.source_lowering.proofs.MakingMembers.{MemberGoes, word_member, struct_member}
+use Rattle.source_lowering.proofs.MakingMembers.{MemberGoes, value_member, struct_member}
 
 -- ---- a place
 
@@ -72,13 +72,13 @@ member_same p n d value cells byte own s e from wholes words whole word takes_wh
 
     by : (z : Shape) → IsObject p.world.structs z → TakesMember z takes_whole takes → AreNumbered p.owned own (values_by z wholes words) → goal z
     by (StructShape tag) o t nums = struct_member p n d value cells byte own tag e whole structs o less (structs_as t nums)
-    by IntShape o t nums = word_member p n d value cells byte IntShape e from word tt (words_as t nums)
-    by UnsignedShape o t nums = word_member p n d value cells byte UnsignedShape e from word tt (words_as t nums)
-    by CharShape o t nums = word_member p n d value cells byte CharShape e from word tt (words_as t nums)
-    by (ThinShape b owner to) o t nums = word_member p n d value cells byte (ThinShape b owner to) e from word o (words_as t nums)
-    by HandleShape o t nums = word_member p n d value cells byte HandleShape e from word tt (words_as t nums)
+    by IntShape o t nums = value_member p n d value cells byte IntShape e from word tt (words_as t nums)
+    by UnsignedShape o t nums = value_member p n d value cells byte UnsignedShape e from word tt (words_as t nums)
+    by CharShape o t nums = value_member p n d value cells byte CharShape e from word tt (words_as t nums)
+    by (ThinShape b owner to) o t nums = value_member p n d value cells byte (ThinShape b owner to) e from word o (words_as t nums)
+    by HandleShape o t nums = value_member p n d value cells byte HandleShape e from word tt (words_as t nums)
     by VoidShape o t nums = absurd o
-    by (FatShape to) o t nums = absurd o
+    by (FatShape to) o t nums = value_member p n d value cells byte (FatShape to) e from word o (words_as t nums)
     by KeyShape o t nums = absurd o
     by (UnionShape tag) o t nums = absurd o
     by (ArrayShape count of) o t nums = absurd o

@@ -25,7 +25,7 @@ use Rattle.cyc_tree.specs.Tree.{
 use Rattle.cyc_tree.specs.Tree.{Initializer, Declaration, Statement, BlockItems, NoItems, Declare, Execute}
 use Rattle.source_meaning.specs.Shapes.{Shape, StructShape, Layout, Part, parts_of, has_tag, written, settled}
 use Rattle.source_meaning.specs.Steps.{World}
-use Rattle.source_lowering.specs.Lowered.{Named, static_shape, values_by, expression_values, all_values, link_values, new_values}
+use Rattle.source_lowering.specs.Lowered.{Named, static_shape, values_by, expression_values, suffix_values, all_values, link_values, new_values}
 use Rattle.source_lowering.specs.Whole.{makes_struct, is_made, whole_values, made_values, assigned_values, dropped_values, run_values}
 use Rattle.source_lowering.specs.Programs.{local_shape, named_here, outward, initial_values, declaration_values, statement_values, item_values}
 use Rattle.source_lowering.specs.Lowerable.{
@@ -52,6 +52,7 @@ use Rattle.source_lowering.specs.Lowerable.{
   TakesStatement,
   TakesItems,
 }
+use Rattle.source_lowering.proofs.Indices.{TakesIndices, indices_taken}
 
 -- ---- expressions
 
@@ -78,12 +79,26 @@ value_objects : (structs : List Layout) (s : Shape) (whole word : List Shape) (f
 value_objects structs (StructShape tag) whole word for_whole for_word h wholes words = wholes h
 value_objects structs _ whole word for_whole for_word h wholes words = words h
 
-suffixed_objects : (w : World) (suffixes : Suffixes) (s : Shape) (value place : Type 0) (goal : Type 0) → TakesSuffixes w suffixes s value place
-    → (value → goal) → (place → goal) → goal
-suffixed_objects w NoSuffixes s value place goal h by_value by_place = absurd h
-suffixed_objects w (Index index others) s value place goal h by_value by_place = absurd h
-suffixed_objects w (Dot f others) s value place goal h by_value by_place = by_place h.0
-suffixed_objects w (Arrow f others) s value place goal h by_value by_place = by_value h.0
+-- what stands on the left of suffixes is taken
+suffixed_objects : (w : World) (names : List Named) (suffixes : Suffixes) (s : Shape) (value place : Type 0) (goal : Type 0)
+    → TakesSuffixes w names suffixes s value place → (value → goal) → (place → goal) → goal
+suffixed_objects w names NoSuffixes s value place goal h by_value by_place = absurd h
+suffixed_objects w names (Index index others) s value place goal h by_value by_place = by_value h.0
+suffixed_objects w names (Dot f others) s value place goal h by_value by_place = by_place h.0
+suffixed_objects w names (Arrow f others) s value place goal h by_value by_place = by_value h.0
+
+-- the values of the indices, and then those of what stands on the left
+primary_objects : (w : World) (names : List Named) (primary : Expression) (suffixes : Suffixes)
+    → TakesSuffixes w names suffixes (static_shape w names primary) (Takes w names primary) (TakesPlace w names primary)
+    → (TakesIndices w names suffixes → AreObjects w.structs (suffix_values w names suffixes))
+    → (Takes w names primary → AreObjects w.structs (expression_values w names primary))
+    → (TakesPlace w names primary → AreObjects w.structs (expression_values w names primary))
+    → AreObjects w.structs (suffix_values w names suffixes ++ expression_values w names primary)
+primary_objects w names primary suffixes h indices by_value by_place =
+    both_objects w.structs (suffix_values w names suffixes) (expression_values w names primary)
+    (indices (indices_taken w names suffixes (static_shape w names primary) (Takes w names primary) (TakesPlace w names primary) h))
+    (suffixed_objects w names suffixes (static_shape w names primary) (Takes w names primary) (TakesPlace w names primary)
+    (AreObjects w.structs (expression_values w names primary)) h by_value by_place)
 
 prefixed_objects : (operator : Prefix) (s : Shape) (value place : Type 0) (goal : Type 0) → TakesPrefix operator s value place → (value → goal)
     → (place → goal) → goal
@@ -105,8 +120,8 @@ mutual
   expression_objects w names (Expression.Call name arguments) h = all_objects w names arguments h.1
   expression_objects w names (Expression.Grouped at inner) h = expression_objects w names inner h
   expression_objects w names (Expression.Suffixed primary suffixes) h =
-      suffixed_objects w suffixes (static_shape w names primary) (Takes w names primary) (TakesPlace w names primary)
-      (AreObjects w.structs (expression_values w names primary)) h.0 (λ g. expression_objects w names primary g) (λ g. place_objects w names primary g)
+      primary_objects w names primary suffixes h.0 (λ g. index_objects w names suffixes g) (λ g. expression_objects w names primary g)
+      (λ g. place_objects w names primary g)
   expression_objects w names (Expression.Prefixed at operator operand) h =
       prefixed_objects operator (static_shape w names operand) (Takes w names operand) (TakesPlace w names operand)
       (AreObjects w.structs (expression_values w names operand)) h (λ g. expression_objects w names operand g) (λ g. place_objects w names operand g)
@@ -134,18 +149,27 @@ mutual
   expression_objects w names (Expression.UniqueRegion at) h = tt
   expression_objects w names (Expression.Variable name) h = tt
   expression_objects w names (Expression.MakeUnion tag f value) h = tt
-  expression_objects w names (Expression.NumElts at operand) h = tt
+  expression_objects w names (Expression.NumElts at operand) h = expression_objects w names operand h
 
   pub place_objects : (w : World) (names : List Named) (e : Expression) → TakesPlace w names e → AreObjects w.structs (expression_values w names e)
   place_objects w names (Expression.Variable name) h = tt
   place_objects w names (Expression.Grouped at inner) h = place_objects w names inner h
   place_objects w names (Expression.Suffixed primary suffixes) h =
-      suffixed_objects w suffixes (static_shape w names primary) (Takes w names primary) (TakesPlace w names primary)
-      (AreObjects w.structs (expression_values w names primary)) h (λ g. expression_objects w names primary g) (λ g. place_objects w names primary g)
+      primary_objects w names primary suffixes h (λ g. index_objects w names suffixes g) (λ g. expression_objects w names primary g)
+      (λ g. place_objects w names primary g)
   place_objects w names (Expression.Prefixed at operator operand) h =
       pointed_objects operator (Takes w names operand) (AreObjects w.structs (expression_values w names operand)) h
       (λ g. expression_objects w names operand g)
   place_objects w names _ h = absurd h
+
+  index_objects : (w : World) (names : List Named) (suffixes : Suffixes) → TakesIndices w names suffixes
+      → AreObjects w.structs (suffix_values w names suffixes)
+  index_objects w names NoSuffixes h = tt
+  index_objects w names (Index index others) h =
+      both_objects w.structs (suffix_values w names others) (expression_values w names index) (index_objects w names others h.1)
+      (expression_objects w names index h.0)
+  index_objects w names (Dot f others) h = index_objects w names others h
+  index_objects w names (Arrow f others) h = index_objects w names others h
 
   all_objects : (w : World) (names : List Named) (es : Expressions) → TakesAll w names es → AreObjects w.structs (all_values w names es)
   all_objects w names NoExpressions h = tt
@@ -172,8 +196,8 @@ mutual
   whole_objects w names (Expression.Variable name) h = (struct_object w.structs (static_shape w names (Expression.Variable name)) h.1, tt)
   whole_objects w names (Expression.Suffixed primary suffixes) h = (
     struct_object w.structs (static_shape w names (Expression.Suffixed primary suffixes)) h.1,
-    suffixed_objects w suffixes (static_shape w names primary) (Takes w names primary) (TakesPlace w names primary)
-        (AreObjects w.structs (expression_values w names primary)) h.0 (λ g. expression_objects w names primary g) (λ g. place_objects w names primary g),
+    primary_objects w names primary suffixes h.0 (λ g. index_objects w names suffixes g) (λ g. expression_objects w names primary g)
+        (λ g. place_objects w names primary g),
   )
   whole_objects w names (Expression.Prefixed at operator operand) h = (
     struct_object w.structs (static_shape w names (Expression.Prefixed at operator operand)) h.1,
@@ -197,9 +221,19 @@ pub unmade_place : (w : World) (names : List Named) (e : Expression) → TakesWh
 unmade_place w names (Expression.Call name arguments) h is = absurd (true≢false (sym h.0 ∙ is))
 unmade_place w names (Expression.Grouped at inner) h is = unmade_place w names inner h is
 unmade_place w names (Expression.Variable name) h is = tt
-unmade_place w names (Expression.Suffixed primary suffixes) h is = h.0
+unmade_place w names (Expression.Suffixed primary _) h is = h.0
 unmade_place w names (Expression.Prefixed at operator operand) h is = h.0
 unmade_place w names _ h is = absurd h
+
+-- of a struct
+pub unmade_struct : (w : World) (names : List Named) (e : Expression) → TakesWhole w names e → is_made w e ≡ false
+    → IsStructShape w.structs (static_shape w names e)
+unmade_struct w names (Expression.Call name arguments) h is = absurd (true≢false (sym h.0 ∙ is))
+unmade_struct w names (Expression.Grouped at inner) h is = unmade_struct w names inner h is
+unmade_struct w names (Expression.Variable name) h is = h.1
+unmade_struct w names (Expression.Suffixed primary _) h is = h.1
+unmade_struct w names (Expression.Prefixed at operator operand) h is = h.1
+unmade_struct w names _ h is = absurd h
 
 -- ---- statements
 

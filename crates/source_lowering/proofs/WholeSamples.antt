@@ -4,7 +4,8 @@ use Rattle.std.specs.Prelude.{codes}
 use Rattle.cyc_tree.specs.declared.expression.Operator.TheVariants.{Add, Multiply}
 use Rattle.cyc_tree.specs.declared.expression.Prefix.TheVariants.{AddressOf}
 use Rattle.cyc_tree.specs.Tree as tree
-use Rattle.cyc_tree.specs.Tree.{Expression, Expressions, NoExpressions, MoreExpressions, NoLinks, MoreLinks, NoSuffixes, Dot, Initializer, Statement, BlockItems, NoItems, Initial, Program}
+use Rattle.cyc_tree.specs.Tree.{Expression, Expressions, NoExpressions, MoreExpressions, NoLinks, MoreLinks, NoSuffixes, Dot, Initializer, Statement, NoItems}
+use Rattle.cyc_tree.specs.Tree.{Initial, Program}
 use Rattle.cyc_words.specs.declared.faults.Kind.TheVariants.{NullException}
 use Rattle.cyc_words.specs.Events as events
 use Rattle.cyc_words.specs.Events.{ByteWritten, SourceEnding}
@@ -14,7 +15,8 @@ use Rattle.source_meaning.specs.Programs.{routine_of, source, world_of}
 use Rattle.source_meaning.proofs.Trees.{named, variable, number, typed, ◌▸◌, ◌▹◌, function, gives}
 use Rattle.core_meaning.specs.Memory.{Layout, PartShape, Blank, Word}
 use Rattle.core_meaning.specs.Core as code
-use Rattle.core_meaning.specs.Core.{Distance, Do, If, Raise, Constant, Narrow, Apply, LocalAddress, OwnAddress, DataAddress, Offset, Load, Store, Copy, NoStatements, MoreStatements}
+use Rattle.core_meaning.specs.Core.{Distance, Do, If, Raise, Constant, Narrow, Apply, LocalAddress, OwnAddress, DataAddress, Offset, Load, Store, Copy}
+use Rattle.core_meaning.specs.Core.{NoStatements, MoreStatements}
 use Rattle.core_meaning.specs.Steps.{Visible, Called, Returned}
 use Rattle.core_meaning.specs.Meaning.{core}
 use Rattle.source_lowering.specs.Programs.{no_regions, declaration_code, function_code, program_code, statement_code}
@@ -179,7 +181,7 @@ whole_forms_taken = record {
           (record { pointers = tt; base = tt; known = refl }, tt),
           (
             record {
-              result = GivesWord (record { pointers = ((tt, tt), tt); base = tt; word = tt });
+              result = GivesWord (record { pointers = (tt, tt); base = tt; word = tt });
               main = λ e. absurd (cc e);
               parameters = tt;
               body = (((tt, (tt, tt)), (tt, tt)), (tt, tt));

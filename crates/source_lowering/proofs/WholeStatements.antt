@@ -1,8 +1,6 @@
 -- Statements with structs as values: one that is dropped, assigned, or what a local begins as.
 use Rattle.std.proofs.Common.{◌≡◌, ℕ, suc, ◌+◌, List, [], ◌∷◌, ◌++◌, length, Bool, true, false, refl, sym, ap, ◌∙◌, subst, arith}
 use Rattle.source_meaning.specs.Shapes.{Shape, StructShape}
-use Rattle.source_meaning.specs.Sizes.{Extent}
-use Rattle.source_meaning.specs.Placing.{Placed}
 use Rattle.source_meaning.specs.Memory as source
 use Rattle.source_meaning.specs.Memory.{Scalar, Spot, is_live}
 use Rattle.source_meaning.specs.Steps as steps
@@ -13,17 +11,17 @@ use Rattle.source_meaning.specs.Places.{Sense, with_binding, assigned}
 use Rattle.source_meaning.specs.Regions.{local_with, initialised}
 use Rattle.core_meaning.specs.Memory as core
 use Rattle.core_meaning.specs.Memory.{Pointer, Layout}
-use Rattle.core_meaning.specs.Core.{Program, Statement, Do, LocalAddress, Copy, Statements, MoreStatements}
+use Rattle.core_meaning.specs.Core.{Program, Statement, Do, Copy, Statements}
 use Rattle.core_meaning.specs.Steps as core_steps
 use Rattle.core_meaning.specs.Steps.{Config, with_memory}
 use Rattle.core_meaning.specs.Operations.{does, are_laid, same_object, copied}
 use Rattle.core_meaning.specs.Meaning as meaning
-use Rattle.source_lowering.specs.Layouts.{padded, layout_of, placed_of, extent_of}
+use Rattle.source_lowering.specs.Layouts.{layout_of}
 use Rattle.source_lowering.specs.Lowered.{put}
 use Rattle.source_lowering.specs.Lowerable.{IsObject, AreStructs}
-use Rattle.source_lowering.proofs.StructCells.{shapes_in, shapes_count, HasCells}
+use Rattle.source_lowering.proofs.StructCells.{shapes_in, HasCells}
 use Rattle.source_lowering.proofs.Relations.{at, AreMade, Leads, Later, Place, Fits, SameAt, Same, Next, around, before_value, keeping}
-use Rattle.source_lowering.proofs.Keeping.{IsLess, later_on, later_less, later_around, blocks_of}
+use Rattle.source_lowering.proofs.Keeping.{IsLess, later_on, later_less, blocks_of}
 use Rattle.source_lowering.proofs.Runs.{stuck_same, put_all}
 use Rattle.source_lowering.proofs.Making.{local_spot}
 use Rattle.source_lowering.proofs.Clearing.{laid_there}
@@ -35,6 +33,7 @@ use Rattle.source_lowering.proofs.Places.{IsPlaced}
 use Rattle.source_lowering.proofs.Initialising.{copy_code, converted_whole, struct_with_same}
 use Rattle.source_lowering.proofs.Overwriting.{all_written, writes_all, overwritten}
 use Rattle.source_lowering.proofs.Wholes.{own_spot, IsWhole, fits_keeping, fits_kept, before_less, own_apart, value_made}
+use Rattle.source_lowering.proofs.Members.{layout_count}
 use Rattle.source_lowering.proofs.Ways.{Onward, WaysOn, RunsAs}
 
 -- what an expression keeps that is a struct, a statement keeps
@@ -103,14 +102,6 @@ whole_begins p n value scope name tag shapes e code then_act next m c rest after
 
 -- ---- a struct is assigned
 
-padded_count : (extent : Shape → Extent) (bytes : ℕ) (ps : List Placed) → length (padded extent bytes ps) ≡ length ps
-padded_count extent bytes [] = refl
-padded_count extent bytes (p ∷ ps) = ap suc (padded_count extent bytes ps)
-
-layout_count : (w : World) (s : Shape) → HasCells w.unions w.structs s → length (layout_of w s).cells ≡ length (cells_of w s)
-layout_count w s has =
-    padded_count (extent_of w) (extent_of w s).size (placed_of w s) ∙ sym (shapes_count (placed_of w s)) ∙ ap length has.shapes
-
 shown_count : (w : World) (m : source.Memory) (c : core.Memory) (t : core.Spot) (xs : List Shape) (vs : List Scalar) → AllShown w m c t xs vs
     → length vs ≡ length xs
 shown_count w m c t [] [] h = refl
@@ -165,7 +156,7 @@ whole_assigned p n value result to from tag code place structs object one placed
                   (subst (λ z. AllShown p.world m2 c2.memory (own_spot p.own value 0) (cells_of p.world z) vs) (sym same)
                   (all_shown_kept (before_value p (suc value)) p.world m1 m2 c1.memory c2.memory (own_spot p.own value 0)
                   (cells_of p.world (StructShape one.tag)) vs later2
-                  (λ i less. later2.owned p.own (core.beyond (own_spot p.own value 0) i) 0 refl (omega arith, λ f. omega arith)) shown));
+                  (λ i j less. later2.owned p.own (core.beyond (own_spot p.own value 0) i) j refl (omega arith, λ f. omega arith)) shown));
             }));
       })));
 }
@@ -214,7 +205,8 @@ whole_assigned p n value result to from tag code place structs object one placed
             let over = overwritten p.world m2 c2.memory t from_spot layout xs vs (layout_count p.world shape has) fits2.agree leads.0
             (whole_copied p.world m2 c2.memory (at t) from_spot byte shape vs structs object leads.1 shown) in
             subst (λ z. SameAt p n (write_cells t vs (λ u. next steps.Falls) m2) z)
-            (sym (copy_over c2 p.regions.all (at t) from_spot byte layout (meaning.statements rest after) temp temp_from (sym (fits2.agree.live t.region) ∙ live) fits2.stands
+            (sym (copy_over c2 p.regions.all (at t) from_spot byte layout (meaning.statements rest after) temp temp_from
+            (sym (fits2.agree.live t.region) ∙ live) fits2.stands
             (laid_there c2.memory (at t) byte layout.cells leads.1) (laid_there c2.memory from_spot 0 layout.cells made) (own_apart t p.own value 0)))
             (writes_all p.world p.program n xs vs m2 t (λ u. next steps.Falls) (meaning.statements rest after c3)
             (shown_count p.world m2 c2.memory from_spot xs vs shown) live leads.0

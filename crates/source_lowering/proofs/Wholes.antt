@@ -39,6 +39,7 @@ use Rattle.source_lowering.proofs.Relations.{
   around,
   before_value,
   keeping,
+  LocalMade,
 }
 use Rattle.source_lowering.proofs.Keeping.{IsLess, later_on, shown_later, free_nothing, fits_on}
 use Rattle.source_lowering.proofs.Runs.{put_all}
@@ -178,22 +179,21 @@ agree_own_copied w m c l own value cell from a =
 
 -- what a place knows of its unnamed values
 pub pending_at : (w : World) (c : core.Memory) (r : core.Region) (index i : ℕ) (ss : List Shape) (s : Shape) → ArePending w c r index ss
-    → slice_get ss i ≡ Some s → AreMade c (record { region = r; object = index + i; cell = 0 }) 0 (layout_of w s).cells
+    → slice_get ss i ≡ Some s → LocalMade w c r (index + i) s
 pending_at w c r index i [] s h e = absurd (cc e)
 pending_at w c r index Rattle.std.proofs.Common.zero (x ∷ ss) s h e =
     let same : x ≡ s = cc e in
     let here : index ≡ index + 0 = omega arith in
-    subst (λ z. AreMade c (record { region = r; object = z; cell = 0 }) 0 (layout_of w s).cells) here
-    (subst (λ z. AreMade c (record { region = r; object = index; cell = 0 }) 0 (layout_of w z).cells) same h.0)
+    subst (λ z. LocalMade w c r z s) here (subst (λ z. LocalMade w c r index z) same h.0)
 pending_at w c r index (suc i) (x ∷ ss) s h e =
     let next : suc index + i ≡ index + suc i = omega arith in
-    subst (λ z. AreMade c (record { region = r; object = z; cell = 0 }) 0 (layout_of w s).cells) next (pending_at w c r (suc index) i ss s h.1 e)
+    subst (λ z. LocalMade w c r z s) next (pending_at w c r (suc index) i ss s h.1 e)
 
 pub value_made : (p : Place) (m : source.Memory) (c : Config) (value : ℕ) (shape : Shape) → Fits p m c → slice_get p.owned value ≡ Some shape
-    → AreMade c.memory (own_spot p.own value 0) 0 (layout_of p.world shape).cells
+    → LocalMade p.world c.memory (core.Own p.own) value shape
 value_made p m c value shape fits e =
     let none : 0 + value ≡ value = omega arith in
-    subst (λ z. AreMade c.memory (own_spot p.own z 0) 0 (layout_of p.world shape).cells) none
+    subst (λ z. LocalMade p.world c.memory (core.Own p.own) z shape) none
     (pending_at p.world c.memory (core.Own p.own) 0 value p.owned shape fits.owned e)
 
 -- ---- what a place holds is copied there
@@ -220,7 +220,7 @@ place_whole p n d value e tag code structs object numbered one = record {
   numbered = numbered;
   same = λ m c s rest next fits goes.
       subst (λ z. SameAt p n (e.value s m) (meaning.statements z next c)) (sym (put_all code (copied_code p.world shape d value) rest))
-      (subst (λ z. SameAt p n z (meaning.statements (put code (put (copied_code p.world shape d value) rest)) next c)) (sym (one.value s m))
+      (subst (λ z. SameAt p n z (meaning.statements (put code (put (copied_code p.world shape d value) rest)) next c)) (sym (one.value object s m))
       (subst (λ z. SameAt p n (e.place (λ t. take_cells (cells_of p.world z) t s) m)
       (meaning.statements (put code (put (copied_code p.world shape d value) rest)) next c)) (sym one.shape_is)
       (one.placed.same m c (λ t. take_cells (cells_of p.world shape) t s) (put (copied_code p.world shape d value) rest) next
@@ -230,11 +230,11 @@ place_whole p n d value e tag code structs object numbered one = record {
             let has = lies.cells in
             let cells : cells_of p.world shape ≡ has.first.shape ∷ shapes_in has.others = sym has.shapes ∙ ap shapes_in has.is in
             subst (λ z. SameAt p n z (meaning.statements (put (copied_code p.world shape d value) rest) next c1))
-            (sym (whole_taken (cells_of p.world shape) t s m1 has.words))
+            (sym (whole_taken (cells_of p.world shape) t s m1 has.values))
             (read_all p.world p.program n (cells_of p.world shape) m1 t s (meaning.statements (put (copied_code p.world shape d value) rest) next c1) leads.0
             (λ vs held live.
             copy_same m c s rest next goes m1 c1 t byte vs fits1 later1 kept1 temp leads.1
-            (held_shown p.world m1 c1.memory t (cells_of p.world shape) vs fits1.agree has.words held)
+            (held_shown p.world m1 c1.memory t (cells_of p.world shape) vs fits1.agree has.values held)
             (sym (fits1.agree.live t.region) ∙ subst (λ z. IsLiveFor m1 t z) cells live)));
       }))));
 }

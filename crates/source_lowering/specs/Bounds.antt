@@ -24,13 +24,13 @@ use Rattle.cyc_tree.specs.Tree.{
   NoItems,
   Declare,
   Execute,
-  Member,
-  Item,
 }
-use Rattle.source_meaning.specs.Shapes.{Shape}
+use Rattle.source_meaning.specs.Shapes.{Shape, VoidShape, part_shapes}
 use Rattle.source_meaning.specs.Steps.{World, Routine}
 use Rattle.core_meaning.specs.Core as core
 use Rattle.source_lowering.specs.Layouts.{extent_of}
+use Rattle.source_lowering.specs.Members.{all_words}
+use Rattle.source_lowering.specs.Pieces.{call_shape}
 use Rattle.source_lowering.specs.Programs.{RegionsAround, no_regions, in_loop, regions_with, local_shape, function_code, routine_values}
 use Rattle.core_meaning.specs.Core.{Local, Do, If, While, Block, Break, Continue, Call, Return, Raise, Statements, NoStatements, MoreStatements, Function}
 
@@ -72,11 +72,16 @@ abbrev pub operation_count : core.Operation → ℕ
 operation_count (core.RegionAlloc t h n layout) = 2
 operation_count operation = 1
 
+-- what a choice counts for a branch that has so many operations: an exception alone counts with its choice
+abbrev pub branch_count : Statements → ℕ → ℕ
+branch_count (MoreStatements (Raise kind) NoStatements) operations = 0
+branch_count ss operations = operations
+
 -- each statement counts as one, with those inside it, and one more for each word that a call or a return passes
 abbrev mutual
   pub statement_operations : core.Statement → ℕ
   statement_operations (Do operation) = operation_count operation
-  statement_operations (If t these those) = 1 + (operations_of these + operations_of those)
+  statement_operations (If t these those) = 1 + (branch_count these (operations_of these) + branch_count those (operations_of those))
   statement_operations (While test t body) = 1 + (operations_of test + operations_of body)
   statement_operations (Block locals body) = 1 + operations_of body
   statement_operations Break = 1
@@ -89,7 +94,7 @@ abbrev mutual
   operations_of NoStatements = 0
   operations_of (MoreStatements first others) = statement_operations first + operations_of others
 
--- a function counts as 8 more, and one for each parameter
+-- a function counts as 8 more, and one for each word of its parameters
 abbrev pub all_operations : List Function → ℕ
 all_operations [] = 0
 all_operations (f ∷ fs) = 8 + (f.parameters + operations_of f.body) + all_operations fs
@@ -99,78 +104,84 @@ core_code p = 4096 + 64 * all_operations p.functions
 
 -- ---- the source: nodes of expressions
 
--- the use of a member is a node
-abbrev pub suffix_nodes : Suffixes → ℕ
-suffix_nodes NoSuffixes = 0
-suffix_nodes (Index index others) = 1 + suffix_nodes others
-suffix_nodes (Dot f others) = 1 + suffix_nodes others
-suffix_nodes (Arrow f others) = 1 + suffix_nodes others
-
--- a literal, a variable, a call and an operator are a node each; parentheses and a call's name are none
+-- A literal, a variable, a call, what is made, an operator, a subscript and the use of a member are a node each, which counts as two: itself and its value.
+-- An assignment counts as one. Parentheses and a call's name are none.
 abbrev mutual
-  pub nodes_of : Expression → ℕ
-  nodes_of (Expression.Call name arguments) = 1 + all_nodes arguments
-  nodes_of (Expression.Grouped at inner) = nodes_of inner
-  nodes_of (Expression.Suffixed primary suffixes) = nodes_of primary + suffix_nodes suffixes
-  nodes_of (Expression.Prefixed at operator operand) = 1 + nodes_of operand
-  nodes_of (Expression.Chain first others) = nodes_of first + link_nodes others
-  nodes_of (Expression.AllOf first others) = nodes_of first + tested_nodes others
-  nodes_of (Expression.AnyOf first others) = nodes_of first + tested_nodes others
-  nodes_of (Expression.Assign place value) = nodes_of place + (1 + nodes_of value)
-  nodes_of (Expression.New at new) = 1 + made_nodes new
-  nodes_of (Expression.NewIn at handle new) = 1 + (nodes_of handle + made_nodes new)
-  nodes_of _ = 1
+  pub frame_nodes : Expression → ℕ
+  frame_nodes (Expression.Call name arguments) = 2 + argument_nodes arguments
+  frame_nodes (Expression.MakeUnion tag member value) = 2 + frame_nodes value
+  frame_nodes (Expression.NumElts at operand) = 2 + frame_nodes operand
+  frame_nodes (Expression.Grouped at inner) = frame_nodes inner
+  frame_nodes (Expression.Suffixed primary suffixes) = frame_nodes primary + suffix_nodes suffixes
+  frame_nodes (Expression.Prefixed at operator operand) = 2 + frame_nodes operand
+  frame_nodes (Expression.Chain first others) = frame_nodes first + link_nodes others
+  frame_nodes (Expression.AllOf first others) = frame_nodes first + joined_nodes others
+  frame_nodes (Expression.AnyOf first others) = frame_nodes first + joined_nodes others
+  frame_nodes (Expression.Assign place value) = frame_nodes place + (1 + frame_nodes value)
+  frame_nodes (Expression.New at new) = 2 + made_nodes new
+  frame_nodes (Expression.NewIn at handle new) = 2 + (frame_nodes handle + made_nodes new)
+  frame_nodes _ = 2
 
   pub made_nodes : Made → ℕ
-  made_nodes (One value) = nodes_of value
-  made_nodes (Array index count element) = nodes_of count + nodes_of element
+  made_nodes (One value) = frame_nodes value
+  made_nodes (Array index count element) = frame_nodes count + frame_nodes element
 
-  pub all_nodes : Expressions → ℕ
-  all_nodes NoExpressions = 0
-  all_nodes (MoreExpressions first others) = nodes_of first + all_nodes others
+  pub argument_nodes : Expressions → ℕ
+  argument_nodes NoExpressions = 0
+  argument_nodes (MoreExpressions first others) = frame_nodes first + argument_nodes others
 
-  -- operands of `&&` and `||` after the first, with the operators before them; a first one alone is a test too
-  pub tested_nodes : Expressions → ℕ
-  tested_nodes NoExpressions = 1
-  tested_nodes (MoreExpressions first others) = 1 + (nodes_of first + joined_nodes others)
-
+  -- operands of `&&` and `||` after the first, with the operators before them
   pub joined_nodes : Expressions → ℕ
   joined_nodes NoExpressions = 0
-  joined_nodes (MoreExpressions first others) = 1 + (nodes_of first + joined_nodes others)
+  joined_nodes (MoreExpressions first others) = 2 + (frame_nodes first + joined_nodes others)
 
   pub link_nodes : Links → ℕ
   link_nodes NoLinks = 0
-  link_nodes (MoreLinks operator operand others) = 1 + (nodes_of operand + link_nodes others)
+  link_nodes (MoreLinks operator operand others) = 2 + (frame_nodes operand + link_nodes others)
+
+  pub suffix_nodes : Suffixes → ℕ
+  suffix_nodes NoSuffixes = 0
+  suffix_nodes (Index index others) = 2 + (frame_nodes index + suffix_nodes others)
+  suffix_nodes (Dot f others) = 2 + suffix_nodes others
+  suffix_nodes (Arrow f others) = 2 + suffix_nodes others
+
+-- what a result counts as: nothing is no value
+abbrev pub result_nodes : Shape → ℕ
+result_nodes VoidShape = 0
+result_nodes s = 1
+
+-- of an expression that is a statement: a call may have no value
+abbrev pub run_nodes : World → Expression → ℕ
+run_nodes w (Expression.Call name arguments) = 1 + (result_nodes (call_shape w name.text) + argument_nodes arguments)
+run_nodes w (Expression.Grouped at inner) = run_nodes w inner
+run_nodes w e = frame_nodes e
 
 -- ---- the source: nodes and locals of statements
 
 abbrev pub initializer_nodes : Initializer → ℕ
 initializer_nodes Initializer.Unset = 0
 initializer_nodes (Initializer.Elements count) = 0
-initializer_nodes (Initializer.Value e) = nodes_of e
+initializer_nodes (Initializer.Value e) = frame_nodes e
 
 abbrev pub declaration_nodes : Declaration → ℕ
 declaration_nodes (tree.Local of name initializer) = initializer_nodes initializer
-declaration_nodes (tree.Region at region handle) = 0
-declaration_nodes (tree.Open at region handle key) = 1
-declaration_nodes (tree.Alias at region of alias pointer) = 1
-declaration_nodes (tree.NewKey at region key) = 0
+declaration_nodes _ = 0
 
 abbrev mutual
   -- nodes of the expressions of a statement
-  pub statement_nodes : Statement → ℕ
-  statement_nodes (Statement.Block at items) = item_nodes items
-  statement_nodes (Statement.Run e) = nodes_of e
-  statement_nodes (Statement.If at condition body) = nodes_of condition + statement_nodes body
-  statement_nodes (Statement.IfElse at condition body otherwise) = nodes_of condition + (statement_nodes body + statement_nodes otherwise)
-  statement_nodes (Statement.While at condition body) = nodes_of condition + statement_nodes body
-  statement_nodes (Statement.Return at (Some e)) = nodes_of e
-  statement_nodes _ = 0
+  pub statement_nodes : World → Statement → ℕ
+  statement_nodes w (Statement.Block at items) = item_nodes w items
+  statement_nodes w (Statement.Run e) = run_nodes w e
+  statement_nodes w (Statement.If at condition body) = frame_nodes condition + statement_nodes w body
+  statement_nodes w (Statement.IfElse at condition body otherwise) = frame_nodes condition + (statement_nodes w body + statement_nodes w otherwise)
+  statement_nodes w (Statement.While at condition body) = frame_nodes condition + statement_nodes w body
+  statement_nodes w (Statement.Return at (Some e)) = frame_nodes e
+  statement_nodes w _ = 0
 
-  pub item_nodes : BlockItems → ℕ
-  item_nodes NoItems = 0
-  item_nodes (Declare d others) = declaration_nodes d + item_nodes others
-  item_nodes (Execute s others) = statement_nodes s + item_nodes others
+  pub item_nodes : World → BlockItems → ℕ
+  item_nodes w NoItems = 0
+  item_nodes w (Declare d others) = declaration_nodes d + item_nodes w others
+  item_nodes w (Execute s others) = statement_nodes w s + item_nodes w others
 
 -- the words of an object of a shape
 abbrev pub shape_words : World → Shape → ℕ
@@ -192,20 +203,74 @@ abbrev mutual
 
 -- ---- the source: how large its text is at least
 
--- the tokens of a statement: those of its expressions' nodes, and one of its own; a declaration has its name and type
+-- the tokens of an expression, each name and literal, sign and word; a text of strings one after the other has more
+abbrev mutual
+  pub tokens_of : Expression → ℕ
+  tokens_of (Expression.Call name arguments) = 2 + argument_tokens arguments
+  tokens_of (Expression.MakeUnion tag member value) = 5 + tokens_of value
+  tokens_of (Expression.NumElts at operand) = 3 + tokens_of operand
+  tokens_of (Expression.Grouped at inner) = 2 + tokens_of inner
+  tokens_of (Expression.Suffixed primary suffixes) = tokens_of primary + suffix_tokens suffixes
+  tokens_of (Expression.Prefixed at operator operand) = 1 + tokens_of operand
+  tokens_of (Expression.Chain first others) = tokens_of first + link_tokens others
+  tokens_of (Expression.AllOf first others) = tokens_of first + tested_tokens others
+  tokens_of (Expression.AnyOf first others) = tokens_of first + tested_tokens others
+  tokens_of (Expression.Assign place value) = tokens_of place + (1 + tokens_of value)
+  tokens_of (Expression.New at new) = 1 + made_tokens new
+  tokens_of (Expression.NewIn at handle new) = 3 + (tokens_of handle + made_tokens new)
+  tokens_of _ = 1
+
+  pub made_tokens : Made → ℕ
+  made_tokens (One value) = tokens_of value
+  made_tokens (Array index count element) = 6 + (tokens_of count + tokens_of element)
+
+  -- each argument with the comma or the parenthesis behind it
+  pub argument_tokens : Expressions → ℕ
+  argument_tokens NoExpressions = 0
+  argument_tokens (MoreExpressions first others) = 1 + (tokens_of first + argument_tokens others)
+
+  -- operands of `&&` and `||` after the first, with the operators before them; a first one alone is a test too
+  pub tested_tokens : Expressions → ℕ
+  tested_tokens NoExpressions = 1
+  tested_tokens (MoreExpressions first others) = 1 + (tokens_of first + joined_tokens others)
+
+  pub joined_tokens : Expressions → ℕ
+  joined_tokens NoExpressions = 0
+  joined_tokens (MoreExpressions first others) = 1 + (tokens_of first + joined_tokens others)
+
+  pub link_tokens : Links → ℕ
+  link_tokens NoLinks = 0
+  link_tokens (MoreLinks operator operand others) = 1 + (tokens_of operand + link_tokens others)
+
+  pub suffix_tokens : Suffixes → ℕ
+  suffix_tokens NoSuffixes = 0
+  suffix_tokens (Index index others) = 2 + (tokens_of index + suffix_tokens others)
+  suffix_tokens (Dot f others) = 2 + suffix_tokens others
+  suffix_tokens (Arrow f others) = 2 + suffix_tokens others
+
+abbrev pub initializer_tokens : Initializer → ℕ
+initializer_tokens Initializer.Unset = 0
+initializer_tokens (Initializer.Elements count) = 0
+initializer_tokens (Initializer.Value e) = tokens_of e
+
+abbrev pub declaration_tokens : Declaration → ℕ
+declaration_tokens (tree.Local of name initializer) = initializer_tokens initializer
+declaration_tokens _ = 0
+
+-- the tokens of a statement: those of its expressions, and one of its own; a declaration has its name and type
 abbrev mutual
   pub statement_size : Statement → ℕ
   statement_size (Statement.Block at items) = 1 + item_size items
-  statement_size (Statement.Run e) = 1 + nodes_of e
-  statement_size (Statement.If at condition body) = 1 + (nodes_of condition + statement_size body)
-  statement_size (Statement.IfElse at condition body otherwise) = 1 + (nodes_of condition + (statement_size body + statement_size otherwise))
-  statement_size (Statement.While at condition body) = 1 + (nodes_of condition + statement_size body)
-  statement_size (Statement.Return at (Some e)) = 1 + nodes_of e
+  statement_size (Statement.Run e) = 1 + tokens_of e
+  statement_size (Statement.If at condition body) = 1 + (tokens_of condition + statement_size body)
+  statement_size (Statement.IfElse at condition body otherwise) = 1 + (tokens_of condition + (statement_size body + statement_size otherwise))
+  statement_size (Statement.While at condition body) = 1 + (tokens_of condition + statement_size body)
+  statement_size (Statement.Return at (Some e)) = 1 + tokens_of e
   statement_size _ = 1
 
   pub item_size : BlockItems → ℕ
   item_size NoItems = 0
-  item_size (Declare d others) = 1 + (declaration_nodes d + item_size others)
+  item_size (Declare d others) = 1 + (declaration_tokens d + item_size others)
   item_size (Execute s others) = statement_size s + item_size others
 
 -- a function has its name, its parentheses and its braces, and each parameter its name
@@ -244,10 +309,10 @@ abbrev pub value_words : World → List Shape → ℕ
 value_words w [] = 0
 value_words w (s ∷ ss) = shape_words w s + value_words w ss
 
--- 128 bytes, and 16 for each word of parameters and locals, for each node and its value, which is one word or none, and for each word of a struct that is made
--- or read whole
+-- 128 bytes, and 16 for each word of parameters and locals, for each node and for its value, and for each word of a struct that is made or read whole
 abbrev pub frame_bound : World → Routine → ℕ
-frame_bound w f = 128 + 16 * (length f.parameters + (item_locals w f.body + (item_nodes f.body + value_words w (routine_values w f))))
+frame_bound w f =
+    128 + 16 * (all_words (part_shapes f.parameters) + (item_locals w f.body + (item_nodes w f.body + value_words w (routine_values w f))))
 
 -- each function's frame in Core is within its bound
 abbrev pub FramesFit : World → List Routine → Type 0

@@ -2,6 +2,7 @@ pub mod Layouts
 pub mod Members
 pub mod Pieces
 pub mod Lowered
+pub mod Temporaries
 pub mod Programs
 pub mod Taken
 pub mod Whole

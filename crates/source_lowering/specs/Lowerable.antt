@@ -1,6 +1,6 @@
--- Which programs lowering takes: functions, globals and locals of integers, of structs, of handles and of thin pointers to these, with the heap and lexical
--- regions, by the forms of the tree and by shapes.
-use Rattle.std.specs.Prelude.{◌≡◌, ◌≤◌, ℕ, suc, Bool, true, false, Some, None, List, [], ◌∷◌, length}
+-- Which programs lowering takes: functions, globals and locals of integers, of structs, of handles, of pointers to these and of arrays of them, with the heap
+-- and lexical regions, by the forms of the tree and by shapes.
+use Rattle.std.specs.Prelude.{◌≡◌, ◌<◌, ◌≤◌, ◌^◌, ℕ, suc, Bool, true, false, Some, None, List, [], ◌∷◌, length}
 use Rattle.cyc_tree.specs.declared.expression.Prefix.{Prefix}
 use Rattle.cyc_tree.specs.declared.expression.Prefix.TheVariants as prefix
 use Rattle.cyc_tree.specs.Tree as tree
@@ -35,7 +35,8 @@ use Rattle.cyc_tree.specs.Tree.{
   Item,
   Program,
 }
-use Rattle.source_meaning.specs.Shapes.{Shape, Shared, IntShape, UnsignedShape, CharShape, VoidShape, ThinShape, FatShape, HandleShape, KeyShape, StructShape, UnionShape, ArrayShape, Part, Layout, part_shapes, parts_of, has_tag, pointee, written, settled}
+use Rattle.source_meaning.specs.Shapes.{Shape, Shared, IntShape, UnsignedShape, CharShape, VoidShape, ThinShape, FatShape, HandleShape, KeyShape, StructShape}
+use Rattle.source_meaning.specs.Shapes.{UnionShape, ArrayShape, Part, Layout, part_shapes, parts_of, has_tag, pointee, written, settled}
 use Rattle.source_meaning.specs.Sizes.{struct_extent}
 use Rattle.source_meaning.specs.Steps.{World, Routine}
 use Rattle.source_meaning.specs.Expressions.{is_unique_region}
@@ -44,7 +45,7 @@ use Rattle.source_meaning.specs.Strings.{program_strings}
 use Rattle.source_lowering.specs.Lowered.{Named, static_shape, member_shape, suffixed_shape}
 use Rattle.source_lowering.specs.Programs.{local_shape, named_here, outward, parameter_names}
 use Rattle.source_lowering.specs.Whole.{makes_struct}
-use Rattle.source_lowering.specs.Taken.{IsVoidType, AreThin, HasFirst, IsIntType, TakesConstant}
+use Rattle.source_lowering.specs.Taken.{IsVoidType, AreShared, HasFirst, IsIntType, TakesConstant}
 
 -- ---- shapes
 
@@ -55,7 +56,7 @@ IsTarget UnsignedShape = Unit {0}
 IsTarget CharShape = Unit {0}
 IsTarget VoidShape = Unit {0}
 IsTarget (ThinShape may_be_null owner to) = (owner ≡ Shared) × IsTarget to
-IsTarget (FatShape to) = ⊥
+IsTarget (FatShape to) = IsTarget to
 IsTarget HandleShape = Unit {0}
 IsTarget KeyShape = ⊥
 IsTarget (StructShape tag) = Unit {0}
@@ -76,10 +77,20 @@ IsWordShape (StructShape tag) = ⊥
 IsWordShape (UnionShape tag) = ⊥
 IsWordShape (ArrayShape count of) = ⊥
 
--- a word, or one of these structs
+-- a word, or a fat pointer
+abbrev pub IsValueShape : Shape → Type 0
+IsValueShape (FatShape to) = IsTarget to
+IsValueShape s = IsWordShape s
+
+-- such a value, or one of these structs
 abbrev pub IsObject : List Layout → Shape → Type 0
 IsObject structs (StructShape tag) = (has_tag structs tag ≡ true)
-IsObject structs s = IsWordShape s
+IsObject structs s = IsValueShape s
+
+-- what a name may stand for: an object, or an array of objects, whose count is a word
+abbrev pub IsVariable : List Layout → Shape → Type 0
+IsVariable structs (ArrayShape count of) = (count < 2 ^ 32) × IsObject structs of
+IsVariable structs s = IsObject structs s
 
 abbrev pub AreObjects : List Layout → List Shape → Type 0
 AreObjects structs [] = Unit {0}
@@ -101,7 +112,8 @@ abbrev pub HasMember : List Part → Type 0
 HasMember [] = ⊥
 HasMember (p ∷ ps) = Unit {0}
 
--- a struct after earlier ones: its tag is new, it has a member, each of its members is a word or an earlier struct, and it takes at most 4,096 bytes
+-- a struct after earlier ones: its tag is new, it has a member, each of its members is a word, a fat pointer or an earlier struct, and it takes at most
+-- 4,096 bytes
 pub record IsStruct (unions earlier : List Layout) (l : Layout) : Type 0 where
   pub new : has_tag earlier l.tag ≡ false
   pub some : HasMember l.parts
@@ -128,15 +140,15 @@ abbrev pub IsKnownIn : List Layout → Shape → Type 0
 IsKnownIn structs (StructShape tag) = (has_tag structs tag ≡ true)
 IsKnownIn structs s = Unit {0}
 
--- an integer, a struct, a handle, or a thin pointer to these, or to such a pointer
+-- an integer, a struct, a handle, or a thin or fat pointer to these, or to such a pointer
 pub record IsObjectType (structs : List Layout) (t : TypeName) : Type 0 where
-  pub pointers : AreThin t.pointers
+  pub pointers : AreShared t.pointers
   pub base : IsObjectBase t.base
   pub known : IsKnownIn structs (settled (written t))
 
 -- an integer, a handle, or such a pointer
 pub record IsWordType (t : TypeName) : Type 0 where
-  pub pointers : AreThin t.pointers
+  pub pointers : AreShared t.pointers
   pub base : IsObjectBase t.base
   pub word : IsNoStruct (settled (written t))
 
@@ -163,36 +175,39 @@ TakesPointer prefix.Not value = ⊥
 TakesPointer prefix.Dereference value = value
 TakesPointer prefix.AddressOf value = ⊥
 
--- further suffixes on a member of a shape: it is a place, and a value where it is no struct
-abbrev pub TakesMembers : World → Suffixes → Shape → Type 0
-TakesMembers w NoSuffixes s = Unit {0}
-TakesMembers w (Index index others) s = ⊥
-TakesMembers w (Dot f others) s = IsObject w.structs (member_shape w s f.text) × TakesMembers w others (member_shape w s f.text)
-TakesMembers w (Arrow f others) s =
-    IsNoStruct s × (IsObject w.structs (member_shape w (pointee s) f.text) × TakesMembers w others (member_shape w (pointee s) f.text))
-
--- suffixes on what has a shape: `e.f` needs e's place and `e->f` its value, and f has to be a member
-abbrev pub TakesSuffixes : World → Suffixes → Shape → Type 0 → Type 0 → Type 0
-TakesSuffixes w NoSuffixes s value place = ⊥
-TakesSuffixes w (Index index others) s value place = ⊥
-TakesSuffixes w (Dot f others) s value place = place × TakesMembers w (Dot f others) s
-TakesSuffixes w (Arrow f others) s value place =
-    value × (IsObject w.structs (member_shape w (pointee s) f.text) × TakesMembers w others (member_shape w (pointee s) f.text))
-
--- a value of a shape, as a struct and as a word
+-- what has a shape is taken as a struct, or else as an operand
 abbrev pub TakesMember : Shape → (whole word : Type 0) → Type 0
 TakesMember (StructShape tag) whole word = whole
 TakesMember s whole word = word
 
 abbrev mutual
-  -- what is assigned to, has its address taken or is a struct: a name, `*e` or a member, in parentheses too
+  -- what is assigned to, has its address taken or is a struct: a name, `*e`, a member or an element, in parentheses too
   pub TakesPlace : World → List Named → Expression → Type 0
   TakesPlace w names (Expression.Variable name) = Unit {0}
   TakesPlace w names (Expression.Grouped at inner) = TakesPlace w names inner
   TakesPlace w names (Expression.Suffixed primary suffixes) =
-      TakesSuffixes w suffixes (static_shape w names primary) (Takes w names primary) (TakesPlace w names primary)
+      TakesSuffixes w names suffixes (static_shape w names primary) (Takes w names primary) (TakesPlace w names primary)
   TakesPlace w names (Expression.Prefixed at operator operand) = TakesPointer operator (Takes w names operand)
   TakesPlace w names _ = ⊥
+
+  -- suffixes on what has a shape: `e.f` needs e's place, `e->f` and `e[i]` its value, and what they lead to has to be an object
+  pub TakesSuffixes : World → List Named → Suffixes → Shape → Type 0 → Type 0 → Type 0
+  TakesSuffixes w names NoSuffixes s value place = ⊥
+  TakesSuffixes w names (Index index others) s value place =
+      value × (Takes w names index × (IsObject w.structs (pointee s) × TakesMembers w names others (pointee s)))
+  TakesSuffixes w names (Dot f others) s value place =
+      place × (IsObject w.structs (member_shape w s f.text) × TakesMembers w names others (member_shape w s f.text))
+  TakesSuffixes w names (Arrow f others) s value place =
+      value × (IsObject w.structs (member_shape w (pointee s) f.text) × TakesMembers w names others (member_shape w (pointee s) f.text))
+
+  -- further suffixes on what they lead to: it is a place, and a value where it is no struct
+  pub TakesMembers : World → List Named → Suffixes → Shape → Type 0
+  TakesMembers w names NoSuffixes s = Unit {0}
+  TakesMembers w names (Index index others) s =
+      IsNoStruct s × (Takes w names index × (IsObject w.structs (pointee s) × TakesMembers w names others (pointee s)))
+  TakesMembers w names (Dot f others) s = IsObject w.structs (member_shape w s f.text) × TakesMembers w names others (member_shape w s f.text)
+  TakesMembers w names (Arrow f others) s =
+      IsNoStruct s × (IsObject w.structs (member_shape w (pointee s) f.text) × TakesMembers w names others (member_shape w (pointee s) f.text))
 
   -- a value that is no struct; a name that is called is no struct's
   pub Takes : World → List Named → Expression → Type 0
@@ -202,9 +217,10 @@ abbrev mutual
   Takes w names (Expression.HeapRegion at) = Unit {0}
   Takes w names (Expression.Variable name) = IsNoStruct (static_shape w names (Expression.Variable name))
   Takes w names (Expression.Call name arguments) = (has_tag w.structs name.text ≡ false) × TakesAll w names arguments
+  Takes w names (Expression.NumElts at operand) = Takes w names operand
   Takes w names (Expression.Grouped at inner) = Takes w names inner
   Takes w names (Expression.Suffixed primary suffixes) =
-      TakesSuffixes w suffixes (static_shape w names primary) (Takes w names primary) (TakesPlace w names primary) ×
+      TakesSuffixes w names suffixes (static_shape w names primary) (Takes w names primary) (TakesPlace w names primary) ×
       IsNoStruct (suffixed_shape w suffixes (static_shape w names primary))
   Takes w names (Expression.Prefixed at operator operand) =
       TakesPrefix operator (static_shape w names operand) (Takes w names operand) (TakesPlace w names operand)
@@ -225,7 +241,7 @@ abbrev mutual
   TakesLinks w names NoLinks = Unit {0}
   TakesLinks w names (MoreLinks operator operand others) = Takes w names operand × TakesLinks w names others
 
-  -- one object is made: a struct, or a word
+  -- one object is made: a struct, a word or a fat pointer
   pub TakesNew : World → List Named → Made → Type 0
   TakesNew w names (One value) =
       IsObject w.structs (static_shape w names value) ×
@@ -239,7 +255,7 @@ abbrev mutual
   TakesWhole w names (Expression.Grouped at inner) = TakesWhole w names inner
   TakesWhole w names (Expression.Variable name) = Unit {0} × IsStructShape w.structs (static_shape w names (Expression.Variable name))
   TakesWhole w names (Expression.Suffixed primary suffixes) =
-      TakesSuffixes w suffixes (static_shape w names primary) (Takes w names primary) (TakesPlace w names primary) ×
+      TakesSuffixes w names suffixes (static_shape w names primary) (Takes w names primary) (TakesPlace w names primary) ×
       IsStructShape w.structs (static_shape w names (Expression.Suffixed primary suffixes))
   TakesWhole w names (Expression.Prefixed at operator operand) =
       TakesPointer operator (Takes w names operand) × IsStructShape w.structs (static_shape w names (Expression.Prefixed at operator operand))
@@ -254,7 +270,7 @@ abbrev mutual
 
 -- ---- structs that are assigned
 
--- what is assigned: a struct, or a word
+-- what is assigned: a struct, a word or a fat pointer
 abbrev pub TakesAssigned : World → List Named → Shape → (place value : Expression) → Type 0
 TakesAssigned w names (StructShape tag) place value =
     TakesPlace w names place × (TakesWhole w names value × IsStructShape w.structs (StructShape tag))
@@ -269,7 +285,7 @@ abbrev pub TakesCalled : Bool → (whole word : Type 0) → Type 0
 TakesCalled true whole word = whole
 TakesCalled false whole word = word
 
--- an expression whose value is dropped: a struct that is assigned, made or read, or a word
+-- an expression whose value is dropped: a struct that is assigned, made or read, or what is no struct
 abbrev pub TakesRun : World → List Named → Expression → Type 0
 TakesRun w names (Expression.Assign place value) = TakesAssigned w names (static_shape w names place) place value
 TakesRun w names (Expression.Grouped at inner) = TakesRun w names inner
@@ -287,7 +303,7 @@ TakesValue w names s e = Takes w names e
 -- of a local of a shape
 abbrev pub TakesInitializer : World → List Named → Shape → Initializer → Type 0
 TakesInitializer w names shape Initializer.Unset = HasBeginning shape
-TakesInitializer w names shape (Initializer.Elements count) = ⊥
+TakesInitializer w names shape (Initializer.Elements count) = (count < 2 ^ 32) × HasBeginning shape
 TakesInitializer w names shape (Initializer.Value e) = TakesValue w names shape e
 
 abbrev pub TakesDeclaration : World → List Named → Declaration → Type 0
@@ -320,11 +336,12 @@ abbrev mutual
 
 -- ---- items
 
+-- what is passed: words and fat pointers
 abbrev pub AreWords : List Member → Type 0
 AreWords [] = Unit {0}
 AreWords (m ∷ ms) = IsWordType m.of × AreWords ms
 
--- an integer or a pointer, or nothing
+-- a word, a fat pointer, or nothing
 pub data TakesResult (t : TypeName) : Type 0 where
   GivesWord : IsWordType t → TakesResult t
   GivesNothing : IsVoidType t → TakesResult t
@@ -339,10 +356,10 @@ pub record TakesFunction (w : World) (f : Function) : Type 0 where
   pub parameters : AreWords f.parameters
   pub body : TakesBody w (routine_of f)
 
--- a number for an integer, and NULL for a pointer that may be NULL
+-- a number for an integer, and NULL for a pointer that may be NULL; without one, and in an array, what has a beginning
 abbrev pub TakesGlobal : Shape → Initial → Type 0
 TakesGlobal shape Initial.Unset = HasBeginning shape
-TakesGlobal shape (Initial.Elements count) = ⊥
+TakesGlobal shape (Initial.Elements count) = (count < 2 ^ 32) × HasBeginning shape
 TakesGlobal shape (Initial.Given c) = TakesConstant shape c
 
 abbrev pub TakesItem : World → Item → Type 0

@@ -1,16 +1,18 @@
--- What an expression is lowered to. It leaves its value in the temporary of a number, and uses those from there on. A struct that is made, or read whole, is an
--- unnamed value of its function, and its code leaves a pointer to it in the temporary. Unnamed values are numbered in the order of the evaluation: from the left,
--- but for an assigned value, which comes before its place, and each before those of its parts.
+-- What an expression is lowered to. It leaves its value in the temporaries from a number on, a word in one and a fat pointer in three, and uses no earlier
+-- ones. A struct that is made, or read whole, is an unnamed value of its function, and its code leaves a pointer to it in the first. Unnamed values are
+-- numbered in the order of the evaluation: from the left, but for an assigned value, which comes before its place, and each before those of its parts.
 use Rattle.std.specs.Prelude.{ℕ, suc, ◌+◌, ◌%◌, List, [], ◌∷◌, ◌++◌, length}
-use Rattle.cyc_tree.specs.Tree.{Expression, Expressions, NoExpressions, MoreExpressions, Links, NoLinks, MoreLinks, Suffixes, Made, One, Array}
-use Rattle.source_meaning.specs.Shapes.{Shape, StructShape, Part, parts_of}
+use Rattle.cyc_tree.specs.Tree.{Expression, Expressions, NoExpressions, MoreExpressions, Links, NoLinks, MoreLinks, Suffixes, NoSuffixes, Index, Dot, Arrow}
+use Rattle.cyc_tree.specs.Tree.{Made, One, Array}
+use Rattle.source_meaning.specs.Shapes.{Shape, StructShape, Part, parts_of, pointee}
 use Rattle.source_meaning.specs.Sizes.{rounded_up}
 use Rattle.source_meaning.specs.Steps.{World}
 use Rattle.source_meaning.specs.Operators.{operator_shape}
 use Rattle.source_meaning.specs.Places.{bound_to}
 use Rattle.source_meaning.specs.Conversions.{cells_of}
-use Rattle.core_meaning.specs.Core.{Constant, Copy, Do, HeapHandle, If, NoStatements, NullPointer, Offset, OwnAddress, RegionAlloc, Statement, Store}
+use Rattle.core_meaning.specs.Core.{Constant, Copy, Do, HeapHandle, If, NoStatements, NullPointer, Offset, OwnAddress, RegionAlloc, Statement}
 use Rattle.source_lowering.specs.Layouts.{extent_of, layout_of}
+use Rattle.source_lowering.specs.Members.{words_in}
 pub use Rattle.source_lowering.specs.Pieces.{
   put,
   all_of,
@@ -18,13 +20,18 @@ pub use Rattle.source_lowering.specs.Pieces.{
   distance,
   null_check,
   check_code,
+  reach_code,
+  loads_code,
+  stores_code,
   member_shape,
+  valued,
   suffixed_shape,
   offset_code,
   Left,
   left_of,
   member_at,
-  suffixed_code,
+  member_behind,
+  element_at,
   pointer_to,
   store_to,
   Named,
@@ -41,6 +48,11 @@ pub use Rattle.source_lowering.specs.Pieces.{
   static_shape,
   new_shape,
   linked_shape,
+  stored_code,
+  get_local,
+  load_global,
+  put_local,
+  store_global,
   get_global,
   get_by,
   get_code,
@@ -48,15 +60,20 @@ pub use Rattle.source_lowering.specs.Pieces.{
   put_by,
   global_address,
   address_by,
-  load_code,
-  store_code,
   narrow_code,
+  to_fat_code,
+  to_thin_code,
+  thinned_code,
   conversion_code,
   type_of,
   applied_to,
   turned_code,
+  compared_code,
   pointers_code,
   operator_code,
+  null_code,
+  fat_code,
+  count_code,
   truth_code,
   word_code,
   not_code,
@@ -66,14 +83,14 @@ pub use Rattle.source_lowering.specs.Pieces.{
   call_parameters,
   from_on,
   results_in,
-  count_of,
+  argument_words,
   function_call,
   call_code,
 }
 
 -- ---- unnamed values
 
--- those of a value of a shape: as a struct, or as a word
+-- those of a value of a shape: as a struct, or else as an operand
 abbrev pub values_by : Shape → (whole word : List Shape) → List Shape
 values_by (StructShape tag) whole word = whole
 values_by s whole word = word
@@ -83,7 +100,8 @@ abbrev mutual
   pub expression_values : World → List Named → Expression → List Shape
   expression_values w names (Expression.Call name arguments) = all_values w names arguments
   expression_values w names (Expression.Grouped at inner) = expression_values w names inner
-  expression_values w names (Expression.Suffixed primary _) = expression_values w names primary
+  expression_values w names (Expression.Suffixed primary suffixes) = suffix_values w names suffixes ++ expression_values w names primary
+  expression_values w names (Expression.NumElts at operand) = expression_values w names operand
   expression_values w names (Expression.Prefixed at operator operand) = expression_values w names operand
   expression_values w names (Expression.New at new) = new_values w names new
   expression_values w names (Expression.NewIn at handle new) = expression_values w names handle ++ new_values w names new
@@ -92,6 +110,13 @@ abbrev mutual
   expression_values w names (Expression.AnyOf first others) = expression_values w names first ++ all_values w names others
   expression_values w names (Expression.Assign place value) = expression_values w names value ++ expression_values w names place
   expression_values w names _ = []
+
+  -- the last index is evaluated first
+  pub suffix_values : World → List Named → Suffixes → List Shape
+  suffix_values w names NoSuffixes = []
+  suffix_values w names (Index index others) = suffix_values w names others ++ expression_values w names index
+  suffix_values w names (Dot f others) = suffix_values w names others
+  suffix_values w names (Arrow f others) = suffix_values w names others
 
   pub all_values : World → List Named → Expressions → List Shape
   all_values w names NoExpressions = []
@@ -111,7 +136,7 @@ abbrev mutual
   whole_values w names (Expression.Call name arguments) = StructShape name.text ∷ made_values w names (parts_of w.structs name.text) arguments
   whole_values w names (Expression.Grouped at inner) = whole_values w names inner
   whole_values w names (Expression.Suffixed primary suffixes) =
-      static_shape w names (Expression.Suffixed primary suffixes) ∷ expression_values w names primary
+      static_shape w names (Expression.Suffixed primary suffixes) ∷ (suffix_values w names suffixes ++ expression_values w names primary)
   whole_values w names (Expression.Prefixed at operator operand) =
       static_shape w names (Expression.Prefixed at operator operand) ∷ expression_values w names operand
   whole_values w names e = static_shape w names e ∷ []
@@ -132,26 +157,23 @@ copied_code w s d own = Do (OwnAddress (d + 1) own) ∷ Do (Copy (d + 1) d (layo
 abbrev pub struct_member_code : World → Shape → (d cells bytes : ℕ) → List Statement
 struct_member_code w s d cells bytes = Do (Offset (d + 2) d cells bytes) ∷ Do (Copy (d + 2) (d + 1) (layout_of w s)) ∷ []
 
-abbrev pub word_member_code : Shape → Shape → (d cells bytes : ℕ) → List Statement
-word_member_code s from d cells bytes = conversion_code s from (d + 1) ++ (Do (Store d (distance cells bytes (width_of s)) (d + 1)) ∷ [])
+abbrev pub word_member_code : World → Shape → Shape → (d cells bytes : ℕ) → List Statement
+word_member_code w s from d cells bytes = conversion_code w s from (d + 1) ++ stores_code s d (d + 1) cells bytes
 
--- a member of a shape, by the code of its argument as a struct and as a word
+-- a member of a shape, by the code of its argument as a struct and as an operand
 abbrev pub member_code : World → Shape → Shape → (d cells bytes : ℕ) → (whole word : List Statement) → List Statement
 member_code w (StructShape tag) from d cells bytes whole word = whole ++ struct_member_code w (StructShape tag) d cells bytes
-member_code w s from d cells bytes whole word = word ++ word_member_code s from d cells bytes
+member_code w s from d cells bytes whole word = word ++ word_member_code w s from d cells bytes
 
--- A block for one object is asked for in the region of the handle in this temporary, which gets a pointer to it.
-abbrev pub request_code : World → Shape → ℕ → List Statement
-request_code w s d = Do (Constant (d + 2) 1) ∷ Do (RegionAlloc d d (d + 2) (layout_of w s)) ∷ []
+-- A block for one object is asked for in the region of the handle in this temporary, which gets a pointer to it; the count 1 comes into another one.
+abbrev pub request_code : World → Shape → (d count : ℕ) → List Statement
+request_code w s d count = Do (Constant count 1) ∷ Do (RegionAlloc d d count (layout_of w s)) ∷ []
 
--- The value of a shape comes into the next temporary, or a pointer to it; then the block is asked for, and the value is stored there.
+-- The value of a shape comes into the next temporaries, or a pointer to it; then the block is asked for, and the value is stored there.
 abbrev pub new_code_by : World → Shape → ℕ → (whole word : List Statement) → List Statement
-new_code_by w (StructShape tag) d whole word = whole ++ (request_code w (StructShape tag) d ++ (Do (Copy d (d + 1) (layout_of w (StructShape tag))) ∷ []))
-new_code_by w s d whole word = word ++ (request_code w s d ++ (Do (Store d (distance 0 0 (width_of s)) (d + 1)) ∷ []))
-
--- a pointer to what suffixes lead to, by the code of what stands on their left
-abbrev pub suffixed_place : World → Suffixes → Shape → ℕ → (value pointer : List Statement) → List Statement
-suffixed_place w suffixes s d value pointer = pointer_to (suffixed_code w suffixes d (left_of s value pointer)) d
+new_code_by w (StructShape tag) d whole word =
+    whole ++ (request_code w (StructShape tag) d (d + 2) ++ (Do (Copy d (d + 1) (layout_of w (StructShape tag))) ∷ []))
+new_code_by w s d whole word = word ++ (request_code w s d (d + 1 + words_in s) ++ stores_code s d (d + 1) 0 0)
 
 -- ---- expressions
 
@@ -164,12 +186,15 @@ abbrev mutual
   expression_code w names (Expression.HeapRegion at) d own = Do (HeapHandle d) ∷ []
   expression_code w names (Expression.Variable name) d own = get_code w names name.text d
   expression_code w names (Expression.Call name arguments) d own =
-      arguments_code w names (call_parameters w name.text) arguments d own ++ call_code w name.text (count_of arguments) d
+      arguments_code w names (call_parameters w name.text) arguments d own ++ call_code w name.text (argument_words (call_parameters w name.text) arguments) d
   expression_code w names (Expression.Grouped at inner) d own = expression_code w names inner d own
-  expression_code w names (Expression.Suffixed primary suffixes) d own = (suffixed_code w suffixes d
-      (left_of (static_shape w names primary) (expression_code w names primary d own) (place_code w names primary d own))).value
+  expression_code w names (Expression.NumElts at operand) d own = expression_code w names operand d own ++ count_code d
+  expression_code w names (Expression.Suffixed primary suffixes) d own =
+      let first = own + length (suffix_values w names suffixes) in
+      (suffixed_code w names suffixes
+      (left_of (static_shape w names primary) (λ e. expression_code w names primary e first) (λ e. place_code w names primary e first)) own).value d
   expression_code w names (Expression.Prefixed at operator operand) d own =
-      prefix_code operator (static_shape w names operand) d (expression_code w names operand (d + 1) own) (expression_code w names operand d own)
+      prefix_code w operator (static_shape w names operand) d (expression_code w names operand (d + 1) own) (expression_code w names operand d own)
       (place_code w names operand d own)
   -- the heap's handle comes first
   expression_code w names (Expression.New at new) d own = Do (HeapHandle d) ∷ new_code w names new d own
@@ -187,7 +212,7 @@ abbrev mutual
   -- the value is evaluated first
   expression_code w names (Expression.Assign place value) d own =
       expression_code w names value d own ++
-      (conversion_code (static_shape w names place) (static_shape w names value) d ++
+      (conversion_code w (static_shape w names place) (static_shape w names value) d ++
       put_code w names place d (own + length (expression_values w names value)))
   expression_code w names _ d own = []
 
@@ -196,27 +221,42 @@ abbrev mutual
   place_code w names (Expression.Variable name) d own = address_by (local_named names name.text) (bound_to w.globals name.text) d
   place_code w names (Expression.Grouped at inner) d own = place_code w names inner d own
   place_code w names (Expression.Suffixed primary suffixes) d own =
-      suffixed_place w suffixes (static_shape w names primary) d (expression_code w names primary d own) (place_code w names primary d own)
+      let first = own + length (suffix_values w names suffixes) in
+      pointer_to (suffixed_code w names suffixes
+      (left_of (static_shape w names primary) (λ e. expression_code w names primary e first) (λ e. place_code w names primary e first)) own) d
   place_code w names (Expression.Prefixed at operator operand) d own =
-      pointed_code operator (static_shape w names operand) d (expression_code w names operand d own)
+      pointed_code w operator (static_shape w names operand) d (expression_code w names operand d own)
   place_code w names _ d own = []
 
-  -- the value is stored: a variable is written by its name, and another place through its pointer, in the next temporary
+  -- the value is stored: a variable is written by its name, and another place through its pointer, behind the value
   pub put_code : World → List Named → Expression → (d own : ℕ) → List Statement
   put_code w names (Expression.Variable name) d own = put_by (local_named names name.text) (bound_to w.globals name.text) d
   put_code w names (Expression.Grouped at inner) d own = put_code w names inner d own
-  put_code w names (Expression.Suffixed primary suffixes) d own = store_to (suffixed_code w suffixes (d + 1)
-      (left_of (static_shape w names primary) (expression_code w names primary (d + 1) own) (place_code w names primary (d + 1) own))) d
+  put_code w names (Expression.Suffixed primary suffixes) d own =
+      let first = own + length (suffix_values w names suffixes) in
+      store_to (suffixed_code w names suffixes
+      (left_of (static_shape w names primary) (λ e. expression_code w names primary e first) (λ e. place_code w names primary e first)) own)
+      (d + words_in (suffixed_shape w suffixes (static_shape w names primary))) d
   put_code w names (Expression.Prefixed at operator operand) d own =
-      pointed_code operator (static_shape w names operand) (d + 1) (expression_code w names operand (d + 1) own) ++
-      store_code (prefix_shape operator (static_shape w names operand)) d
+      let s = prefix_shape operator (static_shape w names operand) in let p = d + words_in s in
+      pointed_code w operator (static_shape w names operand) p (expression_code w names operand p own) ++ stores_code s p d 0 0
   put_code w names _ d own = []
 
-  -- each operand goes into the next temporary, and the result into the chain's
+  -- suffixes, from the left: `e.f` is a distance further on from where e is, `e->f` from where e's value leads, and `e[i]` as many elements as i says
+  pub suffixed_code : World → List Named → Suffixes → Left → (own : ℕ) → Left
+  suffixed_code w names NoSuffixes left own = left
+  suffixed_code w names (Index index others) left own =
+      let first = own + length (suffix_values w names others) in
+      suffixed_code w names others (element_at w (pointee left.shape) (λ d. expression_code w names index d first) left.value) own
+  suffixed_code w names (Dot f others) left own =
+      suffixed_code w names others (member_at w left.shape left.pointer left.cells left.bytes f.text) own
+  suffixed_code w names (Arrow f others) left own = suffixed_code w names others (member_behind w left f.text) own
+
+  -- each operand goes into the temporaries behind what stands on its left, and the result into the chain's
   pub links_code : World → List Named → Links → Shape → (d own : ℕ) → List Statement
   links_code w names NoLinks left d own = []
   links_code w names (MoreLinks operator operand others) left d own =
-      expression_code w names operand (d + 1) own ++
+      expression_code w names operand (d + words_in left) own ++
       (operator_code operator left (static_shape w names operand) d ++
       links_code w names others (operator_shape operator left (static_shape w names operand)) d (own + length (expression_values w names operand)))
 
@@ -234,13 +274,13 @@ abbrev mutual
       If d NoStatements (all_of (expression_code w names first d own ++ word_code (static_shape w names first) d)) ∷
       any_code w names others d (own + length (expression_values w names first))
 
-  -- each argument is converted to its parameter's shape, and goes into the next temporary
+  -- each argument is converted to its parameter's shape, and the next one comes behind it
   pub arguments_code : World → List Named → List Shape → Expressions → (d own : ℕ) → List Statement
   arguments_code w names [] arguments d own = []
   arguments_code w names (s ∷ ss) NoExpressions d own = []
   arguments_code w names (s ∷ ss) (MoreExpressions first others) d own =
       expression_code w names first d own ++
-      (conversion_code s (static_shape w names first) d ++ arguments_code w names ss others (d + 1) (own + length (expression_values w names first)))
+      (conversion_code w s (static_shape w names first) d ++ arguments_code w names ss others (d + words_in s) (own + length (expression_values w names first)))
 
   -- what is made, in the region whose handle is in this temporary
   pub new_code : World → List Named → Made → (d own : ℕ) → List Statement
@@ -257,10 +297,12 @@ abbrev mutual
       address_by (local_named names name.text) (bound_to w.globals name.text) d ++
       copied_code w (static_shape w names (Expression.Variable name)) d own
   whole_code w names (Expression.Suffixed primary suffixes) d own =
-      suffixed_place w suffixes (static_shape w names primary) d (expression_code w names primary d (suc own)) (place_code w names primary d (suc own)) ++
+      let first = suc own + length (suffix_values w names suffixes) in
+      pointer_to (suffixed_code w names suffixes
+      (left_of (static_shape w names primary) (λ e. expression_code w names primary e first) (λ e. place_code w names primary e first)) (suc own)) d ++
       copied_code w (static_shape w names (Expression.Suffixed primary suffixes)) d own
   whole_code w names (Expression.Prefixed at operator operand) d own =
-      pointed_code operator (static_shape w names operand) d (expression_code w names operand d (suc own)) ++
+      pointed_code w operator (static_shape w names operand) d (expression_code w names operand d (suc own)) ++
       copied_code w (static_shape w names (Expression.Prefixed at operator operand)) d own
   whole_code w names e d own = copied_code w (static_shape w names e) d own
 

@@ -1,13 +1,15 @@
--- Code, and the members of structs: their shapes, where they are, and how they are reached.
-use Rattle.std.specs.Prelude.{ℕ, zero, ◌+◌, true, List, [], ◌∷◌, ◌++◌}
-use Rattle.cyc_words.specs.declared.faults.Kind.TheVariants.{NullException}
+-- Code, fat pointers and their elements, and the members of structs: their shapes, where they are, and how they are reached.
+use Rattle.std.specs.Prelude.{ℕ, zero, ◌+◌, ◌*◌, true, List, [], ◌∷◌, ◌++◌, length}
+use Rattle.cyc_words.specs.declared.faults.Kind.{Kind}
+use Rattle.cyc_words.specs.declared.faults.Kind.TheVariants.{NullException, ArrayBounds}
 use Rattle.cyc_tree.specs.Tree.{Suffixes, NoSuffixes, Index, Dot, Arrow}
-use Rattle.source_meaning.specs.Shapes.{Shape, CharShape, VoidShape, ThinShape, pointee, part_shape}
+use Rattle.source_meaning.specs.Shapes.{Shape, CharShape, ThinShape, FatShape, ArrayShape, pointee, part_shape}
 use Rattle.source_meaning.specs.Sizes.{cells_before}
 use Rattle.source_meaning.specs.Steps.{World}
 use Rattle.source_meaning.specs.Conversions.{cells_of}
 use Rattle.source_meaning.specs.Places.{struct_parts}
-use Rattle.core_meaning.specs.Core.{Distance, Offset, Load, Store, Statement, Do, If, Raise, Statements, NoStatements, MoreStatements}
+use Rattle.core_meaning.specs.Core.{Distance, Constant, Apply, Add, LessUnsigned, Offset, Element, Load, Store, Statement, Do, If, Raise, Statements}
+use Rattle.core_meaning.specs.Core.{NoStatements, MoreStatements}
 use Rattle.source_lowering.specs.Layouts.{extent_of, bytes_before}
 
 -- ---- code
@@ -28,6 +30,31 @@ width_of s = 4
 abbrev pub distance : ℕ → ℕ → ℕ → Distance
 distance cells bytes width = record { cells = cells; bytes = bytes; part = 0; width = width }
 
+-- a fat pointer's part so far on
+abbrev pub part_at : (cells bytes part : ℕ) → Distance
+part_at cells bytes part = record { cells = cells; bytes = bytes + 4 * part; part = part; width = 4 }
+
+-- The value that lies so far on from where this temporary points is read into it and those behind it, the pointer's own part last.
+abbrev pub loads_code : Shape → (d cells bytes : ℕ) → List Statement
+loads_code (FatShape to) d cells bytes =
+    Do (Load (d + 2) d (part_at cells bytes 2)) ∷ Do (Load (d + 1) d (part_at cells bytes 1)) ∷ Do (Load d d (part_at cells bytes 0)) ∷ []
+loads_code s d cells bytes = Do (Load d d (distance cells bytes (width_of s))) ∷ []
+
+-- the value in the temporaries from d on is stored where p points
+abbrev pub stores_code : Shape → (p d cells bytes : ℕ) → List Statement
+stores_code (FatShape to) p d cells bytes =
+    Do (Store p (part_at cells bytes 0) d) ∷ Do (Store p (part_at cells bytes 1) (d + 1)) ∷ Do (Store p (part_at cells bytes 2) (d + 2)) ∷ []
+stores_code s p d cells bytes = Do (Store p (distance cells bytes (width_of s)) d) ∷ []
+
+-- how many temporaries a value takes: a fat pointer three, all else one
+abbrev pub words_in : Shape → ℕ
+words_in (FatShape to) = 3
+words_in s = 1
+
+abbrev pub all_words : List Shape → ℕ
+all_words [] = 0
+all_words (s ∷ ss) = words_in s + all_words ss
+
 -- NULL raises
 abbrev pub null_check : ℕ → List Statement
 null_check d = If d NoStatements (MoreStatements (Raise NullException) NoStatements) ∷ []
@@ -37,16 +64,50 @@ abbrev pub check_code : Shape → ℕ → List Statement
 check_code (ThinShape true owner to) d = null_check d
 check_code s d = []
 
+-- ---- fat pointers
+
+-- the count behind a pointer, and the index 0
+abbrev pub bounds_code : (d count : ℕ) → List Statement
+bounds_code d count = Do (Constant (d + 1) count) ∷ Do (Constant (d + 2) 0) ∷ []
+
+abbrev pub raised : Kind → Statements
+raised kind = all_of (Raise kind ∷ [])
+
+-- behind the comparison of its index with its count: where that isn't below, something else is done, and else t gets the element
+abbrev pub reached_code : World → Shape → (t p : ℕ) → Statements → List Statement
+reached_code w to t p otherwise =
+    If (p + 1) NoStatements otherwise ∷ Do (Element t p (p + 2) (length (cells_of w to)) (extent_of w to).size) ∷ []
+
+-- t gets the element to which the fat pointer from p on leads. Where its index isn't below its count, NULL, whose count is 0, raises a null exception, and
+-- any other one that of array bounds.
+abbrev pub element_code : World → Shape → (t p : ℕ) → List Statement
+element_code w to t p =
+    Do (Apply LessUnsigned (p + 1) (p + 2) (p + 1)) ∷ reached_code w to t p (all_of (If p (raised ArrayBounds) (raised NullException) ∷ []))
+
+-- what a pointer of a shape leads to, checked
+abbrev pub reach_code : World → Shape → ℕ → List Statement
+reach_code w (FatShape to) d = element_code w to d d
+reach_code w s d = check_code s d
+
+-- a[b]: b is in this temporary, and the fat pointer in the three behind it; the index wraps
+abbrev pub index_code : World → Shape → ℕ → List Statement
+index_code w to d = Do (Apply Add (d + 3) (d + 3) d) ∷ element_code w to d (d + 1)
+
 -- ---- shapes of members
 
 -- the shape of a struct's member
 abbrev pub member_shape : World → Shape → List ℕ → Shape
 member_shape w s f = part_shape (struct_parts w s) f
 
+-- what an array's name is as a value
+abbrev pub valued : Shape → Shape
+valued (ArrayShape count of) = FatShape of
+valued s = s
+
 -- that of what suffixes lead to, from what is on their left
 abbrev pub suffixed_shape : World → Suffixes → Shape → Shape
 suffixed_shape w NoSuffixes left = left
-suffixed_shape w (Index index others) left = VoidShape
+suffixed_shape w (Index index others) left = suffixed_shape w others (pointee left)
 suffixed_shape w (Dot f others) left = suffixed_shape w others (member_shape w left f.text)
 suffixed_shape w (Arrow f others) left = suffixed_shape w others (member_shape w (pointee left) f.text)
 
@@ -57,44 +118,47 @@ abbrev pub offset_code : ℕ → (cells bytes : ℕ) → List Statement
 offset_code d zero zero = []
 offset_code d cells bytes = Do (Offset d d cells bytes) ∷ []
 
--- What stands on the left of suffixes: its shape, the code of its value, and of its place: the code of a pointer, and how far on from there the place is.
+-- What stands on the left of suffixes, by the temporary that it comes into: its shape, the code of its value, and of its place: the code of a pointer, and how
+-- far on from there the place is.
 pub record Left : Type 0 where
   pub shape : Shape
-  pub value : List Statement
-  pub pointer : List Statement
+  pub value : ℕ → List Statement
+  pub pointer : ℕ → List Statement
   pub cells : ℕ
   pub bytes : ℕ
 
--- what names a place, to which there is a pointer
-abbrev pub left_of : Shape → (value pointer : List Statement) → Left
+-- what suffixes begin with: its value, and a pointer to its place
+abbrev pub left_of : Shape → (value pointer : ℕ → List Statement) → Left
 left_of s value pointer = record { shape = s; value = value; pointer = pointer; cells = 0; bytes = 0 }
 
 -- a member of a struct that lies so far on from where a pointer leads
-abbrev pub member_at : World → Shape → (pointer : List Statement) → (cells bytes : ℕ) → List ℕ → ℕ → Left
-member_at w s pointer cells bytes f d =
+abbrev pub member_at : World → Shape → (pointer : ℕ → List Statement) → (cells bytes : ℕ) → List ℕ → Left
+member_at w s pointer cells bytes f =
     let parts = struct_parts w s in
     let more_cells = cells + cells_before (cells_of w) parts f in
     let more_bytes = bytes + bytes_before (extent_of w) 0 parts f in
     record {
       shape = member_shape w s f;
-      value = pointer ++ (Do (Load d d (distance more_cells more_bytes (width_of (member_shape w s f)))) ∷ []);
+      value = λ d. pointer d ++ loads_code (member_shape w s f) d more_cells more_bytes;
       pointer = pointer;
       cells = more_cells;
       bytes = more_bytes;
     }
 
--- suffixes, from the left: `e.f` is a distance further on from where e is, and `e->f` from where e's value leads
-abbrev pub suffixed_code : World → Suffixes → ℕ → Left → Left
-suffixed_code w NoSuffixes d left = left
-suffixed_code w (Index index others) d left = left_of VoidShape [] []
-suffixed_code w (Dot f others) d left = suffixed_code w others d (member_at w left.shape left.pointer left.cells left.bytes f.text d)
-suffixed_code w (Arrow f others) d left =
-    suffixed_code w others d (member_at w (pointee left.shape) (left.value ++ check_code left.shape d) 0 0 f.text d)
+-- a member of the struct that a value leads to
+abbrev pub member_behind : World → Left → List ℕ → Left
+member_behind w left f = member_at w (pointee left.shape) (λ d. left.value d ++ reach_code w left.shape d) 0 0 f
+
+-- An element: its index is evaluated first, and what stands on its left behind it; both lead to it.
+abbrev pub element_at : World → Shape → (index value : ℕ → List Statement) → Left
+element_at w to index value =
+    let pointer : ℕ → List Statement = λ d. index d ++ (value (d + 1) ++ index_code w to d) in
+    record { shape = to; value = λ d. pointer d ++ loads_code to d 0 0; pointer = pointer; cells = 0; bytes = 0 }
 
 -- a pointer to what the suffixes lead to
 abbrev pub pointer_to : Left → ℕ → List Statement
-pointer_to left d = left.pointer ++ offset_code d left.cells left.bytes
+pointer_to left d = left.pointer d ++ offset_code d left.cells left.bytes
 
--- a value is stored there, from the temporary before the pointer's
-abbrev pub store_to : Left → ℕ → List Statement
-store_to left d = left.pointer ++ (Do (Store (d + 1) (distance left.cells left.bytes (width_of left.shape)) d) ∷ [])
+-- the value in the temporaries from d on is stored there, by a pointer in p
+abbrev pub store_to : Left → (p d : ℕ) → List Statement
+store_to left p d = left.pointer p ++ stores_code left.shape p d left.cells left.bytes

@@ -1,11 +1,13 @@
 -- What expressions are lowered by: names, shapes that are known without a run, variables, conversions, operators, calls.
-use Rattle.std.specs.Prelude.{ℕ, zero, suc, ◌+◌, ◌%◌, Bool, true, false, Option, Some, None, List, [], ◌∷◌, ◌++◌, bytes_eq, codes, if◌then◌else◌}
+use Rattle.std.specs.Prelude.{ℕ, zero, suc, ◌+◌, Bool, true, false, Option, Some, None, List, [], ◌∷◌, ◌++◌, bytes_eq, codes, if◌then◌else◌}
+use Rattle.cyc_words.specs.declared.faults.Kind.TheVariants.{ArrayBounds}
 use Rattle.cyc_tree.specs.declared.expression.Operator.{Operator}
 use Rattle.cyc_tree.specs.declared.expression.Operator.TheVariants as operator
 use Rattle.cyc_tree.specs.declared.expression.Prefix.{Prefix}
 use Rattle.cyc_tree.specs.declared.expression.Prefix.TheVariants as prefix
 use Rattle.cyc_tree.specs.Tree.{Expression, Expressions, NoExpressions, MoreExpressions, Links, NoLinks, MoreLinks, Made, One, Array}
-use Rattle.source_meaning.specs.Shapes.{Shape, Shared, IntShape, UnsignedShape, CharShape, VoidShape, ThinShape, HandleShape, StructShape, has_tag, pointee, part_shapes}
+use Rattle.source_meaning.specs.Shapes.{Shape, Shared, IntShape, UnsignedShape, CharShape, VoidShape, ThinShape, FatShape, HandleShape, StructShape, ArrayShape}
+use Rattle.source_meaning.specs.Shapes.{has_tag, pointee, part_shapes}
 use Rattle.source_meaning.specs.Memory.{IntegerType, AsInt, AsUnsigned, AsChar}
 use Rattle.source_meaning.specs.Steps.{Entity, Variable, Fixed, Routine, World}
 use Rattle.source_meaning.specs.Operators.{common, by_type, operator_shape}
@@ -17,34 +19,38 @@ pub use Rattle.source_lowering.specs.Members.{
   all_of,
   width_of,
   distance,
+  loads_code,
+  stores_code,
+  words_in,
   null_check,
   check_code,
+  bounds_code,
+  raised,
+  reached_code,
+  element_code,
+  reach_code,
   member_shape,
+  valued,
   suffixed_shape,
   offset_code,
   Left,
   left_of,
   member_at,
-  suffixed_code,
+  member_behind,
+  element_at,
   pointer_to,
   store_to,
 }
 use Rattle.core_meaning.specs.Core as core
 use Rattle.core_meaning.specs.Core.{
-  Distance,
-  Binary,
   Operation,
   Constant,
-  NullPointer,
   Narrow,
   Apply,
-  Offset,
   LocalAddress,
   DataAddress,
   Get,
   Put,
-  Load,
-  Store,
   IsNull,
   SamePlace,
   Getchar,
@@ -52,11 +58,8 @@ use Rattle.core_meaning.specs.Core.{
   Statement,
   Do,
   If,
-  Raise,
   Call,
-  Statements,
   NoStatements,
-  MoreStatements,
 }
 
 -- ---- names
@@ -127,7 +130,7 @@ abbrev mutual
   static_shape w names (Expression.Number at value suffix) = integer_shape (number_type value suffix)
   static_shape w names (Expression.Character at byte) = CharShape
   static_shape w names (Expression.Null at) = ThinShape true Shared VoidShape
-  static_shape w names (Expression.Variable name) = named_shape w names name.text
+  static_shape w names (Expression.Variable name) = valued (named_shape w names name.text)
   static_shape w names (Expression.Call name arguments) = call_shape w name.text
   static_shape w names (Expression.Grouped at inner) = static_shape w names inner
   static_shape w names (Expression.Suffixed primary suffixes) = suffixed_shape w suffixes (static_shape w names primary)
@@ -137,11 +140,12 @@ abbrev mutual
   static_shape w names (Expression.AnyOf first others) = IntShape
   static_shape w names (Expression.Assign place value) = static_shape w names place
   static_shape w names (Expression.HeapRegion at) = HandleShape
+  static_shape w names (Expression.NumElts at operand) = UnsignedShape
   static_shape w names (Expression.New at new) = new_shape w names new
   static_shape w names (Expression.NewIn at handle new) = new_shape w names new
   static_shape w names _ = VoidShape
 
-  -- a pointer to what is made; arrays aren't made here
+  -- a thin pointer to the one object that is made; no array is made
   pub new_shape : World → List Named → Made → Shape
   new_shape w names (One value) = ThinShape false Shared (static_shape w names value)
   new_shape w names (Array index count element) = VoidShape
@@ -153,26 +157,49 @@ abbrev mutual
 
 -- ---- variables
 
+-- a local is read: a word by one operation, a fat pointer part by part; an array's name is a fat pointer to its first element
+abbrev pub get_local : Shape → (d out index : ℕ) → List Statement
+get_local (ArrayShape count of) d out index = Do (LocalAddress d out index) ∷ bounds_code d count
+get_local (FatShape to) d out index = Do (LocalAddress d out index) ∷ loads_code (FatShape to) d 0 0
+get_local s d out index = Do (Get d out index (width_of s)) ∷ []
+
+-- a global is read through its address
+abbrev pub load_global : Shape → (d object : ℕ) → List Statement
+load_global (ArrayShape count of) d object = Do (DataAddress d object) ∷ bounds_code d count
+load_global s d object = Do (DataAddress d object) ∷ loads_code s d 0 0
+
+-- the value in the temporaries from d on is stored in a local; a fat pointer's by its address, which comes into this temporary
+abbrev pub stored_code : Shape → (address d out index : ℕ) → List Statement
+stored_code (FatShape to) address d out index = Do (LocalAddress address out index) ∷ stores_code (FatShape to) address d 0 0
+stored_code s address d out index = Do (Put out index (width_of s) d) ∷ []
+
+-- its address comes behind its words
+abbrev pub put_local : Shape → (d out index : ℕ) → List Statement
+put_local s d out index = stored_code s (d + words_in s) d out index
+
+abbrev pub store_global : Shape → (d object : ℕ) → List Statement
+store_global s d object = Do (DataAddress (d + words_in s) object) ∷ stores_code s (d + words_in s) d 0 0
+
 abbrev pub get_global : Option Entity → ℕ → List Statement
-get_global (Some (Variable s at)) d = Do (DataAddress d at.object) ∷ Do (Load d d (distance 0 0 (width_of s))) ∷ []
+get_global (Some (Variable s at)) d = load_global s d at.object
 get_global (Some (Fixed s v)) d = []
 get_global None d = []
 
 abbrev pub get_by : Option Named → Option Entity → ℕ → List Statement
-get_by (Some l) global d = Do (Get d l.out l.index (width_of l.shape)) ∷ []
+get_by (Some l) global d = get_local l.shape d l.out l.index
 get_by None global d = get_global global d
 
--- a variable is read: a local by one operation
+-- a variable is read
 abbrev pub get_code : World → List Named → List ℕ → ℕ → List Statement
 get_code w names name d = get_by (local_named names name) (bound_to w.globals name) d
 
 abbrev pub put_global : Option Entity → ℕ → List Statement
-put_global (Some (Variable s at)) d = Do (DataAddress (d + 1) at.object) ∷ Do (Store (d + 1) (distance 0 0 (width_of s)) d) ∷ []
+put_global (Some (Variable s at)) d = store_global s d at.object
 put_global (Some (Fixed s v)) d = []
 put_global None d = []
 
 abbrev pub put_by : Option Named → Option Entity → ℕ → List Statement
-put_by (Some l) global d = Do (Put l.out l.index (width_of l.shape) d) ∷ []
+put_by (Some l) global d = put_local l.shape d l.out l.index
 put_by None global d = put_global global d
 
 -- ---- places
@@ -187,13 +214,6 @@ abbrev pub address_by : Option Named → Option Entity → ℕ → List Statemen
 address_by (Some l) global d = Do (LocalAddress d l.out l.index) ∷ []
 address_by None global d = global_address global d
 
--- the object of a shape that a pointer leads to is read, into the pointer's temporary; or a value is stored there, from the temporary before it
-abbrev pub load_code : Shape → ℕ → List Statement
-load_code s d = Do (Load d d (distance 0 0 (width_of s))) ∷ []
-
-abbrev pub store_code : Shape → ℕ → List Statement
-store_code s d = Do (Store (d + 1) (distance 0 0 (width_of s)) d) ∷ []
-
 -- ---- conversions and operators
 
 -- only what becomes a char changes
@@ -201,11 +221,30 @@ abbrev pub narrow_code : Shape → ℕ → List Statement
 narrow_code CharShape d = []
 narrow_code s d = Do (Narrow d d) ∷ []
 
--- a pointer that may be NULL becomes one that never is by a check
-abbrev pub conversion_code : Shape → Shape → ℕ → List Statement
-conversion_code CharShape from d = narrow_code from d
-conversion_code (ThinShape false owner to) from d = check_code from d
-conversion_code to from d = []
+-- thin to fat: one element, or none of NULL
+abbrev pub to_fat_code : Shape → ℕ → List Statement
+to_fat_code (ThinShape false owner to) d = bounds_code d 1
+to_fat_code (ThinShape true owner to) d =
+    Do (IsNull (d + 1) d) ∷ Do (Constant (d + 2) 1) ∷ Do (Apply core.Xor (d + 1) (d + 2) (d + 1)) ∷ Do (Constant (d + 2) 0) ∷ []
+to_fat_code s d = []
+
+-- fat to thin: NULL stays NULL or raises, and the element of another one has to be there
+abbrev pub to_thin_code : World → Bool → Shape → ℕ → List Statement
+to_thin_code w false to d = element_code w to d d
+to_thin_code w true to d =
+    If d (all_of (Do (Apply core.LessUnsigned (d + 1) (d + 2) (d + 1)) ∷ reached_code w to d d (raised ArrayBounds))) NoStatements ∷ []
+
+-- What becomes a thin pointer: a thin one is checked where the place never holds NULL.
+abbrev pub thinned_code : World → Bool → Shape → Shape → ℕ → List Statement
+thinned_code w may_be_null to (FatShape of) d = to_thin_code w may_be_null to d
+thinned_code w false to from d = check_code from d
+thinned_code w true to from d = []
+
+abbrev pub conversion_code : World → Shape → Shape → ℕ → List Statement
+conversion_code w CharShape from d = narrow_code from d
+conversion_code w (ThinShape may_be_null owner to) from d = thinned_code w may_be_null to from d
+conversion_code w (FatShape to) from d = to_fat_code from d
+conversion_code w to from d = []
 
 abbrev pub type_of : Shape → IntegerType
 type_of UnsignedShape = AsUnsigned
@@ -235,16 +274,36 @@ applied_to operator.Remainder s t d x y = Apply (by_type (common s t) core.Remai
 abbrev pub turned_code : ℕ → List Statement
 turned_code d = Do (Constant (d + 1) 0) ∷ Do (Apply core.Equal d d (d + 1)) ∷ []
 
--- pointers are compared by `==` and `!=` alone
-abbrev pub pointers_code : Operator → ℕ → List Statement
-pointers_code operator.Equal d = Do (SamePlace d d (d + 1)) ∷ []
-pointers_code operator.NotEqual d = Do (SamePlace d d (d + 1)) ∷ turned_code d
-pointers_code o d = []
+-- pointers are compared by `==` and `!=` alone: this operation gives whether they are the same
+abbrev pub compared_code : Operator → Operation → ℕ → List Statement
+compared_code operator.Equal same d = Do same ∷ []
+compared_code operator.NotEqual same d = Do same ∷ turned_code d
+compared_code o same d = []
 
--- the operands are in this temporary and the next, and the result comes into this one
+abbrev pub pointers_code : Operator → ℕ → List Statement
+pointers_code o d = compared_code o (SamePlace d d (d + 1)) d
+
+-- a pointer in x is compared with NULL
+abbrev pub null_code : Operator → (d x : ℕ) → List Statement
+null_code o d x = compared_code o (IsNull d x) d
+
+-- a fat pointer is moved by the integer behind it, or compared with NULL
+abbrev pub fat_code : Operator → ℕ → List Statement
+fat_code operator.Add d = Do (Apply core.Add (d + 2) (d + 2) (d + 3)) ∷ []
+fat_code operator.Subtract d = Do (Apply core.Subtract (d + 2) (d + 2) (d + 3)) ∷ []
+fat_code o d = null_code o d d
+
+-- the operands are in the temporaries from this one on, one behind the other, and the result comes into the first ones
 abbrev pub operator_code : Operator → Shape → Shape → ℕ → List Statement
+operator_code o (FatShape to) t d = fat_code o d
+operator_code o (ThinShape may_be_null owner to) (FatShape of) d = null_code o d (d + 1)
 operator_code o (ThinShape may_be_null owner to) t d = pointers_code o d
 operator_code o s t d = Do (applied_to o (type_of s) (type_of t) d d (d + 1)) ∷ []
+
+-- how many elements a fat pointer leads to: the difference where the index is below the count, and 0 else
+abbrev pub count_code : ℕ → List Statement
+count_code d =
+    Do (Apply core.LessUnsigned d (d + 2) (d + 1)) ∷ Do (Apply core.Subtract (d + 1) (d + 1) (d + 2)) ∷ Do (Apply core.Multiply d d (d + 1)) ∷ []
 
 -- 0 stays 0, and another word becomes 1
 abbrev pub truth_code : ℕ → List Statement
@@ -253,28 +312,30 @@ truth_code d = Do (Constant (d + 1) 0) ∷ Do (Apply core.NotEqual d d (d + 1)) 
 -- an operand of `&&` and `||` becomes a word: NULL 0, and another pointer 1
 abbrev pub word_code : Shape → ℕ → List Statement
 word_code (ThinShape may_be_null owner to) d = Do (IsNull d d) ∷ turned_code d
+word_code (FatShape to) d = Do (IsNull d d) ∷ turned_code d
 word_code s d = []
 
 -- `!e`, from the next temporary: whether it is 0, or NULL
 abbrev pub not_code : Shape → ℕ → List Statement
 not_code (ThinShape may_be_null owner to) d = Do (IsNull d (d + 1)) ∷ []
+not_code (FatShape to) d = Do (IsNull d (d + 1)) ∷ []
 not_code s d = Do (Constant d 0) ∷ Do (Apply core.Equal d (d + 1) d) ∷ []
 
 -- `-e` is 0 - e, `~e` is all ones ^ e, and `!e` is e == 0: the operand goes into the next temporary. `*e` and `&e` have their pointer in this one.
-abbrev pub prefix_code : Prefix → Shape → ℕ → (above here place : List Statement) → List Statement
-prefix_code prefix.Negate s d above here place = (Do (Constant d 0) ∷ []) ++ (above ++ operator_code operator.Subtract IntShape s d)
-prefix_code prefix.Complement s d above here place = (Do (Constant d 4294967295) ∷ []) ++ (above ++ operator_code operator.BitXor IntShape s d)
-prefix_code prefix.Not s d above here place = above ++ not_code s d
-prefix_code prefix.Dereference s d above here place = (here ++ check_code s d) ++ load_code (pointee s) d
-prefix_code prefix.AddressOf s d above here place = place
+abbrev pub prefix_code : World → Prefix → Shape → ℕ → (above here place : List Statement) → List Statement
+prefix_code w prefix.Negate s d above here place = (Do (Constant d 0) ∷ []) ++ (above ++ operator_code operator.Subtract IntShape s d)
+prefix_code w prefix.Complement s d above here place = (Do (Constant d 4294967295) ∷ []) ++ (above ++ operator_code operator.BitXor IntShape s d)
+prefix_code w prefix.Not s d above here place = above ++ not_code s d
+prefix_code w prefix.Dereference s d above here place = (here ++ reach_code w s d) ++ loads_code (pointee s) d 0 0
+prefix_code w prefix.AddressOf s d above here place = place
 
 -- a pointer to `*e`, whose code is here
-abbrev pub pointed_code : Prefix → Shape → ℕ → (here : List Statement) → List Statement
-pointed_code prefix.Negate s d here = []
-pointed_code prefix.Complement s d here = []
-pointed_code prefix.Not s d here = []
-pointed_code prefix.Dereference s d here = here ++ check_code s d
-pointed_code prefix.AddressOf s d here = []
+abbrev pub pointed_code : World → Prefix → Shape → ℕ → (here : List Statement) → List Statement
+pointed_code w prefix.Negate s d here = []
+pointed_code w prefix.Complement s d here = []
+pointed_code w prefix.Not s d here = []
+pointed_code w prefix.Dereference s d here = here ++ reach_code w s d
+pointed_code w prefix.AddressOf s d here = []
 
 -- ---- calls
 
@@ -295,17 +356,20 @@ from_on d (suc n) = d ∷ from_on (d + 1) n
 -- where a result goes
 abbrev pub results_in : Shape → ℕ → List ℕ
 results_in VoidShape d = []
+results_in (FatShape to) d = d ∷ (d + 1) ∷ (d + 2) ∷ []
 results_in s d = d ∷ []
 
-abbrev pub count_of : Expressions → ℕ
-count_of NoExpressions = 0
-count_of (MoreExpressions first others) = suc (count_of others)
+-- how many words arguments take that go to parameters of these shapes
+abbrev pub argument_words : List Shape → Expressions → ℕ
+argument_words [] arguments = 0
+argument_words (s ∷ ss) NoExpressions = 0
+argument_words (s ∷ ss) (MoreExpressions first others) = words_in s + argument_words ss others
 
 abbrev pub function_call : Option Routine → ℕ → ℕ → ℕ → List Statement
 function_call None number count d = []
 function_call (Some f) number count d = Call (results_in f.result d) number (from_on d count) ∷ []
 
--- so many arguments are in the temporaries from this one on
+-- so many words are passed, from this temporary on
 abbrev pub call_code : World → List ℕ → ℕ → ℕ → List Statement
 call_code w name count d =
     (if bytes_eq name (codes "getchar") then Do (Getchar d) ∷ []

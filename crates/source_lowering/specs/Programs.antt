@@ -1,11 +1,13 @@
 -- What statements, functions, globals and programs are lowered to.
-use Rattle.std.specs.Prelude.{ℕ, zero, suc, ◌+◌, ◌%◌, Bool, true, false, if◌then◌else◌, Option, ◌^◌, Some, None, List, [], ◌∷◌, ◌++◌, map, slice_get, length, max, codes}
+use Rattle.std.specs.Prelude.{ℕ, zero, suc, ◌+◌, ◌%◌, Bool, true, false, if◌then◌else◌, Option, ◌^◌, Some, None, List, [], ◌∷◌, ◌++◌, map, slice_get, length}
+use Rattle.std.specs.Prelude.{max, codes}
 use Rattle.cyc_tree.specs.Tree as tree
 use Rattle.cyc_tree.specs.Tree.{Expression, Initializer, Declaration, Statement, BlockItems, NoItems, Declare, Execute, Initial, Item, Program}
 use Rattle.cyc_words.specs.Words.{difference_of}
-use Rattle.source_meaning.specs.Shapes.{Shape, CharShape, VoidShape, ThinShape, FatShape, HandleShape, StructShape, ArrayShape, Part, part_shapes, written, settled}
+use Rattle.source_meaning.specs.Shapes.{Shape, CharShape, VoidShape, ThinShape, FatShape, HandleShape, StructShape, ArrayShape, Part, part_shapes, written}
+use Rattle.source_meaning.specs.Shapes.{settled}
 use Rattle.source_meaning.specs.Steps.{Routine, World}
-use Rattle.source_meaning.specs.Programs.{world_of}
+use Rattle.source_meaning.specs.Programs.{global_shape, world_of}
 use Rattle.core_meaning.specs.Memory as memory
 use Rattle.core_meaning.specs.Core as core
 use Rattle.core_meaning.specs.Core.{
@@ -17,52 +19,32 @@ use Rattle.core_meaning.specs.Core.{
   Block,
   Break,
   Continue,
-  Call,
   Return,
-  Raise,
   Statements,
   NoStatements,
   MoreStatements,
   Constant,
   NullPointer,
-  Move,
-  Narrow,
-  Apply,
   LocalAddress,
-  OwnAddress,
-  DataAddress,
-  Offset,
-  Element,
-  Get,
   Put,
-  Load,
-  Store,
   Copy,
   Clear,
-  IsNull,
-  SamePlace,
-  Getchar,
-  Putchar,
-  HeapHandle,
   RegionNew,
-  RegionAlloc,
   RegionFree,
-  UniqueAlloc,
-  UniqueFree,
-  KeyNew,
-  KeyOpen,
-  KeyClose,
-  KeyFree,
   Datum,
 }
 use Rattle.source_lowering.specs.Layouts.{layout_of, local_of, first_part}
+use Rattle.source_lowering.specs.Members.{words_in, all_words}
 use Rattle.source_lowering.specs.Whole.{expression_values, is_made, run_code, run_values, whole_code, whole_values}
-use Rattle.source_lowering.specs.Lowered.{Named, number_of, static_shape, all_of, width_of, conversion_code, results_in, place_code, expression_code}
+use Rattle.source_lowering.specs.Lowered.{Named, number_of, static_shape, all_of, width_of, stored_code, put_local, conversion_code, results_in, place_code}
+use Rattle.source_lowering.specs.Lowered.{expression_code}
+pub use Rattle.source_lowering.specs.Temporaries.{last_of, operation_temporaries, statement_temporaries, temporaries_of, statement_passes, passed_by}
 
 -- ---- locals of a block
 
 -- a local's shape, as it is declared
 abbrev pub local_shape : Declaration → Shape
+local_shape (tree.Local of name (Initializer.Elements count)) = ArrayShape count (settled (written of))
 local_shape (tree.Local of name initializer) = settled (written of)
 local_shape (tree.Region at region handle) = HandleShape
 local_shape (tree.Open at region handle key) = VoidShape
@@ -89,15 +71,21 @@ outward names = map one_out names
 abbrev pub named_here : List ℕ → Shape → ℕ → Named
 named_here name shape index = record { name = name; shape = shape; out = 0; index = index }
 
--- ---- declarations: the local of a number gets 0 or NULL, or its initializer's value, which comes into the first free temporary
+-- ---- declarations: the local of a number gets what it begins with, or its initializer's value, which comes into the first free temporaries
 
 abbrev pub first_code : Shape → ℕ → Operation
 first_code (ThinShape may_be_null owner to) d = NullPointer d
 first_code s d = Constant d 0
 
--- a struct begins as its layout does
+-- a local begins as its layout does, element by element
+abbrev pub begun_code : World → Shape → (d index : ℕ) → List core.Statement
+begun_code w s d index = Do (LocalAddress d 0 index) ∷ Do (Clear d (local_of w s).layout (local_of w s).count) ∷ []
+
+-- so do a struct, a fat pointer and an array
 abbrev pub unset_code : World → Shape → (d index : ℕ) → List core.Statement
-unset_code w (StructShape tag) d index = Do (LocalAddress d 0 index) ∷ Do (Clear d (layout_of w (StructShape tag)) 1) ∷ []
+unset_code w (StructShape tag) d index = begun_code w (StructShape tag) d index
+unset_code w (FatShape to) d index = begun_code w (FatShape to) d index
+unset_code w (ArrayShape count of) d index = begun_code w (ArrayShape count of) d index
 unset_code w s d index = Do (first_code s d) ∷ Do (Put 0 index (width_of s) d) ∷ []
 
 -- a pointer to what a struct begins as: to the object that its initializer names, or to the struct that it makes
@@ -110,7 +98,7 @@ abbrev pub value_code : World → List Named → Shape → Expression → (d ind
 value_code w names (StructShape tag) e d index own =
     source_code w names (is_made w e) e d own ++ (Do (LocalAddress (d + 1) 0 index) ∷ Do (Copy (d + 1) d (layout_of w (StructShape tag))) ∷ [])
 value_code w names s e d index own =
-    expression_code w names e d own ++ (conversion_code s (static_shape w names e) d ++ (Do (Put 0 index (width_of s) d) ∷ []))
+    expression_code w names e d own ++ (conversion_code w s (static_shape w names e) d ++ put_local s d 0 index)
 
 -- the unnamed values of an initializer
 abbrev pub initial_values : World → List Named → Shape → Expression → List Shape
@@ -120,7 +108,8 @@ initial_values w names s e = expression_values w names e
 -- A region is born; its handle stays in the first free temporary while the region is in scope, and goes to its local.
 abbrev pub declaration_code : World → List Named → Declaration → (d index own : ℕ) → List core.Statement
 declaration_code w names (tree.Local of name Initializer.Unset) d index own = unset_code w (settled (written of)) d index
-declaration_code w names (tree.Local of name (Initializer.Elements count)) d index own = []
+declaration_code w names (tree.Local of name (Initializer.Elements count)) d index own =
+    unset_code w (ArrayShape count (settled (written of))) d index
 declaration_code w names (tree.Local of name (Initializer.Value e)) d index own = value_code w names (settled (written of)) e d index own
 declaration_code w names (tree.Region at region handle) d index own = Do (RegionNew d) ∷ Do (Put 0 index 4 d) ∷ []
 declaration_code w names (tree.Open at region handle key) d index own = []
@@ -175,8 +164,8 @@ abbrev mutual
 
 -- ---- statements
 
--- What the code of a statement needs of the regions around it: how many of its function are in scope, whose handles are in the first temporaries, and how many of
--- these were opened within the innermost loop. Its own values come into the temporaries behind.
+-- What the code of a statement needs of the regions around it: how many of its function are in scope, whose handles are in the first temporaries, and how many
+-- of these were opened within the innermost loop. Its own values come into the temporaries behind.
 pub record RegionsAround : Type 0 where
   pub all : ℕ
   pub inner : ℕ
@@ -217,7 +206,7 @@ abbrev mutual
   statement_code w result names h own (Statement.Return at None) = leaving_code h.all h.all ++ (Return [] ∷ [])
   statement_code w result names h own (Statement.Return at (Some e)) =
       expression_code w names e h.all own ++
-      (conversion_code result (static_shape w names e) h.all ++ (leaving_code h.all h.all ++ (Return (results_in result h.all) ∷ [])))
+      (conversion_code w result (static_shape w names e) h.all ++ (leaving_code h.all h.all ++ (Return (results_in result h.all) ∷ [])))
   statement_code w result names h own _ = []
 
   -- the items of a block; the next local has the first number, and the next unnamed value the second
@@ -237,9 +226,10 @@ abbrev pub parameter_names : List Part → ℕ → List Named → List Named
 parameter_names [] index names = names
 parameter_names (p ∷ ps) index names = parameter_names ps (suc index) (named_here p.name p.shape index ∷ names)
 
-abbrev pub parameters_code : List Part → ℕ → List core.Statement
-parameters_code [] index = []
-parameters_code (p ∷ ps) index = Do (Put 0 index (width_of p.shape) index) ∷ parameters_code ps (suc index)
+-- Each parameter's value is stored in its local; the next one's words are the first of these, and one temporary is free behind all of them.
+abbrev pub parameters_code : List Part → (index t free : ℕ) → List core.Statement
+parameters_code [] index t free = []
+parameters_code (p ∷ ps) index t free = stored_code p.shape free t 0 index ++ parameters_code ps (suc index) (t + words_in p.shape) free
 
 -- the end of a function without `return`: `main` gives 0 there
 abbrev pub end_code : Shape → List core.Statement
@@ -250,82 +240,18 @@ abbrev pub body_code : World → Routine → Statements
 body_code w f =
     MoreStatements
     (Block (locals_of w (part_shapes f.parameters ++ block_shapes f.body))
-    (all_of (parameters_code f.parameters 0 ++ items_code w f.result (parameter_names f.parameters 0 []) no_regions (length f.parameters) 0 f.body)))
+    (all_of (parameters_code f.parameters 0 0 (all_words (part_shapes f.parameters)) ++
+    items_code w f.result (parameter_names f.parameters 0 []) no_regions (length f.parameters) 0 f.body)))
     (all_of (end_code f.result))
 
 -- the structs that a function makes or reads whole, its unnamed values
 abbrev pub routine_values : World → Routine → List Shape
 routine_values w f = item_values w (parameter_names f.parameters 0 []) (length f.parameters) f.body
 
--- ---- how many temporaries code uses, and how many words it passes
-
-abbrev pub last_of : List ℕ → ℕ
-last_of [] = 0
-last_of (t ∷ ts) = max (suc t) (last_of ts)
-
--- the temporaries of the operations that are used here
-abbrev pub operation_temporaries : Operation → ℕ
-operation_temporaries (Constant t w) = suc t
-operation_temporaries (Narrow t x) = max (suc t) (suc x)
-operation_temporaries (Apply o t x y) = max (suc t) (max (suc x) (suc y))
-operation_temporaries (NullPointer t) = suc t
-operation_temporaries (LocalAddress t out local) = suc t
-operation_temporaries (OwnAddress t object) = suc t
-operation_temporaries (DataAddress t object) = suc t
-operation_temporaries (Offset t p cells bytes) = max (suc t) (suc p)
-operation_temporaries (Element t p i cells bytes) = max (suc t) (max (suc p) (suc i))
-operation_temporaries (Get t out local width) = suc t
-operation_temporaries (Put out local width x) = suc x
-operation_temporaries (Load t p d) = max (suc t) (suc p)
-operation_temporaries (Store p d x) = max (suc p) (suc x)
-operation_temporaries (Copy to from layout) = max (suc to) (suc from)
-operation_temporaries (Clear p layout count) = suc p
-operation_temporaries (IsNull t p) = max (suc t) (suc p)
-operation_temporaries (SamePlace t p q) = max (suc t) (max (suc p) (suc q))
-operation_temporaries (Getchar t) = suc t
-operation_temporaries (Putchar t x) = max (suc t) (suc x)
-operation_temporaries (HeapHandle t) = suc t
-operation_temporaries (RegionNew t) = suc t
-operation_temporaries (RegionAlloc t h n layout) = max (suc t) (max (suc h) (suc n))
-operation_temporaries (RegionFree h) = suc h
-operation_temporaries _ = 0
-
-abbrev mutual
-  pub statement_temporaries : core.Statement → ℕ
-  statement_temporaries (Do operation) = operation_temporaries operation
-  statement_temporaries (If t these those) = max (suc t) (max (temporaries_of these) (temporaries_of those))
-  statement_temporaries (While test t body) = max (suc t) (max (temporaries_of test) (temporaries_of body))
-  statement_temporaries (Block locals body) = temporaries_of body
-  statement_temporaries Break = 0
-  statement_temporaries Continue = 0
-  statement_temporaries (Call results function arguments) = max (last_of results) (last_of arguments)
-  statement_temporaries (Return values) = last_of values
-  statement_temporaries (Raise kind) = 0
-
-  pub temporaries_of : Statements → ℕ
-  temporaries_of NoStatements = 0
-  temporaries_of (MoreStatements first others) = max (statement_temporaries first) (temporaries_of others)
-
-abbrev mutual
-  pub statement_passes : core.Statement → ℕ
-  statement_passes (Do operation) = 0
-  statement_passes (If t these those) = max (passed_by these) (passed_by those)
-  statement_passes (While test t body) = max (passed_by test) (passed_by body)
-  statement_passes (Block locals body) = passed_by body
-  statement_passes Break = 0
-  statement_passes Continue = 0
-  statement_passes (Call results function arguments) = length arguments
-  statement_passes (Return values) = 0
-  statement_passes (Raise kind) = 0
-
-  pub passed_by : Statements → ℕ
-  passed_by NoStatements = 0
-  passed_by (MoreStatements first others) = max (statement_passes first) (passed_by others)
-
 abbrev pub function_code : World → Routine → core.Function
 function_code w f = record {
-  parameters = length f.parameters;
-  temporaries = max (length f.parameters) (temporaries_of (body_code w f));
+  parameters = all_words (part_shapes f.parameters);
+  temporaries = max (all_words (part_shapes f.parameters)) (temporaries_of (body_code w f));
   passed = passed_by (body_code w f);
   own = locals_of w (routine_values w f);
   body = body_code w f;
@@ -381,7 +307,7 @@ global_datum w initial s = datum_of w s (initial_content initial s)
 -- the globals, in their order
 abbrev pub data_of : World → List Item → List Datum
 data_of w [] = []
-data_of w (tree.GlobalItem g ∷ items) = global_datum w g.initial (settled (written g.of)) ∷ data_of w items
+data_of w (tree.GlobalItem g ∷ items) = global_datum w g.initial (global_shape g.initial (settled (written g.of))) ∷ data_of w items
 data_of w (_ ∷ items) = data_of w items
 
 -- ---- programs

@@ -1,10 +1,8 @@
 -- Types and constants that lowering takes, by the forms of the tree alone.
 use Rattle.std.specs.Prelude.{◌≡◌, true, Option, Some, None, List, [], ◌∷◌}
-use Rattle.cyc_tree.specs.declared.name.Sign.{Sign}
-use Rattle.cyc_tree.specs.declared.name.Sign.TheVariants.{Nullable, NotNull, Fat}
 use Rattle.cyc_tree.specs.Tree as tree
 use Rattle.cyc_tree.specs.Tree.{RegionName, Pointer, Base, TypeName}
-use Rattle.source_meaning.specs.Shapes.{Shape, IntShape, UnsignedShape, CharShape, ThinShape}
+use Rattle.source_meaning.specs.Shapes.{Shape, IntShape, UnsignedShape, CharShape, ThinShape, FatShape}
 
 -- ---- types
 
@@ -17,11 +15,6 @@ pub record IsVoidType (t : TypeName) : Type 0 where
   pub pointers : t.pointers ≡ []
   pub base : IsVoidBase t.base
 
-abbrev pub IsThinSign : Sign → Type 0
-IsThinSign Nullable = Unit {0}
-IsThinSign NotNull = Unit {0}
-IsThinSign Fat = ⊥
-
 -- not the unique region
 abbrev pub IsSharedRegion : Option RegionName → Type 0
 IsSharedRegion None = Unit {0}
@@ -29,10 +22,10 @@ IsSharedRegion (Some (tree.Heap at)) = Unit {0}
 IsSharedRegion (Some (tree.Unique at)) = ⊥
 IsSharedRegion (Some (tree.Named name)) = Unit {0}
 
--- each pointer is thin, and none is unique
-abbrev pub AreThin : List Pointer → Type 0
-AreThin [] = Unit {0}
-AreThin (p ∷ ps) = (IsThinSign p.sign × IsSharedRegion p.region) × AreThin ps
+-- no pointer is unique
+abbrev pub AreShared : List Pointer → Type 0
+AreShared [] = Unit {0}
+AreShared (p ∷ ps) = IsSharedRegion p.region × AreShared ps
 
 -- what has a beginning: an integer, and a pointer that may be NULL
 abbrev pub HasFirst : Shape → Type 0
@@ -40,6 +33,7 @@ HasFirst IntShape = Unit {0}
 HasFirst UnsignedShape = Unit {0}
 HasFirst CharShape = Unit {0}
 HasFirst (ThinShape true owner to) = Unit {0}
+HasFirst (FatShape to) = Unit {0}
 HasFirst _ = ⊥
 
 pub record IsIntType (t : TypeName) : Type 0 where
@@ -56,6 +50,7 @@ IsIntegerShape _ = ⊥
 
 abbrev pub IsNullable : Shape → Type 0
 IsNullable (ThinShape true owner to) = Unit {0}
+IsNullable (FatShape to) = Unit {0}
 IsNullable _ = ⊥
 
 -- a number for an integer, and NULL for a pointer that may be NULL

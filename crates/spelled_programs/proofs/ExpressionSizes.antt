@@ -1,11 +1,11 @@
--- An expression has a token for each of its nodes at least.
+-- An expression has as many tokens in a text as are counted for it at least.
 use Rattle.std.proofs.Common.{ℕ, ◌+◌, ◌≤◌, length, arith}
 use Rattle.cyc_lexer.specs.declared.token.Sign.{Sign}
 use Rattle.cyc_tree.specs.Tree.{Expression, Expressions, NoExpressions, MoreExpressions, Links, NoLinks, MoreLinks, Suffixes, NoSuffixes, Index, Dot, Arrow}
 use Rattle.cyc_tree.specs.Tree.{Made, One, Array}
 use Rattle.cyc_parser.specs.Phrases.{Tokens, InParentheses}
 use Rattle.cyc_parser.specs.ExpressionGrammar.{level_of, IsExpression, AreArguments, AreOperands, AreLinks, AreSuffixes, IsMade}
-use Rattle.source_lowering.specs.Bounds.{nodes_of, made_nodes, all_nodes, joined_nodes, link_nodes, suffix_nodes}
+use Rattle.source_lowering.specs.Bounds.{tokens_of, made_tokens, argument_tokens, joined_tokens, link_tokens, suffix_tokens}
 use Rattle.spelled_programs.proofs.Shorter.{one_taken, keyword_taken, sign_taken, name_taken, string_taken, none_taken}
 
 -- a phrase takes at least so many tokens
@@ -14,7 +14,7 @@ Takes count from to = count + length to ≤ length from
 
 -- what a phrase takes, it takes in parentheses, and two more
 pub in_parentheses : (count : ℕ) (Is : Tokens → Tokens → Type 0) → ((from to : Tokens) → Is from to → Takes count from to) → (from to : Tokens)
-    → InParentheses Is from to → Takes count from to
+    → InParentheses Is from to → Takes (2 + count) from to
 in_parentheses count Is takes from to (a, b, opened, is, closed) = omega (arith, sign_taken opened, takes a b is, sign_taken closed)
 
 -- a chain's first operand, and its links, of one level
@@ -23,13 +23,13 @@ chained : (first : Expression) (links : Links) (from to : Tokens) → IsExpressi
 chained first NoLinks from to is = absurd is
 chained first (MoreLinks operator operand others) from to (a, above, leads, are) = (a, level_of operator, leads, are)
 
--- operands have a sign before each of them
-all_joined : (es : Expressions) → all_nodes es ≤ joined_nodes es
+-- arguments have a sign behind each of them, operands one before
+all_joined : (es : Expressions) → argument_tokens es ≤ joined_tokens es
 all_joined NoExpressions = omega arith
 all_joined (MoreExpressions e others) = let rest = all_joined others in omega (arith, rest)
 
 mutual
-  pub expression_size : (e : Expression) (from to : Tokens) → IsExpression e from to → Takes (nodes_of e) from to
+  pub expression_size : (e : Expression) (from to : Tokens) → IsExpression e from to → Takes (tokens_of e) from to
   expression_size (Expression.Number at value suffix) from to is = omega (arith, one_taken is)
   expression_size (Expression.Character at byte) from to is = omega (arith, one_taken is)
   expression_size (Expression.Text at bytes) from to is = omega (arith, string_taken is)
@@ -45,10 +45,10 @@ mutual
         name_taken made,
         sign_taken dot,
         name_taken named,
-        in_parentheses (nodes_of value) (IsExpression value) (expression_size value) c to is,
+        in_parentheses (tokens_of value) (IsExpression value) (expression_size value) c to is,
       )
   expression_size (Expression.NumElts at operand) from to (a, word, is) =
-      omega (arith, one_taken word, in_parentheses (nodes_of operand) (IsExpression operand) (expression_size operand) a to is)
+      omega (arith, one_taken word, in_parentheses (tokens_of operand) (IsExpression operand) (expression_size operand) a to is)
   expression_size (Expression.Grouped at inner) from to (a, b, opened, is, closed) =
       omega (arith, one_taken opened, expression_size inner a b is, sign_taken closed)
   expression_size (Expression.Suffixed primary NoSuffixes) from to is = absurd is
@@ -71,7 +71,7 @@ mutual
       omega (
         arith,
         one_taken word,
-        in_parentheses (nodes_of handle) (IsExpression handle) (expression_size handle) a b is,
+        in_parentheses (tokens_of handle) (IsExpression handle) (expression_size handle) a b is,
         made_size made b to of,
       )
   expression_size (Expression.Chain first links) from to is =
@@ -86,29 +86,29 @@ mutual
   expression_size (Expression.Assign place value) from to (a, b, level, left, sign, right) =
       omega (arith, expression_size place from a left, sign_taken sign, expression_size value b to right)
 
-  arguments_size : (es : Expressions) (from to : Tokens) → AreArguments es from to → Takes (all_nodes es) from to
+  arguments_size : (es : Expressions) (from to : Tokens) → AreArguments es from to → Takes (argument_tokens es) from to
   arguments_size NoExpressions from to closed = omega (arith, sign_taken closed)
   arguments_size (MoreExpressions first others) from to (a, b, is, are, closed) =
       omega (arith, expression_size first from a is, operands_size others _ _ a b are, all_joined others, sign_taken closed)
 
-  operands_size : (es : Expressions) (s : Sign) (least : ℕ) (from to : Tokens) → AreOperands s least es from to → Takes (joined_nodes es) from to
+  operands_size : (es : Expressions) (s : Sign) (least : ℕ) (from to : Tokens) → AreOperands s least es from to → Takes (joined_tokens es) from to
   operands_size NoExpressions s least from to is = omega (arith, none_taken is)
   operands_size (MoreExpressions e others) s least from to (a, b, level, sign, is, are) =
       omega (arith, sign_taken sign, expression_size e a b is, operands_size others s least b to are)
 
-  links_size : (links : Links) (level : ℕ) (from to : Tokens) → AreLinks level links from to → Takes (link_nodes links) from to
+  links_size : (links : Links) (level : ℕ) (from to : Tokens) → AreLinks level links from to → Takes (link_tokens links) from to
   links_size NoLinks level from to is = omega (arith, none_taken is)
   links_size (MoreLinks operator operand others) level from to (a, b, same, above, sign, is, are) =
       omega (arith, sign_taken sign, expression_size operand a b is, links_size others level b to are)
 
-  suffixes_size : (suffixes : Suffixes) (from to : Tokens) → AreSuffixes suffixes from to → Takes (suffix_nodes suffixes) from to
+  suffixes_size : (suffixes : Suffixes) (from to : Tokens) → AreSuffixes suffixes from to → Takes (suffix_tokens suffixes) from to
   suffixes_size NoSuffixes from to is = omega (arith, none_taken is)
   suffixes_size (Index index others) from to (a, b, c, opened, is, closed, are) =
       omega (arith, sign_taken opened, expression_size index a b is, sign_taken closed, suffixes_size others c to are)
   suffixes_size (Dot member others) from to (a, b, sign, name, are) = omega (arith, sign_taken sign, name_taken name, suffixes_size others b to are)
   suffixes_size (Arrow member others) from to (a, b, sign, name, are) = omega (arith, sign_taken sign, name_taken name, suffixes_size others b to are)
 
-  made_size : (made : Made) (from to : Tokens) → IsMade made from to → Takes (made_nodes made) from to
+  made_size : (made : Made) (from to : Tokens) → IsMade made from to → Takes (made_tokens made) from to
   made_size (One value) from to (level, is) = omega (arith, expression_size value from to is)
   made_size (Array index count element) from to (a, b, c, d, e, f, g, opened, word, name, less, counted, colon, each, closed) =
       omega (

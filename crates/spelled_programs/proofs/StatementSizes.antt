@@ -1,4 +1,4 @@
--- A statement has at least the tokens of its nodes, and one of its own.
+-- A statement has at least the tokens of its expressions, and one of its own.
 use Rattle.std.proofs.Common.{ℕ, ◌+◌, ◌≤◌, length, Some, None, arith}
 use Rattle.cyc_lexer.specs.declared.token.Keyword.TheVariants as word
 use Rattle.cyc_lexer.specs.declared.token.Sign.TheVariants as sign
@@ -7,7 +7,7 @@ use Rattle.cyc_tree.specs.Tree.{Expression, Declaration, Pattern, BlockItems, No
 use Rattle.cyc_parser.specs.Phrases.{Tokens, KeywordAt, IsSign, InParentheses}
 use Rattle.cyc_parser.specs.ExpressionGrammar.{IsExpression}
 use Rattle.cyc_parser.specs.StatementGrammar.{IsCount, IsNameInParentheses, IsDeclaration, IsPattern, IsStatement, AreItems, AreClauses}
-use Rattle.source_lowering.specs.Bounds.{nodes_of, declaration_nodes, statement_size, item_size}
+use Rattle.source_lowering.specs.Bounds.{tokens_of, declaration_tokens, statement_size, item_size}
 use Rattle.spelled_programs.proofs.Shorter.{one_taken, keyword_taken, sign_taken, name_taken, none_taken, one_region_shorter, type_shorter}
 use Rattle.spelled_programs.proofs.ExpressionSizes.{Takes, in_parentheses, expression_size}
 
@@ -20,7 +20,7 @@ name_in_parentheses : (n : tree.Name) (from to : Tokens) → IsNameInParentheses
 name_in_parentheses n from to (a, b, opened, is, closed) = omega (arith, sign_taken opened, name_taken is, sign_taken closed)
 
 -- its name and its semicolon are two tokens
-declaration_size : (declaration : Declaration) (from to : Tokens) → IsDeclaration declaration from to → Takes (1 + declaration_nodes declaration) from to
+declaration_size : (declaration : Declaration) (from to : Tokens) → IsDeclaration declaration from to → Takes (1 + declaration_tokens declaration) from to
 declaration_size (tree.Local of name tree.Unset) from to (a, b, c, typed, is, none, ends) =
     omega (arith, type_shorter of from a typed, name_taken is, none_taken none, sign_taken ends)
 declaration_size (tree.Local of name (tree.Elements count)) from to (a, b, c, typed, is, counted, ends) =
@@ -77,8 +77,8 @@ pattern_shorter at (tree.Case member name) from to (a, b, c, d, e, f, word, open
 pattern_shorter at tree.Default from to is = omega (arith, one_taken is)
 
 -- an expression in parentheses, as a condition is
-condition_size : (e : Expression) (from to : Tokens) → InParentheses (IsExpression e) from to → Takes (nodes_of e) from to
-condition_size e = in_parentheses (nodes_of e) (IsExpression e) (expression_size e)
+condition_size : (e : Expression) (from to : Tokens) → InParentheses (IsExpression e) from to → Takes (2 + tokens_of e) from to
+condition_size e = in_parentheses (tokens_of e) (IsExpression e) (expression_size e)
 
 -- a `switch`, and its clauses
 switched : (at : ℕ) (place : Expression) (clauses : Clauses) (from to : Tokens) → IsStatement (tree.Switch at place clauses) from to

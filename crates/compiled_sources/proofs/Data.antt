@@ -1,4 +1,5 @@
--- The data of a program that is taken are numbers and NULL, each in a word or byte, one behind the other; and a struct begins with nothing but zeros.
+-- The data of a program that is taken are numbers and NULL, each in a word or byte, one behind the other; structs, fat pointers and arrays begin with nothing
+-- but zeros.
 use Rattle.std.proofs.Common.{◌≡◌, ℕ, ◌%◌, ◌^◌, ◌<◌, Bool, Option, Some, None, List, [], ◌∷◌, inl, inr, refl, sym, subst, arith}
 use Rattle.std.specs.Prelude.{slice_get, length}
 use Rattle.cyc_tree.specs.Tree as tree
@@ -9,28 +10,27 @@ use Rattle.source_meaning.specs.Shapes.{
   IntShape,
   UnsignedShape,
   CharShape,
-  VoidShape,
   ThinShape,
   FatShape,
   HandleShape,
-  KeyShape,
   StructShape,
-  UnionShape,
   ArrayShape,
   written,
   settled,
 }
 use Rattle.source_meaning.specs.Steps.{World}
+use Rattle.source_meaning.specs.Programs.{global_shape}
 use Rattle.core_meaning.specs.Memory.{Layout, PartShape, Word, Null, shape_in}
 use Rattle.core_frames.specs.Layouts.{IsNothing, IsZero}
 use Rattle.core_frames.specs.Statics.{IsPlain, IsPlainDatum, ArePlainData}
 use Rattle.core_frames.proofs.DataBytes.{one_part_plain, zero_plain}
-use Rattle.source_lowering.specs.Programs.{word_in, constant_word, constant_content, initial_content, first_content, global_datum, data_of}
-use Rattle.source_lowering.specs.Layouts.{layout_of}
-use Rattle.source_lowering.specs.Lowerable.{AreStructs, IsObject, TakesGlobal, TakesProgram}
+use Rattle.source_lowering.specs.Programs.{word_in, constant_word, constant_content, initial_content, first_content, begun_datum, global_datum, data_of}
+use Rattle.source_lowering.specs.Layouts.{local_of}
+use Rattle.source_lowering.specs.Lowerable.{AreStructs, IsObject, IsVariable, TakesGlobal, TakesProgram}
 use Rattle.source_lowering.specs.Taken.{IsIntegerShape, TakesConstant}
 use Rattle.source_lowering.proofs.WrittenTypes.{object_settled}
-use Rattle.compiled_sources.proofs.Layouts.{IsObjectLayout, object_layout}
+use Rattle.source_lowering.proofs.Programs.{global_variable}
+use Rattle.compiled_sources.proofs.Layouts.{variable_layout}
 
 constant_plain : (c : tree.Constant) (s : Shape) → IsIntegerShape s → TakesConstant s c → word_in s (constant_word c) ≡ constant_word c
     → IsPlain 4 (constant_content c s)
@@ -43,12 +43,12 @@ constant_plain (tree.Null at) s i h e = tt
 -- a word of an int or an unsigned
 word_plain : (i : Initial) → TakesGlobal IntShape i → IsPlain 4 (initial_content i IntShape)
 word_plain Initial.Unset h = omega arith
-word_plain (Initial.Elements count) h = absurd h
+word_plain (Initial.Elements count) h = omega arith
 word_plain (Initial.Given c) h = constant_plain c IntShape tt h refl
 
 unsigned_plain : (i : Initial) → TakesGlobal UnsignedShape i → IsPlain 4 (initial_content i UnsignedShape)
 unsigned_plain Initial.Unset h = omega arith
-unsigned_plain (Initial.Elements count) h = absurd h
+unsigned_plain (Initial.Elements count) h = omega arith
 unsigned_plain (Initial.Given c) h = constant_plain c UnsignedShape tt h refl
 
 constant_byte : (c : tree.Constant) → TakesConstant CharShape c → IsPlain 1 (constant_content c CharShape)
@@ -60,7 +60,7 @@ constant_byte (tree.Null at) h = tt
 
 byte_plain : (i : Initial) → TakesGlobal CharShape i → IsPlain 1 (initial_content i CharShape)
 byte_plain Initial.Unset h = omega arith
-byte_plain (Initial.Elements count) h = absurd h
+byte_plain (Initial.Elements count) h = omega arith
 byte_plain (Initial.Given c) h = constant_byte c h
 
 -- a pointer is NULL at first
@@ -73,20 +73,20 @@ null_plain (tree.Null at) b o to h = tt
 
 pointer_plain : (i : Initial) (b : Bool) (o : Owner) (to : Shape) → TakesGlobal (ThinShape b o to) i → IsPlain 4 (initial_content i (ThinShape b o to))
 pointer_plain Initial.Unset b o to h = tt
-pointer_plain (Initial.Elements count) b o to h = absurd h
+pointer_plain (Initial.Elements count) b o to h = tt
 pointer_plain (Initial.Given c) b o to h = null_plain c b o to h
 
 -- no global is a handle
 no_handle : (i : Initial) → TakesGlobal HandleShape i → ⊥
 no_handle Initial.Unset h = h
-no_handle (Initial.Elements count) h = h
+no_handle (Initial.Elements count) h = h.1
 no_handle (Initial.Given (tree.Number at value suffix)) h = h
 no_handle (Initial.Given (tree.Negative at value suffix)) h = h
 no_handle (Initial.Given (tree.Character at byte)) h = h
 no_handle (Initial.Given (tree.Text at bytes)) h = h
 no_handle (Initial.Given (tree.Null at)) h = h
 
--- a part of a struct begins as its layout says
+-- a part begins as its layout says
 parts_zero : (l : Layout) → IsZero l → (cell part : ℕ) → IsNothing (first_content (shape_in (slice_get l.cells cell) part))
 parts_zero l h cell part = by (shape_in (slice_get l.cells cell) part) refl
   where
@@ -94,23 +94,31 @@ parts_zero l h cell part = by (shape_in (slice_get l.cells cell) part) refl
     by None e = tt
     by (Some s) e = h.nothing cell part s (record { is = e })
 
-datum_plain : (w : World) (i : Initial) (s : Shape) → AreStructs w.unions w.structs → IsObject w.structs s → TakesGlobal s i
+begun_plain : (w : World) (s : Shape) → AreStructs w.unions w.structs → IsVariable w.structs s → IsPlainDatum (begun_datum (local_of w s))
+begun_plain w s structs variable =
+    let l = variable_layout w s structs variable in
+    let layout : Layout = (local_of w s).layout in
+    zero_plain (begun_datum (local_of w s)) l.joined l.whole (λ cell part. parts_zero layout l.nothing (cell % length layout.cells) part)
+
+object_plain : (w : World) (i : Initial) (s : Shape) → AreStructs w.unions w.structs → IsObject w.structs s → TakesGlobal s i
     → IsPlainDatum (global_datum w i s)
-datum_plain w i IntShape k h t = one_part_plain 4 (Word 0) (global_datum w i IntShape) (inr refl) refl (λ cell. word_plain i t)
-datum_plain w i UnsignedShape k h t = one_part_plain 4 (Word 0) (global_datum w i UnsignedShape) (inr refl) refl (λ cell. unsigned_plain i t)
-datum_plain w i CharShape k h t = one_part_plain 1 (Word 0) (global_datum w i CharShape) (inl refl) refl (λ cell. byte_plain i t)
-datum_plain w i (ThinShape may_be_null owner to) k h t =
+object_plain w i IntShape k h t = one_part_plain 4 (Word 0) (global_datum w i IntShape) (inr refl) refl (λ cell. word_plain i t)
+object_plain w i UnsignedShape k h t = one_part_plain 4 (Word 0) (global_datum w i UnsignedShape) (inr refl) refl (λ cell. unsigned_plain i t)
+object_plain w i CharShape k h t = one_part_plain 1 (Word 0) (global_datum w i CharShape) (inl refl) refl (λ cell. byte_plain i t)
+object_plain w i (ThinShape may_be_null owner to) k h t =
     one_part_plain 4 Null (global_datum w i (ThinShape may_be_null owner to)) (inr refl) refl (λ cell. pointer_plain i may_be_null owner to t)
-datum_plain w i (StructShape tag) k h t =
-    let l : IsObjectLayout (layout_of w (StructShape tag)) = object_layout w (StructShape tag) k h in
-    zero_plain (global_datum w i (StructShape tag)) l.joined l.whole
-    (λ cell part. parts_zero (layout_of w (StructShape tag)) l.nothing (cell % length (layout_of w (StructShape tag)).cells) part)
-datum_plain w i VoidShape k h t = absurd h
-datum_plain w i (FatShape to) k h t = absurd h
-datum_plain w i HandleShape k h t = absurd (no_handle i t)
-datum_plain w i KeyShape k h t = absurd h
-datum_plain w i (UnionShape tag) k h t = absurd h
-datum_plain w i (ArrayShape count of) k h t = absurd h
+object_plain w i (StructShape tag) k h t = begun_plain w (StructShape tag) k h
+object_plain w i (FatShape to) k h t = begun_plain w (FatShape to) k h
+object_plain w i HandleShape k h t = absurd (no_handle i t)
+object_plain w i _ k h t = absurd h
+
+-- an object, or an array of objects
+datum_plain : (w : World) (i : Initial) (s : Shape) → AreStructs w.unions w.structs → IsObject w.structs s → TakesGlobal s i
+    → IsPlainDatum (global_datum w i (global_shape i s))
+datum_plain w Initial.Unset s k h t = object_plain w Initial.Unset s k h t
+datum_plain w (Initial.Elements count) s k h t =
+    begun_plain w (ArrayShape count s) k (global_variable w (Initial.Elements count) s t h)
+datum_plain w (Initial.Given c) s k h t = object_plain w (Initial.Given c) s k h t
 
 pub data_plain : (w : World) (items : List Item) → AreStructs w.unions w.structs → TakesProgram w items → ArePlainData (data_of w items)
 data_plain w [] k h = tt

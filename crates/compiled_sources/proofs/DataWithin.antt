@@ -21,7 +21,7 @@ use Rattle.source_meaning.specs.Shapes.{
   written,
 }
 use Rattle.source_meaning.specs.Sizes.{rounded_up}
-use Rattle.source_meaning.specs.Programs.{world_of}
+use Rattle.source_meaning.specs.Programs.{global_shape, world_of}
 use Rattle.source_meaning.specs.Steps.{World}
 use Rattle.source_meaning.specs.Strings.{item_strings}
 use Rattle.core_frames.specs.Selected.{rounded, bytes_of, end_from, datum_local, datum_locals}
@@ -133,9 +133,9 @@ module _ (g : Tables) (w : World) where
       let one = first_within so_far x.of.at (rounded_up (global_size (at_item false g i) x) 8) (map static_string (item_strings (tree.GlobalItem x)) ++ rest) counted in
       let (next, above, below, none) = skipped (map static_string (item_strings (tree.GlobalItem x))) rest
       (so_far + rounded_up (global_size (at_item false g i) x) 8) one.0 one.1 in
-      let size : ℕ = bytes_of (datum_local (global_datum w x.initial (settled (written x.of)))) in
+      let size : ℕ = bytes_of (datum_local (global_datum w x.initial (global_shape x.initial (settled (written x.of))))) in
       let bytes : rounded_up size 8 ≡ rounded_up (global_size (at_item false g i) x) 8 =
-      ap (λ (k : ℕ). rounded_up k 8) (datum_bytes w x.initial (settled (written x.of)) ∙ a.0) in
+      ap (λ (k : ℕ). rounded_up k 8) (datum_bytes w x.initial (global_shape x.initial (settled (written x.of))) ∙ a.0) in
       let room = next_rounded low so_far size h in
       within items (suc i) (rounded low + size) next (x.name.text ∷ some) (x.name.text ∷ seen) (one_more some seen x.name.text s) names.1 a.1
       (omega (arith, room, bytes, above)) below none

@@ -1,9 +1,9 @@
 -- The code of an expression names locals of the blocks around it, globals, and unnamed values of its function, where its names and the program's globals lie
 -- there, and its unnamed values are numbered among the function's.
-use Rattle.std.proofs.Common.{ℕ, zero, suc, ◌+◌, ◌≤◌, List, [], ◌∷◌, ◌++◌, length, arith, length-append}
+use Rattle.std.proofs.Common.{ℕ, suc, ◌+◌, ◌≤◌, List, [], ◌∷◌, length, arith, length-append}
 use Rattle.cyc_tree.specs.Tree.{Expression, Expressions, NoExpressions, MoreExpressions, Links, NoLinks, MoreLinks, Suffixes, NoSuffixes, Index, Dot, Arrow}
 use Rattle.cyc_tree.specs.Tree.{Made, One, Array}
-use Rattle.source_meaning.specs.Shapes.{Shape, Part, part_shapes, parts_of}
+use Rattle.source_meaning.specs.Shapes.{Shape, Part, part_shapes, parts_of, pointee}
 use Rattle.source_meaning.specs.Sizes.{rounded_up}
 use Rattle.source_meaning.specs.Steps.{World}
 use Rattle.source_meaning.specs.Operators.{operator_shape}
@@ -11,12 +11,16 @@ use Rattle.source_meaning.specs.Places.{bound_to}
 use Rattle.source_meaning.specs.Conversions.{cells_of}
 use Rattle.core_meaning.specs.Core.{Statement}
 use Rattle.source_lowering.specs.Layouts.{extent_of}
+use Rattle.source_lowering.specs.Members.{words_in}
 use Rattle.source_lowering.specs.Lowered.{
   Named,
   local_named,
+  prefix_shape,
   static_shape,
+  suffixed_shape,
   values_by,
   expression_values,
+  suffix_values,
   all_values,
   link_values,
   new_values,
@@ -24,9 +28,10 @@ use Rattle.source_lowering.specs.Lowered.{
   made_values,
   Left,
   left_of,
+  member_at,
+  member_behind,
+  element_at,
   suffixed_code,
-  suffixed_place,
-  offset_code,
   put_code,
   place_code,
   operator_code,
@@ -34,7 +39,7 @@ use Rattle.source_lowering.specs.Lowered.{
   word_code,
   address_by,
   call_parameters,
-  count_of,
+  argument_words,
   expression_code,
   links_code,
   all_code,
@@ -44,10 +49,27 @@ use Rattle.source_lowering.specs.Lowered.{
   whole_code,
   members_code,
 }
-use Rattle.source_lowering.specs.Lowerable.{AreObjects, AreStructs, TakesSuffixes, Takes, TakesPlace, TakesAll, TakesLinks, TakesNew, TakesWhole, TakesMade}
+use Rattle.source_lowering.specs.Lowerable.{
+  IsTarget,
+  AreObjects,
+  AreStructs,
+  TakesSuffixes,
+  TakesMembers,
+  Takes,
+  TakesPlace,
+  TakesAll,
+  TakesLinks,
+  TakesNew,
+  TakesWhole,
+  TakesMade,
+}
 use Rattle.source_lowering.proofs.Structs.{struct_made}
+use Rattle.source_lowering.proofs.Integers.{value_taken, taken_target}
+use Rattle.source_lowering.proofs.EachCall.{AllValues, call_values}
 use Rattle.compiled_sources.specs.Naming.{CodeNames}
 use Rattle.compiled_sources.proofs.Naming.{both_name, all_name}
+use Rattle.compiled_sources.proofs.StaticShapes.{place_target, shape_taken}
+use Rattle.compiled_sources.proofs.Pointers.{stores_names, LeftNames, member_left, behind_left, element_left, pointed_left, stored_left}
 use Rattle.compiled_sources.proofs.MadeNames.{read_names, member_names, made_names}
 use Rattle.compiled_sources.proofs.Parts.{
   local_lies,
@@ -56,56 +78,14 @@ use Rattle.compiled_sources.proofs.Parts.{
   get_names,
   put_names,
   address_names,
-  check_names,
   conversion_names,
   operator_names,
+  count_names,
   word_names,
   prefix_names,
   pointed_names,
   call_names,
 }
-
--- ---- members
-
-record LeftNames (blocks : List ℕ) (own n : ℕ) (left : Left) : Type 0 where
-  value : CodeNames blocks own n left.value
-  pointer : CodeNames blocks own n left.pointer
-
-suffixes_names : (blocks : List ℕ) (own n : ℕ) (w : World) (suffixes : Suffixes) (d : ℕ) (left : Left) → LeftNames blocks own n left
-    → LeftNames blocks own n (suffixed_code w suffixes d left)
-suffixes_names blocks own n w NoSuffixes d left h = h
-suffixes_names blocks own n w (Index index others) d left h = record { value = tt; pointer = tt }
-suffixes_names blocks own n w (Dot f others) d left h =
-    suffixes_names blocks own n w others d _ (record { value = both_name blocks own n _ _ h.pointer (tt, tt); pointer = h.pointer })
-suffixes_names blocks own n w (Arrow f others) d left h =
-    let checked = both_name blocks own n _ _ h.value (check_names blocks own n d left.shape) in
-    suffixes_names blocks own n w others d _ (record { value = both_name blocks own n _ _ checked (tt, tt); pointer = checked })
-
--- suffixes on a primary expression
-primary_names : (blocks : List ℕ) (own n : ℕ) (w : World) (suffixes : Suffixes) (d : ℕ) (shape : Shape) (value pointer : List Statement)
-    (for_value for_place : Type 0) → TakesSuffixes w suffixes shape for_value for_place → (for_value → CodeNames blocks own n value)
-    → (for_place → CodeNames blocks own n pointer) → LeftNames blocks own n (suffixed_code w suffixes d (left_of shape value pointer))
-primary_names blocks own n w NoSuffixes d shape value pointer for_value for_place takes v p = absurd takes
-primary_names blocks own n w (Index index others) d shape value pointer for_value for_place takes v p = absurd takes
-primary_names blocks own n w (Dot f others) d shape value pointer for_value for_place takes v p =
-    let h = p takes.0 in suffixes_names blocks own n w others d _ (record { value = both_name blocks own n _ _ h (tt, tt); pointer = h })
-primary_names blocks own n w (Arrow f others) d shape value pointer for_value for_place takes v p =
-    let checked = both_name blocks own n _ _ (v takes.0) (check_names blocks own n d shape) in
-    suffixes_names blocks own n w others d _ (record { value = both_name blocks own n _ _ checked (tt, tt); pointer = checked })
-
-offset_names : (blocks : List ℕ) (own n d cells bytes : ℕ) → CodeNames blocks own n (offset_code d cells bytes)
-offset_names blocks own n d zero zero = tt
-offset_names blocks own n d zero (suc bytes) = (tt, tt)
-offset_names blocks own n d (suc cells) bytes = (tt, tt)
-
-placed_names : (blocks : List ℕ) (own n : ℕ) (w : World) (suffixes : Suffixes) (d : ℕ) (shape : Shape) (value pointer : List Statement)
-    (for_value for_place : Type 0) → TakesSuffixes w suffixes shape for_value for_place → (for_value → CodeNames blocks own n value)
-    → (for_place → CodeNames blocks own n pointer) → CodeNames blocks own n (suffixed_place w suffixes shape d value pointer)
-placed_names blocks own n w suffixes d shape value pointer for_value for_place takes v p =
-    both_name blocks own n _ _ (primary_names blocks own n w suffixes d shape value pointer for_value for_place takes v p).pointer
-    (offset_names blocks own n d _ _)
-
--- ---- expressions
 
 -- the code is in blocks that have so many locals each, in a function of so many unnamed values, over so many objects of the data
 module _ (blocks : List ℕ) (own n : ℕ) (w : World) (names : List Named) (structs : AreStructs w.unions w.structs) (around : Around blocks n w names) where
@@ -115,6 +95,10 @@ module _ (blocks : List ℕ) (own n : ℕ) (w : World) (names : List Named) (str
       address_names blocks own n d (local_named names name) (bound_to w.globals name) (local_lies blocks names name around.locals)
       (global_lies n w.globals name around.globals)
 
+  -- what a pointer that is taken leads to is no array
+  value_target : (e : Expression) → Takes w names e → IsTarget (static_shape w names e)
+  value_target e h = taken_target (static_shape w names e) (shape_taken w names around.plain around.words e h)
+
   mutual
     stored_names : (e : Expression) (d next : ℕ) → TakesPlace w names e → next + length (expression_values w names e) ≤ own
         → CodeNames blocks own n (put_code w names e d next)
@@ -123,14 +107,18 @@ module _ (blocks : List ℕ) (own n : ℕ) (w : World) (names : List Named) (str
         (global_lies n w.globals name.text around.globals)
     stored_names (Expression.Grouped at inner) d next h f = stored_names inner d next h f
     stored_names (Expression.Prefixed at operator operand) d next h f =
+        let s = prefix_shape operator (static_shape w names operand) in
+        let p = d + words_in s in
         both_name blocks own n _ _
-        (pointed_names blocks own n operator (static_shape w names operand) (d + 1) (expression_code w names operand (d + 1) next) (Takes w names operand) h
-        (λ k. expression_names operand (d + 1) next k f)) (tt, tt)
+        (pointed_names blocks own n w structs operator (static_shape w names operand) p (expression_code w names operand p next) (Takes w names operand) h
+        (λ k. value_target operand k) (λ k. expression_names operand p next k f)) (stores_names blocks own n s p d 0 0)
     stored_names (Expression.Suffixed primary others) d next h f =
-        both_name blocks own n _ _
-        (primary_names blocks own n w others (d + 1) (static_shape w names primary) (expression_code w names primary (d + 1) next)
-        (place_code w names primary (d + 1) next) (Takes w names primary) (TakesPlace w names primary) h
-        (λ k. expression_names primary (d + 1) next k f) (λ k. place_names primary (d + 1) next k f)).pointer (tt, tt)
+        let first = next + length (suffix_values w names others) in
+        let many = length-append (suffix_values w names others) (expression_values w names primary) in
+        stored_left blocks own n w structs _ (d + words_in (suffixed_shape w others (static_shape w names primary))) d
+        (primary_names others (static_shape w names primary) (λ x. expression_code w names primary x first) (λ x. place_code w names primary x first)
+        primary next h (omega (arith, f, many)) (λ k. value_target primary k)
+        (λ k x. expression_names primary x first k (omega (arith, f, many))) (λ k x. place_names primary x first k (omega (arith, f, many))))
     stored_names _ d next h f = absurd h
 
     pub place_names : (e : Expression) (d next : ℕ) → TakesPlace w names e → next + length (expression_values w names e) ≤ own
@@ -138,11 +126,15 @@ module _ (blocks : List ℕ) (own n : ℕ) (w : World) (names : List Named) (str
     place_names (Expression.Variable name) d next h f = variable_names name.text d
     place_names (Expression.Grouped at inner) d next h f = place_names inner d next h f
     place_names (Expression.Prefixed at operator operand) d next h f =
-        pointed_names blocks own n operator (static_shape w names operand) d (expression_code w names operand d next) (Takes w names operand) h
-        (λ k. expression_names operand d next k f)
+        pointed_names blocks own n w structs operator (static_shape w names operand) d (expression_code w names operand d next) (Takes w names operand) h
+        (λ k. value_target operand k) (λ k. expression_names operand d next k f)
     place_names (Expression.Suffixed primary others) d next h f =
-        placed_names blocks own n w others d (static_shape w names primary) (expression_code w names primary d next) (place_code w names primary d next)
-        (Takes w names primary) (TakesPlace w names primary) h (λ k. expression_names primary d next k f) (λ k. place_names primary d next k f)
+        let first = next + length (suffix_values w names others) in
+        let many = length-append (suffix_values w names others) (expression_values w names primary) in
+        pointed_left blocks own n w structs _ d
+        (primary_names others (static_shape w names primary) (λ x. expression_code w names primary x first) (λ x. place_code w names primary x first)
+        primary next h (omega (arith, f, many)) (λ k. value_target primary k)
+        (λ k x. expression_names primary x first k (omega (arith, f, many))) (λ k x. place_names primary x first k (omega (arith, f, many))))
     place_names _ d next h f = absurd h
 
     pub expression_names : (e : Expression) (d next : ℕ) → Takes w names e → next + length (expression_values w names e) ≤ own
@@ -155,16 +147,24 @@ module _ (blocks : List ℕ) (own n : ℕ) (w : World) (names : List Named) (str
         get_names blocks own n d (local_named names name.text) (bound_to w.globals name.text) (local_lies blocks names name.text around.locals)
         (global_lies n w.globals name.text around.globals)
     expression_names (Expression.Call name arguments) d next h f =
-        both_name blocks own n _ _ (arguments_name (call_parameters w name.text) arguments d next h.1 f)
-        (call_names blocks own n w name.text (count_of arguments) d)
+        both_name blocks own n _ _
+        (arguments_name (call_parameters w name.text) arguments d next (call_values w name.text around.plain) h.1 f)
+        (call_names blocks own n w name.text (argument_words (call_parameters w name.text) arguments) d)
+    expression_names (Expression.NumElts at operand) d next h f =
+        both_name blocks own n _ _ (expression_names operand d next h f) (count_names blocks own n d)
     expression_names (Expression.Grouped at inner) d next h f = expression_names inner d next h f
     expression_names (Expression.Prefixed at operator operand) d next h f =
-        prefix_names blocks own n operator (static_shape w names operand) d (expression_code w names operand (d + 1) next)
+        prefix_names blocks own n w structs operator (static_shape w names operand) d (expression_code w names operand (d + 1) next)
         (expression_code w names operand d next) (place_code w names operand d next) (Takes w names operand) (TakesPlace w names operand) h
-        (λ k. expression_names operand (d + 1) next k f) (λ k. expression_names operand d next k f) (λ k. place_names operand d next k f)
+        (λ k. value_target operand k) (λ k. expression_names operand (d + 1) next k f) (λ k. expression_names operand d next k f)
+        (λ k. place_names operand d next k f)
     expression_names (Expression.Suffixed primary others) d next h f =
-        (primary_names blocks own n w others d (static_shape w names primary) (expression_code w names primary d next) (place_code w names primary d next)
-        (Takes w names primary) (TakesPlace w names primary) h.0 (λ k. expression_names primary d next k f) (λ k. place_names primary d next k f)).value
+        let first = next + length (suffix_values w names others) in
+        let many = length-append (suffix_values w names others) (expression_values w names primary) in
+        (primary_names others (static_shape w names primary) (λ x. expression_code w names primary x first) (λ x. place_code w names primary x first)
+        primary next h.0 (omega (arith, f, many)) (λ k. value_target primary k)
+        (λ k x. expression_names primary x first k (omega (arith, f, many)))
+        (λ k x. place_names primary x first k (omega (arith, f, many)))).value d
     expression_names (Expression.New at new) d next h f = (tt, new_names new d next h f)
     expression_names (Expression.NewIn at handle new) d next h f =
         let many = length-append (expression_values w names handle) (new_values w names new) in
@@ -178,37 +178,80 @@ module _ (blocks : List ℕ) (own n : ℕ) (w : World) (names : List Named) (str
         let many = length-append (expression_values w names first) (all_values w names others) in
         let behind = next + length (expression_values w names first) in
         both_name blocks own n _ _
-        (both_name blocks own n _ _ (expression_names first d next h.0 (omega (arith, f, many))) (word_names blocks own n d (static_shape w names first)))
+        (both_name blocks own n _ _ (expression_names first d next h.0 (omega (arith, f, many))) (word_names blocks own n (static_shape w names first) d))
         (both_name blocks own n (all_code w names others d behind) (truth_code d) (each_names others d behind h.1 (omega (arith, f, many))) (tt, (tt, tt)))
     expression_names (Expression.AnyOf first others) d next h f =
         let many = length-append (expression_values w names first) (all_values w names others) in
         let behind = next + length (expression_values w names first) in
         both_name blocks own n _ _
-        (both_name blocks own n _ _ (expression_names first d next h.0 (omega (arith, f, many))) (word_names blocks own n d (static_shape w names first)))
+        (both_name blocks own n _ _ (expression_names first d next h.0 (omega (arith, f, many))) (word_names blocks own n (static_shape w names first) d))
         (both_name blocks own n (any_code w names others d behind) (truth_code d) (any_names others d behind h.1 (omega (arith, f, many))) (tt, (tt, tt)))
     expression_names (Expression.Assign place value) d next h f =
         let many = length-append (expression_values w names value) (expression_values w names place) in
         both_name blocks own n _ _ (expression_names value d next h.1.0 (omega (arith, f, many)))
-        (both_name blocks own n _ _ (conversion_names blocks own n d (static_shape w names place) (static_shape w names value))
+        (both_name blocks own n _ _
+        (conversion_names blocks own n w structs (static_shape w names place) (static_shape w names value) d
+        (place_target w names around.plain around.words place h.0))
         (stored_names place d (next + length (expression_values w names value)) h.0 (omega (arith, f, many))))
     expression_names _ d next h f = absurd h
 
-    arguments_name : (shapes : List Shape) (es : Expressions) (d next : ℕ) → TakesAll w names es → next + length (all_values w names es) ≤ own
-        → CodeNames blocks own n (arguments_code w names shapes es d next)
-    arguments_name [] es d next h f = tt
-    arguments_name (s ∷ ss) NoExpressions d next h f = tt
-    arguments_name (s ∷ ss) (MoreExpressions e es) d next h f =
+    -- suffixes on a primary expression
+    primary_names : (suffixes : Suffixes) (s : Shape) (value pointer : ℕ → List Statement) (primary : Expression) (next : ℕ)
+        → TakesSuffixes w names suffixes s (Takes w names primary) (TakesPlace w names primary) → next + length (suffix_values w names suffixes) ≤ own
+        → (Takes w names primary → IsTarget s) → (Takes w names primary → (d : ℕ) → CodeNames blocks own n (value d))
+        → (TakesPlace w names primary → (d : ℕ) → CodeNames blocks own n (pointer d))
+        → LeftNames blocks own n w structs (suffixed_code w names suffixes (left_of s value pointer) next)
+    primary_names NoSuffixes s value pointer primary next takes f t v p = absurd takes
+    primary_names (Index index others) s value pointer primary next takes f t v p =
+        let first = next + length (suffix_values w names others) in
+        let many = length-append (suffix_values w names others) (expression_values w names index) in
+        let code : ℕ → List Statement = λ d. expression_code w names index d first in
+        suffixes_names others (element_at w (pointee s) code value) next takes.1.1.1 (omega (arith, f, many))
+        (element_left blocks own n w structs (pointee s) code value takes.1.1.0
+        (λ d. expression_names index d first takes.1.0 (omega (arith, f, many))) (v takes.0))
+    primary_names (Dot field others) s value pointer primary next takes f t v p =
+        suffixes_names others (member_at w s pointer 0 0 field.text) next takes.1.1 f
+        (member_left blocks own n w structs s pointer 0 0 field.text takes.1.0 (p takes.0))
+    primary_names (Arrow field others) s value pointer primary next takes f t v p =
+        let left : Left = left_of s value pointer in
+        suffixes_names others (member_behind w left field.text) next takes.1.1 f
+        (behind_left blocks own n w structs left field.text (t takes.0) takes.1.0 (v takes.0))
+
+    -- further ones on what they lead to
+    suffixes_names : (suffixes : Suffixes) (left : Left) (next : ℕ) → TakesMembers w names suffixes left.shape
+        → next + length (suffix_values w names suffixes) ≤ own → LeftNames blocks own n w structs left
+        → LeftNames blocks own n w structs (suffixed_code w names suffixes left next)
+    suffixes_names NoSuffixes left next takes f h = h
+    suffixes_names (Index index others) left next takes f h =
+        let first = next + length (suffix_values w names others) in
+        let many = length-append (suffix_values w names others) (expression_values w names index) in
+        let code : ℕ → List Statement = λ d. expression_code w names index d first in
+        suffixes_names others (element_at w (pointee left.shape) code left.value) next takes.1.1.1 (omega (arith, f, many))
+        (element_left blocks own n w structs (pointee left.shape) code left.value takes.1.1.0
+        (λ d. expression_names index d first takes.1.0 (omega (arith, f, many))) h.value)
+    suffixes_names (Dot field others) left next takes f h =
+        suffixes_names others (member_at w left.shape left.pointer left.cells left.bytes field.text) next takes.1 f
+        (member_left blocks own n w structs left.shape left.pointer left.cells left.bytes field.text takes.0 h.pointer)
+    suffixes_names (Arrow field others) left next takes f h =
+        suffixes_names others (member_behind w left field.text) next takes.1.1 f
+        (behind_left blocks own n w structs left field.text h.target takes.1.0 h.value)
+
+    arguments_name : (shapes : List Shape) (es : Expressions) (d next : ℕ) → AllValues shapes → TakesAll w names es
+        → next + length (all_values w names es) ≤ own → CodeNames blocks own n (arguments_code w names shapes es d next)
+    arguments_name [] es d next values h f = tt
+    arguments_name (s ∷ ss) NoExpressions d next values h f = tt
+    arguments_name (s ∷ ss) (MoreExpressions e es) d next values h f =
         let many = length-append (expression_values w names e) (all_values w names es) in
         both_name blocks own n _ _ (expression_names e d next h.0 (omega (arith, f, many)))
-        (both_name blocks own n _ _ (conversion_names blocks own n d s (static_shape w names e))
-        (arguments_name ss es (d + 1) (next + length (expression_values w names e)) h.1 (omega (arith, f, many))))
+        (both_name blocks own n _ _ (conversion_names blocks own n w structs s (static_shape w names e) d (taken_target s (value_taken s values.0)))
+        (arguments_name ss es (d + words_in s) (next + length (expression_values w names e)) values.1 h.1 (omega (arith, f, many))))
 
     links_name : (links : Links) (left : Shape) (d next : ℕ) → TakesLinks w names links → next + length (link_values w names links) ≤ own
         → CodeNames blocks own n (links_code w names links left d next)
     links_name NoLinks left d next h f = tt
     links_name (MoreLinks operator operand others) left d next h f =
         let many = length-append (expression_values w names operand) (link_values w names others) in
-        both_name blocks own n _ _ (expression_names operand (d + 1) next h.0 (omega (arith, f, many)))
+        both_name blocks own n _ _ (expression_names operand (d + words_in left) next h.0 (omega (arith, f, many)))
         (both_name blocks own n (operator_code operator left (static_shape w names operand) d) _
         (operator_names blocks own n operator left (static_shape w names operand) d)
         (links_name others (operator_shape operator left (static_shape w names operand)) d (next + length (expression_values w names operand)) h.1
@@ -221,7 +264,7 @@ module _ (blocks : List ℕ) (own n : ℕ) (w : World) (names : List Named) (str
         let many = length-append (expression_values w names e) (all_values w names es) in (
           (
             all_name blocks own n _ (both_name blocks own n (expression_code w names e d next) (word_code (static_shape w names e) d)
-                (expression_names e d next h.0 (omega (arith, f, many))) (word_names blocks own n d (static_shape w names e))),
+                (expression_names e d next h.0 (omega (arith, f, many))) (word_names blocks own n (static_shape w names e) d)),
             tt,
           ),
           each_names es d (next + length (expression_values w names e)) h.1 (omega (arith, f, many)),
@@ -235,7 +278,7 @@ module _ (blocks : List ℕ) (own n : ℕ) (w : World) (names : List Named) (str
           (
             tt,
             all_name blocks own n _ (both_name blocks own n (expression_code w names e d next) (word_code (static_shape w names e) d)
-                (expression_names e d next h.0 (omega (arith, f, many))) (word_names blocks own n d (static_shape w names e))),
+                (expression_names e d next h.0 (omega (arith, f, many))) (word_names blocks own n (static_shape w names e) d)),
           ),
           any_names es d (next + length (expression_values w names e)) h.1 (omega (arith, f, many)),
         )
@@ -260,14 +303,17 @@ module _ (blocks : List ℕ) (own n : ℕ) (w : World) (names : List Named) (str
     whole_names (Expression.Variable name) d next h f =
         read_names blocks own n w structs (static_shape w names (Expression.Variable name)) d next _ h.1 (omega (arith, f)) (variable_names name.text d)
     whole_names (Expression.Suffixed primary others) d next h f =
+        let first = suc next + length (suffix_values w names others) in
+        let many = length-append (suffix_values w names others) (expression_values w names primary) in
         read_names blocks own n w structs (static_shape w names (Expression.Suffixed primary others)) d next _ h.1 (omega (arith, f))
-        (placed_names blocks own n w others d (static_shape w names primary) (expression_code w names primary d (suc next))
-        (place_code w names primary d (suc next)) (Takes w names primary) (TakesPlace w names primary) h.0
-        (λ k. expression_names primary d (suc next) k (omega (arith, f))) (λ k. place_names primary d (suc next) k (omega (arith, f))))
+        (pointed_left blocks own n w structs _ d
+        (primary_names others (static_shape w names primary) (λ x. expression_code w names primary x first) (λ x. place_code w names primary x first)
+        primary (suc next) h.0 (omega (arith, f, many)) (λ k. value_target primary k)
+        (λ k x. expression_names primary x first k (omega (arith, f, many))) (λ k x. place_names primary x first k (omega (arith, f, many)))))
     whole_names (Expression.Prefixed at operator operand) d next h f =
         read_names blocks own n w structs (static_shape w names (Expression.Prefixed at operator operand)) d next _ h.1 (omega (arith, f))
-        (pointed_names blocks own n operator (static_shape w names operand) d (expression_code w names operand d (suc next)) (Takes w names operand) h.0
-        (λ k. expression_names operand d (suc next) k (omega (arith, f))))
+        (pointed_names blocks own n w structs operator (static_shape w names operand) d (expression_code w names operand d (suc next))
+        (Takes w names operand) h.0 (λ k. value_target operand k) (λ k. expression_names operand d (suc next) k (omega (arith, f))))
     whole_names _ d next h f = absurd h
 
     members_names : (ps : List Part) (arguments : Expressions) (d cells bytes next : ℕ) → AreObjects w.structs (part_shapes ps)

@@ -6,7 +6,7 @@ use Rattle.core_frames.specs.Lines.{code_length}
 use Rattle.core_frames.specs.Frames.{load_code, save_code, slot_of, pass_code, result_code, environment_code, test_code, move_code, take_code, prologue_code, values_code, leave_code}
 use Rattle.core_frames.specs.Choosing.{is_held, held_behind, held_behind_all, held_or_loaded, choice_code}
 use Rattle.core_frames.specs.Selected.{offsets_from, frame_bytes, datum_locals, Surroundings, labels_in, labels_of, holding, within_block, statement_code, statements_code, around, function_code, functions_code, program_code}
-use Rattle.source_lowering.specs.Bounds.{statement_operations, operations_of, all_operations, core_code}
+use Rattle.source_lowering.specs.Bounds.{branch_count, statement_operations, operations_of, all_operations, core_code}
 use Rattle.compiled_sources.proofs.OperationLengths.{IsWithin, both_within, less_within, nothing_within, load_within, save_within, operation_within}
 
 -- ---- statements
@@ -48,20 +48,29 @@ choice_within passed held t label =
     by true = nothing_within 12
     by false = load_within 5 (slot_of passed t)
 
+-- an exception alone is three lines
+branch_within : (bytes : ℕ) (u : Surroundings) (next out again : ℕ) (ss : Statements) (n : ℕ) → IsWithin (64 * n) (statements_code bytes u next out again ss)
+    → IsWithin (12 + 64 * branch_count ss n) (statements_code bytes u next out again ss)
+branch_within bytes u next out again (MoreStatements (Raise kind) NoStatements) n h = record { is = omega arith }
+branch_within bytes u next out again ss n h = less_within (64 * n) (12 + 64 * n) _ (omega arith) h
+
 mutual
   statement_within : (bytes : ℕ) (u : Surroundings) (next out again : ℕ) (s : Statement)
       → IsWithin (64 * statement_operations s) (statement_code bytes u next out again s)
   statement_within bytes u next out again (Do operation) = operation_within u operation
   statement_within bytes u next out again (If t these those) =
       let behind = next + 1 + labels_of these in
-      let a = 64 * operations_of these in let b = 64 * operations_of those in
-      less_within (20 + a + 4 + b + 0) (64 * (1 + (operations_of these + operations_of those))) _ (omega arith)
+      let n = operations_of these in let m = operations_of those in
+      let a = 12 + 64 * branch_count these n in let b = 12 + 64 * branch_count those m in
+      less_within (20 + a + 4 + b + 0) (64 * (1 + (branch_count these n + branch_count those m))) _ (omega arith)
       (both_within (20 + a + 4 + b) 0 _ (Label behind ∷ [])
       (both_within (20 + a + 4) b _ (statements_code bytes (holding None u) (behind + 1) out again those)
       (both_within (20 + a) 4 _ (Jump behind ∷ Label next ∷ [])
       (both_within 20 a (choice_code u.passed u.held t next) (statements_code bytes (holding None u) (next + 1) out again these)
-      (choice_within u.passed u.held t next) (statements_within bytes (holding None u) (next + 1) out again these)) (record { is = omega arith }))
-      (statements_within bytes (holding None u) (behind + 1) out again those)) (record { is = omega arith }))
+      (choice_within u.passed u.held t next) (branch_within bytes (holding None u) (next + 1) out again these n
+      (statements_within bytes (holding None u) (next + 1) out again these))) (record { is = omega arith }))
+      (branch_within bytes (holding None u) (behind + 1) out again those m (statements_within bytes (holding None u) (behind + 1) out again those)))
+      (record { is = omega arith }))
   statement_within bytes u next out again (While test t body) =
       let behind = next + 1 + labels_of test in
       let a = 64 * operations_of test in let b = 64 * operations_of body in

@@ -1,5 +1,8 @@
 pub mod Naming
+mod Tiles
 pub mod Layouts
+pub mod StaticShapes
+pub mod Pointers
 pub mod Parts
 pub mod MadeNames
 pub mod Expressions

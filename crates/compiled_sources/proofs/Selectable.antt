@@ -8,9 +8,9 @@ use Rattle.source_meaning.specs.Programs.{world_of}
 use Rattle.core_meaning.specs.Core.{Function}
 use Rattle.core_frames.specs.Selectable.{IsSelectableIn, IsSelectable, scope_of}
 use Rattle.source_lowering.specs.Programs.{body_code, function_code, data_of, program_code}
-use Rattle.source_lowering.specs.Lowerable.{AreStructs, IsLowerable}
-use Rattle.source_lowering.proofs.Names.{IsRoutine, AreRoutines}
-use Rattle.source_lowering.proofs.Programs.{routines_are}
+use Rattle.source_lowering.specs.Lowerable.{IsLowerable}
+use Rattle.source_lowering.proofs.Names.{IsPlainWorld, IsRoutine, AreRoutines}
+use Rattle.source_lowering.proofs.Programs.{routines_are, world_plain}
 use Rattle.compiled_sources.proofs.Naming.{have_lines}
 use Rattle.compiled_sources.proofs.Parts.{GlobalsLie}
 use Rattle.compiled_sources.proofs.Functions.{body_names, own_layouts, globals_lie, data_layouts}
@@ -29,12 +29,12 @@ code_of w (r ∷ rs) zero f all e = record { routine = r; there = refl; is = all
 code_of w (r ∷ rs) (suc number) f all e =
     let h = code_of w rs number f all.1 e in record { routine = h.routine; there = h.there; is = h.is; same = h.same }
 
-function_selectable : (n : ℕ) (w : World) (f : Routine) → GlobalsLie n w.globals → AreStructs w.unions w.structs → IsRoutine w f
+function_selectable : (n : ℕ) (w : World) (f : Routine) → GlobalsLie n w.globals → IsPlainWorld w → IsRoutine w f
     → IsSelectableIn n (function_code w f)
-function_selectable n w f globals structs is = record {
-  own_layouts = own_layouts w f structs is;
+function_selectable n w f globals plain is = record {
+  own_layouts = own_layouts w f plain.structs is;
   few = omega arith;
-  body = have_lines (scope_of n (function_code w f)) (body_code w f) (body_names n w f globals structs is) (omega arith) (omega arith);
+  body = have_lines (scope_of n (function_code w f)) (body_code w f) (body_names n w f globals plain is) (omega arith) (omega arith);
 }
 
 -- A program that is lowered can be selected: each operation names temporaries, locals, arguments and data that its function and program have.
@@ -47,5 +47,5 @@ selectable p h =
       functions = λ number f is.
           let c = code_of w w.functions number f (routines_are (world_of p) p h.items) is in
           subst (λ (g : Function). IsSelectableIn n g) c.same
-          (function_selectable n w c.routine (globals_lie w p 0 n h.items (omega arith)) h.structs c.is);
+          (function_selectable n w c.routine (globals_lie w p 0 n h.items (omega arith)) (world_plain p h) c.is);
     }

@@ -9,13 +9,11 @@ use Rattle.core_frames.specs.Running.{Begins}
 use Rattle.core_frames.specs.Statics.{data_bytes}
 use Rattle.core_frames.proofs.Images.{IsFirst, begins_as, data_length}
 use Rattle.rv32_layout.specs.Holding.{IsCodeOf}
-use Rattle.rv32_layout.specs.Limits.{AreTooLarge}
 use Rattle.rv32_layout.specs.Placed.{ArePlaced, place_of}
-use Rattle.rv32_layout.proofs.Programs.{too_long}
 use Rattle.cyc_image.specs.Format.{Contents, Fits, IsImage, code_limit, data_limit}
 use Rattle.cyc_tree.specs.Tree.{Program}
 use Rattle.rv32_machine.specs.Arrays.{Arrays, IsStart, areas_of, state_of}
-use Rattle.judged_sources.proofs.Joined.{have_main, never_stuck}
+use Rattle.judged_sources.proofs.Joined.{never_stuck}
 use Rattle.source_lowering.specs.Programs.{program_code}
 use Rattle.source_typing.specs.Answers.{program_faults}
 use Rattle.accepted_sources.specs.Supported.{supported}
@@ -73,10 +71,6 @@ pub is_code : (program : Program) (code : List ℕ) → length code ≡ code_len
 is_code program code long within =
     let words = of_words (lines_of program) in
     record { some = omega (arith, long); within = within; whole_words = omega (arith, long, words) }
-
--- code that can't be placed is over the limit
-pub long_code : (program : Program) → IsAccepted program → AreTooLarge (lines_of program) → code_limit < code_length (lines_of program)
-long_code program accepted large = too_long (program_code program) (have_main program (no_faults program accepted)) large
 
 -- the data are never over theirs
 pub data_fit : (program : Program) → IsAccepted program → data_limit < length (data_bytes 0 (program_code program).data_objects) → ⊥

@@ -160,7 +160,7 @@ pub const REFUSED: &str = "\
 1:14: Parse <- int main() { else ; }
 1:21: Parse <- int main() { while () ; }
 1:14: Type <- int main() { return; }
-1:14: Type <- int main() { int a[3]; }
+1:14: Type <- int main() { int a[0]; }
 1:14: Type <- int main() { int @p; }";
 
 /// Texts of functions and globals that are refused, in the form of `REFUSED`.
@@ -168,7 +168,7 @@ pub const REFUSED_FUNCTIONS: &str = "\
 1:7: Name <- int x;
 1:1: Type <- void x;$int main() { }
 1:1: Type <- int @p;$int main() { }
-1:1: Type <- int a[3];$int main() { }
+1:1: Type <- int a[0];$int main() { }
 1:10: Type <- char c = NULL;$int main() { }
 2:5: Name <- int x;$int x() { return 1; }$int main() { }
 2:6: Name <- int f() { return 1; }$char f;$int main() { }
@@ -197,8 +197,10 @@ pub const REFUSED_FUNCTIONS: &str = "\
 1:10: Type <- unsigned main() { }
 1:6: Type <- char main() { }
 1:6: Type <- int *main() { }
-1:1: Type <- int ?main() { }
-1:1: Type <- int ?p;$int main(int x) { }
+1:6: Type <- int ?main() { }
+1:1: Type <- int *`U main() { }
+1:1: Type <- int *`U p;$int main(int x) { }
+2:5: Type <- int ?p;$int main(int x) { }
 2:5: Type <- int *p;$int main(int x) { }
 2:5: Name <- int f() { return 1; }$int f() { return 2; }$int main() { }
 2:6: Name <- int f() { return 1; }$void f() { }$int main() { }

@@ -1,5 +1,6 @@
 // Whole commands: what is written and said, and the status.
 
+use crate::array_cases::{ARRAY_CHECKS, ARRAY_COMMANDS, ARRAYS, REFUSED_ARRAYS};
 use crate::command_cases::{
     AND_OR, NESTED_LOOPS, OPERATORS, REFUSED, REFUSED_FUNCTIONS, STATEMENTS, VALUES,
 };
@@ -141,6 +142,11 @@ fn regions_run_as_by_their_meaning(rt: HostRuntime) -> Result<(), Fail> {
     expect_runs(&rt, REGIONS)
 }
 
+#[test]
+fn arrays_run_as_by_their_meaning(rt: HostRuntime) -> Result<(), Fail> {
+    expect_runs(&rt, ARRAYS)
+}
+
 /// Asserts what `check` answers on the texts of a table.
 fn expect_checks(rt: &(impl Abort + AllocGlobal), table: &str) -> Result<(), Fail> {
     for line in table.lines() {
@@ -154,6 +160,11 @@ fn expect_checks(rt: &(impl Abort + AllocGlobal), table: &str) -> Result<(), Fai
 #[test]
 fn structs_have_so_many_bytes_at_most(rt: HostRuntime) -> Result<(), Fail> {
     expect_checks(&rt, STRUCT_SIZES)
+}
+
+#[test]
+fn programs_with_arrays_are_checked(rt: HostRuntime) -> Result<(), Fail> {
+    expect_checks(&rt, ARRAY_CHECKS)
 }
 
 #[test]
@@ -203,6 +214,7 @@ fn refusals_have_their_places(rt: HostRuntime) -> Result<(), Fail> {
         REFUSED_STRUCTS,
         REFUSED_PARAMETERS,
         REFUSED_REGIONS,
+        REFUSED_ARRAYS,
     ] {
         expect_refusals(&rt, table)?;
     }
@@ -258,6 +270,11 @@ fn expect_answers(rt: &(impl Abort + AllocGlobal), table: &str) -> Result<(), Fa
 #[test]
 fn commands_have_their_answers(rt: HostRuntime) -> Result<(), Fail> {
     expect_answers(&rt, COMMANDS)
+}
+
+#[test]
+fn commands_on_arrays_have_their_answers(rt: HostRuntime) -> Result<(), Fail> {
+    expect_answers(&rt, ARRAY_COMMANDS)
 }
 
 #[test]

@@ -5,6 +5,8 @@
 #![tactic(auto)]
 
 #[cfg(test)]
+mod array_cases;
+#[cfg(test)]
 mod command_cases;
 #[cfg(test)]
 mod commands;

@@ -85,8 +85,23 @@ pub const MANUAL: &str = "\
 8 | IN:1:39: Region$ | - <- struct S<`r> { int x; }; int main() { struct S<`H, `H> s; }
 0 | - | accepted$ <- struct N<`r> { struct N<`r> *`r next; }; void f(struct N<`r> *`r l) { while (l) l = l->next; } int main() { }
 8 | IN:1:78: Outlives$ | - <- struct N<`r> { struct N<`r> *`r next; }; void f(struct N *l) { while (l) l = l->next; } int main() { }
+8 | IN:1:14: Type$ | - <- int main() { int a[0]; }
+8 | IN:1:34: Type$ | - <- int main() { int a[2]; int b[2]; a = b; }
+8 | IN:1:14: Type$ | - <- int main() { int ?`U p = NULL; }
+0 | - | accepted$ <- int main() { int a[3]; int ?p = a - 1; return p[1]; }
+8 | IN:1:38: Type$ | - <- int main() { int ?p = NULL; int ?q = 1 + p; }
+0 | - | accepted$ <- int main() { int a[3]; return a[3]; }
+8 | IN:1:41: Type$ | - <- int main() { int x; int *p = &x; return p[0]; }
+8 | IN:1:31: Region$ | - <- int f(int ?`a p; {}) { return p[0]; } int main() { }
+0 | - | accepted$ <- int main() { int a[3]; int ?p = a; p = p + 2; *p = 7; return a[2] + numelts(p); }
+8 | IN:1:51: Type$ | - <- int main() { int ?p = NULL; int ?q = NULL; return p == q; }
+0 | - | accepted$ <- int main() { int a[2]; int *q = a + 2; }
+0 | - | accepted$ <- int f(int *p, int ?q) { return *p * 10 + numelts(q); } int main() { int x; int a[2]; a[1] = 4; return f(a + 1, &x); }
+0 | - | accepted$ <- struct S { char c; int i; }; int main() { struct S a[512]; }
+8 | IN:1:43: Size$ | - <- struct S { char c; int i; }; int main() { struct S a[513]; }
 0 | - | accepted$ <- int main() { return putchar('a') - putchar('b') * putchar('c'); }
 0 | - | accepted$ <- int main() { int x = 0 && putchar('a'); int y = 1 || putchar('b'); return x + y * 2; }
+0 | - | accepted$ <- int main() { int ?p = NULL; p[putchar('a')] = putchar('b'); }
 8 | IN:1:21: Lex$ | - <- int main() { return 08; }
 8 | IN:1:43: Lex$ | - <- int main() { int x; int *p = &x; return 4 /*p; }
 8 | IN:1:22: Parse$ | - <- int f() { return 1; }; int main() { }

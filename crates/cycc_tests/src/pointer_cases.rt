@@ -47,5 +47,4 @@ pub const REFUSED_POINTERS: &str = "\
 1:31: Region <- int f(int *`b p; {}) { return *p; }$int main() { return 0; }
 3:27: Outlives <- void f(int *`r a, int *`r b) { }$int g;$int main() { int x; f(&g, &x); }
 1:14: Type <- int main() { int *`U p = NULL; }
-1:14: Type <- int main() { int ?p = NULL; }
 1:29: Type <- int main() { int *p = NULL; p->x = 1; }";

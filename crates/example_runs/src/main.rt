@@ -21,7 +21,7 @@ const RUN: [&str; 6] = ["cycc", "run", "IN", "--ending", "--pages", "1"];
 const EVAL: [&str; 4] = ["cycc", "eval", "IN", "--ending"];
 
 /// The examples' names.
-const EXAMPLES: [&str; 32] = [
+const EXAMPLES: [&str; 35] = [
     "arena",
     "arithmetic",
     "bases",
@@ -45,8 +45,11 @@ const EXAMPLES: [&str; 32] = [
     "powers",
     "prime_table",
     "primes",
+    "queens",
     "records",
     "shortcut",
+    "sieve",
+    "sort",
     "stack_list",
     "sums",
     "swap",

@@ -1,5 +1,5 @@
 -- The constant of a global without fault: a number, where it is an integer, and `NULL`, where it is a pointer.
-use Rattle.std.proofs.Common.{◌≡◌, ℕ, ◌%◌, ◌^◌, Bool, true, false, [], refl}
+use Rattle.std.proofs.Common.{◌≡◌, ℕ, ◌<◌, ◌%◌, ◌^◌, Bool, true, false, [], refl}
 use Rattle.std.specs.Prelude.{◌++◌}
 use Rattle.cyc_tree.specs.Tree.{Constant, Initial}
 use Rattle.cyc_words.specs.Words.{difference_of}
@@ -15,8 +15,9 @@ use Rattle.source_typing.specs.Declarations.{converted_to}
 use Rattle.source_typing.specs.Converts.{IsInteger}
 use Rattle.source_typing.specs.Regions.{Regions}
 use Rattle.source_typing.specs.Scope.{Env}
-use Rattle.source_typing.specs.Taken.{constant_form, initial_form, with_regions, takes_initial}
-use Rattle.source_typing.specs.Types.{Handle, Char, Int, Null, StaticType, Struct, Thin, Unsigned, integer_type, is_integer, shape_of}
+use Rattle.source_typing.specs.Taken.{constant_form, initial_form, takes_initial}
+use Rattle.source_safety.specs.Judged.{safe_forms}
+use Rattle.source_typing.specs.Types.{Fat, Handle, Char, Int, Null, StaticType, Struct, Thin, Unsigned, integer_type, is_integer, shape_of}
 use Rattle.source_typing.specs.Verdicts.{Of, faults_of}
 
 -- what the meaning and lowering want of a first value
@@ -53,6 +54,7 @@ integer_shape _ h = absurd cc
 null_good : (r : Regions) (at place : ℕ) (u : StaticType) → IsObjectType u → broken at (conversion r Null u) ≡ [] → ConstantGood u (Constant.Null place)
 null_good r at place (Thin true q t) w e = record { first = tt; taken = tt }
 null_good r at place (Thin false q t) w e = absurd cc
+null_good r at place (Fat q t) w e = record { first = tt; taken = tt }
 null_good r at place Int w e = absurd cc
 null_good r at place Unsigned w e = absurd cc
 null_good r at place Char w e = absurd cc
@@ -62,7 +64,7 @@ null_good r at place _ w e = absurd w
 
 -- ---- all of them
 
-constant_good : (g : Env) (c : Constant) (u : StaticType) → IsObjectType u → constant_form with_regions c ≡ []
+constant_good : (g : Env) (c : Constant) (u : StaticType) → IsObjectType u → constant_form safe_forms c ≡ []
     → faults_of (constant c) ++ converted_to g (constant c) (Of u) ≡ []
     → ConstantGood u c
 constant_good g (Constant.Number at n suffix) u w f e =
@@ -89,14 +91,20 @@ constant_good g (Constant.Null at) u w f e = null_good g.regions at at u w e
 
 -- ---- initializers
 
+-- where a global has elements, they are few
+abbrev pub IsFew : Initial → Type 0
+IsFew Initial.Unset = Unit {0}
+IsFew (Initial.Elements n) = n < 2 ^ 32
+IsFew (Initial.Given c) = Unit {0}
+
 pub record InitialGood (u : StaticType) (i : Initial) : Type 0 where
   pub first : InitialJudged u i
-  pub taken : HasBeginning (shape_of u) → TakesGlobal (shape_of u) i
+  pub taken : HasBeginning (shape_of u) → IsFew i → TakesGlobal (shape_of u) i
 
-pub initial_good : (g : Env) (i : Initial) (u : StaticType) → IsObjectType u → takes_initial with_regions i ≡ true
-    → initial_form with_regions i ≡ [] → initial_faults g i (Of u) ≡ []
+pub initial_good : (g : Env) (i : Initial) (u : StaticType) → IsObjectType u → takes_initial safe_forms i ≡ true
+    → initial_form safe_forms i ≡ [] → initial_faults g i (Of u) ≡ []
     → InitialGood u i
-initial_good g Initial.Unset u w t f e = record { first = tt; taken = λ h. h }
-initial_good g (Initial.Elements n) u w t f e = absurd cc
+initial_good g Initial.Unset u w t f e = record { first = tt; taken = λ h few. h }
+initial_good g (Initial.Elements n) u w t f e = record { first = tt; taken = λ h few. (few, h) }
 initial_good g (Initial.Given c) u w t f e =
-    let k : ConstantGood u c = constant_good g c u w f e in record { first = k.first; taken = λ h. k.taken }
+    let k : ConstantGood u c = constant_good g c u w f e in record { first = k.first; taken = λ h few. k.taken }

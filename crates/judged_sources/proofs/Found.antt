@@ -1,26 +1,29 @@
 -- What the rules' tables have under a name is what the program declares under it first.
-use Rattle.std.proofs.Common.{◌≡◌, ℕ, suc, Bool, true, false, Option, Some, None, List, [], ◌∷◌, refl, sym, ap, ◌∙◌}
+use Rattle.std.proofs.Common.{◌≡◌, ℕ, suc, Bool, true, false, Option, Some, List, [], ◌∷◌, refl, sym, ap, ◌∙◌}
 use Rattle.std.specs.Prelude.{bytes_eq, if◌then◌else◌}
 use Rattle.cyc_tree.specs.Operands.{HasOperands}
 use Rattle.cyc_tree.specs.Tree as tree
-use Rattle.cyc_tree.specs.Tree.{Initial, Item}
+use Rattle.cyc_tree.specs.Tree.{Item}
 use Rattle.source_meaning.specs.Calls.{function_of}
 use Rattle.source_meaning.specs.Places.{bound_to}
 use Rattle.source_meaning.specs.Programs.{functions_of, global_shape, globals_from, heap_spot, routine_of}
 use Rattle.source_meaning.specs.Shapes.{Shape, settled, written}
 use Rattle.source_meaning.specs.Steps.{Entity, Variable}
 use Rattle.source_safety.specs.Programs.{GlobalsJudged}
+use Rattle.source_typing.specs.Declarations.{what_of}
 use Rattle.source_typing.specs.Functions.{Head, function_faults, head_of}
 use Rattle.source_typing.specs.Globals.{count_of, global_entry, global_faults}
 use Rattle.source_typing.specs.Programs.{Judged, entries_with, items_from, named}
-use Rattle.source_typing.specs.Regions.{Region, TheHeap}
+use Rattle.source_typing.specs.Regions.{TheHeap}
 use Rattle.source_typing.specs.Scope.{at_item}
-use Rattle.source_typing.specs.Tables.{Named, OfBuiltin, OfFunction, OfOther, OfTag, OfValue, Signature, Stored, Tables, find}
-use Rattle.source_typing.specs.Taken.{function_taken, only_taken, with_regions}
+use Rattle.source_typing.specs.Tables.{Named, OfBuiltin, OfFunction, OfOther, OfTag, OfValue, Signature, Tables, What, find}
+use Rattle.source_typing.specs.Taken.{function_taken, only_taken}
+use Rattle.source_safety.specs.Judged.{safe_forms}
 use Rattle.source_typing.specs.Types.{StaticType, shape_of}
+use Rattle.source_typing.specs.Verdicts.{Of}
 use Rattle.source_typing.proofs.Inversion.{none_of_both}
 use Rattle.judged_sources.specs.Good.{AllGood, BodiesJudged}
-use Rattle.judged_sources.proofs.Globals.{GlobalGood}
+use Rattle.judged_sources.proofs.Globals.{GlobalGood, counted_shape, shape_here}
 use Rattle.judged_sources.proofs.GoodFunctions.{FunctionGood, function_good}
 use Rattle.judged_sources.proofs.GoodTables.{AreHeaded}
 use Rattle.judged_sources.proofs.AlignedTables.{AreAligned, beginning_same, same_tags}
@@ -49,22 +52,22 @@ AllKnown g h i (j ∷ js) [] = ⊥
 
 module _ (bodies : BodiesJudged) where
   pub all_known : (g h : Tables) (i : ℕ) (js : List Judged) (is : List Item) → AllGood 0 g → AreAligned g h → AreHeaded h i js is
-      → only_taken with_regions is ≡ is
+      → only_taken safe_forms is ≡ is
       → HasOperands is → items_from false g i is ≡ []
       → AllKnown g h i js is
   all_known g h i [] [] a s k t o p = tt
   all_known g h i [] (x ∷ is) a s k t o p = absurd k
   all_known g h i (j ∷ js) [] a s k t o p = absurd k
   all_known g h i (j ∷ js) (tree.StructItem x ∷ is) a s k t o p =
-      let b : only_taken with_regions is ≡ is = cc in (k.0, all_known g h (suc i) js is a s k.1 b o.1 p)
+      let b : only_taken safe_forms is ≡ is = cc in (k.0, all_known g h (suc i) js is a s k.1 b o.1 p)
   all_known g h i (j ∷ js) (tree.UnionItem x ∷ is) a s k t o p = absurd k.0
   all_known g h i (j ∷ js) (tree.GlobalItem x ∷ is) a s k t o p =
-      let b : only_taken with_regions is ≡ is = cc in
+      let b : only_taken safe_forms is ≡ is = cc in
       let d = none_of_both (global_faults (at_item false g i) x) (items_from false g (suc i) is) p in
       (k.0, all_known g h (suc i) js is a s k.1 b o.1 d.1)
   all_known g h i (j ∷ js) (tree.FunctionItem f ∷ is) a s k t o p =
-      let c : function_taken with_regions f ≡ f = cc in
-      let b : only_taken with_regions is ≡ is = cc in
+      let c : function_taken safe_forms f ≡ f = cc in
+      let b : only_taken safe_forms is ≡ is = cc in
       let d = none_of_both (function_faults false g i f) (items_from false g (suc i) is) p in (
         record { is = k.0.0; same = head_same false g h f (same_tags g h s); good = function_good bodies g i f a c o.0 d.0 },
         all_known g h (suc i) js is a s k.1 b o.1 d.1,
@@ -161,49 +164,41 @@ find_function g h i (j ∷ js) (tree.FunctionItem f ∷ is) x s k e = by (bytes_
 
 -- ---- a global of a name
 
--- The tables' variable of a name is the program's first global of that name; it lies in the heap, and its type names no region but the heap.
-pub record VariableFound (is : List Item) (first : ℕ) (x : List ℕ) (t : StaticType) (r : Region) : Type 0 where
+-- The tables' value of a name is the program's first global of that name; it lies in the heap.
+pub record ValueFound (is : List Item) (first : ℕ) (x : List ℕ) (w : What) : Type 0 where
   pub number : ℕ
-  pub is_bound : bound_to (globals_from is first) x ≡ Some (Variable (shape_of t) (heap_spot number))
-  pub region : r ≡ TheHeap
+  pub count : Option ℕ
+  pub type : StaticType
+  pub means : w ≡ what_of TheHeap count (Of type)
+  pub is_bound : bound_to (globals_from is first) x ≡ Some (Variable (counted_shape count (shape_of type)) (heap_spot number))
 
--- a global is no array
-shape_here : (h : Tables) (i : ℕ) (x : tree.Global) (k : GlobalGood h i x) → global_shape x.initial (settled (written x.of)) ≡ shape_of k.type
-shape_here h i x k = by x.initial k.uncounted ∙ k.good.shape
+pub find_value : (g h : Tables) (i first : ℕ) (js : List Judged) (is : List Item) (x : List ℕ) (w : What) → AllKnown g h i js is
+    → find (entries_with false h i js is) x ≡ Some (OfValue w) → ValueFound is first x w
+find_value g h i first [] is x w k e = absurd cc
+find_value g h i first (j ∷ js) [] x w k e = absurd cc
+find_value g h i first (j ∷ js) (tree.StructItem y ∷ is) x w k e =
+    let rest : ValueFound is first x w = by (bytes_eq y.tag.text x) (λ p. find_value g h (suc i) first js is x w k.1 p) e in
+    record { number = rest.number; count = rest.count; type = rest.type; means = rest.means; is_bound = rest.is_bound }
   where
-    by : (i : Initial) → count_of i ≡ None → global_shape i (settled (written x.of)) ≡ settled (written x.of)
-    by Initial.Unset h = refl
-    by (Initial.Elements n) h = absurd cc
-    by (Initial.Given c) h = refl
+    none : j.entry.entry ≡ OfValue w → ⊥
+    none p = let q : OfTag k.0.tag ≡ OfValue w = sym (ap (λ (n : Named). n.entry) k.0.is) ∙ p in cc
 
-pub find_variable : (g h : Tables) (i first : ℕ) (js : List Judged) (is : List Item) (x : List ℕ) (t : StaticType) (r : Region) → AllKnown g h i js is
-    → find (entries_with false h i js is) x ≡ Some (OfValue (Stored t r)) → VariableFound is first x t r
-find_variable g h i first [] is x t r k e = absurd cc
-find_variable g h i first (j ∷ js) [] x t r k e = absurd cc
-find_variable g h i first (j ∷ js) (tree.StructItem y ∷ is) x t r k e =
-    let rest : VariableFound is first x t r = by (bytes_eq y.tag.text x) (λ p. find_variable g h (suc i) first js is x t r k.1 p) e in
-    record { number = rest.number; is_bound = rest.is_bound; region = rest.region }
-  where
-    none : j.entry.entry ≡ OfValue (Stored t r) → ⊥
-    none p = let q : OfTag k.0.tag ≡ OfValue (Stored t r) = sym (ap (λ (n : Named). n.entry) k.0.is) ∙ p in cc
-
-    by : (b : Bool) → (find (entries_with false h (suc i) js is) x ≡ Some (OfValue (Stored t r)) → VariableFound is first x t r)
-        → (if b then Some j.entry.entry else find (entries_with false h (suc i) js is) x) ≡ Some (OfValue (Stored t r))
-        → VariableFound is first x t r
+    by : (b : Bool) → (find (entries_with false h (suc i) js is) x ≡ Some (OfValue w) → ValueFound is first x w)
+        → (if b then Some j.entry.entry else find (entries_with false h (suc i) js is) x) ≡ Some (OfValue w) → ValueFound is first x w
     by true others p = absurd (none cc)
     by false others p = others p
-find_variable g h i first (j ∷ js) (tree.UnionItem y ∷ is) x t r k e = absurd k.0
-find_variable g h i first (j ∷ js) (tree.FunctionItem f ∷ is) x t r k e =
-    let rest : VariableFound is first x t r = by (bytes_eq f.name.text x) (λ p. find_variable g h (suc i) first js is x t r k.1 p) e in
-    record { number = rest.number; is_bound = rest.is_bound; region = rest.region }
+find_value g h i first (j ∷ js) (tree.UnionItem y ∷ is) x w k e = absurd k.0
+find_value g h i first (j ∷ js) (tree.FunctionItem f ∷ is) x w k e =
+    let rest : ValueFound is first x w = by (bytes_eq f.name.text x) (λ p. find_value g h (suc i) first js is x w k.1 p) e in
+    record { number = rest.number; count = rest.count; type = rest.type; means = rest.means; is_bound = rest.is_bound }
   where
-    by : (b : Bool) → (find (entries_with false h (suc i) js is) x ≡ Some (OfValue (Stored t r)) → VariableFound is first x t r)
-        → (if b then Some (OfFunction (head_of false h f).signature) else find (entries_with false h (suc i) js is) x) ≡ Some (OfValue (Stored t r))
-        → VariableFound is first x t r
+    by : (b : Bool) → (find (entries_with false h (suc i) js is) x ≡ Some (OfValue w) → ValueFound is first x w)
+        → (if b then Some (OfFunction (head_of false h f).signature) else find (entries_with false h (suc i) js is) x) ≡ Some (OfValue w)
+        → ValueFound is first x w
     by true others p = absurd cc
     by false others p = others p
-find_variable g h i first (j ∷ js) (tree.GlobalItem y ∷ is) x t r k e =
-    by (bytes_eq y.name.text x) refl (λ p. find_variable g h (suc i) (suc first) js is x t r k.1 p) e
+find_value g h i first (j ∷ js) (tree.GlobalItem y ∷ is) x w k e =
+    by (bytes_eq y.name.text x) refl (λ p. find_value g h (suc i) (suc first) js is x w k.1 p) e
   where
     -- what the name is bound to
     either : Bool → Option Entity
@@ -212,28 +207,25 @@ find_variable g h i first (j ∷ js) (tree.GlobalItem y ∷ is) x t r k e =
     bound : {b : Bool} → bytes_eq y.name.text x ≡ b → either (bytes_eq y.name.text x) ≡ either b
     bound q = ap either q
 
-    same_type : OfValue (Stored k.0.1.type TheHeap) ≡ OfValue (Stored t r) → k.0.1.type ≡ t
-    same_type p = cc
-
-    same_region : OfValue (Stored k.0.1.type TheHeap) ≡ OfValue (Stored t r) → r ≡ TheHeap
-    same_region p = cc
-
-    entry : Some (global_entry (at_item false h i) y) ≡ Some (OfValue (Stored t r)) → OfValue (Stored k.0.1.type TheHeap) ≡ OfValue (Stored t r)
-    entry p = let q : global_entry (at_item false h i) y ≡ OfValue (Stored t r) = cc in sym k.0.1.entry ∙ q
+    same : Some (global_entry (at_item false h i) y) ≡ Some (OfValue w) → w ≡ what_of TheHeap (count_of y.initial) (Of k.0.1.type)
+    same p =
+        let q : global_entry (at_item false h i) y ≡ OfValue w = cc in
+        let r : OfValue w ≡ OfValue (what_of TheHeap (count_of y.initial) (Of k.0.1.type)) = sym q ∙ k.0.1.entry in cc
 
     by : (b : Bool) → bytes_eq y.name.text x ≡ b
-        → (find (entries_with false h (suc i) js is) x ≡ Some (OfValue (Stored t r)) → VariableFound is (suc first) x t r)
-        → (if b then Some (global_entry (at_item false h i) y) else find (entries_with false h (suc i) js is) x) ≡ Some (OfValue (Stored t r))
-        → VariableFound (tree.GlobalItem y ∷ is) first x t r
+        → (find (entries_with false h (suc i) js is) x ≡ Some (OfValue w) → ValueFound is (suc first) x w)
+        → (if b then Some (global_entry (at_item false h i) y) else find (entries_with false h (suc i) js is) x) ≡ Some (OfValue w)
+        → ValueFound (tree.GlobalItem y ∷ is) first x w
     by true q others p = record {
       number = first;
-      is_bound = bound q
-          ∙ ap (λ (s : Shape). Some (Variable s (heap_spot first))) (shape_here h i y k.0.1 ∙ ap (λ (u : StaticType). shape_of u) (same_type (entry p)));
-      region = same_region (entry p);
+      count = count_of y.initial;
+      type = k.0.1.type;
+      means = same p;
+      is_bound = bound q ∙ ap (λ (s : Shape). Some (Variable s (heap_spot first))) (shape_here h i y k.0.1);
     }
     by false q others p =
-        let rest : VariableFound is (suc first) x t r = others p in
-        record { number = rest.number; is_bound = bound q ∙ rest.is_bound; region = rest.region }
+        let rest : ValueFound is (suc first) x w = others p in
+        record { number = rest.number; count = rest.count; type = rest.type; means = rest.means; is_bound = bound q ∙ rest.is_bound }
 
 -- ---- the two functions that every program has are none of its items
 

@@ -3,7 +3,7 @@ use Rattle.std.proofs.Common.{◌≡◌, ℕ, zero, suc, Bool, true, false, Opti
 use Rattle.std.specs.Prelude.{◌++◌, bytes_eq, if◌then◌else◌, length, map, replicate}
 use Rattle.cyc_tree.specs.Tree as tree
 use Rattle.cyc_tree.specs.Tree.{Pointer}
-use Rattle.source_lowering.specs.Taken.{AreThin, IsSharedRegion}
+use Rattle.source_lowering.specs.Taken.{AreShared, IsSharedRegion}
 use Rattle.source_safety.specs.Named.{Below}
 use Rattle.source_typing.specs.Tables.{Tables, tag_in}
 use Rattle.source_typing.specs.Written.{Found, Is, IsUnique, Missing, RegionNamed, Spot, all_found, argument_spots, base_spots, find_region, found_by}
@@ -39,10 +39,10 @@ region_below n names (Some (tree.Heap at)) h s = tt
 region_below n names (Some (tree.Unique at)) h s = absurd s
 region_below n names (Some (tree.Named x)) h s = named_below n names x.at x.text h
 
-pointers_found : (n : ℕ) (names : List RegionNamed) (ps : List Pointer) → NamesBelow n names → AreThin ps
+pointers_found : (n : ℕ) (names : List RegionNamed) (ps : List Pointer) → NamesBelow n names → AreShared ps
     → AreFound n ps (all_found names (map (λ (p : Pointer). spot true p.region) ps)).0
 pointers_found n names [] h s = tt
-pointers_found n names (p ∷ ps) h s = (region_below n names p.region h s.0.1, pointers_found n names ps h s.1)
+pointers_found n names (p ∷ ps) h s = (region_below n names p.region h s.0, pointers_found n names ps h s.1)
 
 -- one for each of so many region arguments, and one for each pointer
 abbrev pub AreAllFound : ℕ → ℕ → List Pointer → List Found → Type 0
@@ -84,7 +84,7 @@ argument_found n names (Some (tree.Heap at)) h = tt
 argument_found n names (Some (tree.Unique at)) h = tt
 argument_found n names (Some (tree.Named x)) h = named_below n names x.at x.text h
 
-pub spots_found : (n : ℕ) (names : List RegionNamed) (ss : List Spot) (ps : List Pointer) → NamesBelow n names → AreArguments ss → AreThin ps
+pub spots_found : (n : ℕ) (names : List RegionNamed) (ss : List Spot) (ps : List Pointer) → NamesBelow n names → AreArguments ss → AreShared ps
     → AreAllFound n (length ss) ps (all_found names (ss ++ map (λ (p : Pointer). spot true p.region) ps)).0
 spots_found n names [] ps h a k = pointers_found n names ps h k
 spots_found n names (s ∷ ss) ps h a k = (

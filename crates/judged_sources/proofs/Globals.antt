@@ -1,9 +1,12 @@
--- A global without fault: an object that has a beginning, whose type names no region but the heap.
+-- A global without fault: an object that has a beginning, or an array of such, whose type names no region but the heap.
 use Rattle.std.proofs.Common.{◌≡◌, ℕ, Bool, true, false, Option, Some, None, List, [], ◌∷◌, refl, sym, subst, ap, ◌∙◌}
 use Rattle.std.specs.Prelude.{◌&&◌, not}
 use Rattle.std.proofs.lemmas.Bool.{and_parts}
 use Rattle.cyc_tree.specs.Tree as tree
 use Rattle.cyc_tree.specs.Tree.{Initial, TypeName}
+use Rattle.source_meaning.specs.Programs.{global_shape}
+use Rattle.source_meaning.specs.Shapes as shapes
+use Rattle.source_meaning.specs.Shapes.{ArrayShape, Shape}
 use Rattle.source_typing.specs.Declarations.{what_after, what_of}
 use Rattle.source_typing.specs.Faults.{Fault}
 use Rattle.source_typing.specs.Globals.{
@@ -20,11 +23,11 @@ use Rattle.source_typing.specs.Globals.{
 }
 use Rattle.source_typing.specs.Regions.{TheHeap}
 use Rattle.source_typing.specs.Scope.{Env, at_item}
-use Rattle.source_typing.specs.Tables.{OfValue, Stored, Tables, has_beginning}
+use Rattle.source_typing.specs.Tables.{Arrayed, OfValue, Stored, Tables, has_beginning}
 use Rattle.source_typing.specs.Tags.{settled_alone}
 use Rattle.source_typing.specs.Taken.{Taken, form_if, global_if, initial_form, initial_taken, item_forms, item_taken, takes_initial, takes_type}
-use Rattle.source_typing.specs.Taken.{with_regions}
-use Rattle.source_typing.specs.Types.{StaticType, Void, is_key}
+use Rattle.source_safety.specs.Judged.{safe_forms}
+use Rattle.source_typing.specs.Types.{StaticType, Void, is_key, shape_of}
 use Rattle.source_typing.specs.Verdicts.{Faulty, Of, Unjudged, Verdict, after, faults_of}
 use Rattle.source_typing.specs.Written.{RegionNamed, Spot, spots_of, written}
 use Rattle.source_typing.proofs.Inversion.{none_of_both}
@@ -100,14 +103,14 @@ variable_fits g at t count native u k =
         no e = cc
 
 -- what is written, where region names don't matter
-plain_good : (g : Tables) (x : tree.Global) → KnowsTags g → takes_type with_regions x.of ≡ true
+plain_good : (g : Tables) (x : tree.Global) → KnowsTags g → takes_type safe_forms x.of ≡ true
     → Surely (λ u. PlainGood 0 x.of u) (after (written g (foreign_names (spots_of g x.of)) x.of) (settled_alone x.of.at))
 plain_good g x tags e =
     let names : List RegionNamed = foreign_names (spots_of g x.of) in
     surely_after (λ p. IsWritten 0 x.of p) (λ u. PlainGood 0 x.of u) (written g names x.of) (settled_alone x.of.at)
     (in_scope_good 0 g names x.of tags (heap_names (spots_of g x.of)) e) (λ p w. alone_good 0 x.of.at x.of p w)
 
-type_good : (g : Env) (x : tree.Global) → KnowsTags g.tables → takes_type with_regions x.of ≡ true
+type_good : (g : Env) (x : tree.Global) → KnowsTags g.tables → takes_type safe_forms x.of ≡ true
     → Surely (λ u. VariableGood g.tables x.of u) (global_type g x)
 type_good g x tags e =
     let names : List RegionNamed = foreign_names (spots_of g.tables x.of) in
@@ -117,53 +120,68 @@ type_good g x tags e =
 
 -- ---- all of it
 
--- by these tables, its name means a variable in the heap
+-- by these tables, its name means a variable or an array in the heap
 pub record GlobalGood (g : Tables) (i : ℕ) (x : tree.Global) : Type 0 where
   pub type : StaticType
   pub good : ObjectGood 0 x.of type
   pub begins : has_beginning g type ≡ true
   pub initial : InitialGood type x.initial
-  pub uncounted : count_of x.initial ≡ None
-  pub entry : global_entry (at_item false g i) x ≡ OfValue (Stored type TheHeap)
+  pub entry : global_entry (at_item false g i) x ≡ OfValue (what_of TheHeap (count_of x.initial) (Of type))
 
-no_count : (i : Initial) → takes_initial with_regions i ≡ true → count_of i ≡ None
-no_count Initial.Unset e = refl
-no_count (Initial.Given c) e = refl
-no_count (Initial.Elements n) e = absurd cc
-
-pub global_good : (g : Tables) (i : ℕ) (x : tree.Global) → KnowsTags g → item_taken with_regions (tree.GlobalItem x) ≡ tree.GlobalItem x
-    → item_forms with_regions (tree.GlobalItem x) ≡ []
+pub global_good : (g : Tables) (i : ℕ) (x : tree.Global) → KnowsTags g → item_taken safe_forms (tree.GlobalItem x) ≡ tree.GlobalItem x
+    → item_forms safe_forms (tree.GlobalItem x) ≡ []
     → global_faults (at_item false g i) x ≡ []
     → GlobalGood g i x
 global_good g i x tags t f p =
     let s : Env = at_item false g i in
-    let k : GlobalTaken with_regions x = global_taken with_regions s x t f p in
+    let k : GlobalTaken safe_forms x = global_taken safe_forms s x t f p in
     let q : (faults_of (global_type s x) ≡ []) × (initial_faults s x.initial (global_type s x) ≡ []) =
     none_of_both (faults_of (global_type s x)) (initial_faults s x.initial (global_type s x)) p in
     let u : (t : StaticType) × (global_type s x ≡ Of t) × VariableGood g x.of t =
     surely_is (λ t. VariableGood g x.of t) (global_type s x) (type_good s x tags k.type) q.0 in
     let c : initial_faults s x.initial (Of u.0) ≡ [] = subst (λ v. initial_faults s x.initial v ≡ []) u.1 q.1 in
-    let n : count_of x.initial ≡ None = no_count x.initial k.initial in
     record {
       type = u.0;
       good = u.2.good;
       begins = u.2.begins;
       initial = initial_good s x.initial u.0 u.2.good.object k.initial k.form c;
-      uncounted = n;
       entry = ap (λ (fs : List Fault). OfValue (what_after fs (what_of TheHeap (count_of x.initial) (global_type s x)))) p
-          ∙ ap (λ (o : Option ℕ). OfValue (what_of TheHeap o (global_type s x))) n ∙ ap (λ (v : Verdict StaticType). OfValue (what_of TheHeap None v)) u.1;
+          ∙ ap (λ (v : Verdict StaticType). OfValue (what_of TheHeap (count_of x.initial) v)) u.1;
     }
+
+-- ---- shapes
+
+-- the shape of a global, or of an array of so many elements
+abbrev pub counted_shape : Option ℕ → Shape → Shape
+counted_shape None s = s
+counted_shape (Some n) s = ArrayShape n s
+
+-- its shape is the one of its type, or of an array of such
+pub shape_here : (h : Tables) (i : ℕ) (x : tree.Global) (k : GlobalGood h i x)
+    → global_shape x.initial (shapes.settled (shapes.written x.of)) ≡ counted_shape (count_of x.initial) (shape_of k.type)
+shape_here h i x k = by x.initial
+  where
+    by : (i : Initial) → global_shape i (shapes.settled (shapes.written x.of)) ≡ counted_shape (count_of i) (shape_of k.type)
+    by Initial.Unset = k.good.shape
+    by (Initial.Elements n) = ap (λ (s : Shape). ArrayShape n s) k.good.shape
+    by (Initial.Given c) = k.good.shape
 
 -- ---- sizes
 
 -- what its name means tells that it is without fault, and its type
-pub size_by_entry : (g : Env) (x : tree.Global) (t : StaticType) (fs : List Fault) (o : Option ℕ) (v : Verdict StaticType) → o ≡ None
-    → OfValue (what_after fs (what_of TheHeap o v)) ≡ OfValue (Stored t TheHeap) → if_clean fs (typed_size g x v) ≡ typed_size g x (Of t)
-size_by_entry g x t [] None (Of u) n e = ap (λ z. typed_size g x (Of z)) (same u e)
+pub size_by_entry : (g : Env) (x : tree.Global) (t : StaticType) (fs : List Fault) (o : Option ℕ) (v : Verdict StaticType)
+    → OfValue (what_after fs (what_of TheHeap o v)) ≡ OfValue (what_of TheHeap o (Of t)) → if_clean fs (typed_size g x v) ≡ typed_size g x (Of t)
+size_by_entry g x t [] None (Of u) e = ap (λ z. typed_size g x (Of z)) (same u e)
   where
     same : (u : StaticType) → OfValue (Stored u TheHeap) ≡ OfValue (Stored t TheHeap) → u ≡ t
     same u e = cc
-size_by_entry g x t [] None (Faulty f fs) n e = absurd cc
-size_by_entry g x t [] None Unjudged n e = absurd cc
-size_by_entry g x t [] (Some m) v n e = absurd cc
-size_by_entry g x t (f ∷ fs) o v n e = absurd cc
+size_by_entry g x t [] (Some m) (Of u) e = ap (λ z. typed_size g x (Of z)) (same u e)
+  where
+    same : (u : StaticType) → OfValue (Arrayed u TheHeap) ≡ OfValue (Arrayed t TheHeap) → u ≡ t
+    same u e = cc
+size_by_entry g x t [] None (Faulty f fs) e = absurd cc
+size_by_entry g x t [] None Unjudged e = absurd cc
+size_by_entry g x t [] (Some m) (Faulty f fs) e = absurd cc
+size_by_entry g x t [] (Some m) Unjudged e = absurd cc
+size_by_entry g x t (f ∷ fs) None v e = absurd cc
+size_by_entry g x t (f ∷ fs) (Some m) v e = absurd cc

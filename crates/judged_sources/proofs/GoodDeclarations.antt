@@ -1,19 +1,20 @@
--- A declaration of a local or of a lexical region without fault, where all is known of each name in scope: it is in order, and all is known after it.
-use Rattle.std.proofs.Common.{◌≡◌, ℕ, Bool, true, false, None, [], refl, sym, subst, ap, ◌∙◌, arith}
+-- A declaration of a local, of an array or of a lexical region without fault, where all is known of each name in scope: it is in order, and all is known after
+-- it.
+use Rattle.std.proofs.Common.{◌≡◌, ℕ, Bool, true, false, Some, None, [], refl, sym, subst, ap, ◌∙◌, arith}
 use Rattle.std.specs.Prelude.{◌&&◌, ◌++◌}
 use Rattle.std.proofs.lemmas.Bool.{and_parts}
 use Rattle.cyc_tree.specs.Operands.{DeclarationHasOperands, ExpressionHasOperands}
 use Rattle.cyc_tree.specs.Tree as tree
 use Rattle.cyc_tree.specs.Tree.{Expression, Initializer, TypeName}
 use Rattle.source_safety.proofs.Lexical.{lexical, names_with, with_region_is}
-use Rattle.source_safety.specs.Judged.{Accepted, DeclarationJudged, extended}
+use Rattle.source_safety.specs.Judged.{Accepted, DeclarationJudged, arrayed, extended, safe_forms}
 use Rattle.source_typing.specs.Conversions.{conversion, converts}
 use Rattle.source_typing.specs.Converts.{Converts}
 use Rattle.source_typing.specs.Declarations.{converted_to, declare, region_declared, set_faults, set_type, unset_type, what_after, what_of, with_region}
 use Rattle.source_typing.specs.Expressions.{judge}
 use Rattle.source_typing.specs.Regions.{with_scope}
 use Rattle.source_typing.specs.Scope.{Env, Value, next_region, second, with_local}
-use Rattle.source_typing.specs.Tables.{Stored}
+use Rattle.source_typing.specs.Tables.{Arrayed, Stored}
 use Rattle.source_typing.specs.Taken.{
   declaration_taken,
   declared_if,
@@ -22,14 +23,13 @@ use Rattle.source_typing.specs.Taken.{
   takes_initializer,
   takes_type,
 }
-use Rattle.source_typing.specs.Taken.{with_regions}
 use Rattle.source_typing.specs.Types.{Handle, StaticType}
 use Rattle.source_typing.specs.Verdicts.{Of, Verdict, faults_of}
 use Rattle.source_typing.proofs.Converting.{broken_is, conversion_is}
 use Rattle.source_typing.proofs.Inversion.{none_of_both}
 use Rattle.judged_sources.specs.Good.{ExpressionsJudged, IsGood, IsGoodValue, Surely}
 use Rattle.judged_sources.proofs.Sure.{surely_is}
-use Rattle.judged_sources.proofs.GoodScopes.{good_local, good_region, one_more}
+use Rattle.judged_sources.proofs.GoodScopes.{good_array, good_local, good_region, one_more}
 use Rattle.judged_sources.proofs.GoodLocals.{IsLocalType, local_begins, local_shape, set_good, unset_good}
 
 -- ---- expressions
@@ -44,7 +44,7 @@ pub converted_is : (g : Env) (v : Value) (t : StaticType) → converts g v t ≡
 converted_is g v t e = conversion_is g.regions v.type t (broken_is v.at (conversion g.regions v.type t) e)
 
 module _ (expressions : ExpressionsJudged) where
-  pub expression_good : (e : Expression) (g : Env) → IsGood g → taken with_regions e ≡ e → ExpressionHasOperands e → faults_of (judge g e) ≡ []
+  pub expression_good : (e : Expression) (g : Env) → IsGood g → taken safe_forms e ≡ e → ExpressionHasOperands e → faults_of (judge g e) ≡ []
       → GoodExpression g e
   expression_good e g h t o p =
       let s : Surely (λ v. IsGoodValue g v) (judge g e) = subst (λ z. Surely (λ v. IsGoodValue g v) (judge g z)) t (expressions e g h) in
@@ -71,22 +71,37 @@ local_taken false g at d e p q = absurd (by (subst (λ z. (declare g z).faults �
 
 -- ---- locals
 
-unset_declared : (g : Env) (t : TypeName) (x : tree.Name) → IsGood g → takes_type with_regions t ≡ true
+unset_declared : (g : Env) (t : TypeName) (x : tree.Name) → IsGood g → takes_type safe_forms t ≡ true
     → (declare g (tree.Local t x Initializer.Unset)).faults ≡ []
     → GoodDeclaration g (tree.Local t x Initializer.Unset)
 unset_declared g t x h e p =
     let f = none_of_both (faults_of (unset_type g t None)) (second g x) p in
-    let z = surely_is (λ u. IsLocalType g t false u) (unset_type g t None) (unset_good g t h e) f.0 in
+    let z = surely_is (λ u. IsLocalType g t false u) (unset_type g t None) (unset_good g t None h e) f.0 in
     let scope : (declare g (tree.Local t x Initializer.Unset)).scope ≡ extended g x z.0 =
-    ap (λ v. with_local x (what_of g.frame None v) g) z.1 ∙ one_more x z.0 g f.1 in
+    ap (λ v. with_local x (what_of g.frame None v) g) z.1 ∙ one_more x (Stored z.0 g.frame) g f.1 in
     record {
       judged = record { type = z.0; object = z.2.object; below = z.2.below; begins = local_begins g t z.0 z.2; shape = z.2.shape; scope = scope };
       good = subst (λ s. IsGood s) (sym scope) (good_local x z.0 g z.2.object z.2.below h);
       result = ap (λ (s : Env). s.result) scope;
     }
 
+-- an array
+array_declared : (g : Env) (t : TypeName) (x : tree.Name) (n : ℕ) → IsGood g → takes_type safe_forms t ≡ true
+    → (declare g (tree.Local t x (Initializer.Elements n))).faults ≡ []
+    → GoodDeclaration g (tree.Local t x (Initializer.Elements n))
+array_declared g t x n h e p =
+    let f = none_of_both (faults_of (unset_type g t (Some n))) (second g x) p in
+    let z = surely_is (λ u. IsLocalType g t false u) (unset_type g t (Some n)) (unset_good g t (Some n) h e) f.0 in
+    let scope : (declare g (tree.Local t x (Initializer.Elements n))).scope ≡ arrayed g x z.0 =
+    ap (λ v. with_local x (what_of g.frame (Some n) v) g) z.1 ∙ one_more x (Arrayed z.0 g.frame) g f.1 in
+    record {
+      judged = record { type = z.0; object = z.2.object; below = z.2.below; begins = local_begins g t z.0 z.2; shape = z.2.shape; scope = scope };
+      good = subst (λ s. IsGood s) (sym scope) (good_array x z.0 g z.2.object z.2.below h);
+      result = ap (λ (s : Env). s.result) scope;
+    }
+
 -- a local whose initializer is in order
-set_declared : (g : Env) (t : TypeName) (x : tree.Name) (e : Expression) → IsGood g → takes_type with_regions t ≡ true → GoodExpression g e
+set_declared : (g : Env) (t : TypeName) (x : tree.Name) (e : Expression) → IsGood g → takes_type safe_forms t ≡ true → GoodExpression g e
     → set_faults g (judge g e) (set_type g t (judge g e)) ≡ []
     → second g x ≡ []
     → GoodDeclaration g (tree.Local t x (Initializer.Value e))
@@ -100,7 +115,7 @@ set_declared g t x e h k a p q =
     let type_is : set_type g t (judge g e) ≡ Of z.0 = ap (λ w. set_type g t w) a.accepted.judged ∙ z.1 in
     let scope : (declare g (tree.Local t x (Initializer.Value e))).scope ≡ extended g x z.0 =
     ap (λ fs. with_local x (what_after fs (what_of g.frame None (set_type g t (judge g e)))) g) p
-    ∙ (ap (λ w. with_local x (what_of g.frame None w) g) type_is ∙ one_more x z.0 g q) in
+    ∙ (ap (λ w. with_local x (what_of g.frame None w) g) type_is ∙ one_more x (Stored z.0 g.frame) g q) in
     record {
       judged = record {
         type = z.0;
@@ -125,7 +140,7 @@ region_good g at r x h p =
     let inside : Env = lexical g (names_with r g) in
     let same : with_region r with_scope g ≡ inside = with_region_is r g in
     let opened : (declare g (tree.Region at r x)).scope ≡ extended (with_region r with_scope g) x t =
-    subst (λ z. with_local x (Stored t g.frame) z ≡ extended z x t) (sym same) (one_more x t inside f.1) in
+    subst (λ z. with_local x (Stored t g.frame) z ≡ extended z x t) (sym same) (one_more x (Stored t g.frame) inside f.1) in
     let scope : (declare g (tree.Region at r x)).scope ≡ extended inside x t = opened ∙ ap (λ z. extended z x t) same in
     record {
       judged = opened;
@@ -136,7 +151,7 @@ region_good g at r x h p =
 -- ---- all declarations
 
 module _ (expressions : ExpressionsJudged) where
-  value_declared : (g : Env) (t : TypeName) (x : tree.Name) (e : Expression) → IsGood g → takes_type with_regions t ≡ true → taken with_regions e ≡ e
+  value_declared : (g : Env) (t : TypeName) (x : tree.Name) (e : Expression) → IsGood g → takes_type safe_forms t ≡ true → taken safe_forms e ≡ e
       → ExpressionHasOperands e
       → (declare g (tree.Local t x (Initializer.Value e))).faults ≡ []
       → GoodDeclaration g (tree.Local t x (Initializer.Value e))
@@ -147,7 +162,7 @@ module _ (expressions : ExpressionsJudged) where
       let c = none_of_both (faults_of (set_type g t v)) (faults_of v) b.0 in
       set_declared g t x e h k (expression_good expressions e g h j o c.1) a.0 a.1
 
-  pub declaration_good : (d : tree.Declaration) (g : Env) → IsGood g → declaration_taken with_regions d ≡ d → DeclarationHasOperands d
+  pub declaration_good : (d : tree.Declaration) (g : Env) → IsGood g → declaration_taken safe_forms d ≡ d → DeclarationHasOperands d
       → (declare g d).faults ≡ []
       → GoodDeclaration g d
   declaration_good (tree.Region at r x) g h t o p = region_good g at r x h p
@@ -155,15 +170,15 @@ module _ (expressions : ExpressionsJudged) where
   declaration_good (tree.Alias at r u x y) g h t o p = absurd cc
   declaration_good (tree.NewKey at r x) g h t o p = absurd cc
   declaration_good (tree.Local u x i) g h t o p =
-      let k = with_regions in
+      let k = safe_forms in
       let b = local_taken (takes_type k u && takes_initializer k i) g u.at (tree.Local u x (initializer_taken k i)) (tree.Local u x i) t p in
       let c = and_parts (takes_type k u) (takes_initializer k i) b in
       by i c.0 c.1 o p (subst (λ z. declared_if z u.at (tree.Local u x (initializer_taken k i)) ≡ tree.Local u x i) b t)
     where
-      by : (i : Initializer) → takes_type with_regions u ≡ true → takes_initializer with_regions i ≡ true → DeclarationHasOperands (tree.Local u x i)
+      by : (i : Initializer) → takes_type safe_forms u ≡ true → takes_initializer safe_forms i ≡ true → DeclarationHasOperands (tree.Local u x i)
           → (declare g (tree.Local u x i)).faults ≡ []
-          → tree.Local u x (initializer_taken with_regions i) ≡ tree.Local u x i
+          → tree.Local u x (initializer_taken safe_forms i) ≡ tree.Local u x i
           → GoodDeclaration g (tree.Local u x i)
       by Initializer.Unset k q o p t = unset_declared g u x h k p
-      by (Initializer.Elements n) k q o p t = absurd cc
-      by (Initializer.Value e) k q o p t = let j : taken with_regions e ≡ e = cc in value_declared g u x e h k j o p
+      by (Initializer.Elements n) k q o p t = array_declared g u x n h k p
+      by (Initializer.Value e) k q o p t = let j : taken safe_forms e ≡ e = cc in value_declared g u x e h k j o p

@@ -10,7 +10,7 @@ use Rattle.source_meaning.specs.Programs.{is_main, routine_of}
 use Rattle.source_meaning.specs.Shapes.{Part, has_tag, part_of}
 use Rattle.source_meaning.specs.Steps.{World}
 use Rattle.source_safety.specs.Entries.{AreObjects, Function}
-use Rattle.source_safety.specs.Judged.{ItemsJudged, extended}
+use Rattle.source_safety.specs.Judged.{ItemsJudged, extended, safe_forms}
 use Rattle.source_safety.specs.Named.{AllBelow, BoundsBelow, TypeBelow, TypesBelow}
 use Rattle.source_safety.specs.Programs.{FunctionJudged, name_alone, with_all}
 use Rattle.source_typing.specs.Faults.{name_rule, own_after, test, type_rule}
@@ -20,7 +20,7 @@ use Rattle.source_typing.specs.Scope.{Env, at_item, is_second, with_local}
 use Rattle.source_typing.specs.Statements.{items_faults}
 use Rattle.source_typing.specs.Tables.{Arrayed, Counter, Entry, OfBuiltin, OfFunction, OfOther, OfTag, OfValue, Signature, Stored, Tables, Unknown}
 use Rattle.source_typing.specs.Tags.{is_named, repeated}
-use Rattle.source_typing.specs.Taken.{function_taken, with_regions}
+use Rattle.source_typing.specs.Taken.{function_taken}
 use Rattle.source_typing.specs.Types.{Int, StaticType, Void, is_void}
 use Rattle.source_typing.specs.Ways.{ways_of_items}
 use Rattle.source_typing.proofs.Inversion.{none_of_both, own_is, test_is}
@@ -56,7 +56,7 @@ same_scope (m ∷ ms) before (t ∷ ts) g r h =
     let n : is_named before m.name.text ≡ false =
     not-true (is_named before m.name.text) (test_is (not (is_named before m.name.text)) name_rule m.name.at e.0) in
     let s : with_local m.name (Stored t g.frame) g ≡ extended g m.name t =
-    one_more m.name t g (ap (λ (b : Bool). test (not b) name_rule m.name.at) (h m.name.text n)) in
+    one_more m.name (Stored t g.frame) g (ap (λ (b : Bool). test (not b) name_rule m.name.at) (h m.name.text n)) in
     ap (λ (z : Env). with_parameters ms (map (λ t. Some t) ts) z) s
     ∙ same_scope ms (m ∷ before) ts (extended g m.name t) e.1 (with_one m before t g h)
 
@@ -78,7 +78,8 @@ entry_more n (OfValue (Stored t r)) h =
     let least : 0 ≤ n = omega arith in (h.0, object_more 0 n t least h.0 h.1, below_more 0 n r least h.2)
 entry_more n (OfFunction s) h = h
 entry_more n (OfBuiltin k) h = h
-entry_more n (OfValue (Arrayed t r)) h = absurd h
+entry_more n (OfValue (Arrayed t r)) h =
+    let least : 0 ≤ n = omega arith in (h.0, object_more 0 n t least h.0 h.1, below_more 0 n r least h.2)
 entry_more n (OfValue Counter) h = absurd h
 entry_more n (OfValue Unknown) h = absurd h
 entry_more n (OfTag t) h = h
@@ -121,7 +122,7 @@ pub record FunctionGood (g : Tables) (i : ℕ) (f : tree.Function) : Type 0 wher
   pub faults : items_faults (with_all (map part_of f.parameters) head.signature.types (function_scope false g i (head_of false g f))) true f.body ≡ []
 
 module _ (bodies : BodiesJudged) where
-  pub function_good : (g : Tables) (i : ℕ) (f : tree.Function) → AllGood 0 g → function_taken with_regions f ≡ f → ItemsHaveOperands f.body
+  pub function_good : (g : Tables) (i : ℕ) (f : tree.Function) → AllGood 0 g → function_taken safe_forms f ≡ f → ItemsHaveOperands f.body
       → function_faults false g i f ≡ []
       → FunctionGood g i f
   function_good g i f a t o p =

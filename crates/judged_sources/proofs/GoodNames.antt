@@ -26,7 +26,6 @@ use Rattle.source_typing.specs.Calls.{
 }
 use Rattle.source_typing.specs.Faults.{effect_rule, outlives_rule, test}
 use Rattle.source_typing.specs.Fixing.{Fit, all_fits, first_fit, fixed_from, fixed_known, fixed_one, is_found, more}
-use Rattle.source_typing.specs.Places.{variable}
 use Rattle.source_typing.specs.Regions.{Level, Region, same_id}
 use Rattle.source_typing.specs.Scope.{Enclosing, Env, InRegion, Nowhere, Value, value}
 use Rattle.source_typing.specs.Tables.{Arrayed, Counter, Entry, OfBuiltin, OfFunction, OfOther, OfTag, OfValue, Stored, Tables, Unknown, argument, find}
@@ -36,7 +35,7 @@ use Rattle.source_typing.specs.Written.{Found, Is, IsUnique, Missing, if_sound}
 use Rattle.source_safety.proofs.Fixed.{EnclosingBelow, ValuesBelow, fixed_within, plain_below}
 use Rattle.source_safety.proofs.Words.{plain_renamed}
 use Rattle.judged_sources.specs.Good.{AllGood, IsAround, IsGoodEntry, IsGoodSignature, IsGoodTag, IsValueType, SeatBelow, Surely}
-use Rattle.judged_sources.proofs.Sure.{surely_after, surely_both, surely_other, surely_since, surely_unless}
+use Rattle.judged_sources.proofs.Sure.{surely_after, surely_both, surely_since, surely_unless}
 
 -- ---- what a name means
 
@@ -52,22 +51,11 @@ found_good count (n ∷ ns) x h = by (bytes_eq n.name x) (found_good count ns x 
     by true k = h.0
     by false k = k
 
--- a variable is a place of an object
+-- a place of an object
 pub record IsGoodPlace (count : ℕ) (v : Value) : Type 0 where
   pub type : IsObjectType v.type
   pub below : TypeBelow count v.type
   pub seat : SeatBelow count v.seat
-
-pub variable_judged : (count at : ℕ) (e : Option Entry) → MeansGood count e → Surely (λ v. IsGoodPlace count v) (variable at e)
-variable_judged count at None h = tt
-variable_judged count at (Some (OfValue (Stored t r))) h = record { type = h.0; below = h.1; seat = h.2 }
-variable_judged count at (Some (OfValue (Arrayed t r))) h = absurd h
-variable_judged count at (Some (OfValue Counter)) h = absurd h
-variable_judged count at (Some (OfValue Unknown)) h = absurd h
-variable_judged count at (Some (OfTag t)) h = surely_other (λ v. IsGoodPlace count v) t.sound at h.sound
-variable_judged count at (Some (OfFunction s)) h = surely_other (λ v. IsGoodPlace count v) s.sound at h.sound
-variable_judged count at (Some (OfBuiltin n)) h = tt
-variable_judged count at (Some OfOther) h = absurd h
 
 -- ---- what is called
 
@@ -84,7 +72,7 @@ target_judged count at (Some (OfTag t)) h =
     subst (λ b. Surely (λ u. IsGoodTarget u) (target_of_tag b t at)) (sym h.no_union)
     (subst (λ b. Surely (λ u. IsGoodTarget u) (if_sound b (Of (ToStruct t)))) (sym h.sound) h)
 target_judged count at (Some (OfValue (Stored t r))) h = tt
-target_judged count at (Some (OfValue (Arrayed t r))) h = absurd h
+target_judged count at (Some (OfValue (Arrayed t r))) h = tt
 target_judged count at (Some (OfValue Counter)) h = absurd h
 target_judged count at (Some (OfValue Unknown)) h = absurd h
 target_judged count at (Some OfOther) h = absurd h
@@ -163,7 +151,7 @@ plain_value Char h = tt
 plain_value Void h = tt
 plain_value Null h = tt
 plain_value (Thin n r t) h = h
-plain_value (Fat r t) h = absurd h
+plain_value (Fat r t) h = h
 plain_value (Unique n t) h = absurd h
 plain_value (Handle r) h = tt
 plain_value (Key r) h = absurd h

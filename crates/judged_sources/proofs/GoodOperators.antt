@@ -1,23 +1,30 @@
 -- Operators on objects, `NULL` and nothing: what they give is a word and no place, or they are at fault.
-use Rattle.std.proofs.Common.{◌≡◌, ℕ, Bool, true, false, refl, sym, subst}
-use Rattle.std.specs.Prelude.{◌&&◌, ◌||◌, ◌++◌}
+use Rattle.std.proofs.Common.{◌≡◌, ℕ, Bool, true, false, List, refl, sym, subst}
+use Rattle.std.specs.Prelude.{length, nat_lt, ◌&&◌, ◌||◌, ◌++◌}
 use Rattle.std.proofs.lemmas.Bool.{and_parts}
 use Rattle.cyc_tree.specs.declared.expression.Operator.{Operator}
 use Rattle.cyc_tree.specs.declared.expression.Operator.TheVariants.{ShiftLeft}
 use Rattle.source_meaning.specs.Memory.{IntegerType}
 use Rattle.source_safety.specs.Entries.{IsObjectType}
+use Rattle.source_safety.specs.Named.{TypeBelow}
 use Rattle.source_typing.specs.Converts.{IsInteger}
 use Rattle.source_typing.specs.Faults.{outlives_rule, region_rule, test}
 use Rattle.source_typing.specs.Operators.{
   applied_to,
   compared,
   compared_thin,
+  counted,
+  fat_moved,
   if_equality,
   integers_joined,
   is_equality,
+  is_fat,
+  is_move,
   on_integers,
   promoted,
   signed,
+  string,
+  string_sized,
   tested,
   tested_both,
 }
@@ -86,6 +93,17 @@ tested_judged count at a = fitting_judged count (is_testable a.type) at at Int (
 pub both_tested_judged : (count : ℕ) (a b : Value) → Surely (λ v. IsGoodResult count v) (tested_both a b)
 both_tested_judged count a b = fitting_judged count (is_testable a.type && is_testable b.type) a.at a.at Int (λ e. refl)
 
+pub counted_judged : (count at : ℕ) (a : Value) → Surely (λ v. IsGoodResult count v) (counted at a)
+counted_judged count at a = fitting_judged count (is_fat a.type) at at Unsigned (λ e. refl)
+
+-- a string is a fat pointer into the heap, or too long
+pub string_judged : (count at : ℕ) (bytes : List ℕ) → Surely (λ v. IsGoodResult count v) (string at bytes)
+string_judged count at bytes = by (nat_lt (length bytes) 4096)
+  where
+    by : (b : Bool) → Surely (λ v. IsGoodResult count v) (string_sized b at)
+    by true = record { type = tt; below = (tt, tt); nowhere = refl }
+    by false = tt
+
 -- ---- comparisons
 
 module _ (count : ℕ) (g : Env) where
@@ -111,13 +129,13 @@ module _ (count : ℕ) (g : Env) where
   compared_judged at (Thin n r t) Unsigned h k = tt
   compared_judged at (Thin n r t) Char h k = tt
   compared_judged at (Thin n r t) Void h k = tt
-  compared_judged at (Thin n r t) (Fat q u) h k = absurd k
+  compared_judged at (Thin n r t) (Fat q u) h k = tt
   compared_judged at (Thin n r t) (Unique m u) h k = absurd k
   compared_judged at (Thin n r t) (Handle q) h k = tt
   compared_judged at (Thin n r t) (Key q) h k = absurd k
   compared_judged at (Thin n r t) (Struct tag qs) h k = tt
   compared_judged at (Thin n r t) (Union tag qs) h k = absurd k
-  compared_judged at (Fat r t) u h k = absurd h
+  compared_judged at (Fat r t) u h k = null_judged ((is_pointer (Fat r t) && is_null u) || (is_null (Fat r t) && is_pointer u)) at
   compared_judged at (Unique n t) u h k = absurd h
   compared_judged at (Handle r) u h k = null_judged ((is_pointer (Handle r) && is_null u) || (is_null (Handle r) && is_pointer u)) at
   compared_judged at (Key r) u h k = absurd h
@@ -138,16 +156,23 @@ module _ (count : ℕ) (g : Env) where
       integer_judged count at (on_integers o t u) (joined_integer o t u i.0 i.1)
   joined_judged false o at t u e h k = equality_judged (is_equality o) at t u h k
 
-  pub applied_judged : (o : Operator) (at : ℕ) (t u : StaticType) → IsValueType t → IsValueType u → Surely (λ v. IsGoodResult count v) (applied_to g o at t u)
-  applied_judged o at Int u h k = joined_judged (is_integer Int && is_integer u) o at Int u refl h k
-  applied_judged o at Unsigned u h k = joined_judged (is_integer Unsigned && is_integer u) o at Unsigned u refl h k
-  applied_judged o at Char u h k = joined_judged (is_integer Char && is_integer u) o at Char u refl h k
-  applied_judged o at Void u h k = joined_judged (is_integer Void && is_integer u) o at Void u refl h k
-  applied_judged o at Null u h k = joined_judged (is_integer Null && is_integer u) o at Null u refl h k
-  applied_judged o at (Thin n r t) u h k = joined_judged (is_integer (Thin n r t) && is_integer u) o at (Thin n r t) u refl h k
-  applied_judged o at (Fat r t) u h k = absurd h
-  applied_judged o at (Unique n t) u h k = absurd h
-  applied_judged o at (Handle r) u h k = joined_judged (is_integer (Handle r) && is_integer u) o at (Handle r) u refl h k
-  applied_judged o at (Key r) u h k = absurd h
-  applied_judged o at (Struct tag rs) u h k = joined_judged (is_integer (Struct tag rs) && is_integer u) o at (Struct tag rs) u refl h k
-  applied_judged o at (Union tag rs) u h k = absurd h
+  -- a fat pointer that is moved, or compared
+  fat_judged : (b : Bool) (o : Operator) (at : ℕ) (t u : StaticType) → IsValueType t → TypeBelow count t → IsValueType u
+      → Surely (λ v. IsGoodResult count v) (fat_moved b g o at t u)
+  fat_judged true o at t u h b k = record { type = h; below = b; nowhere = refl }
+  fat_judged false o at t u h b k = equality_judged (is_equality o) at t u h k
+
+  pub applied_judged : (o : Operator) (at : ℕ) (t u : StaticType) → IsValueType t → TypeBelow count t → IsValueType u
+      → Surely (λ v. IsGoodResult count v) (applied_to g o at t u)
+  applied_judged o at Int u h b k = joined_judged (is_integer Int && is_integer u) o at Int u refl h k
+  applied_judged o at Unsigned u h b k = joined_judged (is_integer Unsigned && is_integer u) o at Unsigned u refl h k
+  applied_judged o at Char u h b k = joined_judged (is_integer Char && is_integer u) o at Char u refl h k
+  applied_judged o at Void u h b k = joined_judged (is_integer Void && is_integer u) o at Void u refl h k
+  applied_judged o at Null u h b k = joined_judged (is_integer Null && is_integer u) o at Null u refl h k
+  applied_judged o at (Thin n r t) u h b k = joined_judged (is_integer (Thin n r t) && is_integer u) o at (Thin n r t) u refl h k
+  applied_judged o at (Fat r t) u h b k = fat_judged (is_move o && is_integer u) o at (Fat r t) u h b k
+  applied_judged o at (Unique n t) u h b k = absurd h
+  applied_judged o at (Handle r) u h b k = joined_judged (is_integer (Handle r) && is_integer u) o at (Handle r) u refl h k
+  applied_judged o at (Key r) u h b k = absurd h
+  applied_judged o at (Struct tag rs) u h b k = joined_judged (is_integer (Struct tag rs) && is_integer u) o at (Struct tag rs) u refl h k
+  applied_judged o at (Union tag rs) u h b k = absurd h

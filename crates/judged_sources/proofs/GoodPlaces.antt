@@ -1,4 +1,4 @@
--- Places and what leads to them: `*e`, `&e`, members and assignments, where all is known of each name in scope.
+-- Places and what leads to them: names, `*e`, `e[e]`, `&e`, members and assignments, where all is known of each name in scope.
 use Rattle.std.proofs.Common.{◌≡◌, ℕ, Bool, true, false, Option, Some, None, List, [], ◌∷◌, refl, sym, subst}
 use Rattle.std.specs.Prelude.{bytes_eq, if◌then◌else◌, map}
 use Rattle.cyc_tree.specs.declared.expression.Prefix.{Prefix}
@@ -9,19 +9,20 @@ use Rattle.source_safety.specs.Named.{AllBelow, Below, TypeBelow}
 use Rattle.source_typing.specs.Conversions.{converts}
 use Rattle.source_typing.specs.Operators.{prefixed}
 use Rattle.source_typing.specs.Calls.{part_types}
-use Rattle.source_typing.specs.Places.{address_of, arrow_live, arrow_of, assigned, assigned_in, assigned_type, contents_of, in_live, member_of, part_found, part_of}
-use Rattle.source_typing.specs.Places.{part_typed}
-use Rattle.source_typing.specs.Tables.{Entry, OfBuiltin, OfFunction, OfOther, OfTag, OfValue, Part, argument, as_tag, find, part_in, parts_of_tag}
+use Rattle.source_typing.specs.Places.{address_of, arrow_live, arrow_of, assigned, assigned_in, assigned_type, contents_of, in_live, indexed, indexed_of}
+use Rattle.source_typing.specs.Places.{member_of, part_found, part_of, part_typed, variable}
+use Rattle.source_typing.specs.Tables.{Arrayed, Counter, Entry, OfBuiltin, OfFunction, OfOther, OfTag, OfValue, Part, Stored, Unknown, argument, as_tag, find}
+use Rattle.source_typing.specs.Tables.{part_in, parts_of_tag}
 use Rattle.source_typing.specs.Regions.{Region}
 use Rattle.source_typing.specs.Scope.{Env, In, InBlock, Nowhere, Seat, Value, is_live, is_place, value}
-use Rattle.source_typing.specs.Types.{Char, Fat, Handle, Int, Key, Null, StaticType, Struct, Thin, Union, Unique, Unsigned, Void, renamed}
+use Rattle.source_typing.specs.Types.{Char, Fat, Handle, Int, Key, Null, StaticType, Struct, Thin, Union, Unique, Unsigned, Void, is_integer, renamed}
 use Rattle.source_safety.proofs.WordRules.{assigned_object, given_below, given_type}
 use Rattle.source_safety.proofs.Words.{object_renamed}
 use Rattle.source_safety.proofs.Fixed.{object_below}
 use Rattle.judged_sources.specs.Good.{AllGood, IsGoodValue, IsValueType, SeatBelow, Surely}
 use Rattle.judged_sources.proofs.GoodNames.{IsGoodPlace, IsGoodResult, MeansGood, found_good}
 use Rattle.judged_sources.proofs.GoodOperators.{signed_judged, tested_judged, object_value}
-use Rattle.judged_sources.proofs.Sure.{surely_also, surely_unless}
+use Rattle.judged_sources.proofs.Sure.{surely_also, surely_other, surely_unless}
 
 nowhere_place : {A : Type 0} (s : Seat) → s ≡ Nowhere → is_place s ≡ true → A
 nowhere_place Nowhere n e = absurd cc
@@ -41,6 +42,22 @@ valued g v h = record {
 pub placed : (g : Env) (v : Value) → IsGoodPlace g.regions.count v → IsGoodValue g v
 placed g v h = record { type = object_value v.type h.type; below = h.below; seat = h.seat; object = λ p. h.type }
 
+-- ---- names
+
+-- a variable is a place, and an array's name a pointer to its first element
+pub variable_judged : (g : Env) (at : ℕ) (e : Option Entry) → MeansGood g.regions.count e → Surely (λ v. IsGoodValue g v) (variable at e)
+variable_judged g at None h = tt
+variable_judged g at (Some (OfValue (Stored t r))) h =
+    placed g (record { at = at; type = t; seat = In r }) (record { type = h.0; below = h.1; seat = h.2 })
+variable_judged g at (Some (OfValue (Arrayed t r))) h =
+    valued g (record { at = at; type = Fat r t; seat = Nowhere }) (record { type = h.0; below = (h.2, h.1); nowhere = refl })
+variable_judged g at (Some (OfValue Counter)) h = absurd h
+variable_judged g at (Some (OfValue Unknown)) h = absurd h
+variable_judged g at (Some (OfTag t)) h = surely_other (λ v. IsGoodValue g v) t.sound at h.sound
+variable_judged g at (Some (OfFunction s)) h = surely_other (λ v. IsGoodValue g v) s.sound at h.sound
+variable_judged g at (Some (OfBuiltin n)) h = tt
+variable_judged g at (Some OfOther) h = absurd h
+
 -- ---- what a pointer leads to
 
 live_judged : (count : ℕ) (b : Bool) (at : ℕ) (t : StaticType) (r : Region) → IsObjectType t → TypeBelow count t → Below count r
@@ -56,12 +73,22 @@ contents_judged g at Char w h = tt
 contents_judged g at Void w h = tt
 contents_judged g at Null w h = tt
 contents_judged g at (Thin n r t) w h = live_judged g.regions.count (is_live g r) at t r w h.1 h.0
-contents_judged g at (Fat r t) w h = absurd w
+contents_judged g at (Fat r t) w h = live_judged g.regions.count (is_live g r) at t r w h.1 h.0
 contents_judged g at (Unique n t) w h = absurd w
 contents_judged g at (Handle r) w h = tt
 contents_judged g at (Key r) w h = absurd w
 contents_judged g at (Struct tag rs) w h = tt
 contents_judged g at (Union tag rs) w h = absurd w
+
+-- ---- elements of arrays
+
+pub indexed_judged : (g : Env) (a b : Value) → IsValueType a.type → TypeBelow g.regions.count a.type
+    → Surely (λ v. IsGoodPlace g.regions.count v) (indexed g a b)
+indexed_judged g a b w h = by a.type (is_integer b.type) w h
+  where
+    by : (t : StaticType) (i : Bool) → IsValueType t → TypeBelow g.regions.count t → Surely (λ v. IsGoodPlace g.regions.count v) (indexed_of g a.at t i)
+    by (Fat r t) true w h = live_judged g.regions.count (is_live g r) a.at t r w h.1 h.0
+    by _ _ w h = tt
 
 -- ---- addresses
 
@@ -130,7 +157,7 @@ member_judged g x at Char (In r) h w b k = tt
 member_judged g x at Void (In r) h w b k = tt
 member_judged g x at Null (In r) h w b k = tt
 member_judged g x at (Thin n q t) (In r) h w b k = tt
-member_judged g x at (Fat q t) (In r) h w b k = absurd w
+member_judged g x at (Fat q t) (In r) h w b k = tt
 member_judged g x at (Unique n t) (In r) h w b k = absurd w
 member_judged g x at (Handle q) (In r) h w b k = tt
 member_judged g x at (Key q) (In r) h w b k = absurd w
@@ -151,11 +178,16 @@ thin_arrow g x at n r (Thin m q t) h w b k = tt
 thin_arrow g x at n r (Struct tag rs) h w b k = arrow_live_judged g x at (is_live g r) r tag rs h b k
 thin_arrow g x at n r Void h w b k = absurd w
 thin_arrow g x at n r Null h w b k = absurd w
-thin_arrow g x at n r (Fat q t) h w b k = absurd w
+thin_arrow g x at n r (Fat q t) h w b k = tt
 thin_arrow g x at n r (Unique m t) h w b k = absurd w
 thin_arrow g x at n r (Handle q) h w b k = tt
 thin_arrow g x at n r (Key q) h w b k = absurd w
 thin_arrow g x at n r (Union tag rs) h w b k = absurd w
+
+-- through a fat pointer as through a thin one
+fat_arrow : (g : Env) (x : tree.Name) (at : ℕ) (r : Region) (t : StaticType) → arrow_of g x at (Fat r t) ≡ arrow_of g x at (Thin true r t)
+fat_arrow g x at r (Struct tag rs) = refl
+fat_arrow g x at r _ = refl
 
 pub arrow_judged : (g : Env) (x : tree.Name) (at : ℕ) (t : StaticType) → AllGood g.regions.count g.tables → IsValueType t
     → TypeBelow g.regions.count t → Surely (λ v. IsGoodPlace g.regions.count v) (arrow_of g x at t)
@@ -165,7 +197,8 @@ arrow_judged g x at Char h w b = tt
 arrow_judged g x at Void h w b = tt
 arrow_judged g x at Null h w b = tt
 arrow_judged g x at (Thin n r t) h w b = thin_arrow g x at n r t h w b.1 b.0
-arrow_judged g x at (Fat r t) h w b = absurd w
+arrow_judged g x at (Fat r t) h w b =
+    subst (λ v. Surely (λ w. IsGoodPlace g.regions.count w) v) (sym (fat_arrow g x at r t)) (thin_arrow g x at true r t h w b.1 b.0)
 arrow_judged g x at (Unique n t) h w b = absurd w
 arrow_judged g x at (Handle r) h w b = tt
 arrow_judged g x at (Key r) h w b = absurd w
@@ -186,7 +219,7 @@ assigned_value t o = by t o
     by (Struct tag rs) o = tt
     by Void o = absurd o
     by Null o = absurd o
-    by (Fat r t) o = absurd o
+    by (Fat r t) o = o
     by (Unique n t) o = absurd o
     by (Handle r) o = tt
     by (Key r) o = absurd o

@@ -1,9 +1,9 @@
--- A scope in which all is known of each name stays one: where a block or a loop begins, in an `rnew`, and after a local and a lexical region.
+-- A scope in which all is known of each name stays one: where a block or a loop begins, in an `rnew`, and after a local, an array and a lexical region.
 use Rattle.std.proofs.Common.{◌≡◌, ℕ, Bool, true, false, List, [], ◌∷◌, arith, refl}
 use Rattle.std.specs.Prelude.{◌+◌, if◌then◌else◌, is_some, not}
 use Rattle.cyc_tree.specs.Tree as tree
 use Rattle.source_safety.specs.Entries.{IsObjectType}
-use Rattle.source_safety.specs.Judged.{extended}
+use Rattle.source_safety.specs.Judged.{arrayed, extended, named}
 use Rattle.source_safety.specs.Named.{Below, TypeBelow}
 use Rattle.source_safety.proofs.Lexical.{lexical, names_with}
 use Rattle.source_safety.proofs.Names.{below_up, names_up}
@@ -14,7 +14,7 @@ use Rattle.source_typing.specs.Making.{To, inside}
 use Rattle.source_typing.specs.Regions.{Region}
 use Rattle.source_typing.specs.Scope.{Enclosing, Env, block_entered, in_scope, is_second, next_region, second, with_local}
 use Rattle.source_typing.specs.Statements.{in_a_loop}
-use Rattle.source_typing.specs.Tables.{Arrayed, Counter, Entry, OfBuiltin, OfFunction, OfOther, OfTag, OfValue, Stored, Tables, Unknown}
+use Rattle.source_typing.specs.Tables.{Arrayed, Counter, Entry, OfBuiltin, OfFunction, OfOther, OfTag, OfValue, Stored, Tables, Unknown, What}
 use Rattle.source_typing.specs.Types.{StaticType}
 use Rattle.source_typing.specs.Verdicts.{Of}
 use Rattle.source_typing.specs.Written.{RegionNamed, find_region}
@@ -24,7 +24,7 @@ use Rattle.judged_sources.specs.Good.{AllGood, IsAround, IsGood, IsGoodEntry, Na
 
 pub entry_up : (n : ℕ) (e : Entry) → IsGoodEntry n e → IsGoodEntry (n + 1) e
 entry_up n (OfValue (Stored t r)) h = (h.0, type_up n t h.1, below_up n r h.2)
-entry_up n (OfValue (Arrayed t r)) h = absurd h
+entry_up n (OfValue (Arrayed t r)) h = (h.0, type_up n t h.1, below_up n r h.2)
 entry_up n (OfValue Counter) h = absurd h
 entry_up n (OfValue Unknown) h = absurd h
 entry_up n (OfTag t) h = h
@@ -80,10 +80,13 @@ good_region r g h = record {
 pub good_local : (x : tree.Name) (t : StaticType) (g : Env) → IsObjectType t → TypeBelow g.regions.count t → IsGood g → IsGood (extended g x t)
 good_local x t g w b h = record { names = ((w, b, h.frame), h.names); regions = h.regions; frame = h.frame; enclosing = h.enclosing }
 
+pub good_array : (x : tree.Name) (t : StaticType) (g : Env) → IsObjectType t → TypeBelow g.regions.count t → IsGood g → IsGood (arrayed g x t)
+good_array x t g w b h = record { names = ((w, b, h.frame), h.names); regions = h.regions; frame = h.frame; enclosing = h.enclosing }
+
 -- a name that isn't declared twice is one more local
-pub one_more : (x : tree.Name) (t : StaticType) (g : Env) → second g x ≡ [] → with_local x (Stored t g.frame) g ≡ extended g x t
-one_more x t g e = by (is_second g.locals g.block x.text) e
+pub one_more : (x : tree.Name) (w : What) (g : Env) → second g x ≡ [] → with_local x w g ≡ named g x w
+one_more x w g e = by (is_second g.locals g.block x.text) e
   where
-    by : (b : Bool) → test (not b) name_rule x.at ≡ [] → (if b then g else extended g x t) ≡ extended g x t
+    by : (b : Bool) → test (not b) name_rule x.at ≡ [] → (if b then g else named g x w) ≡ named g x w
     by true p = absurd cc
     by false p = refl

@@ -1,16 +1,24 @@
 -- The tables of a program in which the rules find no fault: all is known of each name.
-use Rattle.std.proofs.Common.{◌≡◌, ℕ, suc, false, List, [], ◌∷◌, sym, subst, ◌∙◌}
+use Rattle.std.proofs.Common.{◌≡◌, ℕ, suc, false, Option, Some, None, List, [], ◌∷◌, sym, subst, ◌∙◌}
 use Rattle.std.specs.Prelude.{◌++◌, codes}
 use Rattle.cyc_tree.specs.Tree as tree
 use Rattle.cyc_tree.specs.Tree.{Item, Program}
+use Rattle.source_safety.specs.Entries.{IsObjectType}
+use Rattle.source_safety.specs.Named.{TypeBelow}
 use Rattle.source_typing.specs.Answers.{program_faults, rule_faults}
+use Rattle.source_typing.specs.Declarations.{what_of}
 use Rattle.source_typing.specs.Functions.{Head, function_faults, head_of}
-use Rattle.source_typing.specs.Globals.{global_faults}
+use Rattle.source_typing.specs.Globals.{count_of, global_faults}
 use Rattle.source_typing.specs.Left.{flow_faults}
-use Rattle.source_typing.specs.Programs.{Judged, all_tag_faults, builtins, entries_with, faults_with, items_from, judged_tags, main_found, named, second_names, size_faults, tables_of, typing_faults}
+use Rattle.source_typing.specs.Programs.{Judged, all_tag_faults, builtins, entries_with, faults_with, items_from, judged_tags, main_found, named, second_names}
+use Rattle.source_typing.specs.Programs.{size_faults, tables_of, typing_faults}
+use Rattle.source_typing.specs.Regions.{TheHeap}
 use Rattle.source_typing.specs.Scope.{at_item}
-use Rattle.source_typing.specs.Tables.{Entry, Named, OfOther, Tables}
-use Rattle.source_typing.specs.Taken.{Taken, constant_forms, function_taken, item_forms, item_taken, only_taken, with_regions}
+use Rattle.source_typing.specs.Tables.{Entry, Named, OfOther, OfValue, Tables}
+use Rattle.source_typing.specs.Taken.{Taken, constant_forms, function_taken, item_forms, item_taken, only_taken}
+use Rattle.source_safety.specs.Judged.{safe_forms}
+use Rattle.source_typing.specs.Types.{StaticType}
+use Rattle.source_typing.specs.Verdicts.{Of}
 use Rattle.source_typing.proofs.Inversion.{none_of_both}
 use Rattle.source_typing.proofs.TakenItems.{program_is_taken}
 use Rattle.judged_sources.specs.Good.{AllGood, IsGoodEntry}
@@ -63,7 +71,7 @@ is_clean_program k p e =
 
 -- a head without fault
 pub record HeadKnown (h : Tables) (f : tree.Function) : Type 0 where
-  pub is_taken : function_taken with_regions f ≡ f
+  pub is_taken : function_taken safe_forms f ≡ f
   pub clean : (head_of false h f).faults ≡ []
 
 pub known_good : (h : Tables) (f : tree.Function) → KnowsTags h → HeadKnown h f → HeadGood h f
@@ -84,25 +92,25 @@ AreHeaded h i (j ∷ js) [] = ⊥
 
 -- The program's own tables `g` have the same tags as `h`: what has no fault by them has none where tags alone are known.
 pub all_headed : (g h : Tables) (i : ℕ) (js : List Judged) (is : List Item) → KnowsTags h → AreAligned g h → AreNamed js is
-    → only_taken with_regions is ≡ is
-    → constant_forms with_regions is ≡ [] → items_from false g i is ≡ [] → AreHeaded h i js is
+    → only_taken safe_forms is ≡ is
+    → constant_forms safe_forms is ≡ [] → items_from false g i is ≡ [] → AreHeaded h i js is
 all_headed g h i [] [] tags s n t f p = tt
 all_headed g h i [] (x ∷ is) tags s n t f p = absurd n
 all_headed g h i (j ∷ js) [] tags s n t f p = absurd n
 all_headed g h i (j ∷ js) (tree.StructItem x ∷ is) tags s n t f p =
-    let b : only_taken with_regions is ≡ is = cc in (n.0, all_headed g h (suc i) js is tags s n.1 b f p)
+    let b : only_taken safe_forms is ≡ is = cc in (n.0, all_headed g h (suc i) js is tags s n.1 b f p)
 all_headed g h i (j ∷ js) (tree.UnionItem x ∷ is) tags s n t f p = absurd n.0
 all_headed g h i (j ∷ js) (tree.GlobalItem x ∷ is) tags s n t f p =
-    let a : item_taken with_regions (tree.GlobalItem x) ≡ tree.GlobalItem x = cc in
-    let b : only_taken with_regions is ≡ is = cc in
-    let c : (item_forms with_regions (tree.GlobalItem x) ≡ []) × (constant_forms with_regions is ≡ []) =
-    none_of_both (item_forms with_regions (tree.GlobalItem x)) (constant_forms with_regions is) f in
+    let a : item_taken safe_forms (tree.GlobalItem x) ≡ tree.GlobalItem x = cc in
+    let b : only_taken safe_forms is ≡ is = cc in
+    let c : (item_forms safe_forms (tree.GlobalItem x) ≡ []) × (constant_forms safe_forms is ≡ []) =
+    none_of_both (item_forms safe_forms (tree.GlobalItem x)) (constant_forms safe_forms is) f in
     let d : (global_faults (at_item false g i) x ≡ []) × (items_from false g (suc i) is ≡ []) =
     none_of_both (global_faults (at_item false g i) x) (items_from false g (suc i) is) p in
     ((n.0, global_good h i x tags a c.0 (sym (global_faults_same g h s i x) ∙ d.0)), all_headed g h (suc i) js is tags s n.1 b c.1 d.1)
 all_headed g h i (j ∷ js) (tree.FunctionItem x ∷ is) tags s n t f p =
-    let a : function_taken with_regions x ≡ x = cc in
-    let b : only_taken with_regions is ≡ is = cc in
+    let a : function_taken safe_forms x ≡ x = cc in
+    let b : only_taken safe_forms is ≡ is = cc in
     let d : (function_faults false g i x ≡ []) × (items_from false g (suc i) is ≡ []) =
     none_of_both (function_faults false g i x) (items_from false g (suc i) is) p in
     let e : (head_of false h x).faults ≡ [] =
@@ -114,13 +122,20 @@ all_headed g h i (j ∷ js) (tree.FunctionItem x ∷ is) tags s n t f p =
 struct_good : (s : tree.Structure) (n : Named) → StructKnown s n → IsGoodEntry 0 n.entry
 struct_good s n k = subst (λ (z : Named). IsGoodEntry 0 z.entry) (sym k.is) k.good
 
+-- a global, or an array of so many elements
+global_means : (count : Option ℕ) (t : StaticType) → IsObjectType t → TypeBelow 0 t → IsGoodEntry 0 (OfValue (what_of TheHeap count (Of t)))
+global_means None t w b = (w, b, tt)
+global_means (Some n) t w b = (w, b, tt)
+
 entries_good : (h : Tables) (i : ℕ) (js : List Judged) (is : List Item) → KnowsTags h → AreHeaded h i js is → AllGood 0 (entries_with false h i js is)
 entries_good h i [] is tags k = tt
 entries_good h i (j ∷ js) [] tags k = tt
 entries_good h i (j ∷ js) (tree.StructItem s ∷ is) tags k = (struct_good s j.entry k.0, entries_good h (suc i) js is tags k.1)
 entries_good h i (j ∷ js) (tree.UnionItem s ∷ is) tags k = absurd k.0
 entries_good h i (j ∷ js) (tree.GlobalItem x ∷ is) tags k =
-    (subst (λ (e : Entry). IsGoodEntry 0 e) (sym k.0.1.entry) (k.0.1.good.object, k.0.1.good.below, tt), entries_good h (suc i) js is tags k.1)
+    let a : IsGoodEntry 0 (OfValue (what_of TheHeap (count_of x.initial) (Of k.0.1.type))) =
+    global_means (count_of x.initial) k.0.1.type k.0.1.good.object k.0.1.good.below in
+    (subst (λ (e : Entry). IsGoodEntry 0 e) (sym k.0.1.entry) a, entries_good h (suc i) js is tags k.1)
 entries_good h i (j ∷ js) (tree.FunctionItem f ∷ is) tags k = ((known_good h f tags k.0.1).signature, entries_good h (suc i) js is tags k.1)
 
 pub tables_good : (h : Tables) (js : List Judged) (p : Program) → KnowsTags h → AreHeaded h 0 js p → AllGood 0 (builtins (entries_with false h 0 js p))

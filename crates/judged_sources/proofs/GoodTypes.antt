@@ -7,16 +7,17 @@ use Rattle.cyc_tree.specs.declared.name.Sign.{Sign}
 use Rattle.cyc_tree.specs.declared.name.Sign.TheVariants as sign
 use Rattle.cyc_tree.specs.Tree as tree
 use Rattle.cyc_tree.specs.Tree.{Pointer, TypeName}
-use Rattle.source_lowering.specs.Taken.{AreThin, IsSharedRegion, IsThinSign, IsVoidType}
+use Rattle.source_lowering.specs.Taken.{AreShared, IsSharedRegion, IsVoidType}
 use Rattle.source_meaning.specs.Shapes as shapes
-use Rattle.source_meaning.specs.Shapes.{HandleShape, Shape, StructShape, ThinShape, owner_of, pointed, shared_owner, signed_shape}
+use Rattle.source_meaning.specs.Shapes.{FatShape, HandleShape, Shape, StructShape, ThinShape, owner_of, pointed, signed_shape}
 use Rattle.source_safety.specs.Named.{Below}
 use Rattle.source_typing.specs.Faults.{Fault}
 use Rattle.source_typing.specs.Regions.{Region}
 use Rattle.source_typing.specs.Tables.{Arrayed, Counter, Entry, OfBuiltin, OfFunction, OfOther, OfTag, OfValue, Stored, Tables, Unknown, as_tag, find}
 use Rattle.source_typing.specs.Tables.{tag_in}
-use Rattle.source_typing.specs.Taken.{Taken, with_regions, takes_base, takes_pointers, takes_region, takes_sign, takes_type}
-use Rattle.source_typing.specs.Types.{Char, Handle, Int, Key, PartialType, Struct, Thin, Unsigned, Void, same_bool, shape_of}
+use Rattle.source_typing.specs.Taken.{Taken, takes_base, takes_pointers, takes_region, takes_sign, takes_type}
+use Rattle.source_safety.specs.Judged.{safe_forms}
+use Rattle.source_typing.specs.Types.{Char, Fat, Handle, Int, Key, PartialType, Struct, Thin, Unsigned, Void, same_bool, shape_of}
 use Rattle.source_typing.specs.Verdicts.{Faulty, Of, Unjudged, Verdict, unless_faulty}
 use Rattle.source_typing.specs.Written.{
   Found,
@@ -48,6 +49,7 @@ use Rattle.source_typing.specs.Written.{
 use Rattle.judged_sources.specs.Good.{AllGood, IsGoodEntry, NamesBelow, Surely}
 use Rattle.judged_sources.proofs.FoundRegions.{AreAllFound, AreFound, FoundBelow, base_arguments, spots_found}
 use Rattle.judged_sources.proofs.GoodNames.{MeansGood, found_good}
+use Rattle.source_lowering.proofs.WrittenTypes.{owner_shared}
 use Rattle.judged_sources.proofs.Settling.{IsOpen}
 use Rattle.judged_sources.proofs.Sure.{surely_unless}
 
@@ -87,25 +89,19 @@ tag_judged at (Some OfOther) h = tt
 
 -- ---- forms that are taken
 
--- where nothing is taken of arrays and unique pointers
-thin_sign : (k : Taken) → k.arrays ≡ false → (s : Sign) → takes_sign k s ≡ true → IsThinSign s
-thin_sign k a sign.Nullable e = tt
-thin_sign k a sign.NotNull e = tt
-thin_sign k a sign.Fat e = absurd (false≢true (sym a ∙ e))
-
+-- where nothing is taken of unique pointers
 shared_region : (k : Taken) → k.unique ≡ false → (r : Option tree.RegionName) → takes_region k r ≡ true → IsSharedRegion r
 shared_region k u None e = tt
 shared_region k u (Some (tree.Heap at)) e = tt
 shared_region k u (Some (tree.Unique at)) e = absurd (false≢true (sym u ∙ e))
 shared_region k u (Some (tree.Named x)) e = tt
 
--- the pointers of a type that is taken are thin, and none is unique
-pub thin_pointers_are : (k : Taken) → k.arrays ≡ false → k.unique ≡ false → (ps : List Pointer) → takes_pointers k ps ≡ true → AreThin ps
-thin_pointers_are k a u [] e = tt
-thin_pointers_are k a u (p ∷ ps) e =
+-- no pointer of a type that is taken is unique
+pub pointers_shared : (k : Taken) → k.unique ≡ false → (ps : List Pointer) → takes_pointers k ps ≡ true → AreShared ps
+pointers_shared k u [] e = tt
+pointers_shared k u (p ∷ ps) e =
     let c = and_parts (takes_sign k p.sign && takes_region k p.region) (takes_pointers k ps) e in
-    let d = and_parts (takes_sign k p.sign) (takes_region k p.region) c.0 in
-    ((thin_sign k a p.sign d.0, shared_region k u p.region d.1), thin_pointers_are k a u ps c.1)
+    (shared_region k u p.region (and_parts (takes_sign k p.sign) (takes_region k p.region) c.0).1, pointers_shared k u ps c.1)
 
 -- ---- a type as it is written, whose missing regions aren't found yet
 
@@ -123,6 +119,7 @@ IsPartialObject n Int = Unit {0}
 IsPartialObject n Unsigned = Unit {0}
 IsPartialObject n Char = Unit {0}
 IsPartialObject n (Thin b r t) = RegionBelow n r × IsPartialObject n t
+IsPartialObject n (Fat r t) = RegionBelow n r × IsPartialObject n t
 IsPartialObject n (Struct tag rs) = RegionsBelow n rs
 IsPartialObject n (Handle r) = RegionBelow n r
 IsPartialObject n _ = ⊥
@@ -147,61 +144,60 @@ abbrev pub PointedIfSome : ℕ → Shape → Option PartialType → Type 0
 PointedIfSome n s None = ⊥
 PointedIfSome n s (Some p) = IsPointed n s p
 
-pub owner_shared : (r : Option tree.RegionName) → IsSharedRegion r → shared_owner (owner_of r) ≡ shapes.Shared
-owner_shared None h = refl
-owner_shared (Some (tree.Heap at)) h = refl
-owner_shared (Some (tree.Unique at)) h = absurd h
-owner_shared (Some (tree.Named x)) h = refl
-
 thin_shape : (b : Bool) (r : Option tree.RegionName) (s t : Shape) → IsSharedRegion r → shapes.settled s ≡ t
     → shapes.settled (ThinShape b (owner_of r) s) ≡ ThinShape b shapes.Shared t
 thin_shape b r s t h e = ap (λ o. ThinShape b o (shapes.settled s)) (owner_shared r h) ∙ ap (λ z. ThinShape b shapes.Shared z) e
 
--- whether a pointer of a sign may be NULL
-abbrev may_be_null : Sign → Bool
-may_be_null sign.Nullable = true
-may_be_null sign.NotNull = false
-may_be_null sign.Fat = true
+-- the pointer of a sign that isn't unique
+abbrev signed : Sign → Option Region → PartialType → PartialType
+signed sign.Nullable r t = Thin true r t
+signed sign.NotNull r t = Thin false r t
+signed sign.Fat r t = Fat r t
+
+signed_object : (n : ℕ) (x : Sign) (r : Option Region) (t : PartialType) → RegionBelow n r → IsPartialObject n t → IsPartialObject n (signed x r t)
+signed_object n sign.Nullable r t b w = (b, w)
+signed_object n sign.NotNull r t b w = (b, w)
+signed_object n sign.Fat r t b w = (b, w)
 
 -- the pointer to an object that a sign makes
-thin_pointer : (n : ℕ) (x : Sign) (f : Found) (t : PartialType) → IsThinSign x → FoundBelow n f → IsPartialObject n t
-    → pointer_to x f t ≡ Some (Thin (may_be_null x) (as_region f) t)
-thin_pointer n x f Void k b w = absurd w
-thin_pointer n x f (Key r) k b w = absurd w
-thin_pointer n sign.Fat f t k b w = absurd k
-thin_pointer n x IsUnique t k b w = absurd b
-thin_pointer n sign.Nullable (Is q) t k b w = refl
-thin_pointer n sign.Nullable Missing t k b w = refl
-thin_pointer n sign.NotNull (Is q) t k b w = refl
-thin_pointer n sign.NotNull Missing t k b w = refl
+pointer_is : (n : ℕ) (x : Sign) (f : Found) (t : PartialType) → FoundBelow n f → IsPartialObject n t → pointer_to x f t ≡ Some (signed x (as_region f) t)
+pointer_is n x f Void b w = absurd w
+pointer_is n x f (Key r) b w = absurd w
+pointer_is n x IsUnique t b w = absurd b
+pointer_is n sign.Nullable (Is q) t b w = refl
+pointer_is n sign.Nullable Missing t b w = refl
+pointer_is n sign.NotNull (Is q) t b w = refl
+pointer_is n sign.NotNull Missing t b w = refl
+pointer_is n sign.Fat (Is q) t b w = refl
+pointer_is n sign.Fat Missing t b w = refl
 
 found_region : (n : ℕ) (f : Found) → FoundBelow n f → RegionBelow n (as_region f)
 found_region n (Is q) b = b
 found_region n IsUnique b = tt
 found_region n Missing b = tt
 
-pub signed_open : (x : Sign) (r : Option tree.RegionName) (s : Shape) → IsThinSign x → IsSharedRegion r → IsOpen s → IsOpen (signed_shape x (owner_of r) s)
-signed_open sign.Nullable r s k h o = (owner_shared r h, o)
-signed_open sign.NotNull r s k h o = (owner_shared r h, o)
-signed_open sign.Fat r s k h o = absurd k
+pub signed_open : (x : Sign) (r : Option tree.RegionName) (s : Shape) → IsSharedRegion r → IsOpen s → IsOpen (signed_shape x (owner_of r) s)
+signed_open sign.Nullable r s h o = (owner_shared r h, o)
+signed_open sign.NotNull r s h o = (owner_shared r h, o)
+signed_open sign.Fat r s h o = o
 
-signed_shared : (x : Sign) (r : Option tree.RegionName) (s t : Shape) → IsThinSign x → IsSharedRegion r → shapes.settled s ≡ t
-    → shapes.settled (signed_shape x (owner_of r) s) ≡ ThinShape (may_be_null x) shapes.Shared t
-signed_shared sign.Nullable r s t k h e = thin_shape true r s t h e
-signed_shared sign.NotNull r s t k h e = thin_shape false r s t h e
-signed_shared sign.Fat r s t k h e = absurd k
+signed_settled : (x : Sign) (r : Option tree.RegionName) (q : Option Region) (s : Shape) (t : PartialType) → IsSharedRegion r → shapes.settled s ≡ shape_of t
+    → shapes.settled (signed_shape x (owner_of r) s) ≡ shape_of (signed x q t)
+signed_settled sign.Nullable r q s t h e = thin_shape true r s (shape_of t) h e
+signed_settled sign.NotNull r q s t h e = thin_shape false r s (shape_of t) h e
+signed_settled sign.Fat r q s t h e = ap (λ z. FatShape z) e
 
 -- pointers to an object make an object, one after another
-pub all_pointed : (n : ℕ) (ps : List Pointer) (fs : List Found) (p : PartialType) (s : Shape) → AreThin ps → AreFound n ps fs → IsPointed n s p
+pub all_pointed : (n : ℕ) (ps : List Pointer) (fs : List Found) (p : PartialType) (s : Shape) → AreShared ps → AreFound n ps fs → IsPointed n s p
     → PointedIfSome n (pointed ps s) (pointers_to ps fs (Some p))
 all_pointed n [] fs p s k b h = h
 all_pointed n (x ∷ ps) [] p s k b h = absurd b
 all_pointed n (x ∷ ps) (f ∷ fs) p s k b h =
-    subst (λ z. PointedIfSome n (pointed (x ∷ ps) s) (pointers_to ps fs z)) (sym (thin_pointer n x.sign f p k.0.0 b.0 h.object))
-    (all_pointed n ps fs (Thin (may_be_null x.sign) (as_region f) p) (signed_shape x.sign (owner_of x.region) s) k.1 b.1 (record {
-      object = (found_region n f b.0, h.object);
-      unowned = signed_open x.sign x.region s k.0.0 k.0.1 h.unowned;
-      shape = signed_shared x.sign x.region s (shape_of p) k.0.0 k.0.1 h.shape;
+    subst (λ z. PointedIfSome n (pointed (x ∷ ps) s) (pointers_to ps fs z)) (sym (pointer_is n x.sign f p b.0 h.object))
+    (all_pointed n ps fs (signed x.sign (as_region f) p) (signed_shape x.sign (owner_of x.region) s) k.1 b.1 (record {
+      object = signed_object n x.sign (as_region f) p (found_region n f b.0) h.object;
+      unowned = signed_open x.sign x.region s k.0 h.unowned;
+      shape = signed_settled x.sign x.region (as_region f) s p k.0 h.shape;
     }))
 
 -- all of these are in scope, or missing
@@ -218,7 +214,7 @@ and_below n [] f h k = (k, tt)
 and_below n (g ∷ fs) f h k = (h.0, and_below n fs f h.1 k)
 
 -- pointers to a struct with its region arguments
-pub struct_pointed : (n m : ℕ) (tag : List ℕ) (given : List Found) (ps : List Pointer) (fs : List Found) → AreThin ps → AllFoundBelow n given
+pub struct_pointed : (n m : ℕ) (tag : List ℕ) (given : List Found) (ps : List Pointer) (fs : List Found) → AreShared ps → AllFoundBelow n given
     → AreAllFound n m ps fs → PointedIfSome n (pointed ps (StructShape tag)) (with_arguments m (Struct tag) given ps fs)
 struct_pointed n zero tag given ps fs k a h =
     all_pointed n ps fs (Struct tag (map as_region given)) (StructShape tag) k h (record { object = found_regions n given a; unowned = tt; shape = refl })
@@ -226,7 +222,7 @@ struct_pointed n (suc m) tag given ps [] k a h = absurd h
 struct_pointed n (suc m) tag given ps (f ∷ fs) k a h = struct_pointed n m tag (given ++ f ∷ []) ps fs k (and_below n given f a h.0) h.1
 
 -- pointers to a handle of a region
-pub handle_pointed : (n : ℕ) (r : tree.RegionName) (m : ℕ) (ps : List Pointer) (fs : List Found) → AreThin ps → AreAllFound n 1 ps fs
+pub handle_pointed : (n : ℕ) (r : tree.RegionName) (m : ℕ) (ps : List Pointer) (fs : List Found) → AreShared ps → AreAllFound n 1 ps fs
     → PointedIfSome n (pointed ps HandleShape) (built (tree.Handle r) m ps fs)
 handle_pointed n r m ps [] k h = absurd h
 handle_pointed n r m ps (f ∷ fs) k h =
@@ -241,7 +237,7 @@ no_pointer (p ∷ ps) (f ∷ fs) = refl
 -- ---- what is written
 
 -- an object's type; and `void`, which has no pointers
-object_written : (n : ℕ) (t : TypeName) (b : tree.Base) (o : Option PartialType) → AreThin t.pointers
+object_written : (n : ℕ) (t : TypeName) (b : tree.Base) (o : Option PartialType) → AreShared t.pointers
     → PointedIfSome n (pointed t.pointers (shapes.base_shape b)) o
     → Surely (λ p. IsWritten n (record { at = t.at; base = b; pointers = t.pointers }) p) (type_built t.at o)
 object_written n t b None k h = absurd h
@@ -261,23 +257,23 @@ count_is g tag [] m s e = length-replicate (regions_of_tag (tag_in g tag.text)) 
 count_is g tag (r ∷ rs) m s e = length-map (r ∷ rs) (λ r. spot false (Some r)) ∙ eqb-true (length (r ∷ rs)) m e
 
 -- a type that is taken, where a region in scope is found for each argument and pointer, or a missing one
-pub written_good : (n : ℕ) (g : Tables) (t : TypeName) (fs : List Found) (bad : List Fault) → KnowsTags g → takes_type with_regions t ≡ true
+pub written_good : (n : ℕ) (g : Tables) (t : TypeName) (fs : List Found) (bad : List Fault) → KnowsTags g → takes_type safe_forms t ≡ true
     → AreAllFound n (length (base_spots g t.base)) t.pointers fs
     → Surely (λ p. IsWritten n t p) (written_with g t (fs, bad))
 written_good n g t fs bad tags e h =
-    let a = and_parts (takes_base with_regions t.base) (takes_pointers with_regions t.pointers) e in
-    by t.base a.0 (thin_pointers_are with_regions refl refl t.pointers a.1) h
+    let a = and_parts (takes_base safe_forms t.base) (takes_pointers safe_forms t.pointers) e in
+    by t.base a.0 (pointers_shared safe_forms refl t.pointers a.1) h
   where
     with_base : tree.Base → TypeName
     with_base b = record { at = t.at; base = b; pointers = t.pointers }
 
-    word : (b : tree.Base) (p : PartialType) → AreThin t.pointers → AreFound n t.pointers fs → IsPointed n (shapes.base_shape b) p
+    word : (b : tree.Base) (p : PartialType) → AreShared t.pointers → AreFound n t.pointers fs → IsPointed n (shapes.base_shape b) p
         → Surely (λ p. IsWritten n (with_base b) p) (unless_faulty bad (type_built t.at (pointers_to t.pointers fs (Some p))))
     word b p k h w =
         surely_unless (λ p. IsWritten n (with_base b) p) bad (type_built t.at (pointers_to t.pointers fs (Some p)))
         (λ e. object_written n t b (pointers_to t.pointers fs (Some p)) k (all_pointed n t.pointers fs p (shapes.base_shape b) k h w))
 
-    struct : (tag : tree.Name) (rs : List tree.RegionName) (v : Verdict ℕ) → AreThin t.pointers → Surely (λ m. m ≡ regions_of_tag (tag_in g tag.text)) v
+    struct : (tag : tree.Name) (rs : List tree.RegionName) (v : Verdict ℕ) → AreShared t.pointers → Surely (λ m. m ≡ regions_of_tag (tag_in g tag.text)) v
         → AreAllFound n (length (argument_spots g tag rs)) t.pointers fs
         → Surely (λ p. IsWritten n (with_base (tree.Struct tag rs)) p) (written_on (with_base (tree.Struct tag rs)) fs bad v)
     struct tag rs (Faulty f others) k s h = tt
@@ -293,7 +289,7 @@ written_good n g t fs bad tags e h =
             object_written n t (tree.Struct tag rs) (with_arguments m (Struct tag.text) [] t.pointers fs) k
             (struct_pointed n m tag.text [] t.pointers fs k tt (subst (λ (c : ℕ). AreAllFound n c t.pointers fs) (count_is g tag rs m s q) h))
 
-    by : (b : tree.Base) → takes_base with_regions b ≡ true → AreThin t.pointers → AreAllFound n (length (base_spots g b)) t.pointers fs
+    by : (b : tree.Base) → takes_base safe_forms b ≡ true → AreShared t.pointers → AreAllFound n (length (base_spots g b)) t.pointers fs
         → Surely (λ p. IsWritten n (with_base b) p) (written_with g (with_base b) (fs, bad))
     by tree.Int q k h = word tree.Int Int k h (record { object = tt; unowned = tt; shape = refl })
     by tree.Unsigned q k h = word tree.Unsigned Unsigned k h (record { object = tt; unowned = tt; shape = refl })
@@ -310,11 +306,11 @@ written_good n g t fs bad tags e h =
 
 -- one by the region names in scope
 pub in_scope_good : (n : ℕ) (g : Tables) (names : List RegionNamed) (t : TypeName) → KnowsTags g → NamesBelow n names
-    → takes_type with_regions t ≡ true → Surely (λ p. IsWritten n t p) (written g names t)
+    → takes_type safe_forms t ≡ true → Surely (λ p. IsWritten n t p) (written g names t)
 in_scope_good n g names t tags h e =
-    let a = and_parts (takes_base with_regions t.base) (takes_pointers with_regions t.pointers) e in
+    let a = and_parts (takes_base safe_forms t.base) (takes_pointers safe_forms t.pointers) e in
     written_good n g t (all_found names (spots_of g t)).0 (all_found names (spots_of g t)).1 tags e
-    (spots_found n names (base_spots g t.base) t.pointers h (base_arguments g t.base) (thin_pointers_are with_regions refl refl t.pointers a.1))
+    (spots_found n names (base_spots g t.base) t.pointers h (base_arguments g t.base) (pointers_shared safe_forms refl t.pointers a.1))
 
 -- all is known of the names in scope: so all tags are
 entry_known : (n : ℕ) (e : Entry) → IsGoodEntry n e → IsKnownEntry e

@@ -6,7 +6,7 @@ use Rattle.std.specs.Prelude.{◌&&◌, bytes_eq, if◌then◌else◌, length, m
 use Rattle.std.proofs.lemmas.Bool.{and_parts}
 use Rattle.cyc_tree.specs.Tree as tree
 use Rattle.cyc_tree.specs.Tree.{Pointer, TypeName}
-use Rattle.source_lowering.specs.Taken.{AreThin}
+use Rattle.source_lowering.specs.Taken.{AreShared}
 use Rattle.source_meaning.specs.Shapes as shapes
 use Rattle.source_safety.specs.Entries.{IsObjectType}
 use Rattle.source_typing.specs.Faults.{Fault}
@@ -14,7 +14,8 @@ use Rattle.source_typing.specs.Missing.{as_type, filled_from}
 use Rattle.source_typing.specs.Scope.{Env}
 use Rattle.source_typing.specs.Tables.{Entry, Named, OfBuiltin, OfOther, OfTag, Tables, as_tag, find}
 use Rattle.source_typing.specs.Tags.{fits_member, head_faults, head_fitting, head_type, member_faults, member_fitting, member_type, settled_alone}
-use Rattle.source_typing.specs.Taken.{takes_base, takes_pointers, takes_type, with_regions}
+use Rattle.source_typing.specs.Taken.{takes_base, takes_pointers, takes_type}
+use Rattle.source_safety.specs.Judged.{safe_forms}
 use Rattle.source_typing.specs.Types.{Char, Handle, Int, PartialType, StaticType, Struct, Unsigned, same_bool}
 use Rattle.source_typing.specs.Verdicts.{Faulty, Of, Unjudged, Verdict, after, faults_of, if_fits, unless_faulty}
 use Rattle.source_typing.specs.Written.{Found, RegionNamed, Spot, all_found, argument_spots, count_fits, counted_type, if_sound, of_kind, regions_of_tag}
@@ -23,7 +24,7 @@ use Rattle.source_typing.proofs.Inversion.{both_none, none_of_both}
 use Rattle.judged_sources.specs.Good.{NamesBelow}
 use Rattle.judged_sources.proofs.GoodLocals.{FilledIfSome, filled_object}
 use Rattle.judged_sources.proofs.FoundRegions.{base_arguments, spots_found}
-use Rattle.judged_sources.proofs.GoodTypes.{KnowsTags, MeansKnown, PointedIfSome, struct_pointed, thin_pointers_are}
+use Rattle.judged_sources.proofs.GoodTypes.{KnowsTags, MeansKnown, PointedIfSome, struct_pointed, pointers_shared}
 use Rattle.judged_sources.proofs.MemberTypes.{AreMembersTaken}
 
 -- ---- entries of one kind
@@ -123,6 +124,7 @@ filled_fits at n p (Some u) h = by u h.object
     by Unsigned o = refl
     by Char o = refl
     by (Rattle.source_typing.specs.Types.Thin b r t) o = refl
+    by (Rattle.source_typing.specs.Types.Fat r t) o = refl
     by (Handle r) o = refl
     by (Struct tag rs) o = refl
     by _ o = absurd o
@@ -145,10 +147,10 @@ no_bad g t fs (f ∷ bad) (Of n) p = absurd cc
 module _ (n : ℕ) (g h : Env) (tags : (x : List ℕ) → MeansFirst (find g.tables x) (find h.tables x)) (names : g.names ≡ h.names)
     (below : NamesBelow n h.names)
   where
-    pub head_clean : (t : TypeName) → takes_type with_regions t ≡ true → faults_of (member_type g false t) ≡ [] → faults_of (head_type h false t) ≡ []
+    pub head_clean : (t : TypeName) → takes_type safe_forms t ≡ true → faults_of (member_type g false t) ≡ [] → faults_of (head_type h false t) ≡ []
     head_clean t e p =
-        let a = and_parts (takes_base with_regions t.base) (takes_pointers with_regions t.pointers) e in
-        by t.base a.0 (thin_pointers_are with_regions refl refl t.pointers a.1) p
+        let a = and_parts (takes_base safe_forms t.base) (takes_pointers safe_forms t.pointers) e in
+        by t.base a.0 (pointers_shared safe_forms refl t.pointers a.1) p
       where
         with_base : tree.Base → TypeName
         with_base b = record { at = t.at; base = b; pointers = t.pointers }
@@ -179,7 +181,7 @@ module _ (n : ℕ) (g h : Env) (tags : (x : List ℕ) → MeansFirst (find g.tab
         tagged x rs v =
             head_after (tree.Struct x rs) (found h.tables h.names (tree.Struct x rs)) (after v (λ n. Of (length (argument_spots h.tables x rs))))
 
-        pointed : (x : tree.Name) (rs : List tree.RegionName) (m : ℕ) → AreThin t.pointers → (found h.tables h.names (tree.Struct x rs)).1 ≡ []
+        pointed : (x : tree.Name) (rs : List tree.RegionName) (m : ℕ) → AreShared t.pointers → (found h.tables h.names (tree.Struct x rs)).1 ≡ []
             → faults_of (tagged x rs (Of m)) ≡ []
         pointed x rs m k bad =
             let c : ℕ = length (argument_spots h.tables x rs) in
@@ -198,7 +200,7 @@ module _ (n : ℕ) (g h : Env) (tags : (x : List ℕ) → MeansFirst (find g.tab
             (head_fitting false t.at)) ≡ []) (sym bad) refl)
         unjudged x rs _ bad u = absurd u
 
-        struct : (x : tree.Name) (rs : List tree.RegionName) (o d : Option Entry) → AreThin t.pointers → MeansFirst o d
+        struct : (x : tree.Name) (rs : List tree.RegionName) (o d : Option Entry) → AreShared t.pointers → MeansFirst o d
             → (found h.tables h.names (tree.Struct x rs)).1 ≡ []
             → faults_of (member_after (tree.Struct x rs) (found g.tables g.names (tree.Struct x rs)) (tag_of o false x.at)) ≡ []
             → faults_of (tagged x rs (tag_of d false x.at)) ≡ []
@@ -213,7 +215,7 @@ module _ (n : ℕ) (g h : Env) (tags : (x : List ℕ) → MeansFirst (find g.tab
         struct x rs (Some o) None k (inr m) bad p = absurd m.0
         struct x rs (Some o) (Some d) k (inr m) bad p = absurd m.0
 
-        by : (b : tree.Base) → takes_base with_regions b ≡ true → AreThin t.pointers → faults_of (member_type g false (with_base b)) ≡ []
+        by : (b : tree.Base) → takes_base safe_forms b ≡ true → AreShared t.pointers → faults_of (member_type g false (with_base b)) ≡ []
             → faults_of (head_type h false (with_base b)) ≡ []
         by tree.Int q k p = plain tree.Int refl p
         by tree.Unsigned q k p = plain tree.Unsigned refl p
@@ -230,7 +232,7 @@ module _ (n : ℕ) (g h : Env) (tags : (x : List ℕ) → MeansFirst (find g.tab
         by (tree.Handle r) q k p = plain (tree.Handle r) refl p
         by (tree.Key r) q k p = absurd cc
 
-    pub heads_clean : (ms : List tree.Member) → AreMembersTaken with_regions ms → member_faults g false ms ≡ [] → head_faults h false ms ≡ []
+    pub heads_clean : (ms : List tree.Member) → AreMembersTaken safe_forms ms → member_faults g false ms ≡ [] → head_faults h false ms ≡ []
     heads_clean [] e p = refl
     heads_clean (m ∷ ms) e p =
         let z : (faults_of (member_type g false m.of) ≡ []) × (member_faults g false ms ≡ []) =

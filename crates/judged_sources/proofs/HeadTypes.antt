@@ -5,7 +5,7 @@ use Rattle.std.specs.Prelude.{bytes_eq, if◌then◌else◌, length, map, ◌||�
 use Rattle.std.proofs.lemmas.Bool.{and_parts}
 use Rattle.cyc_tree.specs.Tree as tree
 use Rattle.cyc_tree.specs.Tree.{Pointer, TypeName}
-use Rattle.source_lowering.specs.Taken.{AreThin, IsSharedRegion, IsVoidBase, IsVoidType}
+use Rattle.source_lowering.specs.Taken.{AreShared, IsSharedRegion, IsVoidBase, IsVoidType}
 use Rattle.source_meaning.specs.Shapes as shapes
 use Rattle.source_meaning.specs.Shapes.{VoidShape}
 use Rattle.source_safety.specs.Entries.{IsObjectType, IsPlain}
@@ -16,14 +16,15 @@ use Rattle.source_typing.specs.Functions.{take_spot, take_spots}
 use Rattle.source_typing.specs.Regions.{Level, Region, TheHeap}
 use Rattle.source_typing.specs.Tables.{Tables}
 use Rattle.source_typing.specs.Tags.{settled_alone}
-use Rattle.source_typing.specs.Taken.{takes_base, takes_pointers, takes_type, with_regions}
-use Rattle.source_typing.specs.Types.{Handle, Char, Int, PartialType, StaticType, Struct, Thin, Unsigned, Void, is_void, shape_of}
+use Rattle.source_typing.specs.Taken.{takes_base, takes_pointers, takes_type}
+use Rattle.source_safety.specs.Judged.{safe_forms}
+use Rattle.source_typing.specs.Types.{Fat, Handle, Char, Int, PartialType, StaticType, Struct, Thin, Unsigned, Void, is_void, shape_of}
 use Rattle.source_typing.specs.Verdicts.{after, if_fits}
 use Rattle.source_typing.specs.Written.{Found, Is, IsUnique, Missing, RegionNamed, Spot, base_spots, find_region, spot, spots_of, written, written_with}
 use Rattle.judged_sources.specs.Good.{NamesBelow, Surely}
 use Rattle.judged_sources.proofs.FoundRegions.{AreAllFound, AreArguments, FoundBelow, base_arguments}
 use Rattle.judged_sources.proofs.GoodTypes.{IsWritten, KnowsTags, RegionBelow, WritesNothing, WritesObject, in_scope_good}
-use Rattle.judged_sources.proofs.GoodTypes.{thin_pointers_are, written_good}
+use Rattle.judged_sources.proofs.GoodTypes.{pointers_shared, written_good}
 use Rattle.judged_sources.proofs.GoodLocals.{IsFilled, object_settled}
 use Rattle.judged_sources.proofs.Sure.{surely_after, surely_also}
 
@@ -42,6 +43,7 @@ object_more n m Int l w h = tt
 object_more n m Unsigned l w h = tt
 object_more n m Char l w h = tt
 object_more n m (Thin b r t) l w h = (below_more n m r l h.0, object_more n m t l w h.1)
+object_more n m (Fat r t) l w h = (below_more n m r l h.0, object_more n m t l w h.1)
 object_more n m (Struct tag rs) l w h = all_more n m rs l h
 object_more n m (Handle r) l w h = below_more n m r l h
 object_more n m _ l w h = absurd w
@@ -100,12 +102,12 @@ pub record SpotsGood (vs : Variables) (m : ℕ) (ps : List Pointer) (s : AllSpot
   pub names : NamesBelow s.after_all.count s.after_all.names
   pub more : vs.count ≤ s.after_all.count
 
-pointer_spots_good : (vs : Variables) (ps : List Pointer) → AreThin ps → NamesBelow vs.count vs.names
+pointer_spots_good : (vs : Variables) (ps : List Pointer) → AreShared ps → NamesBelow vs.count vs.names
     → SpotsGood vs 0 ps (take_spots vs (map (λ (p : Pointer). spot true p.region) ps))
 pointer_spots_good vs [] k h = record { found = tt; names = h; more = omega arith }
 pointer_spots_good vs (p ∷ ps) k h =
     let one : Spotted = take_spot vs p.region true in
-    let first : SpotGood vs one = spot_good vs p.region k.0.1 h in
+    let first : SpotGood vs one = spot_good vs p.region k.0 h in
     let others : SpotsGood one.after_it 0 ps (take_spots one.after_it (map (λ (q : Pointer). spot true q.region) ps)) =
     pointer_spots_good one.after_it ps k.1 first.names in
     let last : ℕ = (take_spots one.after_it (map (λ (q : Pointer). spot true q.region) ps)).after_all.count in
@@ -113,7 +115,7 @@ pointer_spots_good vs (p ∷ ps) k h =
     let b : one.after_it.count ≤ last = others.more in
     record { found = (found_more one.after_it.count last one.found b first.found, others.found); names = others.names; more = omega (arith, a, b) }
 
-spots_good : (vs : Variables) (ss : List Spot) (ps : List Pointer) → AreArguments ss → AreThin ps → NamesBelow vs.count vs.names
+spots_good : (vs : Variables) (ss : List Spot) (ps : List Pointer) → AreArguments ss → AreShared ps → NamesBelow vs.count vs.names
     → SpotsGood vs (length ss) ps (take_spots vs (ss ++ map (λ (p : Pointer). spot true p.region) ps))
 spots_good vs [] ps a k h = pointer_spots_good vs ps k h
 spots_good vs (s ∷ ss) ps a k h =
@@ -127,11 +129,11 @@ spots_good vs (s ∷ ss) ps a k h =
     record { found = (found_more one.after_it.count last one.found d first.found, others.found); names = others.names; more = omega (arith, c, d) }
 
 -- and of a type that is taken
-pub type_spots_good : (g : Tables) (vs : Variables) (t : TypeName) → takes_type with_regions t ≡ true → NamesBelow vs.count vs.names
+pub type_spots_good : (g : Tables) (vs : Variables) (t : TypeName) → takes_type safe_forms t ≡ true → NamesBelow vs.count vs.names
     → SpotsGood vs (length (base_spots g t.base)) t.pointers (take_spots vs (spots_of g t))
 type_spots_good g vs t e h =
-    let a = and_parts (takes_base with_regions t.base) (takes_pointers with_regions t.pointers) e in
-    spots_good vs (base_spots g t.base) t.pointers (base_arguments g t.base) (thin_pointers_are with_regions refl refl t.pointers a.1) h
+    let a = and_parts (takes_base safe_forms t.base) (takes_pointers safe_forms t.pointers) e in
+    spots_good vs (base_spots g t.base) t.pointers (base_arguments g t.base) (pointers_shared safe_forms refl t.pointers a.1) h
 
 -- ---- a type that takes no missing regions from another one
 
@@ -164,7 +166,7 @@ parameter_fits n at t u (GivesObject w) = by (fits_parameter u)
     by true = w
     by false = tt
 
-pub parameter_good : (g : Tables) (vs : Variables) (t : TypeName) → KnowsTags g → takes_type with_regions t ≡ true → NamesBelow vs.count vs.names
+pub parameter_good : (g : Tables) (vs : Variables) (t : TypeName) → KnowsTags g → takes_type safe_forms t ≡ true → NamesBelow vs.count vs.names
     → Surely (λ u. ObjectGood (take_spots vs (spots_of g t)).after_all.count t u) (parameter_type g t (take_spots vs (spots_of g t)))
 parameter_good g vs t tags e h =
     let s : AllSpotted = take_spots vs (spots_of g t) in
@@ -184,7 +186,7 @@ result_fits n at t u (GivesObject w) = by (is_void u || fits_parameter u)
     by true = GivesObject w
     by false = tt
 
-pub result_good : (n : ℕ) (g : Tables) (names : List RegionNamed) (t : TypeName) → KnowsTags g → takes_type with_regions t ≡ true → NamesBelow n names
+pub result_good : (n : ℕ) (g : Tables) (names : List RegionNamed) (t : TypeName) → KnowsTags g → takes_type safe_forms t ≡ true → NamesBelow n names
     → Surely (λ u. PlainGood n t u) (result_type g names t)
 result_good n g names t tags e h =
     surely_after (λ u. PlainGood n t u) (λ u. PlainGood n t u) (after (written g names t) (settled_alone t.at)) (if_result t.at)

@@ -1,4 +1,4 @@
--- Shapes of the values of a program of integers, thin pointers, structs and handles: each struct in them, behind pointers too, is one of the program's.
+-- Shapes of the values of a program of integers, pointers, structs and handles: each struct in them, behind pointers too, is one of the program's.
 use Rattle.std.proofs.Common.{◌≡◌, true, List, refl}
 use Rattle.source_lowering.specs.Lowerable.{IsNoStruct, IsObject, IsTarget}
 use Rattle.source_meaning.specs.Shapes.{
@@ -18,7 +18,7 @@ use Rattle.source_meaning.specs.Shapes.{
   VoidShape,
   has_tag,
 }
-use Rattle.source_typing.specs.Converts.{Converts, Integers, NullToThin, Same, Thins}
+use Rattle.source_typing.specs.Converts.{Converts, Integers, IsInteger, NullToThin, Same, Thins}
 use Rattle.source_typing.specs.Regions.{Regions}
 use Rattle.source_typing.specs.Types.{
   Char,
@@ -40,14 +40,14 @@ use Rattle.source_typing.specs.Types.{
 
 -- ---- shapes
 
--- an integer, a struct of the program, a handle, or a shared thin pointer to these
+-- an integer, a struct of the program, a handle, or a shared pointer to these
 abbrev pub IsKnown : List Layout → Shape → Type 0
 IsKnown structs IntShape = Unit {0}
 IsKnown structs UnsignedShape = Unit {0}
 IsKnown structs CharShape = Unit {0}
 IsKnown structs VoidShape = ⊥
 IsKnown structs (ThinShape may_be_null owner to) = (owner ≡ Shared) × IsKnown structs to
-IsKnown structs (FatShape to) = ⊥
+IsKnown structs (FatShape to) = IsKnown structs to
 IsKnown structs HandleShape = Unit {0}
 IsKnown structs KeyShape = ⊥
 IsKnown structs (StructShape tag) = (has_tag structs tag ≡ true)
@@ -59,6 +59,7 @@ known_target structs IntShape h = tt
 known_target structs UnsignedShape h = tt
 known_target structs CharShape h = tt
 known_target structs (ThinShape may_be_null owner to) h = (h.0, known_target structs to h.1)
+known_target structs (FatShape to) h = known_target structs to h
 known_target structs HandleShape h = tt
 known_target structs (StructShape tag) h = tt
 known_target structs _ h = absurd h
@@ -68,6 +69,7 @@ known_object structs IntShape h = tt
 known_object structs UnsignedShape h = tt
 known_object structs CharShape h = tt
 known_object structs (ThinShape may_be_null owner to) h = (h.0, known_target structs to h.1)
+known_object structs (FatShape to) h = known_target structs to h
 known_object structs HandleShape h = tt
 known_object structs (StructShape tag) h = h
 known_object structs _ h = absurd h
@@ -129,24 +131,24 @@ testable_word (Handle r) e = tt
 testable_word (Key r) e = tt
 testable_word (Union tag rs) e = tt
 
+pub integer_word : (t : StaticType) → IsInteger t → IsWord t
+integer_word Void e = absurd cc
+integer_word (Struct tag rs) e = absurd cc
+integer_word Null e = tt
+integer_word Int e = tt
+integer_word Unsigned e = tt
+integer_word Char e = tt
+integer_word (Thin n r t) e = tt
+integer_word (Fat r t) e = tt
+integer_word (Unique n t) e = tt
+integer_word (Handle r) e = tt
+integer_word (Key r) e = tt
+integer_word (Union tag rs) e = tt
+
 -- what converts to a word is one
 pub converts_word : (g : Regions) (t u : StaticType) → Converts g t u → IsWord u → IsWord t
 converts_word g t u Same h = h
 converts_word g t u (Integers a b) h = integer_word t a
-  where
-    integer_word : (t : StaticType) → Rattle.source_typing.specs.Converts.IsInteger t → IsWord t
-    integer_word Void e = absurd cc
-    integer_word (Struct tag rs) e = absurd cc
-    integer_word Null e = tt
-    integer_word Int e = tt
-    integer_word Unsigned e = tt
-    integer_word Char e = tt
-    integer_word (Thin n r t) e = tt
-    integer_word (Fat r t) e = tt
-    integer_word (Unique n t) e = tt
-    integer_word (Handle r) e = tt
-    integer_word (Key r) e = tt
-    integer_word (Union tag rs) e = tt
 converts_word g t u NullToThin h = tt
 converts_word g t u Rattle.source_typing.specs.Converts.NullToFat h = tt
 converts_word g t u Rattle.source_typing.specs.Converts.NullToUnique h = tt
@@ -166,7 +168,7 @@ converts_struct g t u Same h = refl
 converts_struct g t (Struct tag rs) (Integers a b) h = absurd cc
 converts_struct g t u (Integers a b) h = absurd (no u b h)
   where
-    no : (u : StaticType) → Rattle.source_typing.specs.Converts.IsInteger u → IsStruct u → ⊥
+    no : (u : StaticType) → IsInteger u → IsStruct u → ⊥
     no (Struct tag rs) e h = cc
     no _ e h = h
 converts_struct g t u NullToThin h = absurd h

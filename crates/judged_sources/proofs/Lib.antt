@@ -24,6 +24,7 @@ pub mod Programs
 pub mod GoodNames
 pub mod GoodOperators
 pub mod GoodPlaces
+pub mod GoodMakings
 pub mod GoodExpressions
 pub mod GoodDeclarations
 pub mod GoodBodies
@@ -34,6 +35,7 @@ pub mod LoweredCalls
 pub mod LoweredMembers
 pub mod LoweredOperators
 pub mod LoweredMakings
+pub mod ObjectSizes
 pub mod LoweredTypes
 pub mod LoweredScopes
 pub mod LoweredExpressions

@@ -8,17 +8,19 @@ use Rattle.source_lowering.specs.Lowerable.{Takes, TakesDeclaration, TakesItems,
 use Rattle.source_lowering.specs.Lowered.{Named}
 use Rattle.source_lowering.specs.Programs.{local_shape, named_here, outward}
 use Rattle.source_meaning.specs.Shapes as shapes
-use Rattle.source_meaning.specs.Shapes.{Layout, Shape, settled, written}
+use Rattle.source_meaning.specs.Shapes.{ArrayShape, Layout, Shape, settled, written}
 use Rattle.source_meaning.specs.Steps.{World}
 use Rattle.source_safety.specs.Entries.{IsObjectType}
-use Rattle.source_safety.specs.Judged.{Condition, DeclarationJudged, ItemsJudged, LocalSet, LocalUnset, RegionOpened, Returned, StatementJudged}
+use Rattle.source_safety.specs.Judged.{Condition, DeclarationJudged, ItemsJudged, LocalArray, LocalSet, LocalUnset, RegionOpened, Returned, StatementJudged}
+use Rattle.source_safety.specs.Judged.{safe_forms}
 use Rattle.source_typing.specs.Converts.{Converts}
 use Rattle.source_typing.specs.Declarations.{converted_to, declare, local_type, misses_region, set_faults, set_type, taken_from, unset_type, with_region}
 use Rattle.source_typing.specs.Expressions.{judge}
+use Rattle.source_typing.specs.Extents.{size_of}
 use Rattle.source_typing.specs.Regions.{with_scope}
 use Rattle.source_typing.specs.Scope.{Env, Value, block_entered, in_scope, next_region, second}
 use Rattle.source_typing.specs.Statements.{condition_faults, in_a_loop, items_faults, statement_faults}
-use Rattle.source_typing.specs.Taken.{declaration_taken, declared_if, initializer_taken, items_taken, with_regions, statement_taken, taken}
+use Rattle.source_typing.specs.Taken.{declaration_taken, declared_if, initializer_taken, items_taken, statement_taken, taken}
 use Rattle.source_typing.specs.Taken.{takes_initializer, takes_type}
 use Rattle.source_typing.specs.Types.{Char, Fat, Handle, Int, Key, Null, StaticType, Struct, Thin, Union, Unique, Unsigned, Void, shape_of}
 use Rattle.source_typing.specs.Verdicts.{after, faults_of}
@@ -30,8 +32,9 @@ use Rattle.judged_sources.proofs.Known.{IsKnown, IsKnownValue, IsWord, converts_
 use Rattle.judged_sources.proofs.LoweredCalls.{struct_taken}
 use Rattle.judged_sources.proofs.LoweredExpressions.{taken_is}
 use Rattle.judged_sources.proofs.LoweredForms.{IsGiven, IsKnownScope, IsTaken, TakenAs, word_is}
-use Rattle.judged_sources.proofs.LoweredScopes.{scope_block, scope_local, scope_loop, scope_region, scope_tags}
+use Rattle.judged_sources.proofs.LoweredScopes.{scope_array, scope_block, scope_local, scope_loop, scope_region, scope_tags}
 use Rattle.judged_sources.proofs.LoweredTypes.{BaseThere, base_there, begins_first, object_type, once_keeps, type_open, written_known}
+use Rattle.judged_sources.proofs.ObjectSizes.{count_few, local_few}
 use Rattle.judged_sources.proofs.Settling.{IsSharedShape, settled_same}
 
 -- ---- shapes of values
@@ -41,6 +44,7 @@ known_shared structs shapes.IntShape h = tt
 known_shared structs shapes.UnsignedShape h = tt
 known_shared structs shapes.CharShape h = tt
 known_shared structs (shapes.ThinShape b o s) h = (h.0, known_shared structs s h.1)
+known_shared structs (shapes.FatShape s) h = known_shared structs s h
 known_shared structs shapes.HandleShape h = tt
 known_shared structs (shapes.StructShape tag) h = tt
 known_shared structs _ h = absurd h
@@ -84,6 +88,7 @@ module _ (w : World) where
   value_takes names g e v Unsigned o c k = (word_is w names v.type e (converts_word g.regions v.type Unsigned c tt) k.value).takes
   value_takes names g e v Char o c k = (word_is w names v.type e (converts_word g.regions v.type Char c tt) k.value).takes
   value_takes names g e v (Thin n r t) o c k = (word_is w names v.type e (converts_word g.regions v.type (Thin n r t) c tt) k.value).takes
+  value_takes names g e v (Fat r t) o c k = (word_is w names v.type e (converts_word g.regions v.type (Fat r t) c tt) k.value).takes
   value_takes names g e v (Handle r) o c k = (word_is w names v.type e (converts_word g.regions v.type (Handle r) c tt) k.value).takes
   value_takes names g e v (Struct tag rs) o c k =
       struct_taken w names (Struct tag rs) e tt
@@ -96,7 +101,7 @@ module _ (w : World) where
     scope : IsKnownScope w (named_here (tree.local_of d).text (local_shape d) index ∷ names) (declare g d).scope
     result : (declare g d).scope.result ≡ g.result
 
-  unset_takes : (names : List Named) (index : ℕ) (g : Env) (u : TypeName) (x : tree.Name) → IsKnownScope w names g → takes_type with_regions u ≡ true
+  unset_takes : (names : List Named) (index : ℕ) (g : Env) (u : TypeName) (x : tree.Name) → IsKnownScope w names g → takes_type safe_forms u ≡ true
       → LocalUnset g u x → (declare g (tree.Local u x Initializer.Unset)).faults ≡ [] → DeclarationTaken names index g (tree.Local u x Initializer.Unset)
   unset_takes names index g u x scope e j p =
       let f = none_of_both (faults_of (unset_type g u None)) (second g x) p in
@@ -113,8 +118,30 @@ module _ (w : World) where
         result = ap (λ (s : Env). s.result) j.scope;
       }
 
+  array_takes : (names : List Named) (index : ℕ) (g : Env) (u : TypeName) (x : tree.Name) (n : ℕ) → IsKnownScope w names g → takes_type safe_forms u ≡ true
+      → LocalArray g u x n → (declare g (tree.Local u x (Initializer.Elements n))).faults ≡ []
+      → DeclarationTaken names index g (tree.Local u x (Initializer.Elements n))
+  array_takes names index g u x n scope e j p =
+      let f = none_of_both (faults_of (unset_type g u (Some n))) (second g x) p in
+      let there : BaseThere w.structs u.base =
+      base_there w.structs (in_scope g) u (all_found g.names (spots_of (in_scope g) u)) (λ v. after v (local_type g u.at (Some n) false None))
+      (scope_tags w names g scope) (once_keeps (local_type g u.at (Some n) false None)) f.0 in
+      let known : IsKnown w.structs (shape_of j.type) = written_known w.structs u j.type e there j.object j.shape in
+      record {
+        takes = (
+          object_type w.structs u j.type e there j.object j.shape,
+          (
+            count_few n (size_of g.tables j.type) (scope.sizes j.type known) (local_few g u x n j.type f.1 j.scope),
+            subst (λ (s : Shape). HasBeginning s) (sym j.shape) (begins_first g.tables j.type j.object j.begins),
+          ),
+        );
+        scope = subst (λ (s : Env). IsKnownScope w (named_here x.text (ArrayShape n (settled (written u))) index ∷ names) s) (sym j.scope)
+            (scope_array w names g x j.type (settled (written u)) n index j.shape known scope);
+        result = ap (λ (s : Env). s.result) j.scope;
+      }
+
   set_takes : (names : List Named) (index : ℕ) (g : Env) (u : TypeName) (x : tree.Name) (e : Expression) → IsKnownScope w names g
-      → takes_type with_regions u ≡ true → taken with_regions e ≡ e → LocalSet g u x e
+      → takes_type safe_forms u ≡ true → taken safe_forms e ≡ e → LocalSet g u x e
       → (declare g (tree.Local u x (Initializer.Value e))).faults ≡ []
       → DeclarationTaken names index g (tree.Local u x (Initializer.Value e))
   set_takes names index g u x e scope q t j p =
@@ -153,34 +180,34 @@ module _ (w : World) where
       by (tree.Heap at) = refl
       by (tree.Unique at) = refl
 
-  declaration_takes : (d : tree.Declaration) (names : List Named) (index : ℕ) (g : Env) → IsKnownScope w names g → declaration_taken with_regions d ≡ d
+  declaration_takes : (d : tree.Declaration) (names : List Named) (index : ℕ) (g : Env) → IsKnownScope w names g → declaration_taken safe_forms d ≡ d
       → DeclarationJudged g d → (declare g d).faults ≡ [] → DeclarationTaken names index g d
   declaration_takes (tree.Region at r x) names index g scope t j p = region_takes names index g at r x scope j
   declaration_takes (tree.Open at r x y) names index g scope t j p = absurd j
   declaration_takes (tree.Alias at r u x y) names index g scope t j p = absurd j
   declaration_takes (tree.NewKey at r x) names index g scope t j p = absurd j
   declaration_takes (tree.Local u x i) names index g scope t j p =
-      let k = with_regions in
+      let k = safe_forms in
       let b = local_taken (takes_type k u && takes_initializer k i) g u.at (tree.Local u x (initializer_taken k i)) (tree.Local u x i) t p in
       let c = and_parts (takes_type k u) (takes_initializer k i) b in
       by i c.0 j p (subst (λ z. declared_if z u.at (tree.Local u x (initializer_taken k i)) ≡ tree.Local u x i) b t)
     where
-      by : (i : Initializer) → takes_type with_regions u ≡ true → DeclarationJudged g (tree.Local u x i) → (declare g (tree.Local u x i)).faults ≡ []
-          → tree.Local u x (initializer_taken with_regions i) ≡ tree.Local u x i → DeclarationTaken names index g (tree.Local u x i)
+      by : (i : Initializer) → takes_type safe_forms u ≡ true → DeclarationJudged g (tree.Local u x i) → (declare g (tree.Local u x i)).faults ≡ []
+          → tree.Local u x (initializer_taken safe_forms i) ≡ tree.Local u x i → DeclarationTaken names index g (tree.Local u x i)
       by Initializer.Unset q j p t = unset_takes names index g u x scope q j p
-      by (Initializer.Elements n) q j p t = absurd j
-      by (Initializer.Value e) q j p t = let i : taken with_regions e ≡ e = cc in set_takes names index g u x e scope q i j p
+      by (Initializer.Elements n) q j p t = array_takes names index g u x n scope q j p
+      by (Initializer.Value e) q j p t = let i : taken safe_forms e ≡ e = cc in set_takes names index g u x e scope q i j p
 
   -- ---- statements
 
-  condition_takes : (names : List Named) (g : Env) (e : Expression) → IsKnownScope w names g → taken with_regions e ≡ e → Condition g e → Takes w names e
+  condition_takes : (names : List Named) (g : Env) (e : Expression) → IsKnownScope w names g → taken safe_forms e ≡ e → Condition g e → Takes w names e
   condition_takes names g e scope t c =
       let v : Value = c.accepted.value in
       let k : IsTaken w names e v = taken_is w names g scope e v t c.accepted.judged in
       (word_is w names v.type e (testable_word v.type c.testable) k.value).takes
 
   module _ (r : StaticType) (given : IsGiven w.structs r) where
-    return_takes : (names : List Named) (g : Env) (e : Expression) → g.result ≡ Some r → IsKnownScope w names g → taken with_regions e ≡ e → Returned g e
+    return_takes : (names : List Named) (g : Env) (e : Expression) → g.result ≡ Some r → IsKnownScope w names g → taken safe_forms e ≡ e → Returned g e
         → Takes w names e
     return_takes names g e f scope t j =
         let v : Value = j.fitting.accepted.value in
@@ -192,29 +219,29 @@ module _ (w : World) where
 
     mutual
       statement_takes : (x : Statement) (names : List Named) (g : Env) (c : Bool) → g.result ≡ Some r → IsKnownScope w names g
-          → statement_taken with_regions x ≡ x → StatementJudged g x → statement_faults g c x ≡ [] → TakesStatement w (shape_of r) names x
+          → statement_taken safe_forms x ≡ x → StatementJudged g x → statement_faults g c x ≡ [] → TakesStatement w (shape_of r) names x
       statement_takes (Statement.Empty at) names g c f scope t j p = tt
       statement_takes (Statement.Block at items) names g c f scope t j p =
-          let i : items_taken with_regions items ≡ items = cc in
+          let i : items_taken safe_forms items ≡ items = cc in
           items_takes items (outward names) 0 (block_entered g) c f (scope_block w names g scope) i j p
       statement_takes (Statement.Run e) names g c f scope t j p =
-          let i : taken with_regions e ≡ e = cc in (taken_is w names g scope e j.value i j.judged).run
+          let i : taken safe_forms e ≡ e = cc in (taken_is w names g scope e j.value i j.judged).run
       statement_takes (Statement.Exchange a b) names g c f scope t j p = absurd j
       statement_takes (Statement.If at e x) names g c f scope t j p =
-          let i : taken with_regions e ≡ e = cc in
-          let k : statement_taken with_regions x ≡ x = cc in
+          let i : taken safe_forms e ≡ e = cc in
+          let k : statement_taken safe_forms x ≡ x = cc in
           let z = none_of_both (condition_faults g e) (statement_faults g c x) p in
           (condition_takes names g e scope i j.0, statement_takes x names g c f scope k j.1 z.1)
       statement_takes (Statement.IfElse at e x y) names g c f scope t j p =
-          let i : taken with_regions e ≡ e = cc in
-          let k : statement_taken with_regions x ≡ x = cc in
-          let l : statement_taken with_regions y ≡ y = cc in
+          let i : taken safe_forms e ≡ e = cc in
+          let k : statement_taken safe_forms x ≡ x = cc in
+          let l : statement_taken safe_forms y ≡ y = cc in
           let z = none_of_both (condition_faults g e ++ statement_faults g c x) (statement_faults g c y) p in
           let u = none_of_both (condition_faults g e) (statement_faults g c x) z.0 in
           (condition_takes names g e scope i j.0, (statement_takes x names g c f scope k j.1.0 u.1, statement_takes y names g c f scope l j.1.1 z.1))
       statement_takes (Statement.While at e x) names g c f scope t j p =
-          let i : taken with_regions e ≡ e = cc in
-          let k : statement_taken with_regions x ≡ x = cc in
+          let i : taken safe_forms e ≡ e = cc in
+          let k : statement_taken safe_forms x ≡ x = cc in
           let z = none_of_both (condition_faults g e) (statement_faults (in_a_loop g) c x) p in
           (condition_takes names g e scope i j.0, statement_takes x names (in_a_loop g) c f (scope_loop w names g scope) k j.1 z.1)
       statement_takes (Statement.Switch at e cs) names g c f scope t j p = absurd j
@@ -223,24 +250,24 @@ module _ (w : World) where
       statement_takes (Statement.Return at None) names g c f scope t j p =
           let q : Some r ≡ Some Void = sym f ∙ j in let same : r ≡ Void = cc in ap (λ (t : StaticType). shape_of t) same
       statement_takes (Statement.Return at (Some e)) names g c f scope t j p =
-          let i : taken with_regions e ≡ e = cc in return_takes names g e f scope i j
+          let i : taken safe_forms e ≡ e = cc in return_takes names g e f scope i j
       statement_takes (Statement.FreeUnique at x) names g c f scope t j p = absurd j
       statement_takes (Statement.FreeKey at x) names g c f scope t j p = absurd j
 
       -- the items of a block without fault
       pub items_takes : (x : BlockItems) (names : List Named) (index : ℕ) (g : Env) (c : Bool) → g.result ≡ Some r → IsKnownScope w names g
-          → items_taken with_regions x ≡ x → ItemsJudged g x → items_faults g c x ≡ [] → TakesItems w (shape_of r) names index x
+          → items_taken safe_forms x ≡ x → ItemsJudged g x → items_faults g c x ≡ [] → TakesItems w (shape_of r) names index x
       items_takes NoItems names index g c f scope t j p = tt
       items_takes (Declare d others) names index g c f scope t j p =
-          let i : declaration_taken with_regions d ≡ d = cc in
-          let k : items_taken with_regions others ≡ others = cc in
+          let i : declaration_taken safe_forms d ≡ d = cc in
+          let k : items_taken safe_forms others ≡ others = cc in
           let z = none_of_both (declare g d).faults (items_faults (declare g d).scope c others) p in
           let a : DeclarationTaken names index g d = declaration_takes d names index g scope i j.0 z.0 in
           let inside : List Named = named_here (tree.local_of d).text (local_shape d) index ∷ names in
           (a.takes, items_takes others inside (suc index) (declare g d).scope c (a.result ∙ f) a.scope k j.1 z.1)
       items_takes (Execute x others) names index g c f scope t j p =
-          let i : statement_taken with_regions x ≡ x = cc in
-          let k : items_taken with_regions others ≡ others = cc in
+          let i : statement_taken safe_forms x ≡ x = cc in
+          let k : items_taken safe_forms others ≡ others = cc in
           let d : Bool = c && (ways_of x).falls in
           let z = none_of_both (statement_faults g c x) (items_faults g d others) p in
           (statement_takes x names g c f scope i j.0 z.0, items_takes others names index g d f scope k j.1 z.1)

@@ -182,7 +182,7 @@ module _ (w : World) (names : List Named) where
   given_known f Unsigned h = tt
   given_known f Char h = tt
   given_known f (Thin n r t) h = (h.1.0, subst (λ s. IsKnown w.structs s) (sym (shape_renamed f t)) h.1.1)
-  given_known f (Fat r t) h = absurd h.1
+  given_known f (Fat r t) h = subst (λ s. IsKnown w.structs s) (sym (shape_renamed f t)) h.1
   given_known f (Unique n t) h = absurd (let q : shapes.Alone ≡ shapes.Shared = h.1.0 in cc)
   given_known f (Handle r) h = tt
   given_known f (Key r) h = absurd h.1
@@ -197,7 +197,7 @@ module _ (w : World) (names : List Named) where
   given_value f Unsigned e h k s = record { takes = k; shape = s }
   given_value f Char e h k s = record { takes = k; shape = s }
   given_value f (Thin n r t) e h k s = record { takes = k; shape = s ∙ sym (shape_renamed f (Thin n r t)) }
-  given_value f (Fat r t) e h k s = absurd h.1
+  given_value f (Fat r t) e h k s = record { takes = k; shape = s ∙ sym (shape_renamed f (Fat r t)) }
   given_value f (Unique n t) e h k s = record { takes = k; shape = s ∙ sym (shape_renamed f (Unique n t)) }
   given_value f (Handle r) e h k s = record { takes = k; shape = s }
   given_value f (Key r) e h k s = absurd h.1

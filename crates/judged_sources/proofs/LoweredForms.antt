@@ -1,12 +1,13 @@
 -- What lowering takes of an expression, by its type, where all is known of each name in scope.
-use Rattle.std.proofs.Common.{◌≡◌, ℕ, true, false, Some, List, [], ◌∷◌, sym, subst, ap}
+use Rattle.std.proofs.Common.{◌≡◌, ℕ, ◌≤◌, true, false, Some, List, [], ◌∷◌, refl, sym, subst, ap}
 use Rattle.std.specs.Prelude.{bytes_eq, codes, map}
 use Rattle.cyc_tree.specs.Tree.{Expression}
 use Rattle.source_lowering.specs.Lowerable.{IsNoStruct, IsStructShape, Takes, TakesDropped, TakesPlace, TakesRun, TakesWhole}
-use Rattle.source_lowering.specs.Lowered.{Named, call_shape, named_shape, member_shape, static_shape}
+use Rattle.source_lowering.specs.Lowered.{Named, call_shape, named_shape, member_shape, static_shape, valued}
 use Rattle.source_meaning.specs.Shapes as shapes
-use Rattle.source_meaning.specs.Shapes.{Layout, Shape, StructShape, has_tag, parts_of}
+use Rattle.source_meaning.specs.Shapes.{ArrayShape, Layout, Shape, StructShape, has_tag, parts_of}
 use Rattle.source_meaning.specs.Steps.{World}
+use Rattle.source_typing.specs.Extents.{size_of}
 use Rattle.source_typing.specs.Scope.{Env, InBlock, Seat, Value, is_place, meant}
 use Rattle.source_typing.specs.Tables.{
   Arrayed,
@@ -86,7 +87,7 @@ pub record KnownTag (w : World) (x : List ℕ) (t : Tag) : Type 0 where
 
 abbrev pub KnownEntry : World → List Named → List ℕ → Entry → Type 0
 KnownEntry w names x (OfValue (Stored t r)) = (named_shape w names x ≡ shape_of t) × IsKnown w.structs (shape_of t)
-KnownEntry w names x (OfValue (Arrayed t r)) = ⊥
+KnownEntry w names x (OfValue (Arrayed t r)) = (count : ℕ) × (named_shape w names x ≡ ArrayShape count (shape_of t)) × IsKnown w.structs (shape_of t)
 KnownEntry w names x (OfValue Counter) = ⊥
 KnownEntry w names x (OfValue Unknown) = ⊥
 KnownEntry w names x (OfTag t) = KnownTag w x t
@@ -94,15 +95,31 @@ KnownEntry w names x (OfFunction s) = KnownFunction w x s
 KnownEntry w names x (OfBuiltin n) = Builtin x n × (has_tag w.structs x ≡ false)
 KnownEntry w names x OfOther = ⊥
 
+-- no type is an array
+pub valued_type : (t : StaticType) → valued (shape_of t) ≡ shape_of t
+valued_type Int = refl
+valued_type Unsigned = refl
+valued_type Char = refl
+valued_type Void = refl
+valued_type Null = refl
+valued_type (Thin n r t) = refl
+valued_type (Fat r t) = refl
+valued_type (Unique n t) = refl
+valued_type (Handle r) = refl
+valued_type (Key r) = refl
+valued_type (Struct tag rs) = refl
+valued_type (Union tag rs) = refl
+
 -- a member of a struct has the shape that its type says
 pub record KnownMember (w : World) (tag f : List ℕ) (t : StaticType) : Type 0 where
   pub shape : member_shape w (StructShape tag) f ≡ shape_of t
   pub known : IsKnown w.structs (shape_of t)
 
--- all is known of each name in scope, and of the members of each struct
+-- all is known of each name in scope, and of the members of each struct; and each object has a byte at least
 pub record IsKnownScope (w : World) (names : List Named) (g : Env) : Type 0 where
   pub entries : (x : List ℕ) (e : Entry) → meant g x ≡ Some e → KnownEntry w names x e
   pub members : (tag f : List ℕ) (p : Part) (t : StaticType) → part_in (parts_in g.tables tag) f ≡ Some p → p.type ≡ Some t → KnownMember w tag f t
+  pub sizes : (t : StaticType) → IsKnown w.structs (shape_of t) → 1 ≤ size_of g.tables t
 
 -- ---- expressions
 
@@ -209,7 +226,7 @@ module _ (w : World) (names : List Named) where
   place_value Unsigned e p word whole = record { takes = word (subst (λ s. IsNoStruct s) (sym p.shape) tt); shape = p.shape }
   place_value Char e p word whole = record { takes = word (subst (λ s. IsNoStruct s) (sym p.shape) tt); shape = p.shape }
   place_value (Thin n r t) e p word whole = record { takes = word (subst (λ s. IsNoStruct s) (sym p.shape) tt); shape = p.shape }
-  place_value (Fat r t) e p word whole = absurd p.known
+  place_value (Fat r t) e p word whole = record { takes = word (subst (λ s. IsNoStruct s) (sym p.shape) tt); shape = p.shape }
   place_value (Unique n t) e p word whole = record { takes = word (subst (λ s. IsNoStruct s) (sym p.shape) tt); shape = p.shape }
   place_value (Handle r) e p word whole = record { takes = word (subst (λ s. IsNoStruct s) (sym p.shape) tt); shape = p.shape }
   place_value (Key r) e p word whole = absurd p.known

@@ -1,10 +1,10 @@
 -- Functions and globals without fault, where each tag of the tables is the program's: lowering takes them, and all is known of their types.
-use Rattle.std.proofs.Common.{◌≡◌, ℕ, Bool, true, false, Some, List, [], ◌∷◌, refl, sym, subst, ap, ◌∙◌}
+use Rattle.std.proofs.Common.{◌≡◌, ℕ, ◌≤◌, Bool, true, false, Some, List, [], ◌∷◌, refl, sym, subst, ap, ◌∙◌}
 use Rattle.std.specs.Prelude.{◌||◌, length, map}
 use Rattle.cyc_tree.specs.Tree as tree
 use Rattle.cyc_tree.specs.Tree.{TypeName}
 use Rattle.source_lowering.specs.Lowerable as lowering
-use Rattle.source_lowering.specs.Lowerable.{TakesFunction, TakesGlobal, TakesItem, TakesItems, TakesResult}
+use Rattle.source_lowering.specs.Lowerable.{AreStructs, IsObject, TakesFunction, TakesGlobal, TakesItem, TakesItems, TakesResult}
 use Rattle.source_lowering.specs.Programs.{parameter_names}
 use Rattle.source_meaning.specs.Shapes.{Layout, Shape, part_of, part_shapes, settled, written}
 use Rattle.source_meaning.specs.Steps.{World}
@@ -16,21 +16,25 @@ use Rattle.source_typing.specs.Globals.{count_of, fitting_global, foreign_names,
 use Rattle.source_typing.specs.Scope.{Env, at_item}
 use Rattle.source_typing.specs.Tables.{Tables}
 use Rattle.source_typing.specs.Tags.{settled_alone}
-use Rattle.source_typing.specs.Taken.{function_taken, item_forms, item_taken, with_regions, takes_type}
+use Rattle.source_typing.specs.Taken.{function_taken, item_forms, item_taken, takes_type}
+use Rattle.source_safety.specs.Judged.{safe_forms}
 use Rattle.source_typing.specs.Types.{Char, Fat, Handle, Int, Key, Null, StaticType, Struct, Thin, Union, Unique, Unsigned, Void, is_void, shape_of}
 use Rattle.source_typing.specs.Verdicts.{Faulty, Of, Unjudged, Verdict, after, faults_of, if_fits, known}
 use Rattle.source_typing.specs.Written.{RegionNamed, all_found, spots_of}
 use Rattle.source_typing.proofs.Inversion.{after_is, none_of_both, of_is}
+use Rattle.judged_sources.proofs.Constants.{IsFew}
 use Rattle.judged_sources.proofs.Globals.{GlobalGood, GlobalTaken, global_taken}
 use Rattle.judged_sources.proofs.GoodFunctions.{FunctionGood, all_result}
 use Rattle.judged_sources.proofs.MemberTypes.{AreMembersTaken}
 use Rattle.judged_sources.proofs.Heads.{HeadClean, HeadGood, HeadTaken, head_clean, head_taken}
-use Rattle.judged_sources.proofs.Known.{IsKnown, IsWord}
+use Rattle.judged_sources.proofs.Known.{IsKnown, IsWord, known_object}
 use Rattle.judged_sources.proofs.LoweredBodies.{items_takes}
 use Rattle.judged_sources.proofs.LoweredForms.{AreKnown, AreWords, IsGiven, IsKnownScope}
 use Rattle.judged_sources.proofs.LoweredScopes.{scope_all}
 use Rattle.judged_sources.proofs.LoweredTypes.{BaseThere, TagsThere, base_there, begins_first, int_written, object_type, result_takes, twice_keeps, word_type}
 use Rattle.judged_sources.proofs.LoweredTypes.{written_known}
+use Rattle.judged_sources.proofs.ObjectSizes.{elements_few, global_few}
+use Rattle.judged_sources.proofs.SizedGlobals.{IsSized}
 use Rattle.source_typing.specs.Written as types
 
 -- ---- verdicts
@@ -71,7 +75,7 @@ module _ (structs : List Layout) (g : Tables) (tags : TagsThere structs g) where
     pub words : AreWords ts
     pub known : AreKnown structs ts
 
-  parameters_lowered : (vs : Variables) (ms : List tree.Member) (ts : List StaticType) → AreMembersTaken with_regions ms
+  parameters_lowered : (vs : Variables) (ms : List tree.Member) (ts : List StaticType) → AreMembersTaken safe_forms ms
       → all_faults (read_parameters g vs ms).types ≡ [] → map known (read_parameters g vs ms).types ≡ map (λ (t : StaticType). Some t) ts
       → part_shapes (map part_of ms) ≡ map (λ (t : StaticType). shape_of t) ts → AreObjects ts → ParametersLowered ms ts
   parameters_lowered vs [] [] k p q s o = record { takes = tt; words = tt; known = tt }
@@ -106,6 +110,7 @@ module _ (structs : List Layout) (g : Tables) (tags : TagsThere structs g) where
   given_is Unsigned e o k = (tt, k o)
   given_is Char e o k = (tt, k o)
   given_is (Thin n r t) e o k = (tt, k o)
+  given_is (Fat r t) e o k = (tt, k o)
   given_is (Struct tag rs) e o k = absurd cc
   given_is (Handle r) e o k = (tt, k o)
   given_is _ e o k = absurd o
@@ -114,7 +119,7 @@ module _ (structs : List Layout) (g : Tables) (tags : TagsThere structs g) where
     pub takes : TakesResult t
     pub given : IsGiven structs u
 
-  result_lowered : (names : List RegionNamed) (t : TypeName) (u : StaticType) → takes_type with_regions t ≡ true → result_type g names t ≡ Of u → IsPlain u
+  result_lowered : (names : List RegionNamed) (t : TypeName) (u : StaticType) → takes_type safe_forms t ≡ true → result_type g names t ≡ Of u → IsPlain u
       → settled (written t) ≡ shape_of u → ResultLowered t u
   result_lowered names t u e q o s =
       let there : BaseThere structs t.base =
@@ -132,12 +137,12 @@ module _ (structs : List Layout) (g : Tables) (tags : TagsThere structs g) where
     pub parameters : ParametersLowered f.parameters k.signature.types
     pub result : ResultLowered f.result k.signature.gives
 
-  pub head_lowered : (f : tree.Function) (k : HeadGood g f) → function_taken with_regions f ≡ f → (head_of false g f).faults ≡ [] → HeadLowered f k
+  pub head_lowered : (f : tree.Function) (k : HeadGood g f) → function_taken safe_forms f ≡ f → (head_of false g f).faults ≡ [] → HeadLowered f k
   head_lowered f k t p =
       let ps : Parameters = read_parameters g (variables [] 0) f.parameters in
       let r : Verdict StaticType = result_type g ps.variables_after.names f.result in
       let c : HeadClean g f ps r = head_clean g f p in
-      let h : HeadTaken with_regions f = head_taken with_regions g f t p in
+      let h : HeadTaken safe_forms f = head_taken safe_forms g f t p in
       record {
         parameters = parameters_lowered (variables [] 0) f.parameters k.signature.types h.parameters c.parameters k.signature.parameters k.shapes
             k.signature.objects;
@@ -148,14 +153,14 @@ module _ (structs : List Layout) (g : Tables) (tags : TagsThere structs g) where
 -- ---- functions
 
 pub function_lowered : (w : World) (g : Tables) (i : ℕ) (f : tree.Function) (k : FunctionGood g i f) → TagsThere w.structs g
-    → function_taken with_regions f ≡ f
+    → function_taken safe_forms f ≡ f
     → IsKnownScope w [] (function_scope false g i (head_of false g f)) → TakesFunction w f
 function_lowered w g i f k tags t scope =
     let h : HeadLowered w.structs g tags f k.head = head_lowered w.structs g tags f k.head t k.clean in
     let inside : Env = function_scope false g i (head_of false g f) in
     record {
       result = h.result.takes;
-      main = λ e. int_written f.result (head_taken with_regions g f t k.clean).result
+      main = λ e. int_written f.result (head_taken safe_forms g f t k.clean).result
           (k.head.result.shape ∙ ap (λ (u : StaticType). shape_of u) (k.head.main_gives e));
       parameters = h.parameters.takes;
       body = subst (λ (s : Shape). TakesItems w s (parameter_names (map part_of f.parameters) 0 []) (length (map part_of f.parameters)) f.body)
@@ -169,27 +174,36 @@ function_lowered w g i f k tags t scope =
 
 -- ---- globals
 
-pub record GlobalLowered (w : World) (x : tree.Global) (u : StaticType) : Type 0 where
-  pub known : IsKnown w.structs (shape_of u)
-  pub takes : TakesItem w (tree.GlobalItem x)
-
 -- by the program's tables `g` it has no fault, and `h` are those by which its type was read
-pub global_lowered : (w : World) (g h : Tables) (i : ℕ) (x : tree.Global) (k : GlobalGood h i x) → TagsThere w.structs g
-    → item_taken with_regions (tree.GlobalItem x) ≡ tree.GlobalItem x → item_forms with_regions (tree.GlobalItem x) ≡ []
-    → global_faults (at_item false g i) x ≡ [] → GlobalLowered w x k.type
-global_lowered w g h i x k tags t f p =
-    let s : Env = at_item false g i in
-    let names : List RegionNamed = foreign_names (spots_of g x.of) in
-    let e : GlobalTaken with_regions x = global_taken with_regions s x t f p in
-    let q = none_of_both (faults_of (global_type s x)) (initial_faults s x.initial (global_type s x)) p in
-    let there : BaseThere w.structs x.of.base =
-    base_there w.structs g x.of (all_found names (spots_of g x.of))
-    (λ z. after (after z (settled_alone x.of.at)) (fitting_global s x.of.at (count_of x.initial) (has_none names))) tags
-    (twice_keeps (settled_alone x.of.at) (fitting_global s x.of.at (count_of x.initial) (has_none names))) q.0 in
-    record {
-      known = written_known w.structs x.of k.type e.type there k.good.object k.good.shape;
-      takes = (
-        object_type w.structs x.of k.type e.type there k.good.object k.good.shape,
-        subst (λ (s : Shape). TakesGlobal s x.initial) (sym k.good.shape) (k.initial.taken (begins_first h k.type k.good.object k.begins)),
-      );
-    }
+module _ (w : World) (g h : Tables) (i : ℕ) (x : tree.Global) (k : GlobalGood h i x) (tags : TagsThere w.structs g)
+    (t : item_taken safe_forms (tree.GlobalItem x) ≡ tree.GlobalItem x) (f : item_forms safe_forms (tree.GlobalItem x) ≡ [])
+    (p : global_faults (at_item false g i) x ≡ [])
+  where
+    taken : GlobalTaken safe_forms x
+    taken = global_taken safe_forms (at_item false g i) x t f p
+
+    there : BaseThere w.structs x.of.base
+    there =
+        let s : Env = at_item false g i in
+        let names : List RegionNamed = foreign_names (spots_of g x.of) in
+        let q = none_of_both (faults_of (global_type s x)) (initial_faults s x.initial (global_type s x)) p in
+        base_there w.structs g x.of (all_found names (spots_of g x.of))
+        (λ z. after (after z (settled_alone x.of.at)) (fitting_global s x.of.at (count_of x.initial) (has_none names))) tags
+        (twice_keeps (settled_alone x.of.at) (fitting_global s x.of.at (count_of x.initial) (has_none names))) q.0
+
+    pub global_known : IsKnown w.structs (shape_of k.type)
+    global_known = written_known w.structs x.of k.type taken.type there k.good.object k.good.shape
+
+    -- an array has few elements, since it has as many bytes by its meaning as by the rules
+    few : AreStructs w.unions w.structs → IsSized w g i (tree.GlobalItem x) → IsFew x.initial
+    few structs sized =
+        elements_few w x.initial (settled (written x.of)) structs
+        (subst (λ (s : Shape). IsObject w.structs s) (sym k.good.shape) (known_object w.structs (shape_of k.type) global_known))
+        (subst (λ (n : ℕ). n ≤ 4096) (sym sized) (global_few (at_item false g i) x p))
+
+    pub global_lowered : AreStructs w.unions w.structs → IsSized w g i (tree.GlobalItem x) → TakesItem w (tree.GlobalItem x)
+    global_lowered structs sized = (
+      object_type w.structs x.of k.type taken.type there k.good.object k.good.shape,
+      subst (λ (s : Shape). TakesGlobal s x.initial) (sym k.good.shape)
+          (k.initial.taken (begins_first h k.type k.good.object k.begins) (few structs sized)),
+    )

@@ -57,7 +57,7 @@ module _ (w : World) (names : List Named) where
   value_made e Unsigned m k h = word_made e Unsigned tt k h
   value_made e Char m k h = word_made e Char tt k h
   value_made e (Thin n r t) m k h = word_made e (Thin n r t) tt k h
-  value_made e (Fat r t) m k h = absurd k
+  value_made e (Fat r t) m k h = word_made e (Fat r t) tt k h
   value_made e (Unique n t) m k h = absurd (let z : shapes.Alone ≡ shapes.Shared = k.0 in cc)
   value_made e (Handle r) m k h = word_made e (Handle r) tt k h
   value_made e (Key r) m k h = absurd k

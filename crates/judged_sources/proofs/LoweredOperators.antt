@@ -29,13 +29,13 @@ use Rattle.source_typing.proofs.PlacesFit.{PointsTo, assigned_is, contents_is}
 use Rattle.source_safety.proofs.Integers.{integer_is, on_integers_is, operator_shaped}
 use Rattle.source_safety.proofs.Pointers.{equality_shape}
 use Rattle.source_safety.proofs.WordRules.{value_of}
-use Rattle.judged_sources.proofs.Known.{IsKnown, IsKnownValue, IsWord, converts_struct, converts_word, known_value, testable_word, word_shape}
+use Rattle.judged_sources.proofs.Known.{IsKnownValue, IsWord, converts_struct, converts_word, integer_word, known_value, testable_word, word_shape}
 use Rattle.judged_sources.proofs.LoweredForms.{IsTaken, TakenAs, TakenPlace, TakenWord, taken_place, taken_word, word_as, word_is}
 use Rattle.judged_sources.proofs.LoweredCalls.{struct_taken}
 
 -- ---- what operators give is no place
 
-fits_seat : (c : Bool) (at place : ℕ) (t : StaticType) (v : Value) → after (if_fits c at t) (value place) ≡ Of v → v.seat ≡ Nowhere
+pub fits_seat : (c : Bool) (at place : ℕ) (t : StaticType) (v : Value) → after (if_fits c at t) (value place) ≡ Of v → v.seat ≡ Nowhere
 fits_seat true at place t v e = (value_of place t v e).seat
 fits_seat false at place t v e = absurd cc
 
@@ -68,20 +68,6 @@ no_place v e p = false≢true (sym (ap (λ (s : Seat). is_place s) e) ∙ p)
 
 -- ---- what operators take and give
 
-integer_word : (t : StaticType) → IsInteger t → IsWord t
-integer_word Void e = absurd cc
-integer_word (Struct tag rs) e = absurd cc
-integer_word Null e = tt
-integer_word Int e = tt
-integer_word Unsigned e = tt
-integer_word Char e = tt
-integer_word (Thin n r t) e = tt
-integer_word (Fat r t) e = tt
-integer_word (Unique n t) e = tt
-integer_word (Handle r) e = tt
-integer_word (Key r) e = tt
-integer_word (Union tag rs) e = tt
-
 pointer_word : (t : StaticType) → is_pointer t ≡ true → IsWord t
 pointer_word Void e = absurd cc
 pointer_word (Struct tag rs) e = absurd cc
@@ -101,6 +87,11 @@ integer_known structs Int e = tt
 integer_known structs Unsigned e = tt
 integer_known structs Char e = tt
 integer_known structs _ e = absurd cc
+
+moved_shape : (o : Operator) (to s : Shape) → is_move o ≡ true → operator_shape o (shapes.FatShape to) s ≡ shapes.FatShape to
+moved_shape operator.Add to s e = refl
+moved_shape operator.Subtract to s e = refl
+moved_shape _ to s e = absurd cc
 
 -- two words, and the word that they give, by its shape
 pub record AreJoined (structs : List shapes.Layout) (o : Operator) (s t u : StaticType) : Type 0 where
@@ -126,7 +117,8 @@ are_joined structs g o s t u (OnIntegers a b) k =
           (subst (λ (z : StaticType). operator_shape o (shape_of (integer_type x.0)) (shape_of z) ≡ shape_of (on_integers o (integer_type x.0) z)) (sym y.1)
           (operator_shaped o x.0 y.0));
     }
-are_joined structs g o s t u (OnFat a b) k = absurd k
+are_joined structs g o s t u (OnFat {r = r} {t = to} a b) k =
+    record { first = tt; second = integer_word t b; word = tt; known = k; shape = moved_shape o (shape_of to) (shape_of t) a }
 are_joined structs g o s t u (WithNull e p) k =
     record {
       first = pointer_word s p;
@@ -194,7 +186,11 @@ module _ (w : World) (names : List Named) where
           record { takes = d.takes; shape = ap pointee d.shape; known = k.1 } in
           taken_place w names (Expression.Prefixed at prefix.Dereference e) v t q.1.0
           (λ z. let y : In r ≡ InBlock = sym q.1.1 ∙ z in cc) p (known_value w.structs t k.1) (λ z. (d.takes, z)) (λ z. z) (λ z. z)
-      by (Fat r t) k d q = absurd k
+      by (Fat r t) k d q =
+          let p : TakenPlace w names (Expression.Prefixed at prefix.Dereference e) t =
+          record { takes = d.takes; shape = ap pointee d.shape; known = k } in
+          taken_place w names (Expression.Prefixed at prefix.Dereference e) v t q.1.0
+          (λ z. let y : In r ≡ InBlock = sym q.1.1 ∙ z in cc) p (known_value w.structs t k) (λ z. (d.takes, z)) (λ z. z) (λ z. z)
       by (Unique n t) k d q = absurd (let z : shapes.Alone ≡ shapes.Shared = k.0 in cc)
       by _ k d q = absurd q
 
@@ -303,7 +299,7 @@ module _ (w : World) (names : List Named) where
       by Unsigned z p q t = same Unsigned z p q tt t
       by Char z p q t = same Char z p q tt t
       by (Thin n r u) z p q t = same (Thin n r u) z p q tt t
-      by (Fat r u) z p q t = absurd p.known
+      by (Fat r u) z p q t = same (Fat r u) z p q tt t
       by (Unique n u) z p q t = absurd (let y : shapes.Alone ≡ shapes.Shared = p.known.0 in cc)
       by (Handle r) z p q t = same (Handle r) z p q tt t
       by (Key r) z p q t = absurd p.known

@@ -13,23 +13,27 @@ use Rattle.source_safety.proofs.Layouts.{member_object, member_types, members_at
 use Rattle.source_safety.proofs.Members.{Found, member_found}
 use Rattle.source_safety.specs.Entries.{Function, Structure}
 use Rattle.source_safety.specs.Flat.{Declared}
-use Rattle.source_safety.specs.Programs.{GlobalFound, ProgramJudged}
+use Rattle.source_safety.specs.Programs.{ArrayFound, GlobalFound, ProgramJudged}
 use Rattle.source_safety.specs.Structs.{AreMemberTypes, AreMembers}
 use Rattle.source_typing.specs.Functions.{Head, function_faults, head_of}
-use Rattle.source_typing.specs.Globals.{global_faults}
+use Rattle.source_typing.specs.Declarations.{what_of}
+use Rattle.source_typing.specs.Globals.{count_of, global_faults}
 use Rattle.source_typing.specs.Programs.{Judged, entries_with, items_from, tables_of}
+use Rattle.source_typing.specs.Regions.{TheHeap}
 use Rattle.source_typing.specs.Scope.{at_item}
 use Rattle.source_typing.specs.Tables.{Arrayed, Counter, Entry, Named, OfBuiltin, OfFunction, OfOther, OfTag}
 use Rattle.source_typing.specs.Tables.{OfValue, Part, Signature, Stored, Tables, Tag, Unknown}
 use Rattle.source_typing.specs.Tables.{as_tag, find, part_in, parts_in, parts_of_tag}
-use Rattle.source_typing.specs.Taken.{constant_forms, function_taken, item_forms, item_taken, only_taken, with_regions}
+use Rattle.source_typing.specs.Taken.{constant_forms, function_taken, item_forms, item_taken, only_taken}
+use Rattle.source_safety.specs.Judged.{safe_forms}
 use Rattle.source_typing.specs.Types.{StaticType, shape_of}
+use Rattle.source_typing.specs.Verdicts.{Of}
 use Rattle.source_typing.proofs.Inversion.{none_of_both}
 use Rattle.judged_sources.proofs.Found.{AllKnown}
 use Rattle.judged_sources.proofs.Known.{IsKnown}
 use Rattle.judged_sources.proofs.LaidStructs.{AllReached, PartsReached}
 use Rattle.judged_sources.proofs.LoweredForms.{AreKnown, AreWords, IsGiven, KnownEntry, KnownFunction, KnownMember, KnownTag}
-use Rattle.judged_sources.proofs.LoweredHeads.{GlobalLowered, HeadLowered, global_lowered, head_lowered}
+use Rattle.judged_sources.proofs.LoweredHeads.{HeadLowered, global_known, head_lowered}
 use Rattle.judged_sources.proofs.LoweredTypes.{IsReached, TagsThere, reached_known}
 use Rattle.judged_sources.proofs.StructsFound.{StructsFound, not_made}
 
@@ -45,6 +49,7 @@ pub record SignatureKnown (structs : List Layout) (s : Signature) : Type 0 where
 
 abbrev pub TypesKnown : List Layout → Entry → Type 0
 TypesKnown structs (OfValue (Stored t r)) = IsKnown structs (shape_of t)
+TypesKnown structs (OfValue (Arrayed t r)) = IsKnown structs (shape_of t)
 TypesKnown structs (OfFunction s) = SignatureKnown structs s
 TypesKnown structs _ = Unit {0}
 
@@ -52,26 +57,32 @@ abbrev pub AllTypesKnown : List Layout → Tables → Type 0
 AllTypesKnown structs [] = Unit {0}
 AllTypesKnown structs (n ∷ g) = TypesKnown structs n.entry × AllTypesKnown structs g
 
+-- a global, or an array of so many
+global_typed : (structs : List Layout) (o : Option ℕ) (t : StaticType) → IsKnown structs (shape_of t) → TypesKnown structs (OfValue (what_of TheHeap o (Of t)))
+global_typed structs None t k = k
+global_typed structs (Some n) t k = k
+
 -- `g` are the program's tables, and `h` those by which its heads and globals were read
 pub types_known : (w : World) (g h : Tables) (i : ℕ) (js : List Judged) (is : List Item) → TagsThere w.structs g → AllKnown g h i js is
-    → only_taken with_regions is ≡ is → constant_forms with_regions is ≡ [] → items_from false g i is ≡ []
+    → only_taken safe_forms is ≡ is → constant_forms safe_forms is ≡ [] → items_from false g i is ≡ []
     → AllTypesKnown w.structs (entries_with false h i js is)
 types_known w g h i [] is tags k t f p = tt
 types_known w g h i (j ∷ js) [] tags k t f p = tt
 types_known w g h i (j ∷ js) (tree.StructItem s ∷ is) tags k t f p =
-    let b : only_taken with_regions is ≡ is = cc in
+    let b : only_taken safe_forms is ≡ is = cc in
     (subst (λ (n : Named). TypesKnown w.structs n.entry) (sym k.0.is) tt, types_known w g h (suc i) js is tags k.1 b f p)
 types_known w g h i (j ∷ js) (tree.UnionItem s ∷ is) tags k t f p = absurd k.0
 types_known w g h i (j ∷ js) (tree.GlobalItem x ∷ is) tags k t f p =
-    let a : item_taken with_regions (tree.GlobalItem x) ≡ tree.GlobalItem x = cc in
-    let b : only_taken with_regions is ≡ is = cc in
-    let c = none_of_both (item_forms with_regions (tree.GlobalItem x)) (constant_forms with_regions is) f in
+    let a : item_taken safe_forms (tree.GlobalItem x) ≡ tree.GlobalItem x = cc in
+    let b : only_taken safe_forms is ≡ is = cc in
+    let c = none_of_both (item_forms safe_forms (tree.GlobalItem x)) (constant_forms safe_forms is) f in
     let d = none_of_both (global_faults (at_item false g i) x) (items_from false g (suc i) is) p in
-    let u : GlobalLowered w x k.0.1.type = global_lowered w g h i x k.0.1 tags a c.0 d.0 in
-    (subst (λ (e : Entry). TypesKnown w.structs e) (sym k.0.1.entry) u.known, types_known w g h (suc i) js is tags k.1 b c.1 d.1)
+    let a : TypesKnown w.structs (OfValue (what_of TheHeap (count_of x.initial) (Of k.0.1.type))) =
+    global_typed w.structs (count_of x.initial) k.0.1.type (global_known w g h i x k.0.1 tags a c.0 d.0) in
+    (subst (λ (e : Entry). TypesKnown w.structs e) (sym k.0.1.entry) a, types_known w g h (suc i) js is tags k.1 b c.1 d.1)
 types_known w g h i (j ∷ js) (tree.FunctionItem x ∷ is) tags k t f p =
-    let a : function_taken with_regions x ≡ x = cc in
-    let b : only_taken with_regions is ≡ is = cc in
+    let a : function_taken safe_forms x ≡ x = cc in
+    let b : only_taken safe_forms is ≡ is = cc in
     let d = none_of_both (function_faults false g i x) (items_from false g (suc i) is) p in
     let u : HeadLowered w.structs g tags x k.0.good.head = head_lowered w.structs g tags x k.0.good.head a k.0.good.clean in
     let s : SignatureKnown w.structs (head_of false g x).signature =
@@ -192,7 +203,9 @@ module _ (p : Program) (judged : ProgramJudged p (tables_of false p)) (found : S
     entry_known x (OfValue (Stored t r)) q =
         let v : GlobalFound world x t r = judged.variables x t r q in
         (ap (λ (o : Option Entity). entity_shape o) v.is, found_types world.structs tables x (OfValue (Stored t r)) known q)
-    entry_known x (OfValue (Arrayed t r)) q = absurd (judged.plain x (OfValue (Arrayed t r)) q)
+    entry_known x (OfValue (Arrayed t r)) q =
+        let v : ArrayFound world x t r = judged.arrays x t r q in
+        (v.count, ap (λ (o : Option Entity). entity_shape o) v.is, found_types world.structs tables x (OfValue (Arrayed t r)) known q)
     entry_known x (OfValue Counter) q = absurd (judged.plain x (OfValue Counter) q)
     entry_known x (OfValue Unknown) q = absurd (judged.plain x (OfValue Unknown) q)
     entry_known x (OfTag t) q = tag_known x t q

@@ -7,7 +7,7 @@ use Rattle.cyc_tree.specs.Tree as tree
 use Rattle.cyc_tree.specs.Tree.{Pointer, TypeName}
 use Rattle.source_lowering.specs.Lowerable as lowering
 use Rattle.source_lowering.specs.Lowerable.{GivesNothing, GivesWord, HasBeginning, IsKnownIn, IsNoStruct, IsObjectBase, IsTarget, TakesResult}
-use Rattle.source_lowering.specs.Taken.{AreThin, HasFirst, IsIntType, IsSharedRegion, IsThinSign, IsVoidType}
+use Rattle.source_lowering.specs.Taken.{AreShared, HasFirst, IsIntType, IsSharedRegion, IsVoidType}
 use Rattle.source_meaning.specs.Shapes.{
   ArrayShape,
   CharShape,
@@ -34,11 +34,13 @@ use Rattle.source_meaning.specs.Shapes.{
 use Rattle.source_safety.specs.Entries.{IsObjectType, IsPlain}
 use Rattle.source_typing.specs.Faults.{Fault}
 use Rattle.source_typing.specs.Tables.{Entry, OfBuiltin, OfFunction, OfOther, OfTag, OfValue, Tables, Tag, find, has_beginning}
-use Rattle.source_typing.specs.Taken.{with_regions, takes_base, takes_pointers, takes_type}
-use Rattle.source_typing.specs.Types.{Char, Handle, Int, PartialType, StaticType, Struct, Thin, Unsigned, Void, shape_of}
+use Rattle.source_typing.specs.Taken.{takes_base, takes_pointers, takes_type}
+use Rattle.source_safety.specs.Judged.{safe_forms}
+use Rattle.source_typing.specs.Types.{Char, Fat, Handle, Int, PartialType, StaticType, Struct, Thin, Unsigned, Void, shape_of}
 use Rattle.source_typing.specs.Verdicts.{Faulty, Verdict, after, faults_of}
 use Rattle.source_typing.specs.Written.{Found, tag_of, written_on, written_with}
-use Rattle.judged_sources.proofs.GoodTypes.{owner_shared, signed_open, thin_pointers_are}
+use Rattle.source_lowering.proofs.WrittenTypes.{owner_shared}
+use Rattle.judged_sources.proofs.GoodTypes.{signed_open, pointers_shared}
 use Rattle.judged_sources.proofs.Known.{IsKnown, IsWord, word_shape}
 use Rattle.judged_sources.proofs.LoweredForms.{IsGiven}
 use Rattle.judged_sources.proofs.MemberTypes.{IsPointerShape, sign_pointer, still_pointer}
@@ -91,14 +93,14 @@ base_there structs g t (fs, bad) rest tags keeps p = by t.base p
 
 -- ---- shapes
 
--- an integer, a struct of the program, a handle, nothing, or a shared thin pointer to these
+-- an integer, a struct of the program, a handle, nothing, or a shared pointer to these
 abbrev pub IsReached : List Layout → Shape → Type 0
 IsReached structs IntShape = Unit {0}
 IsReached structs UnsignedShape = Unit {0}
 IsReached structs CharShape = Unit {0}
 IsReached structs VoidShape = Unit {0}
 IsReached structs (ThinShape may_be_null owner to) = (owner ≡ Shared) × IsReached structs to
-IsReached structs (FatShape to) = ⊥
+IsReached structs (FatShape to) = IsReached structs to
 IsReached structs HandleShape = Unit {0}
 IsReached structs KeyShape = ⊥
 IsReached structs (StructShape tag) = (has_tag structs tag ≡ true)
@@ -111,6 +113,7 @@ reached_target structs UnsignedShape h = tt
 reached_target structs CharShape h = tt
 reached_target structs VoidShape h = tt
 reached_target structs (ThinShape may_be_null owner to) h = (h.0, reached_target structs to h.1)
+reached_target structs (FatShape to) h = reached_target structs to h
 reached_target structs HandleShape h = tt
 reached_target structs (StructShape tag) h = tt
 reached_target structs _ h = absurd h
@@ -125,29 +128,30 @@ reached_known structs Int o h = tt
 reached_known structs Unsigned o h = tt
 reached_known structs Char o h = tt
 reached_known structs (Thin b r t) o h = (h.0, reached_known structs t o h.1)
+reached_known structs (Fat r t) o h = reached_known structs t o h
 reached_known structs (Struct tag rs) o h = h
 reached_known structs (Handle r) o h = tt
 reached_known structs _ o h = absurd o
 
 module _ (structs : List Layout) where
-  signed_reached : (x : Sign) (r : Option tree.RegionName) (s : Shape) → IsThinSign x → IsSharedRegion r → IsReached structs (settled s)
+  signed_reached : (x : Sign) (r : Option tree.RegionName) (s : Shape) → IsSharedRegion r → IsReached structs (settled s)
       → IsReached structs (settled (signed_shape x (owner_of r) s))
-  signed_reached sign.Nullable r s k h o = (owner_shared r h, o)
-  signed_reached sign.NotNull r s k h o = (owner_shared r h, o)
-  signed_reached sign.Fat r s k h o = absurd k
+  signed_reached sign.Nullable r s h o = (owner_shared r h, o)
+  signed_reached sign.NotNull r s h o = (owner_shared r h, o)
+  signed_reached sign.Fat r s h o = o
 
-  all_reached : (ps : List Pointer) (s : Shape) → AreThin ps → IsReached structs (settled s) → IsReached structs (settled (pointed ps s))
+  all_reached : (ps : List Pointer) (s : Shape) → AreShared ps → IsReached structs (settled s) → IsReached structs (settled (pointed ps s))
   all_reached [] s k h = h
   all_reached (p ∷ ps) s k h =
-      all_reached ps (signed_shape p.sign (owner_of p.region) s) k.1 (signed_reached p.sign p.region s k.0.0 k.0.1 h)
+      all_reached ps (signed_shape p.sign (owner_of p.region) s) k.1 (signed_reached p.sign p.region s k.0 h)
 
   -- what is written of a type that is taken
-  pub type_reached : (t : TypeName) → takes_type with_regions t ≡ true → BaseThere structs t.base → IsReached structs (settled (written t))
+  pub type_reached : (t : TypeName) → takes_type safe_forms t ≡ true → BaseThere structs t.base → IsReached structs (settled (written t))
   type_reached t e h =
-      let a = and_parts (takes_base with_regions t.base) (takes_pointers with_regions t.pointers) e in
-      all_reached t.pointers (base_shape t.base) (thin_pointers_are with_regions refl refl t.pointers a.1) (by t.base a.0 h)
+      let a = and_parts (takes_base safe_forms t.base) (takes_pointers safe_forms t.pointers) e in
+      all_reached t.pointers (base_shape t.base) (pointers_shared safe_forms refl t.pointers a.1) (by t.base a.0 h)
     where
-      by : (b : tree.Base) → takes_base with_regions b ≡ true → BaseThere structs b → IsReached structs (settled (base_shape b))
+      by : (b : tree.Base) → takes_base safe_forms b ≡ true → BaseThere structs b → IsReached structs (settled (base_shape b))
       by tree.Int q h = tt
       by tree.Unsigned q h = tt
       by tree.Char q h = tt
@@ -158,24 +162,23 @@ module _ (structs : List Layout) where
       by (tree.Key r) q h = absurd cc
 
   -- and of an object's
-  pub written_known : (t : TypeName) (u : StaticType) → takes_type with_regions t ≡ true → BaseThere structs t.base → IsObjectType u
+  pub written_known : (t : TypeName) (u : StaticType) → takes_type safe_forms t ≡ true → BaseThere structs t.base → IsObjectType u
       → settled (written t) ≡ shape_of u → IsKnown structs (shape_of u)
   written_known t u e h o s = reached_known structs u o (subst (λ z. IsReached structs z) s (type_reached t e h))
 
   -- ---- types as lowering takes them
 
-  signed_under : (x : Sign) (r : Option tree.RegionName) (s : Shape) → IsThinSign x → IsKnown structs (settled (signed_shape x (owner_of r) s))
+  signed_under : (x : Sign) (r : Option tree.RegionName) (s : Shape) → IsKnown structs (settled (signed_shape x (owner_of r) s))
       → IsKnown structs (settled s)
-  signed_under sign.Nullable r s k h = h.1
-  signed_under sign.NotNull r s k h = h.1
-  signed_under sign.Fat r s k h = absurd k
+  signed_under sign.Nullable r s h = h.1
+  signed_under sign.NotNull r s h = h.1
+  signed_under sign.Fat r s h = h
 
-  known_under : (ps : List Pointer) (s : Shape) → AreThin ps → IsKnown structs (settled (pointed ps s)) → IsKnown structs (settled s)
-  known_under [] s k h = h
-  known_under (p ∷ ps) s k h =
-      signed_under p.sign p.region s k.0.0 (known_under ps (signed_shape p.sign (owner_of p.region) s) k.1 h)
+  known_under : (ps : List Pointer) (s : Shape) → IsKnown structs (settled (pointed ps s)) → IsKnown structs (settled s)
+  known_under [] s h = h
+  known_under (p ∷ ps) s h = signed_under p.sign p.region s (known_under ps (signed_shape p.sign (owner_of p.region) s) h)
 
-  object_base : (b : tree.Base) → takes_base with_regions b ≡ true → IsKnown structs (settled (base_shape b)) → IsObjectBase b
+  object_base : (b : tree.Base) → takes_base safe_forms b ≡ true → IsKnown structs (settled (base_shape b)) → IsObjectBase b
   object_base tree.Int q h = tt
   object_base tree.Unsigned q h = tt
   object_base tree.Char q h = tt
@@ -186,19 +189,19 @@ module _ (structs : List Layout) where
   object_base (tree.Key r) q h = absurd h
 
   -- the type of a variable
-  pub object_type : (t : TypeName) (u : StaticType) → takes_type with_regions t ≡ true → BaseThere structs t.base → IsObjectType u
+  pub object_type : (t : TypeName) (u : StaticType) → takes_type safe_forms t ≡ true → BaseThere structs t.base → IsObjectType u
       → settled (written t) ≡ shape_of u → lowering.IsObjectType structs t
   object_type t u e h o s =
-      let a = and_parts (takes_base with_regions t.base) (takes_pointers with_regions t.pointers) e in
+      let a = and_parts (takes_base safe_forms t.base) (takes_pointers safe_forms t.pointers) e in
       let k : IsKnown structs (settled (written t)) = subst (λ z. IsKnown structs z) (sym s) (written_known t u e h o s) in
       record {
-        pointers = thin_pointers_are with_regions refl refl t.pointers a.1;
-        base = object_base t.base a.0 (known_under t.pointers (base_shape t.base) (thin_pointers_are with_regions refl refl t.pointers a.1) k);
+        pointers = pointers_shared safe_forms refl t.pointers a.1;
+        base = object_base t.base a.0 (known_under t.pointers (base_shape t.base) k);
         known = reached_in structs (settled (written t)) (type_reached t e h);
       }
 
   -- that of a parameter
-  pub word_type : (t : TypeName) (u : StaticType) → takes_type with_regions t ≡ true → BaseThere structs t.base → IsObjectType u → IsWord u
+  pub word_type : (t : TypeName) (u : StaticType) → takes_type safe_forms t ≡ true → BaseThere structs t.base → IsObjectType u → IsWord u
       → settled (written t) ≡ shape_of u → lowering.IsWordType t
   word_type t u e h o w s =
       let k : lowering.IsObjectType structs t = object_type t u e h o s in
@@ -207,60 +210,61 @@ module _ (structs : List Layout) where
 -- ---- `void` and `int`
 
 -- a type with pointers has a pointer's shape
-pointers_shape : (p : Pointer) (ps : List Pointer) (b : tree.Base) → AreThin (p ∷ ps) → IsPointerShape (pointed (p ∷ ps) (base_shape b))
-pointers_shape p ps b k =
-    still_pointer ps (signed_shape p.sign (owner_of p.region) (base_shape b)) k.1 (sign_pointer p.sign (owner_of p.region) (base_shape b) k.0.0)
+pointers_shape : (p : Pointer) (ps : List Pointer) (b : tree.Base) → IsPointerShape (pointed (p ∷ ps) (base_shape b))
+pointers_shape p ps b =
+    still_pointer ps (signed_shape p.sign (owner_of p.region) (base_shape b)) (sign_pointer p.sign (owner_of p.region) (base_shape b))
 
 no_void : (s : Shape) → IsPointerShape s → settled s ≡ VoidShape → ⊥
 no_void (ThinShape b o s) h e = cc
+no_void (FatShape s) h e = cc
 no_void _ h e = h
 
 no_int : (s : Shape) → IsPointerShape s → settled s ≡ IntShape → ⊥
 no_int (ThinShape b o s) h e = cc
+no_int (FatShape s) h e = cc
 no_int _ h e = h
 
-void_written : (t : TypeName) → takes_type with_regions t ≡ true → settled (written t) ≡ VoidShape → IsVoidType t
+void_written : (t : TypeName) → takes_type safe_forms t ≡ true → settled (written t) ≡ VoidShape → IsVoidType t
 void_written t e s =
-    let a = and_parts (takes_base with_regions t.base) (takes_pointers with_regions t.pointers) e in
-    by t.base t.pointers a.0 (thin_pointers_are with_regions refl refl t.pointers a.1) s
+    by t.base t.pointers (and_parts (takes_base safe_forms t.base) (takes_pointers safe_forms t.pointers) e).0 s
   where
-    by : (b : tree.Base) (ps : List Pointer) → takes_base with_regions b ≡ true → AreThin ps
+    by : (b : tree.Base) (ps : List Pointer) → takes_base safe_forms b ≡ true
         → settled (written (record { at = t.at; base = b; pointers = ps })) ≡ VoidShape → IsVoidType (record { at = t.at; base = b; pointers = ps })
-    by b (p ∷ ps) q k s = absurd (no_void (pointed (p ∷ ps) (base_shape b)) (pointers_shape p ps b k) s)
-    by tree.Void [] q k s = record { pointers = refl; base = tt }
-    by tree.Int [] q k s = absurd cc
-    by tree.Unsigned [] q k s = absurd cc
-    by tree.Char [] q k s = absurd cc
-    by (tree.Struct tag rs) [] q k s = absurd cc
-    by (tree.Union tag rs) [] q k s = absurd cc
-    by (tree.Handle r) [] q k s = absurd cc
-    by (tree.Key r) [] q k s = absurd cc
+    by b (p ∷ ps) q s = absurd (no_void (pointed (p ∷ ps) (base_shape b)) (pointers_shape p ps b) s)
+    by tree.Void [] q s = record { pointers = refl; base = tt }
+    by tree.Int [] q s = absurd cc
+    by tree.Unsigned [] q s = absurd cc
+    by tree.Char [] q s = absurd cc
+    by (tree.Struct tag rs) [] q s = absurd cc
+    by (tree.Union tag rs) [] q s = absurd cc
+    by (tree.Handle r) [] q s = absurd cc
+    by (tree.Key r) [] q s = absurd cc
 
-pub int_written : (t : TypeName) → takes_type with_regions t ≡ true → settled (written t) ≡ IntShape → IsIntType t
+pub int_written : (t : TypeName) → takes_type safe_forms t ≡ true → settled (written t) ≡ IntShape → IsIntType t
 int_written t e s =
-    let a = and_parts (takes_base with_regions t.base) (takes_pointers with_regions t.pointers) e in
-    by t.base t.pointers a.0 (thin_pointers_are with_regions refl refl t.pointers a.1) s
+    by t.base t.pointers (and_parts (takes_base safe_forms t.base) (takes_pointers safe_forms t.pointers) e).0 s
   where
-    by : (b : tree.Base) (ps : List Pointer) → takes_base with_regions b ≡ true → AreThin ps
+    by : (b : tree.Base) (ps : List Pointer) → takes_base safe_forms b ≡ true
         → settled (written (record { at = t.at; base = b; pointers = ps })) ≡ IntShape → IsIntType (record { at = t.at; base = b; pointers = ps })
-    by b (p ∷ ps) q k s = absurd (no_int (pointed (p ∷ ps) (base_shape b)) (pointers_shape p ps b k) s)
-    by tree.Int [] q k s = record { pointers = refl; base = refl }
-    by tree.Void [] q k s = absurd cc
-    by tree.Unsigned [] q k s = absurd cc
-    by tree.Char [] q k s = absurd cc
-    by (tree.Struct tag rs) [] q k s = absurd cc
-    by (tree.Union tag rs) [] q k s = absurd cc
-    by (tree.Handle r) [] q k s = absurd cc
-    by (tree.Key r) [] q k s = absurd cc
+    by b (p ∷ ps) q s = absurd (no_int (pointed (p ∷ ps) (base_shape b)) (pointers_shape p ps b) s)
+    by tree.Int [] q s = record { pointers = refl; base = refl }
+    by tree.Void [] q s = absurd cc
+    by tree.Unsigned [] q s = absurd cc
+    by tree.Char [] q s = absurd cc
+    by (tree.Struct tag rs) [] q s = absurd cc
+    by (tree.Union tag rs) [] q s = absurd cc
+    by (tree.Handle r) [] q s = absurd cc
+    by (tree.Key r) [] q s = absurd cc
 
 -- the type of a result
-pub result_takes : (structs : List Layout) (t : TypeName) (u : StaticType) → takes_type with_regions t ≡ true → BaseThere structs t.base → IsPlain u
+pub result_takes : (structs : List Layout) (t : TypeName) (u : StaticType) → takes_type safe_forms t ≡ true → BaseThere structs t.base → IsPlain u
     → IsGiven structs u → settled (written t) ≡ shape_of u → TakesResult t
 result_takes structs t Void e h o w s = GivesNothing (void_written t e s)
 result_takes structs t Int e h o w s = GivesWord (word_type structs t Int e h o w.0 s)
 result_takes structs t Unsigned e h o w s = GivesWord (word_type structs t Unsigned e h o w.0 s)
 result_takes structs t Char e h o w s = GivesWord (word_type structs t Char e h o w.0 s)
 result_takes structs t (Thin b r u) e h o w s = GivesWord (word_type structs t (Thin b r u) e h o w.0 s)
+result_takes structs t (Fat r u) e h o w s = GivesWord (word_type structs t (Fat r u) e h o w.0 s)
 result_takes structs t (Struct tag rs) e h o w s = absurd w.0
 result_takes structs t (Handle r) e h o w s = GivesWord (word_type structs t (Handle r) e h o w.0 s)
 result_takes structs t _ e h o w s = absurd o
@@ -273,21 +277,22 @@ begins_first g Int o e = tt
 begins_first g Unsigned o e = tt
 begins_first g Char o e = tt
 begins_first g (Thin b r t) o e = subst (λ z. HasFirst (ThinShape z Shared (shape_of t))) (sym e) tt
+begins_first g (Fat r t) o e = tt
 begins_first g (Struct tag rs) o e = tt
 begins_first g (Handle r) o e = absurd cc
 begins_first g _ o e = absurd o
 
 -- an owner that a type leaves open isn't unique
-pub type_open : (t : TypeName) → takes_type with_regions t ≡ true → IsOpen (written t)
+pub type_open : (t : TypeName) → takes_type safe_forms t ≡ true → IsOpen (written t)
 type_open t e =
-    let a = and_parts (takes_base with_regions t.base) (takes_pointers with_regions t.pointers) e in
-    all_open t.pointers (base_shape t.base) (thin_pointers_are with_regions refl refl t.pointers a.1) (by t.base a.0)
+    let a = and_parts (takes_base safe_forms t.base) (takes_pointers safe_forms t.pointers) e in
+    all_open t.pointers (base_shape t.base) (pointers_shared safe_forms refl t.pointers a.1) (by t.base a.0)
   where
-    all_open : (ps : List Pointer) (s : Shape) → AreThin ps → IsOpen s → IsOpen (pointed ps s)
+    all_open : (ps : List Pointer) (s : Shape) → AreShared ps → IsOpen s → IsOpen (pointed ps s)
     all_open [] s k h = h
-    all_open (p ∷ ps) s k h = all_open ps (signed_shape p.sign (owner_of p.region) s) k.1 (signed_open p.sign p.region s k.0.0 k.0.1 h)
+    all_open (p ∷ ps) s k h = all_open ps (signed_shape p.sign (owner_of p.region) s) k.1 (signed_open p.sign p.region s k.0 h)
 
-    by : (b : tree.Base) → takes_base with_regions b ≡ true → IsOpen (base_shape b)
+    by : (b : tree.Base) → takes_base safe_forms b ≡ true → IsOpen (base_shape b)
     by tree.Int q = tt
     by tree.Unsigned q = tt
     by tree.Char q = tt

@@ -6,9 +6,8 @@ use Rattle.cyc_tree.specs.declared.name.Sign.{Sign}
 use Rattle.cyc_tree.specs.declared.name.Sign.TheVariants as sign
 use Rattle.cyc_tree.specs.Tree as tree
 use Rattle.cyc_tree.specs.Tree.{Pointer, TypeName}
-use Rattle.source_lowering.specs.Taken.{AreThin, IsThinSign}
 use Rattle.source_meaning.specs.Shapes as shapes
-use Rattle.source_meaning.specs.Shapes.{Owner, Shape, StructShape, ThinShape, part_of}
+use Rattle.source_meaning.specs.Shapes.{FatShape, Owner, Shape, StructShape, ThinShape, part_of}
 use Rattle.source_safety.specs.Entries.{AreObjects, IsObjectType}
 use Rattle.source_safety.specs.Flat.{Declared}
 use Rattle.source_safety.specs.Named.{TypesBelow}
@@ -18,13 +17,14 @@ use Rattle.source_typing.specs.Faults.{Fault}
 use Rattle.source_typing.specs.Scope.{Env}
 use Rattle.source_typing.specs.Tables.{Arrayed, Counter, Entry, OfBuiltin, OfFunction, OfOther, OfTag, OfValue, Stored, Tables, Tag, Unknown, find}
 use Rattle.source_typing.specs.Tags.{fits_member, member_faults, member_fitting, member_type, parts_by, settled_alone}
-use Rattle.source_typing.specs.Taken.{Taken, members_taken, member_taken, refused_type, takes_base, takes_pointers, takes_type, type_taken, with_regions}
+use Rattle.source_typing.specs.Taken.{Taken, members_taken, member_taken, refused_type, takes_base, takes_pointers, takes_type, type_taken}
+use Rattle.source_safety.specs.Judged.{safe_forms}
 use Rattle.source_typing.specs.Types.{Char, Fat, Handle, Int, Key, Null, StaticType, Struct, Thin, Union, Unique, Unsigned, Void, shape_of}
 use Rattle.source_typing.specs.Verdicts.{Faulty, Of, Verdict, after, faults_of, if_fits, known}
 use Rattle.source_typing.specs.Written.{Found, all_found, spots_of, tag_of, written, written_on}
 use Rattle.source_typing.proofs.Inversion.{none_of_both}
 use Rattle.judged_sources.specs.Good.{NamesBelow, Surely}
-use Rattle.judged_sources.proofs.GoodTypes.{IsWritten, KnowsTags, MeansKnown, in_scope_good, thin_pointers_are}
+use Rattle.judged_sources.proofs.GoodTypes.{IsWritten, KnowsTags, MeansKnown, in_scope_good}
 use Rattle.judged_sources.proofs.HeadTypes.{GivesNothing, GivesObject, ObjectGood, PlainGood, alone_good}
 use Rattle.judged_sources.proofs.Sure.{surely_after, surely_is}
 
@@ -65,7 +65,7 @@ member_fits n g at t u (GivesObject w) = by (fits_member false u && stands_earli
     by true e = record { good = w; stands = (and_parts (fits_member false u) (stands_earlier g u) e).1 }
     by false e = tt
 
-pub member_good : (n : ℕ) (g : Env) (t : TypeName) → KnowsTags g.tables → NamesBelow n g.names → takes_type with_regions t ≡ true
+pub member_good : (n : ℕ) (g : Env) (t : TypeName) → KnowsTags g.tables → NamesBelow n g.names → takes_type safe_forms t ≡ true
     → Surely (λ u. MemberGood n g t u) (member_type g false t)
 member_good n g t tags h e =
     surely_after (λ u. PlainGood n t u) (λ u. MemberGood n g t u) (after (written g.tables g.names t) (settled_alone t.at)) (member_fitting g false t.at)
@@ -77,20 +77,22 @@ member_good n g t tags h e =
 
 abbrev pub IsPointerShape : Shape → Type 0
 IsPointerShape (ThinShape b o s) = Unit {0}
+IsPointerShape (FatShape s) = Unit {0}
 IsPointerShape _ = ⊥
 
-pub sign_pointer : (x : Sign) (o : Owner) (s : Shape) → IsThinSign x → IsPointerShape (shapes.signed_shape x o s)
-sign_pointer sign.Nullable o s k = tt
-sign_pointer sign.NotNull o s k = tt
-sign_pointer sign.Fat o s k = absurd k
+pub sign_pointer : (x : Sign) (o : Owner) (s : Shape) → IsPointerShape (shapes.signed_shape x o s)
+sign_pointer sign.Nullable o s = tt
+sign_pointer sign.NotNull o s = tt
+sign_pointer sign.Fat o s = tt
 
-pub still_pointer : (ps : List Pointer) (s : Shape) → AreThin ps → IsPointerShape s → IsPointerShape (shapes.pointed ps s)
-still_pointer [] s k h = h
-still_pointer (p ∷ ps) s k h =
-    still_pointer ps (shapes.signed_shape p.sign (shapes.owner_of p.region) s) k.1 (sign_pointer p.sign (shapes.owner_of p.region) s k.0.0)
+pub still_pointer : (ps : List Pointer) (s : Shape) → IsPointerShape s → IsPointerShape (shapes.pointed ps s)
+still_pointer [] s h = h
+still_pointer (p ∷ ps) s h =
+    still_pointer ps (shapes.signed_shape p.sign (shapes.owner_of p.region) s) (sign_pointer p.sign (shapes.owner_of p.region) s)
 
 no_struct : (s : Shape) (tag : List ℕ) → IsPointerShape s → shapes.settled s ≡ StructShape tag → ⊥
 no_struct (ThinShape b o s) tag h e = cc
+no_struct (FatShape s) tag h e = cc
 no_struct _ tag h e = h
 
 -- a name that is no tag is at fault
@@ -118,11 +120,10 @@ member_faulty : (g : Env) (t : TypeName) (fs : List Found × List Fault) (f : Fa
     → faults_of (member_after g t fs (Faulty f others)) ≡ [] → ⊥
 member_faulty g t (fs, bad) f others p = cc
 
-struct_found : (g : Env) (t : TypeName) (tag : List ℕ) → KnowsTags g.tables → takes_type with_regions t ≡ true
+struct_found : (g : Env) (t : TypeName) (tag : List ℕ) → KnowsTags g.tables → takes_type safe_forms t ≡ true
     → shapes.settled (shapes.written t) ≡ StructShape tag → faults_of (member_type g false t) ≡ [] → (z : Tag) × (find g.tables tag ≡ Some (OfTag z))
 struct_found g t tag tags e s p =
-    let a = and_parts (takes_base with_regions t.base) (takes_pointers with_regions t.pointers) e in
-    by t.base t.pointers a.0 (thin_pointers_are with_regions refl refl t.pointers a.1) s p
+    by t.base t.pointers (and_parts (takes_base safe_forms t.base) (takes_pointers safe_forms t.pointers) e).0 s p
   where
     named : (x : tree.Name) → x.text ≡ tag → (z : Tag) × (find g.tables x.text ≡ Some (OfTag z)) → (z : Tag) × (find g.tables tag ≡ Some (OfTag z))
     named x q h = (h.0, ap (find g.tables) (sym q) ∙ h.1)
@@ -133,23 +134,23 @@ struct_found g t tag tags e s p =
     text_is : (x : tree.Name) → StructShape x.text ≡ StructShape tag → x.text ≡ tag
     text_is x q = cc
 
-    by : (b : tree.Base) (ps : List Pointer) → takes_base with_regions b ≡ true → AreThin ps
+    by : (b : tree.Base) (ps : List Pointer) → takes_base safe_forms b ≡ true
         → shapes.settled (shapes.written (record { at = t.at; base = b; pointers = ps })) ≡ StructShape tag
         → faults_of (member_type g false (record { at = t.at; base = b; pointers = ps })) ≡ [] → (z : Tag) × (find g.tables tag ≡ Some (OfTag z))
-    by b (q ∷ ps) k h s p =
+    by b (q ∷ ps) k s p =
         absurd (no_struct (shapes.pointed (q ∷ ps) (shapes.base_shape b)) tag
-        (still_pointer ps (shapes.signed_shape q.sign (shapes.owner_of q.region) (shapes.base_shape b)) h.1
-        (sign_pointer q.sign (shapes.owner_of q.region) (shapes.base_shape b) h.0.0)) s)
-    by (tree.Struct x rs) [] k h s p =
+        (still_pointer ps (shapes.signed_shape q.sign (shapes.owner_of q.region) (shapes.base_shape b))
+        (sign_pointer q.sign (shapes.owner_of q.region) (shapes.base_shape b))) s)
+    by (tree.Struct x rs) [] k s p =
         named x (text_is x s) (tag_found g.tables x.at x.text (member_after g (alone x rs) (all_found g.names (spots_of g.tables (alone x rs))))
         (λ f fs r. member_faulty g (alone x rs) (all_found g.names (spots_of g.tables (alone x rs))) f fs r) tags p)
-    by tree.Int [] k h s p = absurd cc
-    by tree.Unsigned [] k h s p = absurd cc
-    by tree.Char [] k h s p = absurd cc
-    by tree.Void [] k h s p = absurd cc
-    by (tree.Union x rs) [] k h s p = absurd cc
-    by (tree.Handle r) [] k h s p = absurd cc
-    by (tree.Key r) [] k h s p = absurd cc
+    by tree.Int [] k s p = absurd cc
+    by tree.Unsigned [] k s p = absurd cc
+    by tree.Char [] k s p = absurd cc
+    by tree.Void [] k s p = absurd cc
+    by (tree.Union x rs) [] k s p = absurd cc
+    by (tree.Handle r) [] k s p = absurd cc
+    by (tree.Key r) [] k s p = absurd cc
 
 -- ---- all members
 
@@ -158,7 +159,7 @@ abbrev pub EarlierDeclared : Env → List Declared → Type 0
 EarlierDeclared g ds = (tag : List ℕ) (t : Tag) → find g.tables tag ≡ Some (OfTag t) → stands_earlier g (Struct tag []) ≡ true → declares ds tag ≡ true
 
 member_typed : (n : ℕ) (g : Env) (ds : List Declared) (t : TypeName) (u : StaticType) → EarlierDeclared g ds → KnowsTags g.tables
-    → takes_type with_regions t ≡ true → faults_of (member_type g false t) ≡ [] → MemberGood n g t u → IsMemberType ds u
+    → takes_type safe_forms t ≡ true → faults_of (member_type g false t) ≡ [] → MemberGood n g t u → IsMemberType ds u
 member_typed n g ds t u early tags e p k = by u k.good.object k.good.shape k.stands
   where
     by : (u : StaticType) → IsObjectType u → shapes.settled (shapes.written t) ≡ shape_of u → stands_earlier g u ≡ true → IsMemberType ds u
@@ -168,7 +169,7 @@ member_typed n g ds t u early tags e p k = by u k.good.object k.good.shape k.sta
     by Void o s q = absurd o
     by Null o s q = absurd o
     by (Thin b r v) o s q = o
-    by (Fat r v) o s q = absurd o
+    by (Fat r v) o s q = o
     by (Unique b v) o s q = absurd o
     by (Handle r) o s q = o
     by (Key r) o s q = absurd o
@@ -185,7 +186,7 @@ pub record MembersGood (n : ℕ) (g : Env) (ds : List Declared) (ms : List tree.
   pub below : TypesBelow n types
 
 pub members_good : (n : ℕ) (g : Env) (ds : List Declared) (ms : List tree.Member) → EarlierDeclared g ds → KnowsTags g.tables → NamesBelow n g.names
-    → AreMembersTaken with_regions ms → member_faults g false ms ≡ [] → MembersGood n g ds ms
+    → AreMembersTaken safe_forms ms → member_faults g false ms ≡ [] → MembersGood n g ds ms
 members_good n g ds [] early tags h e p = record { types = []; members = tt; typed = tt; objects = tt; below = tt }
 members_good n g ds (m ∷ ms) early tags h e p =
     let z : (faults_of (member_type g false m.of) ≡ []) × (member_faults g false ms ≡ []) =

@@ -1,21 +1,23 @@
--- A program of integers, thin pointers, structs and lexical regions in which the rules find no fault is in order by the rules' own tables: so it is never
+-- A program of integers, pointers, structs, arrays and lexical regions in which the rules find no fault is in order by the rules' own tables: so it is never
 -- stuck, and it has its `main`.
 use Rattle.std.specs.Prelude.{bytes_eq, codes, if◌then◌else◌, length, map}
-use Rattle.std.proofs.Common.{◌≡◌, ℕ, ◌<◌, Bool, true, false, inl, inr, Option, Some, List, [], ◌∷◌, refl, sym, subst, ap, ◌∙◌}
+use Rattle.std.proofs.Common.{◌≡◌, ℕ, ◌<◌, Bool, true, false, inl, inr, Option, Some, None, List, [], ◌∷◌, refl, sym, subst, ap, ◌∙◌}
 use Rattle.std.proofs.lemmas.List.{length-map}
 use Rattle.std.proofs.lemmas.Slice.Eq.{bytes_eq-Decides}
 use Rattle.cyc_tree.specs.Tree as tree
 use Rattle.cyc_tree.specs.Tree.{Program}
 use Rattle.source_lowering.specs.Programs.{function_code, program_code}
-use Rattle.source_meaning.specs.Programs.{routine_of, world_of}
-use Rattle.source_meaning.specs.Shapes.{part_of, part_shapes}
-use Rattle.source_meaning.specs.Steps.{World}
+use Rattle.source_meaning.specs.Places.{bound_to}
+use Rattle.source_meaning.specs.Programs.{heap_spot, routine_of, world_of}
+use Rattle.source_meaning.specs.Shapes.{ArrayShape, part_of, part_shapes}
+use Rattle.source_meaning.specs.Steps.{Variable, World}
 use Rattle.source_safety.specs.Entries.{Builtin, Function, PlainEntry, Structure}
-use Rattle.source_safety.specs.Programs.{FunctionJudged, GlobalFound, MainFound, ProgramJudged}
+use Rattle.source_safety.specs.Programs.{ArrayFound, FunctionJudged, GlobalFound, MainFound, ProgramJudged}
 use Rattle.source_typing.specs.Answers.{program_faults}
+use Rattle.source_typing.specs.Declarations.{what_of}
 use Rattle.source_typing.specs.Functions.{head_of}
 use Rattle.source_typing.specs.Programs.{builtins, entries, entries_with, judged_tags, tables_of}
-use Rattle.source_typing.specs.Regions.{Region}
+use Rattle.source_typing.specs.Regions.{Region, TheHeap}
 use Rattle.source_typing.specs.Tables.{
   Arrayed,
   Counter,
@@ -30,10 +32,12 @@ use Rattle.source_typing.specs.Tables.{
   Tables,
   Tag,
   Unknown,
+  What,
   find,
 }
-use Rattle.source_typing.specs.Taken.{with_regions}
+use Rattle.source_safety.specs.Judged.{safe_forms}
 use Rattle.source_typing.specs.Types.{StaticType, shape_of}
+use Rattle.source_typing.specs.Verdicts.{Of}
 use Rattle.source_typing.proofs.TakenOperands.{taken_has_operands}
 use Rattle.source_safety.proofs.Never.{never_stuck}
 use Rattle.source_safety.proofs.Same.{judged_same}
@@ -41,8 +45,9 @@ use Rattle.judged_sources.specs.Good.{AllGood, BodiesJudged, IsGoodEntry, IsGood
 use Rattle.judged_sources.specs.Laws.{AcceptedAreJudged, AcceptedAreNeverStuck, AcceptedHaveMain}
 use Rattle.judged_sources.proofs.StructsFound.{StructsFound, not_made, structs_found}
 use Rattle.judged_sources.proofs.AlignedTables.{AreAligned, tables_aligned}
-use Rattle.judged_sources.proofs.Found.{AllKnown, FunctionFound, VariableFound, all_known, find_function, find_variable, globals_judged}
+use Rattle.judged_sources.proofs.Found.{AllKnown, FunctionFound, ValueFound, all_known, find_function, find_value, globals_judged}
 use Rattle.judged_sources.proofs.Found.{no_builtin}
+use Rattle.judged_sources.proofs.Globals.{counted_shape}
 use Rattle.judged_sources.proofs.GoodNames.{MeansGood, found_good}
 use Rattle.judged_sources.proofs.GoodFunctions.{FunctionNamed, function_is, function_judged}
 use Rattle.judged_sources.proofs.GoodTables.{AreHeaded, IsClean, all_headed, is_clean_program, tables_good}
@@ -76,7 +81,7 @@ entry_by es x a c = (if a then Some (OfBuiltin 0) else (if c then Some (OfBuilti
 
 -- ---- a program in order, by its own tables
 
-module _ (bodies : BodiesJudged) (p : Program) (e : program_faults with_regions p ≡ []) where
+module _ (bodies : BodiesJudged) (p : Program) (e : program_faults safe_forms p ≡ []) where
   abbrev tables : Tables
   tables = tables_of false p
 
@@ -89,8 +94,8 @@ module _ (bodies : BodiesJudged) (p : Program) (e : program_faults with_regions 
   abbrev world : World
   world = world_of p
 
-  clean : IsClean with_regions p
-  clean = is_clean_program with_regions p e
+  clean : IsClean safe_forms p
+  clean = is_clean_program safe_forms p e
 
   pub found : StructsFound p
   found = structs_found p clean.taken clean.tags clean.names
@@ -108,7 +113,7 @@ module _ (bodies : BodiesJudged) (p : Program) (e : program_faults with_regions 
   good = tables_good heads (judged_tags p) p tags headed
 
   pub known : AllKnown tables heads 0 (judged_tags p) p
-  known = all_known bodies tables heads 0 (judged_tags p) p good same headed clean.taken (taken_has_operands with_regions p clean.taken) clean.items
+  known = all_known bodies tables heads 0 (judged_tags p) p good same headed clean.taken (taken_has_operands safe_forms p clean.taken) clean.items
 
   -- ---- names
 
@@ -145,15 +150,51 @@ module _ (bodies : BodiesJudged) (p : Program) (e : program_faults with_regions 
       judged_same world tables x s (its_function x s h) F (function_judged world tables (function_found x s h).number x s (function_found x s h).function
       (function_named x s h) (function_found x s h).good)
 
-  variables : (x : List ℕ) (t : StaticType) (r : Region) → find tables x ≡ Some (OfValue (Stored t r)) → GlobalFound world x t r
-  variables x t r h = by (bytes_eq (codes "getchar") x) (bytes_eq (codes "putchar") x) h
+  -- what is found of a variable or an array
+  value_found : (x : List ℕ) (w : What) → find tables x ≡ Some (OfValue w) → ValueFound p 0 x w
+  value_found x w h = by (bytes_eq (codes "getchar") x) (bytes_eq (codes "putchar") x) h
     where
-      by : (a c : Bool) → entry_by items x a c ≡ Some (OfValue (Stored t r)) → GlobalFound world x t r
+      by : (a c : Bool) → entry_by items x a c ≡ Some (OfValue w) → ValueFound p 0 x w
       by true c k = absurd cc
       by false true k = absurd cc
-      by false false k =
-          let v : VariableFound p 0 x t r = find_variable tables heads 0 0 (judged_tags p) p x t r known k in
-          record { number = v.number; is = v.is_bound; region = v.region; below = (entry_good 0 tables x (OfValue (Stored t r)) good h).1 }
+      by false false k = find_value tables heads 0 0 (judged_tags p) p x w known k
+
+  variables : (x : List ℕ) (t : StaticType) (r : Region) → find tables x ≡ Some (OfValue (Stored t r)) → GlobalFound world x t r
+  variables x t r h = by v.count v.means v.is_bound
+    where
+      v : ValueFound p 0 x (Stored t r)
+      v = value_found x (Stored t r) h
+
+      by : (o : Option ℕ) → Stored t r ≡ what_of TheHeap o (Of v.type)
+          → bound_to world.globals x ≡ Some (Variable (counted_shape o (shape_of v.type)) (heap_spot v.number)) → GlobalFound world x t r
+      by None m b =
+          let same : v.type ≡ t = cc in
+          record {
+            number = v.number;
+            is = b ∙ ap (λ (u : StaticType). Some (Variable (shape_of u) (heap_spot v.number))) same;
+            region = cc;
+            below = (entry_good 0 tables x (OfValue (Stored t r)) good h).1;
+          }
+      by (Some n) m b = absurd cc
+
+  arrays : (x : List ℕ) (t : StaticType) (r : Region) → find tables x ≡ Some (OfValue (Arrayed t r)) → ArrayFound world x t r
+  arrays x t r h = by v.count v.means v.is_bound
+    where
+      v : ValueFound p 0 x (Arrayed t r)
+      v = value_found x (Arrayed t r) h
+
+      by : (o : Option ℕ) → Arrayed t r ≡ what_of TheHeap o (Of v.type)
+          → bound_to world.globals x ≡ Some (Variable (counted_shape o (shape_of v.type)) (heap_spot v.number)) → ArrayFound world x t r
+      by None m b = absurd cc
+      by (Some n) m b =
+          let same : v.type ≡ t = cc in
+          record {
+            number = v.number;
+            count = n;
+            is = b ∙ ap (λ (u : StaticType). Some (Variable (ArrayShape n (shape_of u)) (heap_spot v.number))) same;
+            region = cc;
+            below = (entry_good 0 tables x (OfValue (Arrayed t r)) good h).1;
+          }
 
   builtin_is : (x : List ℕ) (n : ℕ) → find tables x ≡ Some (OfBuiltin n) → Builtin x n
   builtin_is x n h = by (bytes_eq (codes "getchar") x) (bytes_eq (codes "putchar") x) refl refl h
@@ -186,7 +227,7 @@ module _ (bodies : BodiesJudged) (p : Program) (e : program_faults with_regions 
     where
       by : (y : Entry) → find tables x ≡ Some y → IsGoodEntry 0 y → PlainEntry world x y
       by (OfValue (Stored t r)) h s = s.0
-      by (OfValue (Arrayed t r)) h s = absurd s
+      by (OfValue (Arrayed t r)) h s = s.0
       by (OfValue Counter) h s = absurd s
       by (OfValue Unknown) h s = absurd s
       by (OfTag t) h s = structure_is x t h s
@@ -231,6 +272,7 @@ module _ (bodies : BodiesJudged) (p : Program) (e : program_faults with_regions 
     plain = plain;
     globals = globals_judged tables heads 0 (judged_tags p) p same known;
     variables = variables;
+    arrays = arrays;
     functions = functions;
     main = main_judged;
   }

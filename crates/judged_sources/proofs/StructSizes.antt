@@ -227,7 +227,8 @@ struct_small g i s ds found ts p h o none alike =
 
     bytes : List Layout → List shapes.Part → List Layout → Bool → ℕ
     bytes unions parts ls b =
-        (if b then laid_out (extent_by (struct_extent unions ls) (union_extent unions)) (no_extent s.tag.text) parts else struct_extent unions ls s.tag.text).size
+        (if b then laid_out (extent_by (struct_extent unions ls) (union_extent unions)) (no_extent s.tag.text) parts
+        else struct_extent unions ls s.tag.text).size
 
     of : (b : Bool) → not b || fits_bytes (struct_bytes g s ps) ≡ true → b ≡ true → fits_bytes (struct_bytes g s ps) ≡ true
     of true e q = e

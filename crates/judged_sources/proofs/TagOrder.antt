@@ -13,7 +13,8 @@ use Rattle.source_typing.specs.Tables.{Entry, Named, OfBuiltin, OfFunction, OfOt
 use Rattle.source_typing.specs.Tags.{bare_tag, head_faults, head_scope, member_faults, parameter_added, parameters_from, region_parameters, repeated}
 use Rattle.source_typing.specs.Tags.{struct_sized, tag_faults, tag_parts, tag_scope}
 use Rattle.source_typing.specs.Taken.{Taken, are_members, item_taken, members_taken, only_taken, refused_member, refused_structure, structure_if}
-use Rattle.source_typing.specs.Taken.{takes_arguments, takes_structure, with_regions}
+use Rattle.source_typing.specs.Taken.{takes_arguments, takes_structure}
+use Rattle.source_safety.specs.Judged.{safe_forms}
 use Rattle.source_typing.specs.Written.{RegionNamed, find_region}
 use Rattle.source_typing.proofs.Entries.{judged_name}
 use Rattle.source_typing.proofs.Inversion.{both_none, none_of_both, own_is}
@@ -40,7 +41,8 @@ pub struct_taken : (k : Taken) (b : Bool) (ms : List tree.Member) (s : tree.Stru
 struct_taken k true (m ∷ ms) s t h e =
     record { some = subst AreSomeMembers (sym h) tt; members = ap (λ (z : tree.Structure). z.members) e }
 struct_taken k true [] s t h e =
-    absurd (let a : refused_member s.at [] ∷ [] ≡ s.members = ap (λ (z : tree.Structure). z.members) e in let b : refused_member s.at [] ∷ [] ≡ [] = a ∙ h in cc)
+    absurd (let a : refused_member s.at [] ∷ [] ≡ s.members = ap (λ (z : tree.Structure). z.members) e in
+    let b : refused_member s.at [] ∷ [] ≡ [] = a ∙ h in cc)
 struct_taken k false ms s t h e = absurd cc
 
 -- a struct or union that isn't taken is at fault
@@ -57,7 +59,7 @@ refused_clean g i u s t e p = by (subst (λ z. tag_faults g i u z ≡ []) (sym e
 
 -- structs, globals and functions alone
 abbrev pub IsSorted : Item → Type 0
-IsSorted (tree.StructItem s) = StructTaken with_regions s
+IsSorted (tree.StructItem s) = StructTaken safe_forms s
 IsSorted (tree.UnionItem s) = ⊥
 IsSorted (tree.GlobalItem x) = Unit {0}
 IsSorted (tree.FunctionItem f) = Unit {0}
@@ -66,20 +68,20 @@ abbrev pub AreSorted : List Item → Type 0
 AreSorted [] = Unit {0}
 AreSorted (x ∷ is) = IsSorted x × AreSorted is
 
-item_sorted : (g : Tables) (i : ℕ) (x : Item) → item_taken with_regions x ≡ x → (judged_tag g i x).faults ≡ [] → IsSorted x
+item_sorted : (g : Tables) (i : ℕ) (x : Item) → item_taken safe_forms x ≡ x → (judged_tag g i x).faults ≡ [] → IsSorted x
 item_sorted g i (tree.StructItem s) e p =
-    let q : structure_if (takes_structure with_regions true s) s (members_taken with_regions s.members) ≡ s = cc in
-    struct_taken with_regions (takes_arguments with_regions s.regions) s.members s (any_arguments with_regions refl s.regions) refl q
+    let q : structure_if (takes_structure safe_forms true s) s (members_taken safe_forms s.members) ≡ s = cc in
+    struct_taken safe_forms (takes_arguments safe_forms s.regions) s.members s (any_arguments safe_forms refl s.regions) refl q
 item_sorted g i (tree.UnionItem s) e p = let f : refused_structure s ≡ s = cc in absurd (refused_clean g i true s s f p)
 item_sorted g i (tree.GlobalItem x) e p = tt
 item_sorted g i (tree.FunctionItem f) e p = tt
 
-pub all_sorted : (g : Tables) (i : ℕ) (done : List Judged) (is : List Item) → only_taken with_regions is ≡ is
+pub all_sorted : (g : Tables) (i : ℕ) (done : List Judged) (is : List Item) → only_taken safe_forms is ≡ is
     → all_tag_faults (judged_list g i done is) ≡ [] → AreSorted is
 all_sorted g i done [] t p = tt
 all_sorted g i done (x ∷ is) t p =
-    let a : item_taken with_regions x ≡ x = cc in
-    let b : only_taken with_regions is ≡ is = cc in
+    let a : item_taken safe_forms x ≡ x = cc in
+    let b : only_taken safe_forms is ≡ is = cc in
     let j : Judged = judged_tag (builtins (entries done ++ first_from g i (x ∷ is))) i x in
     let c : (j.faults ≡ []) × (all_tag_faults (judged_list g (suc i) (done ++ j ∷ []) is) ≡ []) =
     none_of_both j.faults (all_tag_faults (judged_list g (suc i) (done ++ j ∷ []) is)) p in
@@ -169,11 +171,11 @@ pub parameters_below : (g : Tables) (i : ℕ) (s : tree.Structure) → NamesBelo
 parameters_below g i s = names_from (length s.regions) 0 [] s.regions (omega arith) tt
 
 -- what is first known of a struct is that it has no fault
-first_sound : (g h : Tables) (i : ℕ) (s : tree.Structure) → KnowsTags h → TablesAlike g h → StructTaken with_regions s → tag_faults g i false s ≡ []
+first_sound : (g h : Tables) (i : ℕ) (s : tree.Structure) → KnowsTags h → TablesAlike g h → StructTaken safe_forms s → tag_faults g i false s ≡ []
     → IsKnownEntry (first_entry h i (tree.StructItem s))
 first_sound g h i s tags alike k p =
     let c : TagClean g i s = tag_clean g i s p in
-    let taken : AreMembersTaken with_regions s.members = members_are_taken with_regions (tag_scope g i s) s.members k.members c.members in
+    let taken : AreMembersTaken safe_forms s.members = members_are_taken safe_forms (tag_scope g i s) s.members k.members c.members in
     let e : Env = head_scope h i false s in
     let clean : head_faults e false s.members ≡ [] =
     heads_clean (length s.regions) (tag_scope g i s) e (own_first g h (named s.tag (bare_tag i false s false)) refl alike tags) refl

@@ -2,8 +2,8 @@
 
 ghost use Rattle.judged_sources.specs.Laws.{AcceptedAreJudged, AcceptedAreLowerable, AcceptedAreNeverStuck, AcceptedHaveMain};
 
-/// A law, with nothing to run: a program in which the rules find no fault, where integers, thin pointers, structs, the heap and
-/// lexical regions are taken, is in order by the rules' own tables of its names.
+/// A law, with nothing to run: a program in which the rules find no fault, where integers, pointers thin and fat, structs, arrays,
+/// the heap and lexical regions are taken, is in order by the rules' own tables of its names.
 pub fn accepted_are_judged()
     ensures { AcceptedAreJudged }
 {}

@@ -5,6 +5,7 @@ use Rattle.source_meaning.specs.Steps.{Routine, World}
 use Rattle.core_meaning.specs.Core.{Local, Statement, Block, MoreStatements}
 use Rattle.cyc_core.specs.Trees.{statements_of}
 use Rattle.source_lowering.specs.Lowered.{Named, all_of}
+use Rattle.source_lowering.specs.Members.{all_words}
 use Rattle.source_lowering.specs.Programs.{no_regions, block_shapes, locals_of, items_code, parameter_names, parameters_code, end_code, body_code}
 use Rattle.lower_checks.proofs.Lists.{all_is}
 
@@ -12,23 +13,27 @@ pub as_many_shapes : (ps : List Part) → length (part_shapes ps) ≡ length ps
 as_many_shapes [] = refl
 as_many_shapes (p ∷ ps) = ap suc (as_many_shapes ps)
 
+-- what stores all parameters
+abbrev pub all_parameters : Routine → List Statement
+all_parameters f = parameters_code f.parameters 0 0 (all_words (part_shapes f.parameters))
+
 -- the body's block: its locals, and what is inside
 pub record Inside (w : World) (f : Routine) (locals : List Local) (inside : List Statement) : Type 0 where
   pub locals_are : locals ≡ locals_of w (part_shapes f.parameters ++ block_shapes f.body)
   pub inside_is :
-      inside ≡ parameters_code f.parameters 0 ++ items_code w f.result (parameter_names f.parameters 0 []) no_regions (length f.parameters) 0 f.body
+      inside ≡ all_parameters f ++ items_code w f.result (parameter_names f.parameters 0 []) no_regions (length f.parameters) 0 f.body
 
 pub inside_of :
     (w : World) (f : Routine) (taken shapes : List Shape) (names : List Named) (first inside : List Statement) (locals : List Local) →
-    taken ≡ part_shapes f.parameters → names ≡ parameter_names f.parameters 0 [] → first ≡ parameters_code f.parameters 0 →
+    taken ≡ part_shapes f.parameters → names ≡ parameter_names f.parameters 0 [] → first ≡ all_parameters f →
     inside ≡ first ++ items_code w f.result names no_regions (length taken) 0 f.body → shapes ≡ taken ++ block_shapes f.body → locals ≡ locals_of w shapes →
     Inside w f locals inside
 inside_of w f taken shapes names first inside locals taken_is names_are first_is inside_is shapes_are locals_are = record {
   locals_are = locals_are ∙ ap (locals_of w) (shapes_are ∙ ap (λ (ss : List Shape). ss ++ block_shapes f.body) taken_is);
   inside_is =
       inside_is ∙ ap (λ (ss : List Statement). ss ++ items_code w f.result names no_regions (length taken) 0 f.body) first_is
-      ∙ ap (λ (ns : List Named). parameters_code f.parameters 0 ++ items_code w f.result ns no_regions (length taken) 0 f.body) names_are
-      ∙ ap (λ (n : ℕ). parameters_code f.parameters 0 ++ items_code w f.result (parameter_names f.parameters 0 []) no_regions n 0 f.body)
+      ∙ ap (λ (ns : List Named). all_parameters f ++ items_code w f.result ns no_regions (length taken) 0 f.body) names_are
+      ∙ ap (λ (n : ℕ). all_parameters f ++ items_code w f.result (parameter_names f.parameters 0 []) no_regions n 0 f.body)
       (ap length taken_is ∙ as_many_shapes f.parameters);
 }
 

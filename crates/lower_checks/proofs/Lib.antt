@@ -11,6 +11,7 @@ mod Reaching
 mod Remaining
 mod StructLayouts
 mod Structs
+mod Suffixes
 mod Tables
 mod Taken
 mod Wholes

@@ -78,22 +78,42 @@ none_found : (structs : List Layout) (tag : List ℕ) (found : Option Known) →
 none_found structs tag None is other = refl
 none_found structs tag (Some k) is other = absurd cc (sym is.has ∙ other)
 
+-- where no struct has a tag, it has no bytes and no cells
+
+pub no_bytes : (unions structs : List Layout) (tag : List ℕ) → has_tag structs tag ≡ false → struct_extent unions structs tag ≡ bytes_and 0 1
+no_bytes unions [] tag none = refl
+no_bytes unions (l ∷ structs) tag none = by (bytes_eq l.tag tag) none (no_bytes unions structs tag)
+  where
+    by : (own : Bool) → (if own then true else has_tag structs tag) ≡ false → (has_tag structs tag ≡ false → struct_extent unions structs tag ≡ bytes_and 0 1)
+        → (if own then laid_out (extent_by (struct_extent unions structs) (union_extent unions)) (no_extent tag) l.parts else struct_extent unions structs tag)
+        ≡ bytes_and 0 1
+    by true h others = absurd cc h
+    by false h others = others h
+
+pub no_cells : (structs : List Layout) (tag : List ℕ) → has_tag structs tag ≡ false → struct_cells structs tag ≡ []
+no_cells [] tag none = refl
+no_cells (l ∷ structs) tag none = by (bytes_eq l.tag tag) none (no_cells structs tag)
+  where
+    by : (own : Bool) → (if own then true else has_tag structs tag) ≡ false → (has_tag structs tag ≡ false → struct_cells structs tag ≡ [])
+        → (if own then all_cells (cells_by (struct_cells structs)) l.parts else struct_cells structs tag) ≡ []
+    by true h others = absurd cc h
+    by false h others = others h
+
 -- ---- a shape
 
-found_room : (structs unions : List Layout) (tag : List ℕ) (found : Option Known) → IsFound structs tag found → is_some found ≡ true
-    → struct_extent unions structs tag ≡ room_if found
-found_room structs unions tag None is some = absurd cc some
-found_room structs unions tag (Some k) is some = is.room unions
+found_room : (structs unions : List Layout) (tag : List ℕ) (found : Option Known) → IsFound structs tag found → struct_extent unions structs tag ≡ room_if found
+found_room structs unions tag None is = no_bytes unions structs tag is
+found_room structs unions tag (Some k) is = is.room unions
 
 found_cells : (structs unions : List Layout) (tag : List ℕ) (found : Option Known) → IsFound structs tag found → is_some found ≡ true
     → map placed_cell (struct_placed unions structs tag) ≡ cells_if found
 found_cells structs unions tag None is some = absurd cc some
 found_cells structs unions tag (Some k) is some = is.cells unions
 
-found_count : (structs : List Layout) (tag : List ℕ) (found : Option Known) → IsFound structs tag found → is_some found ≡ true
+found_count : (structs : List Layout) (tag : List ℕ) (found : Option Known) → IsFound structs tag found
     → length (struct_cells structs tag) ≡ length (cells_if found)
-found_count structs tag None is some = absurd cc some
-found_count structs tag (Some k) is some = is.count ∙ sym (length-map k.layout.value.cells.items laid_cell)
+found_count structs tag None is = ap length (no_cells structs tag is)
+found_count structs tag (Some k) is = is.count ∙ sym (length-map k.layout.value.cells.items laid_cell)
 
 module _ (table : Structs) (structs : List Layout) (knows : Knows table structs) where
   pub room_same : (unions : List Layout) (s : Shape) → IsLaid table s → extent_by (struct_extent unions structs) (union_extent unions) s ≡ room_in table s
@@ -105,7 +125,7 @@ module _ (table : Structs) (structs : List Layout) (knows : Knows table structs)
   room_same unions (FatShape t) laid = refl
   room_same unions HandleShape laid = refl
   room_same unions KeyShape laid = absurd cc laid
-  room_same unions (StructShape tag) laid = found_room structs unions tag (struct_in table tag) (knows.knows tag) laid
+  room_same unions (StructShape tag) laid = found_room structs unions tag (struct_in table tag) (knows.knows tag)
   room_same unions (UnionShape tag) laid = absurd cc laid
   room_same unions (ArrayShape n s) laid = absurd cc laid
 
@@ -131,7 +151,7 @@ module _ (table : Structs) (structs : List Layout) (knows : Knows table structs)
   count_same (FatShape t) laid = refl
   count_same HandleShape laid = refl
   count_same KeyShape laid = absurd cc laid
-  count_same (StructShape tag) laid = found_count structs tag (struct_in table tag) (knows.knows tag) laid
+  count_same (StructShape tag) laid = found_count structs tag (struct_in table tag) (knows.knows tag)
   count_same (UnionShape tag) laid = absurd cc laid
   count_same (ArrayShape n s) laid = absurd cc laid
 
@@ -159,7 +179,7 @@ module _ (table : Structs) (structs : List Layout) (knows : Knows table structs)
   object_laid CharShape h = refl
   object_laid VoidShape h = absurd h
   object_laid (ThinShape n o t) h = refl
-  object_laid (FatShape t) h = absurd h
+  object_laid (FatShape t) h = refl
   object_laid HandleShape h = refl
   object_laid KeyShape h = absurd h
   object_laid (StructShape tag) h = tag_found structs tag (struct_in table tag) (knows.knows tag) h

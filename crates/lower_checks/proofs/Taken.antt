@@ -1,15 +1,65 @@
 -- What is taken can be a local.
-use Rattle.std.proofs.Common.{ℕ, List, [], ◌∷◌, ◌++◌, map}
+use Rattle.std.proofs.Common.{◌≡◌, ℕ, suc, sym, subst, List, [], ◌∷◌, ◌++◌, map}
 use Rattle.cyc_tree.specs.Tree as tree
-use Rattle.cyc_tree.specs.Tree.{Member}
-use Rattle.source_meaning.specs.Shapes.{Shape, Layout, part_of, part_shapes, written, settled}
-use Rattle.source_lowering.specs.Lowerable.{AreObjects, AreWords}
-use Rattle.source_lowering.proofs.Integers.{word_object}
-use Rattle.source_lowering.proofs.WrittenTypes.{word_settled}
+use Rattle.cyc_tree.specs.Tree.{BlockItems, NoItems, Declare, Execute, Initial, Member}
+use Rattle.source_meaning.specs.Shapes.{Shape, ArrayShape, Layout, part_of, part_shapes, written, settled}
+use Rattle.source_meaning.specs.Programs.{global_shape}
+use Rattle.source_meaning.specs.Steps.{World}
+use Rattle.source_lowering.specs.Lowered.{Named}
+use Rattle.source_lowering.specs.Programs.{block_shapes, local_shape, named_here}
+use Rattle.source_lowering.specs.Lowerable.{AreWords, IsObject, TakesItems}
+use Rattle.source_lowering.proofs.EachDeclaration.{shape_object}
+use Rattle.source_lowering.proofs.Integers.{value_object}
+use Rattle.source_lowering.proofs.ObjectShapes.{object_named}
+use Rattle.source_lowering.proofs.WrittenTypes.{value_settled}
+use Rattle.lower_checks.specs.Structs.{AreVariables}
+use Rattle.lower_checks.specs.Views.{shape_tree}
+use Rattle.lower_checks.specs.declared.shape.Shape as code_shape
+use Rattle.lower_checks.specs.declared.shape.Shape.TheVariants as shape
+
+-- ---- a shape of the code is no array
+
+no_array : (s : code_shape.Shape) (count : ℕ) (of : Shape) → shape_tree s ≡ ArrayShape count of → ⊥
+no_array shape.Int count of is = absurd cc is
+no_array shape.Unsigned count of is = absurd cc is
+no_array shape.Char count of is = absurd cc is
+no_array shape.Void count of is = absurd cc is
+no_array (shape.Thin may_be_null owner to) count of is = absurd cc is
+no_array (shape.Address pointers to) count of is = absurd cc is
+no_array (shape.Fat to) count of is = absurd cc is
+no_array shape.Handle count of is = absurd cc is
+no_array shape.Key count of is = absurd cc is
+no_array (shape.Struct tag) count of is = absurd cc is
+no_array (shape.Union tag) count of is = absurd cc is
+
+-- a global of such a shape has that of its type
+pub one_global : (s : code_shape.Shape) (initial : Initial) (of : Shape) → shape_tree s ≡ global_shape initial of → of ≡ shape_tree s
+one_global s Initial.Unset of is = sym is
+one_global s (Initial.Elements count) of is = absurd (no_array s count of is)
+one_global s (Initial.Given c) of is = sym is
+
+-- the elements of a global array are objects
+pub array_global : (structs : List Layout) (initial : Initial) (s : Shape) (count : ℕ) (of : Shape) → ArrayShape count of ≡ global_shape initial s
+    → IsObject structs s → IsObject structs of
+array_global structs Initial.Unset s count of is object = absurd (subst (λ (z : Shape). IsObject structs z) (sym is) object)
+array_global structs (Initial.Elements n) s count of is object =
+    let same : s ≡ of = cc is in
+    subst (λ (z : Shape). IsObject structs z) same object
+array_global structs (Initial.Given c) s count of is object = absurd (subst (λ (z : Shape). IsObject structs z) (sym is) object)
+
+-- ---- locals
+
+pub block_variables : (w : World) (result : Shape) (names : List Named) (index : ℕ) (items : BlockItems) → TakesItems w result names index items
+    → AreVariables w.structs (block_shapes items)
+block_variables w result names index NoItems h = tt
+block_variables w result names index (Declare d others) h =
+    (shape_object w names d h.0, block_variables w result (named_here (tree.local_of d).text (local_shape d) index ∷ names) (suc index) others h.1)
+block_variables w result names index (Execute s others) h = block_variables w result names index others h.1
 
 -- the parameters of a function, and further locals
-pub parameter_objects : (structs : List Layout) (ms : List Member) (ss : List Shape) → AreWords ms → AreObjects structs ss
-    → AreObjects structs (part_shapes (map part_of ms) ++ ss)
-parameter_objects structs [] ss h more = more
-parameter_objects structs (m ∷ ms) ss h more =
-    (word_object structs (settled (written m.of)) (word_settled m.of h.0), parameter_objects structs ms ss h.1 more)
+pub parameter_variables : (structs : List Layout) (ms : List Member) (ss : List Shape) → AreWords ms → AreVariables structs ss
+    → AreVariables structs (part_shapes (map part_of ms) ++ ss)
+parameter_variables structs [] ss h more = more
+parameter_variables structs (m ∷ ms) ss h more =
+    let s = settled (written m.of) in
+    (object_named structs s (value_object structs s (value_settled m.of h.0)), parameter_variables structs ms ss h.1 more)

@@ -9,7 +9,7 @@ use Rattle.lower_checks.specs.declared.mark.Mark.TheVariants.{Begin, Declare}
 
 abbrev pub mark_of : Mark → Option Declared
 mark_of Begin = None
-mark_of (Declare l hidden) = Some (declared l.name.now l.shape l.index)
+mark_of (Declare l hidden) = Some (declared l.name.now l.stored l.index)
 
 abbrev pub marks_of : List Mark → List (Option Declared)
 marks_of ms = map mark_of ms

@@ -5,6 +5,7 @@ use Rattle.cyc_tree.specs.View.{member_tree}
 use Rattle.source_meaning.specs.Shapes.{Shape, IntShape, UnsignedShape, CharShape, ThinShape, FatShape, HandleShape, StructShape, Part, Layout, part_of, parts_of, has_tag}
 use Rattle.source_meaning.specs.Sizes.{Extent, rounded_up, struct_cells, struct_extent}
 use Rattle.source_meaning.specs.Placing.{Placed, struct_placed}
+use Rattle.source_lowering.specs.Lowerable.{IsVariable}
 use Rattle.cyc_core.specs.Trees.{bytes_of, cell_bytes}
 use Rattle.cyc_core.specs.declared.layout.CellLayout.{CellLayout}
 use Rattle.cyc_core.specs.declared.operation.Cell.{Cell}
@@ -68,6 +69,11 @@ HasRoom structs s = (is_some (cell_for s) ≡ true)
 abbrev pub HaveRoom : List Layout → List Part → Type 0
 HaveRoom structs [] = Unit {0}
 HaveRoom structs (p ∷ ps) = HasRoom structs p.shape × HaveRoom structs ps
+
+-- what names stand for
+abbrev pub AreVariables : List Layout → List Shape → Type 0
+AreVariables structs [] = Unit {0}
+AreVariables structs (s ∷ ss) = IsVariable structs s × AreVariables structs ss
 
 -- ---- what is known of one struct
 

@@ -16,6 +16,7 @@ use Rattle.source_meaning.specs.Shapes.{
   KeyShape,
   StructShape,
   UnionShape,
+  ArrayShape,
   base_shape,
   pointed,
   settled,
@@ -32,6 +33,8 @@ use Rattle.lower_checks.specs.declared.shape.Written as code_written
 use Rattle.lower_checks.specs.declared.shape.Written.TheVariants as written
 use Rattle.lower_checks.specs.declared.shape.Plain as code_plain
 use Rattle.lower_checks.specs.declared.shape.Plain.TheVariants as plain
+use Rattle.lower_checks.specs.declared.stored.Stored as code_stored
+use Rattle.lower_checks.specs.declared.stored.Stored.TheVariants as stored
 use Rattle.lower_checks.specs.declared.leaving.RegionsAround as code_regions
 use Rattle.lower_checks.specs.declared.names.Named as code_named
 use Rattle.lower_checks.specs.declared.table.Found as code_found
@@ -79,12 +82,17 @@ shape_tree shape.Key = KeyShape
 shape_tree (shape.Struct tag) = StructShape tag.now
 shape_tree (shape.Union tag) = UnionShape tag.now
 
-abbrev pub named_tree : code_named.Named → lowered.Named
-named_tree n = record { name = n.name.now; shape = shape_tree n.shape; out = n.out; index = n.index }
+-- what a name stands for: an object, or an array of so many elements
+abbrev pub stored_tree : code_stored.Stored → Shape
+stored_tree (stored.One s) = shape_tree s
+stored_tree (stored.Array count of) = ArrayShape count (written_shape of)
 
--- a global by its shape and its number
+abbrev pub named_tree : code_named.Named → lowered.Named
+named_tree n = record { name = n.name.now; shape = stored_tree n.stored; out = n.out; index = n.index }
+
+-- a global by what it is and its number
 abbrev pub found_entity : code_found.Found → Entity
-found_entity g = Variable (shape_tree g.shape) (heap_spot g.object)
+found_entity g = Variable (stored_tree g.stored) (heap_spot g.object)
 
 abbrev pub regions_tree : code_regions.RegionsAround → programs.RegionsAround
 regions_tree r = record { all = r.all; inner = r.inner }

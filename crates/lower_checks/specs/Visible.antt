@@ -2,22 +2,22 @@
 use Rattle.std.specs.Prelude.{ℕ, List, [], ◌∷◌, Option, Some, None}
 use Rattle.source_lowering.specs.Lowered.{Named}
 use Rattle.source_lowering.specs.Programs.{named_here, outward}
-use Rattle.lower_checks.specs.Views.{shape_tree}
-use Rattle.lower_checks.specs.declared.shape.Shape as code
+use Rattle.lower_checks.specs.Views.{stored_tree}
+use Rattle.lower_checks.specs.declared.stored.Stored as code
 
--- a local: its name and shape, and its number in its block
+-- a local: its name, what it is, and its number in its block
 pub record Declared : Type 0 where
   pub name : List ℕ
-  pub shape : code.Shape
+  pub stored : code.Stored
   pub index : ℕ
 
-abbrev pub declared : List ℕ → code.Shape → ℕ → Declared
-declared name shape index = record { name = name; shape = shape; index = index }
+abbrev pub declared : List ℕ → code.Stored → ℕ → Declared
+declared name stored index = record { name = name; stored = stored; index = index }
 
 -- what was declared, the last one first; `None` where a block begins, out of which each local before it is one block further out
 abbrev pub names_of : List (Option Declared) → List Named
 names_of [] = []
-names_of (Some d ∷ others) = named_here d.name (shape_tree d.shape) d.index ∷ names_of others
+names_of (Some d ∷ others) = named_here d.name (stored_tree d.stored) d.index ∷ names_of others
 names_of (None ∷ others) = outward (names_of others)
 
 -- what was declared before the innermost block began

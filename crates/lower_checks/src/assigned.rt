@@ -8,8 +8,6 @@ ghost use Rattle.source_meaning.specs.Programs.{world_of};
 ghost use Rattle.source_lowering.specs.Layouts.{layout_of};
 ghost use Rattle.source_lowering.specs.Lowered.{expression_code, expression_values, place_code, static_shape};
 ghost use Rattle.source_lowering.specs.Whole.{
-  assigned_code,
-  assigned_values,
   dropped_code,
   dropped_values,
   run_code,
@@ -20,7 +18,6 @@ ghost use Rattle.source_lowering.specs.Whole.{
 ghost use Rattle.source_lowering.specs.Lowerable.{
   IsStructShape,
   Takes,
-  TakesAssigned,
   TakesDropped,
   TakesPlace,
   TakesRun,
@@ -185,6 +182,7 @@ pub fn lower_run<'p>(
         | Expression::Character(_, _)
         | Expression::Null(_)
         | Expression::HeapRegion(_)
+        | Expression::NumElts(_, _)
         | Expression::New(_, _)
         | Expression::NewIn(_, _, _)
         | Expression::Chain(_, _)

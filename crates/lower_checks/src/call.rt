@@ -1,11 +1,11 @@
 // Calls of functions, after their arguments.
 
 ghost use Rattle.std.specs.Prelude.{◌≡◌, ◌++◌, IfOk, OnOk, map};
-ghost use Rattle.cyc_tree.specs.View.{member_tree, expression_tree, expressions_of};
+ghost use Rattle.cyc_tree.specs.View.{member_tree};
 ghost use Rattle.cyc_core.specs.Trees.{temporary_tree, statement_tree};
 ghost use Rattle.source_meaning.specs.Shapes.{part_of, part_shapes};
 ghost use Rattle.source_meaning.specs.Programs.{world_of};
-ghost use Rattle.source_lowering.specs.Lowered.{call_parameters, from_on, count_of, call_code};
+ghost use Rattle.source_lowering.specs.Lowered.{call_parameters, from_on, call_code};
 ghost use Rattle.lower_checks.specs.Views.{shape_tree};
 ghost use Rattle.lower_checks.specs.Refusals.{NeverRefused};
 
@@ -15,14 +15,11 @@ use crate::names::after;
 use crate::shape::Shape;
 use crate::table::Table;
 use cyc_core::{Operation, Statement, Temporary};
-use cyc_tree::{Expression, Member};
+use cyc_tree::Member;
 use std::alloc::Global;
 
 /// The shapes of parameters, in order.
-pub fn part_shapes<'p>(
-    alloc: Global,
-    parameters: &'p [Member],
-) -> Result<Vec<Shape<'p>>, LowerFault>
+fn part_shapes<'p>(alloc: Global, parameters: &'p [Member]) -> Result<Vec<Shape<'p>>, LowerFault>
     ensures shapes { IfOk result (λ shapes. map shape_tree shapes.items ≡ part_shapes (map part_of (map member_tree parameters.entry.now))) }
     ensures taken { NeverRefused result }
 {
@@ -60,18 +57,14 @@ pub fn call_parameters<'p>(
     }
 }
 
-/// As many temporaries as there are arguments, from one on.
-fn passed_from(
-    alloc: Global,
-    arguments: &[Expression],
-    first: Temporary,
-) -> Result<Vec<Temporary>, LowerFault>
-    ensures passed { IfOk result (λ passed. map temporary_tree passed.items ≡ from_on first.0 (count_of (expressions_of (map expression_tree arguments.now)))) }
+/// So many temporaries, from one on.
+fn passed_from(alloc: Global, count: u32, first: Temporary) -> Result<Vec<Temporary>, LowerFault>
+    ensures passed { IfOk result (λ passed. map temporary_tree passed.items ≡ from_on first.0 count) }
     ensures taken { NeverRefused result }
 {
     let mut passed = Vec::new(alloc);
     let mut next = first;
-    'each: for _ in arguments {
+    'each: for _ in 0..count {
         if let Err(_) = passed.push(next) {
             return Err(LowerFault::Memory);
         }
@@ -80,19 +73,19 @@ fn passed_from(
     Ok(passed)
 }
 
-/// Appends the call of a function, the values of whose arguments are in the temporaries from this one on.
+/// Appends the call of a function, to which so many words are passed, from this temporary on.
 pub fn lower_call(
     alloc: Global,
     program: &Table<'_>,
     body: &mut Vec<Statement>,
     name: &[u8],
-    arguments: &[Expression],
+    words: u32,
     to: Temporary,
 ) -> Result<(), LowerFault>
     ensures code { OnOk result
         (map statement_tree body.new.items ≡
         map statement_tree body.old.items ++
-        call_code (world_of program.now) name.now (count_of (expressions_of (map expression_tree arguments.now))) to.0) }
+        call_code (world_of program.now) name.now words to.0) }
     ensures taken { NeverRefused result }
 {
     if name == b"getchar".as_slice() {
@@ -104,7 +97,7 @@ pub fn lower_call(
     let Some(callee) = program.function_named(name) else {
         return Ok(());
     };
-    let result = Shape::of(&callee.function.result).result_in(to);
-    let passed = passed_from(alloc, arguments, to)?;
+    let result = Shape::of(&callee.function.result).result_in(to)?;
+    let passed = passed_from(alloc, words, to)?;
     emit(body, Statement::Call(result, callee.number, passed))
 }

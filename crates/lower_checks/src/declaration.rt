@@ -11,8 +11,8 @@ ghost use Rattle.source_lowering.specs.Lowered.{Named};
 ghost use Rattle.source_lowering.specs.Layouts.{layout_of};
 ghost use Rattle.source_lowering.specs.Programs.{declaration_code, declaration_values, initial_values, local_shape, source_code, unset_code, value_code};
 ghost use Rattle.source_lowering.specs.Whole.{expression_values, is_made, whole_values};
-ghost use Rattle.source_lowering.specs.Lowerable.{IsObject, IsObjectType, IsStructShape, TakesDeclaration, TakesValue, TakesWhole};
-ghost use Rattle.lower_checks.specs.Views.{shape_tree};
+ghost use Rattle.source_lowering.specs.Lowerable.{IsObject, IsObjectType, IsStructShape, IsVariable, TakesDeclaration, TakesValue, TakesWhole};
+ghost use Rattle.lower_checks.specs.Views.{shape_tree, stored_tree};
 ghost use Rattle.lower_checks.specs.Visible.{names_of};
 ghost use Rattle.lower_checks.specs.Refusals.{NeverRefused};
 
@@ -21,25 +21,28 @@ use crate::expression::lower_expression;
 use crate::fault::LowerFault;
 use crate::locals::Locals;
 use crate::names::after;
-use crate::objects::struct_layout;
+use crate::objects::{stored_layout, struct_layout};
 use crate::place::lower_place;
 use crate::shape::Shape;
 use crate::shaped::makes;
+use crate::stored::Stored;
 use crate::table::Table;
 use crate::values::{first_value, lower_conversion};
+use crate::variable::lower_put_local;
 use crate::whole::lower_whole;
 use cyc_core::{Operation, Statement, Temporary, Variable, Width};
 use cyc_tree::{Declaration, Expression, Initializer, TypeName};
 use std::alloc::Global;
 
-/// The shape of a local as it is declared. Refuses an opened region, a key and an alias.
-pub fn declared_shape<'p>(declaration: &'p Declaration) -> Result<Shape<'p>, LowerFault>
-    ensures shape { IfOk result (λ shape. shape_tree shape ≡ local_shape (declaration_tree declaration.entry.now)) }
+/// What a local is, as it is declared. Refuses an opened region, a key and an alias.
+pub fn declared<'p>(declaration: &'p Declaration) -> Result<Stored<'p>, LowerFault>
+    ensures stored { IfOk result (λ stored. stored_tree stored ≡ local_shape (declaration_tree declaration.entry.now)) }
     ensures taken { (w : World) (names : List Named) → TakesDeclaration w names (declaration_tree declaration.entry.now) → NeverRefused result }
 {
     match declaration {
-        Declaration::Local(of, _, _) => Ok(Shape::of(of)),
-        Declaration::Region(_, _, _) => Ok(Shape::Handle),
+        Declaration::Local(of, _, Initializer::Array(count)) => Ok(Stored::array(of, *count)),
+        Declaration::Local(of, _, Initializer::None | Initializer::Value(_)) => Ok(Stored::one(of)),
+        Declaration::Region(_, _, _) => Ok(Stored::One(Shape::Handle)),
         _ => Err(LowerFault::NotTaken),
     }
 }
@@ -58,25 +61,26 @@ fn is_made(program: &Table<'_>, expression: &Expression) -> bool
 
 /// Appends what a local of a number begins with where it has no initializer, by its shape. Refuses a struct that the program hasn't.
 fn lower_unset(
+    alloc: Global,
     program: &Table<'_>,
-    shape: Shape<'_>,
+    stored: Stored<'_>,
     body: &mut Vec<Statement>,
     to: Temporary,
     index: u32,
 ) -> Result<(), LowerFault>
     ensures code { OnOk result
         (map statement_tree body.new.items ≡
-        map statement_tree body.old.items ++ unset_code (world_of program.now) (shape_tree shape.entry) to.0 index) }
-    ensures taken { IsObject (world_of program.now).structs (shape_tree shape.entry) → NeverRefused result }
+        map statement_tree body.old.items ++ unset_code (world_of program.now) (stored_tree stored.entry) to.0 index) }
+    ensures taken { IsVariable (world_of program.now).structs (stored_tree stored.entry) → NeverRefused result }
 {
     let local = Variable { out: 0, index };
-    match shape {
-        Shape::Struct(_) => {
-            let layout = struct_layout(program, shape)?;
+    match stored {
+        Stored::One(Shape::Struct(_) | Shape::Fat(_)) | Stored::Array(_, _) => {
+            let (layout, count) = stored_layout(alloc, program, stored)?;
             emit_operation(body, Operation::LocalAddress(to, local))?;
-            emit_clear(body, to, layout)
+            emit_clear(body, to, layout, count)
         }
-        _ => {
+        Stored::One(shape) => {
             emit_operation(body, first_value(shape, to))?;
             emit_operation(body, Operation::Put(local, shape.width(), to))
         }
@@ -186,9 +190,9 @@ fn lower_set<'p>(
         }
         _ => {
             let from = lower_expression(alloc, program, locals, value, body, own, to)?;
-            lower_conversion(alloc, body, shape, from, to)?;
+            lower_conversion(alloc, program, body, shape, from, to)?;
             let local = Variable { out: 0, index };
-            emit_operation(body, Operation::Put(local, shape.width(), to))
+            lower_put_local(body, Stored::One(shape), local, to)
         }
     }
 }
@@ -268,7 +272,10 @@ pub fn lower_declaration<'p>(
 {
     match declaration {
         Declaration::Local(of, _, Initializer::None) => {
-            lower_unset(program, Shape::of(of), body, to, index)
+            lower_unset(alloc, program, Stored::one(of), body, to, index)
+        }
+        Declaration::Local(of, _, Initializer::Array(count)) => {
+            lower_unset(alloc, program, Stored::array(of, *count), body, to, index)
         }
         Declaration::Local(of, _, Initializer::Value(value)) => lower_initializer(
             alloc, program, locals, of, value, body, own, to, index,

@@ -55,17 +55,18 @@ pub fn emit_copy(
     emit(body, Statement::Copy(to, from, layout))
 }
 
-/// Appends what makes the object of a layout to which a pointer leads what it begins as.
+/// Appends what makes the object of so many elements of a layout to which a pointer leads what it begins as.
 pub fn emit_clear(
     body: &mut Vec<Statement>,
     pointer: Temporary,
     layout: Rc<Layout>,
+    count: u32,
 ) -> Result<(), LowerFault>
     ensures code { OnOk result
-        (map statement_tree body.new.items ≡ map statement_tree body.old.items ++ core.Do (core.Clear pointer.0 (layout_tree layout.value) 1) ∷ []) }
+        (map statement_tree body.new.items ≡ map statement_tree body.old.items ++ core.Do (core.Clear pointer.0 (layout_tree layout.value) count) ∷ []) }
     ensures taken { NeverRefused result }
 {
-    emit(body, Statement::Clear(pointer, layout, 1))
+    emit(body, Statement::Clear(pointer, layout, count))
 }
 
 /// Appends what asks for a block of as many objects of a layout as the third temporary says, in the region of the handle in the second,

@@ -26,10 +26,11 @@ ghost use Rattle.lower_checks.specs.Views.{shape_tree};
 ghost use Rattle.lower_checks.specs.Visible.{names_of};
 
 use crate::emit::emit_operation;
+use crate::fat::lower_count;
 use crate::fault::LowerFault;
 use crate::locals::Locals;
 use crate::made::lower_new;
-use crate::member::lower_value;
+use crate::member::Reached;
 use crate::names::after;
 use crate::operands::{lower_all, lower_any, lower_called, lower_links};
 use crate::operator::operator_shape;
@@ -39,12 +40,13 @@ use crate::shaped::{number_shape, shape_of};
 use crate::table::Table;
 use crate::values::{lower_conversion, lower_not, lower_operator, lower_truth, lower_word};
 use crate::variable::lower_get;
-use cyc_core::{Distance, Operation, Statement, Temporary};
+use crate::words::lower_loads;
+use cyc_core::{Operation, Statement, Temporary};
 use cyc_tree::{Expression, Operator, Prefix};
 use std::alloc::Global;
 
 /// Appends what leaves an expression's value in a temporary, and gives the shape of its type; appends the shapes of its unnamed values.
-/// The next unnamed value's number is how many there are. Refuses strings, unions, arrays, unique pointers and structs.
+/// The next unnamed value's number is how many there are. Refuses strings, unions, arrays that are made, unique pointers and structs.
 #[cycle(expression)]
 pub fn lower_expression<'p>(
     alloc: Global,
@@ -87,9 +89,15 @@ pub fn lower_expression<'p>(
         Expression::Grouped(_, inner) => {
             lower_expression(alloc, program, locals, inner, body, own, to)
         }
-        Expression::Suffixed(primary, suffixes) => {
-            let way = lower_suffixed(alloc, program, locals, primary, suffixes, own, to)?;
-            lower_value(body, way, to)
+        Expression::NumElts(_, operand) => {
+            lower_expression(alloc, program, locals, operand, body, own, to)?;
+            lower_count(body, to)?;
+            Ok(Shape::Unsigned)
+        }
+        Expression::Suffixed(_, _) => {
+            let reached = lower_suffixed(alloc, program, locals, expression, body, own, to)?;
+            lower_loads(body, reached, to)?;
+            Ok(reached.shape)
         }
         Expression::Prefixed(_, operator, operand) => lower_prefixed(
             alloc, program, locals, operand, body, own, *operator, to,
@@ -207,7 +215,7 @@ fn lower_assign<'p>(
         OnOk result
         (map statement_tree body.new.items ≡
         map statement_tree body.old.items ++
-        (conversion_code (static_shape w names p) (shape_tree from.entry) to.0 ++ put_code w names p to.0 (length own.old.items))) }
+        (conversion_code w (static_shape w names p) (shape_tree from.entry) to.0 ++ put_code w names p to.0 (length own.old.items))) }
     ensures values { OnOk result
         (map shape_tree own.new.items ≡
         map shape_tree own.old.items ++ expression_values (world_of program.now) (names_of locals.now) (expression_tree place.entry.now)) }
@@ -216,7 +224,7 @@ fn lower_assign<'p>(
     ensures taken { TakesPlace (world_of program.now) (names_of locals.now) (expression_tree place.entry.now) → NeverRefused result }
 {
     let shape = shape_of(program, locals, place)?;
-    lower_conversion(alloc, body, shape, from, to)?;
+    lower_conversion(alloc, program, body, shape, from, to)?;
     lower_put(alloc, program, locals, place, body, own, to)?;
     Ok(shape)
 }
@@ -240,7 +248,7 @@ fn lower_prefixed<'p>(
         OnOk result
         (map statement_tree body.new.items ≡
         map statement_tree body.old.items ++
-        prefix_code operator (static_shape w names e) to.0 (expression_code w names e (to.0 + 1) number) (expression_code w names e to.0 number)
+        prefix_code w operator (static_shape w names e) to.0 (expression_code w names e (to.0 + 1) number) (expression_code w names e to.0 number)
         (place_code w names e to.0 number)) }
     ensures values { OnOk result
         (map shape_tree own.new.items ≡
@@ -273,10 +281,7 @@ fn lower_prefixed<'p>(
         }
         Prefix::Dereference => {
             let shape = lower_pointer(alloc, program, locals, operand, body, own, to)?;
-            emit_operation(
-                body,
-                Operation::Load(to, to, Distance::at_once(shape.width())),
-            )?;
+            lower_loads(body, Reached::at_once(shape), to)?;
             Ok(shape)
         }
         Prefix::AddressOf => {

@@ -8,7 +8,8 @@ use std::alloc::AllocError;
 /// Why a program has no Core.
 #[derive(Clone, Copy, PartialEq, Eq, Debug)]
 pub enum LowerFault {
-    /// It has something else than functions, globals and locals of integers, of structs and of thin pointers to these.
+    /// It has something else than functions, globals and locals of integers, of structs, of pointers to these and of arrays
+    /// of them.
     NotTaken,
     /// No host memory is left, or a number of something is over the greatest u32.
     Memory,

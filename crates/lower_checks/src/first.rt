@@ -1,6 +1,6 @@
 // The first of each name.
 
-ghost use Rattle.std.specs.Prelude.{◌≡◌, ℕ, List, Some, None, if◌then◌else◌, IfOk, OnOk};
+ghost use Rattle.std.specs.Prelude.{◌≡◌, ℕ, List, Some, None, if◌then◌else◌, OnOk};
 ghost use Rattle.std.specs.Str.{bytes_eq};
 ghost use Rattle.source_meaning.specs.Places.{or_else};
 ghost use Rattle.lower_checks.specs.Tables.{first_in};

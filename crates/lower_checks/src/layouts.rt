@@ -16,7 +16,6 @@ ghost use Rattle.lower_checks.specs.Structs.{
   cell_for,
   cells_in,
   filled,
-  known_room,
   laid_cell,
   laid_cells,
   moved_cell,

@@ -108,7 +108,7 @@ pub fn lower_return<'p>(
         (map statement_tree body.new.items ≡
         map statement_tree body.old.items ++
         (expression_code w names e d (length own.old.items) ++
-        (conversion_code result_shape (static_shape w names e) d ++ (leaving_code d d ++ core.Return (results_in result_shape d) ∷ [])))) }
+        (conversion_code w result_shape (static_shape w names e) d ++ (leaving_code d d ++ core.Return (results_in result_shape d) ∷ [])))) }
     ensures values { OnOk result
         (map shape_tree own.new.items ≡
         map shape_tree own.old.items ++ expression_values (world_of program.now) (names_of locals.now) (expression_tree value.entry.now)) }
@@ -116,9 +116,10 @@ pub fn lower_return<'p>(
 {
     let to = around.value();
     let from = lower_expression(alloc, program, locals, value, body, own, to)?;
-    lower_conversion(alloc, body, shape, from, to)?;
+    lower_conversion(alloc, program, body, shape, from, to)?;
     lower_leaving(body, around.all, around.all)?;
-    emit(body, Statement::Return(shape.result_in(to)))
+    let result = shape.result_in(to)?;
+    emit(body, Statement::Return(result))
 }
 
 /// Appends a statement that leaves so many regions, when these are freed.

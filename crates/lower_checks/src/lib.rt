@@ -3,8 +3,8 @@
 //! `lower` appends operation after operation: an expression leaves its value in a temporary, and its
 //! parts use the temporaries above it; a block's locals have numbers in it. The result is the Core
 //! program of `program_code` in `source_lowering`. Programs of functions, globals and locals of
-//! integers, of structs, of handles and of thin pointers to these are taken, with the heap and lexical
-//! regions. Functions, globals and structs are found by tables of their names.
+//! integers, of structs, of handles, of pointers to these and of arrays of them are taken, with the heap
+//! and lexical regions. Functions, globals and structs are found by tables of their names.
 //! Stands on `unique_flow`, `cyc_core`, `judged_sources`, `source_lowering`, `cyc_tree` and `indexmap`.
 #![tactic(auto)]
 
@@ -13,6 +13,7 @@ mod call;
 mod declaration;
 mod emit;
 mod expression;
+mod fat;
 mod fault;
 mod first;
 mod function;
@@ -31,11 +32,14 @@ mod place;
 mod program;
 mod shape;
 mod shaped;
+mod sizes;
 mod statement;
+mod stored;
 mod table;
 mod usage;
 mod values;
 mod variable;
 mod whole;
+mod words;
 
 pub use program::lower;

@@ -11,7 +11,7 @@ use crate::fault::LowerFault;
 use crate::last::LastLocals;
 use crate::mark::{Local, Mark};
 use crate::names::{Named, after};
-use crate::shape::Shape;
+use crate::stored::Stored;
 use cyc_tree::Name;
 use std::alloc::Global;
 use std::marker::Model;
@@ -55,7 +55,7 @@ impl<'p> Locals<'p> {
         match self.last.of(name) {
             Some(local) => Some(Named {
                 name: local.name,
-                shape: local.shape,
+                stored: local.stored,
                 out: self.depth.saturating_sub(local.depth),
                 index: local.index,
             }),
@@ -67,15 +67,15 @@ impl<'p> Locals<'p> {
     pub fn declare(
         &mut self,
         name: &'p Name,
-        shape: Shape<'p>,
+        stored: Stored<'p>,
         index: u32,
     ) -> Result<(), LowerFault>
-        ensures declared { OnOk result (self.new ≡ Some (declared (name_tree name.entry.now).text shape.entry index) ∷ self.old) }
+        ensures declared { OnOk result (self.new ≡ Some (declared (name_tree name.entry.now).text stored.entry index) ∷ self.old) }
         ensures taken { NeverRefused result }
     {
         let local = Local {
             name: &name.text,
-            shape,
+            stored,
             index,
             depth: self.depth,
         };

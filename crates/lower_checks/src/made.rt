@@ -27,39 +27,41 @@ use crate::emit::{emit_alloc, emit_copy, emit_operation};
 use crate::expression::lower_expression;
 use crate::fault::LowerFault;
 use crate::locals::Locals;
-use crate::names::after;
+use crate::member::Reached;
+use crate::names::{after, further};
 use crate::objects::object_layout;
 use crate::shape::Shape;
 use crate::shaped::shape_of;
 use crate::table::Table;
 use crate::whole::lower_whole;
-use cyc_core::{Distance, Operation, Statement, Temporary};
+use crate::words::lower_stores;
+use cyc_core::{Operation, Statement, Temporary};
 use cyc_tree::{Expression, Made};
 use std::alloc::Global;
 
-/// Appends what asks for a block for one object of a shape, in the region of the handle in a temporary, which gets a pointer to it.
-/// Refuses what is no integer, no thin pointer, no handle and no struct of the program.
+/// Appends what asks for a block for one object of a shape, in the region of the handle in a temporary, which gets a pointer to it; the
+/// count 1 comes into another temporary. Refuses what is no integer, no pointer, no handle and no struct of the program.
 fn lower_request(
     alloc: Global,
     program: &Table<'_>,
     shape: Shape<'_>,
     body: &mut Vec<Statement>,
     to: Temporary,
+    count: Temporary,
 ) -> Result<(), LowerFault>
     ensures code { OnOk result
         (map statement_tree body.new.items ≡
-        map statement_tree body.old.items ++ request_code (world_of program.now) (shape_tree shape.entry) to.0) }
+        map statement_tree body.old.items ++ request_code (world_of program.now) (shape_tree shape.entry) to.0 count.0) }
     ensures taken { IsObject (world_of program.now).structs (shape_tree shape.entry) → NeverRefused result }
 {
-    let count = Temporary(after(after(to.0)?)?);
     let layout = object_layout(alloc, program, shape)?;
     emit_operation(body, Operation::Constant(count, 1))?;
     emit_alloc(body, to, to, count, layout)
 }
 
 /// Appends what asks for a block for one object of a shape, in the region of the handle in a temporary, which gets a pointer to it, and
-/// gives it the value in the next temporary, or the struct to which the pointer there leads. Refuses what is no integer, no thin pointer,
-/// no handle and no struct of the program.
+/// gives it the value in the next temporary and those behind it, or the struct to which the pointer there leads. Refuses what is no
+/// integer, no pointer, no handle and no struct of the program.
 fn lower_object(
     alloc: Global,
     program: &Table<'_>,
@@ -72,14 +74,12 @@ fn lower_object(
         map statement_tree body.old.items ++ new_code_by (world_of program.now) (shape_tree shape.entry) to.0 [] []) }
     ensures taken { IsObject (world_of program.now).structs (shape_tree shape.entry) → NeverRefused result }
 {
-    let value = Temporary(after(to.0)?);
-    lower_request(alloc, program, shape, body, to)?;
+    let value = further(to, 1)?;
+    let count = further(value, shape.words())?;
+    lower_request(alloc, program, shape, body, to, count)?;
     match shape {
         Shape::Struct(_) => emit_copy(body, to, value, object_layout(alloc, program, shape)?),
-        _ => emit_operation(
-            body,
-            Operation::Store(to, Distance::at_once(shape.width()), value),
-        ),
+        _ => lower_stores(body, Reached::at_once(shape), to, value),
     }
 }
 

@@ -1,8 +1,7 @@
-// Members: where they lie, and how they are reached.
+// Members and elements: where they lie, and how they are reached.
 
-ghost use Rattle.std.specs.Prelude.{◌≡◌, ◌+◌, ◌++◌, ℕ, List, IfOk, OnOk, length, map};
-ghost use Rattle.core_meaning.specs.Core as core;
-ghost use Rattle.cyc_core.specs.Trees.{distance_tree, statement_tree};
+ghost use Rattle.std.specs.Prelude.{◌≡◌, ◌≤◌, ◌+◌, ◌++◌, ◌∷◌, [], List, IfOk, OnOk, map};
+ghost use Rattle.cyc_core.specs.Trees.{statement_tree};
 ghost use Rattle.cyc_tree.specs.View.{member_tree, suffix_tree, suffixes_of};
 ghost use Rattle.source_meaning.specs.Shapes.{part_of, part_shape, pointee};
 ghost use Rattle.source_meaning.specs.Sizes.{cells_before};
@@ -10,25 +9,25 @@ ghost use Rattle.source_meaning.specs.Conversions.{cells_of};
 ghost use Rattle.source_meaning.specs.Places.{struct_parts};
 ghost use Rattle.source_meaning.specs.Programs.{world_of};
 ghost use Rattle.source_lowering.specs.Layouts.{bytes_before, extent_of};
-ghost use Rattle.source_lowering.specs.Lowered.{check_code, distance, member_at, member_shape, pointer_to, store_to, suffixed_code, suffixed_shape, width_of};
+ghost use Rattle.source_lowering.specs.Lowered.{Named, member_shape, offset_code, reach_code};
 ghost use Rattle.source_lowering.specs.Lowerable.{IsObject, TakesMembers};
 ghost use Rattle.lower_checks.specs.Refusals.{NeverRefused};
-ghost use Rattle.lower_checks.specs.Structs.{HasRoom, HaveRoom, room_tree};
-ghost use Rattle.lower_checks.specs.Reaching.{reached_left, way_left};
+ghost use Rattle.lower_checks.specs.Reaching.{further_code, further_place, indices_in, member_place, place_at_once, reached_place};
 ghost use Rattle.lower_checks.specs.Views.{shape_tree};
 
-use crate::emit::{append, emit_operation};
+use crate::emit::emit_operation;
+use crate::fat::{lower_index, lower_reach};
 use crate::fault::LowerFault;
-use crate::layouts::{Room, rounded, sum};
-use crate::names::number;
+use crate::layouts::{rounded, sum};
 use crate::shape::Shape;
+use crate::sizes::{count, extent};
 use crate::table::Table;
-use crate::values::lower_check;
-use cyc_core::{Distance, Operation, Statement, Temporary, Width};
+use crate::words::lower_loads;
+use cyc_core::{Operation, Statement, Temporary};
 use cyc_tree::{Member, Suffix};
 use std::alloc::Global;
 
-/// What lies in a struct, so many cells and bytes from where a pointer leads, and its shape.
+/// What lies so many cells and bytes from where a pointer leads, and its shape.
 #[derive(Clone, Copy)]
 pub struct Reached<'p> {
     pub shape: Shape<'p>,
@@ -36,57 +35,16 @@ pub struct Reached<'p> {
     pub bytes: u32,
 }
 
-/// The bytes of a shape. Refuses what is no integer, no pointer, no handle and no struct.
-pub fn extent(program: &Table<'_>, shape: Shape<'_>) -> Result<Room, LowerFault>
-    ensures room { IfOk result (λ room. room_tree room ≡ extent_of (world_of program.now) (shape_tree shape.entry)) }
-    ensures taken { HasRoom (world_of program.now).structs (shape_tree shape.entry) → NeverRefused result }
-{
-    match shape {
-        Shape::Char => Ok(Room {
-            size: 1,
-            align: Width::Byte,
-        }),
-        Shape::Int
-        | Shape::Unsigned
-        | Shape::Thin(_, _, _)
-        | Shape::Address(_, _)
-        | Shape::Handle => Ok(Room {
-            size: 4,
-            align: Width::Word,
-        }),
-        Shape::Fat(_) => Ok(Room {
-            size: 12,
-            align: Width::Word,
-        }),
-        Shape::Struct(tag) => match program.struct_of(tag) {
-            Some(known) => Ok(Room {
-                size: known.layout.bytes,
-                align: known.align,
-            }),
-            None => Err(LowerFault::NotTaken),
-        },
-        _ => Err(LowerFault::NotTaken),
-    }
-}
-
-/// How many cells a shape has. Refuses what is no integer, no pointer, no handle and no struct.
-pub fn count(program: &Table<'_>, shape: Shape<'_>) -> Result<u32, LowerFault>
-    ensures count { IfOk result (λ count. count ≡ length (cells_of (world_of program.now) (shape_tree shape.entry))) }
-    ensures taken { HasRoom (world_of program.now).structs (shape_tree shape.entry) → NeverRefused result }
-{
-    match shape {
-        Shape::Char
-        | Shape::Int
-        | Shape::Unsigned
-        | Shape::Thin(_, _, _)
-        | Shape::Address(_, _)
-        | Shape::Fat(_)
-        | Shape::Handle => Ok(1),
-        Shape::Struct(tag) => match program.struct_of(tag) {
-            Some(known) => number(known.layout.cells.len()),
-            None => Err(LowerFault::NotTaken),
-        },
-        _ => Err(LowerFault::NotTaken),
+impl<'p> Reached<'p> {
+    /// What lies right where a pointer leads.
+    pub fn at_once(shape: Shape<'p>) -> Reached<'p>
+        ensures { reached_place result ≡ place_at_once (shape_tree shape.entry) }
+    {
+        Reached {
+            shape,
+            cells: 0,
+            bytes: 0,
+        }
     }
 }
 
@@ -101,13 +59,13 @@ fn among<'p>(
         (λ reached. reached.cells ≡ cells_before (cells_of (world_of program.now)) (map part_of (map member_tree members.entry.now)) name.now) }
     ensures bytes { IfOk result
         (λ reached. reached.bytes ≡ bytes_before (extent_of (world_of program.now)) 0 (map part_of (map member_tree members.entry.now)) name.now) }
-    ensures taken { HaveRoom (world_of program.now).structs (map part_of (map member_tree members.entry.now)) → NeverRefused result }
+    ensures taken { NeverRefused result }
 {
     let mut cells = 0;
     let mut bytes = 0;
     'each: for member in members {
         let shape = Shape::of(&member.of);
-        let room = extent(program, shape)?;
+        let room = extent(program, shape);
         let at = rounded(bytes, room.align)?;
         if member.name.text.as_slice() == name {
             return Ok(Reached {
@@ -146,18 +104,14 @@ fn member<'p>(program: &Table<'p>, shape: Shape<'_>, name: &[u8]) -> Result<Reac
 }
 
 /// A member of the struct that is reached.
-#[tactic(auto, using(crate::proofs::Reaching::reached_is))]
+#[tactic(auto, using(crate::proofs::Reaching::reached_member))]
 pub fn dot<'p>(
     program: &Table<'p>,
     reached: Reached<'p>,
     name: &[u8],
 ) -> Result<Reached<'p>, LowerFault>
-    ensures shape { IfOk result (λ further. shape_tree further.shape ≡ member_shape (world_of program.now) (shape_tree reached.entry.shape) name.now) }
-    ensures left { let w = world_of program.now in
-        (pointer : List core.Statement) (d : ℕ) →
-        IfOk result
-        (λ further.
-        reached_left pointer further d ≡ member_at w (shape_tree reached.entry.shape) pointer reached.entry.cells reached.entry.bytes name.now d) }
+    ensures place { let w = world_of program.now in
+        IfOk result (λ further. reached_place further ≡ member_place w (reached_place reached.entry) name.now) }
     ensures taken { let w = world_of program.now in IsObject w.structs (member_shape w (shape_tree reached.entry.shape) name.now) → NeverRefused result }
 {
     let further = member(program, reached.shape, name)?;
@@ -168,139 +122,119 @@ pub fn dot<'p>(
     })
 }
 
-/// The code of a pointer, and what lies so far on from where it leads.
-#[derive(Drop)]
-pub struct Way<'p> {
-    pub code: Vec<Statement>,
-    pub reached: Reached<'p>,
-}
-
-/// Goes on to a member of what the pointer leads to that lies at the end of a way. Appends what reads that pointer, and raises where it
-/// is NULL.
-fn arrow<'p>(
+/// Goes on to a member of the struct that a value of a shape, in a temporary, leads to: appends what leaves a pointer to the struct there,
+/// and raises where it leads to none.
+pub fn arrow<'p>(
     alloc: Global,
     program: &Table<'p>,
-    way: &mut Way<'p>,
+    shape: Shape<'p>,
     name: &[u8],
+    body: &mut Vec<Statement>,
     to: Temporary,
-) -> Result<(), LowerFault>
-    ensures code { let w = world_of program.now in
-        let left = way_left way.old to.0 in
-        OnOk result (way_left way.new to.0 ≡ member_at w (pointee left.shape) (left.value ++ check_code left.shape to.0) 0 0 name.now to.0) }
-    ensures shape { let w = world_of program.now in
-        OnOk result (shape_tree way.new.reached.shape ≡ member_shape w (pointee (shape_tree way.old.reached.shape)) name.now) }
+) -> Result<Reached<'p>, LowerFault>
+    ensures code { OnOk result
+        (map statement_tree body.new.items ≡
+        map statement_tree body.old.items ++ reach_code (world_of program.now) (shape_tree shape.entry) to.0) }
+    ensures place { let w = world_of program.now in
+        IfOk result (λ reached. reached_place reached ≡ member_place w (place_at_once (pointee (shape_tree shape.entry))) name.now) }
     ensures taken { let w = world_of program.now in
-        IsObject w.structs (member_shape w (pointee (shape_tree way.old.reached.shape)) name.now) → NeverRefused result }
+        IsObject w.structs (member_shape w (pointee (shape_tree shape.entry)) name.now) → NeverRefused result }
 {
-    let reached = way.reached;
-    let shape = reached.shape;
-    let distance = Distance {
-        cells: reached.cells,
-        bytes: reached.bytes,
-        part: 0,
-        width: shape.width(),
-    };
-    emit_operation(&mut way.code, Operation::Load(to, to, distance))?;
-    lower_check(alloc, &mut way.code, shape, to)?;
-    let first = Reached {
-        shape: shape.pointee(),
-        cells: 0,
-        bytes: 0,
-    };
-    way.reached = dot(program, first, name)?;
-    Ok(())
+    lower_reach(alloc, program, shape, body, to)?;
+    dot(program, Reached::at_once(shape.pointee()), name)
 }
 
-/// Goes on along suffixes. Refuses an index.
+/// The temporary of the pointer that a suffix leads to, where what is on its left is in this one: a subscript's is that of its index, the
+/// one before.
+pub fn reached_in(suffix: &Suffix, to: Temporary) -> Temporary
+    requires { indices_in (suffixes_of (suffix_tree suffix.now ∷ [])) ≤ to.0 }
+    ensures { result.0 + indices_in (suffixes_of (suffix_tree suffix.now ∷ [])) ≡ to.0 }
+{
+    match suffix {
+        Suffix::Index(_) => Temporary(to.0 - 1),
+        Suffix::Dot(_) | Suffix::Arrow(_) => to,
+    }
+}
+
+/// Goes on along a suffix, whose index is in the temporary right before that of the pointer.
+fn follow_one<'p>(
+    alloc: Global,
+    program: &Table<'p>,
+    suffix: &Suffix,
+    body: &mut Vec<Statement>,
+    reached: Reached<'p>,
+    pointer: Temporary,
+) -> Result<Reached<'p>, LowerFault>
+    requires { indices_in (suffixes_of (suffix_tree suffix.now ∷ [])) ≤ pointer.0 }
+    ensures code { OnOk result
+        (map statement_tree body.new.items ≡
+        map statement_tree body.old.items ++
+        further_code (world_of program.now) (suffixes_of (suffix_tree suffix.now ∷ [])) (reached_place reached.entry) pointer.0) }
+    ensures place { IfOk result
+        (λ further. reached_place further ≡ further_place (world_of program.now) (suffixes_of (suffix_tree suffix.now ∷ [])) (reached_place reached.entry)) }
+    ensures taken { (names : List Named) →
+        TakesMembers (world_of program.now) names (suffixes_of (suffix_tree suffix.now ∷ [])) (shape_tree reached.entry.shape) → NeverRefused result }
+{
+    match suffix {
+        Suffix::Dot(name) => dot(program, reached, &name.text),
+        Suffix::Arrow(name) => {
+            lower_loads(body, reached, pointer)?;
+            arrow(alloc, program, reached.shape, &name.text, body, pointer)
+        }
+        Suffix::Index(_) => {
+            lower_loads(body, reached, pointer)?;
+            let element = reached.shape.pointee();
+            lower_index(alloc, program, element, body, Temporary(pointer.0 - 1))?;
+            Ok(Reached::at_once(element))
+        }
+    }
+}
+
+/// Goes on along suffixes, whose indices are in the temporaries right before that of the pointer, the last one first.
 pub fn follow<'p>(
     alloc: Global,
     program: &Table<'p>,
-    way: &mut Way<'p>,
     suffixes: &[Suffix],
+    body: &mut Vec<Statement>,
+    start: Reached<'p>,
+    pointer: Temporary,
+) -> Result<Reached<'p>, LowerFault>
+    requires { indices_in (suffixes_of (map suffix_tree suffixes.now)) ≤ pointer.0 }
+    ensures code { OnOk result
+        (map statement_tree body.new.items ≡
+        map statement_tree body.old.items ++
+        further_code (world_of program.now) (suffixes_of (map suffix_tree suffixes.now)) (reached_place start.entry) pointer.0) }
+    ensures place { IfOk result
+        (λ reached.
+        reached_place reached ≡ further_place (world_of program.now) (suffixes_of (map suffix_tree suffixes.now)) (reached_place start.entry)) }
+    ensures taken { (names : List Named) →
+        TakesMembers (world_of program.now) names (suffixes_of (map suffix_tree suffixes.now)) (shape_tree start.entry.shape) → NeverRefused result }
+{
+    let mut reached = start;
+    let mut to = pointer;
+    'each: for suffix in suffixes {
+        reached = follow_one(alloc, program, suffix, body, reached, to)?;
+        to = reached_in(suffix, to);
+    }
+    Ok(reached)
+}
+
+/// Appends what leaves a pointer to what is reached from where the pointer in a temporary leads there.
+pub fn lower_pointed(
+    body: &mut Vec<Statement>,
+    reached: Reached<'_>,
     to: Temporary,
 ) -> Result<(), LowerFault>
-    ensures code { let w = world_of program.now in
-        OnOk result (way_left way.new to.0 ≡ suffixed_code w (suffixes_of (map suffix_tree suffixes.now)) to.0 (way_left way.old to.0)) }
-    ensures shape { let w = world_of program.now in
-        OnOk result (shape_tree way.new.reached.shape ≡ suffixed_shape w (suffixes_of (map suffix_tree suffixes.now)) (shape_tree way.old.reached.shape)) }
-    ensures taken { let w = world_of program.now in
-        TakesMembers w (suffixes_of (map suffix_tree suffixes.now)) (shape_tree way.old.reached.shape) → NeverRefused result }
-{
-    'each: for suffix in suffixes {
-        match suffix {
-            Suffix::Dot(name) => {
-                way.reached = dot(program, way.reached, &name.text)?;
-            }
-            Suffix::Arrow(name) => arrow(alloc, program, way, &name.text, to)?,
-            Suffix::Index(_) => return Err(LowerFault::NotTaken),
-        }
-    }
-    Ok(())
-}
-
-/// How far the end of a way is from where its pointer leads, and how wide a value of it is.
-fn distance_of(reached: Reached<'_>) -> Distance
-    ensures { distance_tree result ≡ distance reached.entry.cells reached.entry.bytes (width_of (shape_tree reached.entry.shape)) }
-{
-    Distance {
-        cells: reached.cells,
-        bytes: reached.bytes,
-        part: 0,
-        width: reached.shape.width(),
-    }
-}
-
-/// Appends what reads the end of a way into the pointer's temporary; gives its shape.
-pub fn lower_value<'p>(
-    body: &mut Vec<Statement>,
-    way: Way<'p>,
-    to: Temporary,
-) -> Result<Shape<'p>, LowerFault>
-    ensures code { OnOk result (map statement_tree body.new.items ≡ map statement_tree body.old.items ++ (way_left way.entry to.0).value) }
-    ensures shape { IfOk result (λ shape. shape_tree shape ≡ (way_left way.entry to.0).shape) }
+    ensures code { OnOk result
+        (map statement_tree body.new.items ≡
+        map statement_tree body.old.items ++ offset_code to.0 reached.entry.cells reached.entry.bytes) }
     ensures taken { NeverRefused result }
 {
-    let reached = way.reached;
-    append(body, way.code)?;
-    emit_operation(body, Operation::Load(to, to, distance_of(reached)))?;
-    Ok(reached.shape)
-}
-
-/// Appends what stores a value at the end of a way, from the temporary before the pointer's; gives its shape.
-pub fn lower_stored<'p>(
-    body: &mut Vec<Statement>,
-    way: Way<'p>,
-    at: Temporary,
-    from: Temporary,
-) -> Result<Shape<'p>, LowerFault>
-    requires { at.0 ≡ from.0 + 1 }
-    ensures code { OnOk result (map statement_tree body.new.items ≡ map statement_tree body.old.items ++ store_to (way_left way.entry at.0) from.0) }
-    ensures shape { IfOk result (λ shape. shape_tree shape ≡ (way_left way.entry at.0).shape) }
-    ensures taken { NeverRefused result }
-{
-    let reached = way.reached;
-    append(body, way.code)?;
-    emit_operation(body, Operation::Store(at, distance_of(reached), from))?;
-    Ok(reached.shape)
-}
-
-/// Appends what leaves a pointer to the end of a way in the pointer's temporary; gives its shape.
-pub fn lower_pointed<'p>(
-    body: &mut Vec<Statement>,
-    way: Way<'p>,
-    to: Temporary,
-) -> Result<Shape<'p>, LowerFault>
-    ensures code { OnOk result (map statement_tree body.new.items ≡ map statement_tree body.old.items ++ pointer_to (way_left way.entry to.0) to.0) }
-    ensures shape { IfOk result (λ shape. shape_tree shape ≡ (way_left way.entry to.0).shape) }
-    ensures taken { NeverRefused result }
-{
-    let reached = way.reached;
-    append(body, way.code)?;
-    if reached.cells != 0 || reached.bytes != 0 {
-        emit_operation(
-            body,
-            Operation::Offset(to, to, reached.cells, reached.bytes),
-        )?;
+    if reached.cells == 0 && reached.bytes == 0 {
+        return Ok(());
     }
-    Ok(reached.shape)
+    emit_operation(
+        body,
+        Operation::Offset(to, to, reached.cells, reached.bytes),
+    )
 }

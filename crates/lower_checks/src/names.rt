@@ -4,13 +4,14 @@ ghost use Rattle.std.specs.Prelude.{◌≡◌, ◌+◌, IfOk};
 ghost use Rattle.lower_checks.specs.Refusals.{NeverRefused};
 
 use crate::fault::LowerFault;
-use crate::shape::Shape;
+use crate::stored::Stored;
+use cyc_core::Temporary;
 
-/// A local: its name and shape, how many blocks out it is, and its number in that block.
+/// A local: its name, what it is, how many blocks out it is, and its number in that block.
 #[derive(Clone, Copy)]
 pub struct Named<'p> {
     pub name: &'p [u8],
-    pub shape: Shape<'p>,
+    pub stored: Stored<'p>,
     pub out: u32,
     pub index: u32,
 }
@@ -34,5 +35,16 @@ pub fn number(length: usize) -> Result<u32, LowerFault>
     match u32::try_from(length) {
         Ok(number) => Ok(number),
         Err(_) => Err(LowerFault::Memory),
+    }
+}
+
+/// So many temporaries further on. Refuses what is over the greatest u32.
+pub fn further(temporary: Temporary, by: u32) -> Result<Temporary, LowerFault>
+    ensures further { IfOk result (λ t. t.0 ≡ temporary.0 + by) }
+    ensures taken { NeverRefused result }
+{
+    match temporary.0.checked_add(by) {
+        Some(number) => Ok(Temporary(number)),
+        None => Err(LowerFault::Memory),
     }
 }

@@ -1,16 +1,18 @@
 // Layouts, locals and unnamed values, by their shapes.
 
-ghost use Rattle.std.specs.Prelude.{◌≡◌, ◌∷◌, [], IfOk, map};
+ghost use Rattle.std.specs.Prelude.{◌≡◌, IfOk, map};
 ghost use Rattle.cyc_core.specs.Trees.{layout_tree, local_tree, part_layout};
 ghost use Rattle.source_meaning.specs.Programs.{world_of};
 ghost use Rattle.source_lowering.specs.Layouts.{layout_of, local_of};
 ghost use Rattle.source_lowering.specs.Programs.{locals_of};
-ghost use Rattle.source_lowering.specs.Lowerable.{AreObjects, IsObject, IsStructShape};
-ghost use Rattle.lower_checks.specs.Views.{shape_tree};
+ghost use Rattle.source_lowering.specs.Lowerable.{AreObjects, IsObject, IsStructShape, IsVariable};
+ghost use Rattle.lower_checks.specs.Structs.{AreVariables};
+ghost use Rattle.lower_checks.specs.Views.{shape_tree, stored_tree};
 ghost use Rattle.lower_checks.specs.Refusals.{NeverRefused};
 
 use crate::fault::LowerFault;
 use crate::shape::Shape;
+use crate::stored::Stored;
 use crate::table::Table;
 use cyc_core::{Cell, CellLayout, Layout, Local};
 use std::alloc::Global;
@@ -71,8 +73,8 @@ pub fn object_layout(
     }
 }
 
-/// A local of a shape. Refuses what is no integer, no pointer, no handle and no struct of the program.
-fn local_of(program: &Table<'_>, shape: Shape<'_>) -> Result<Local, LowerFault>
+/// An object of a shape as a local. Refuses what is no integer, no pointer, no handle and no struct of the program.
+fn value_of(program: &Table<'_>, shape: Shape<'_>) -> Result<Local, LowerFault>
     ensures local { IfOk result (λ local. local_tree local ≡ local_of (world_of program.now) (shape_tree shape.entry)) }
     ensures taken { IsObject (world_of program.now).structs (shape_tree shape.entry) → NeverRefused result }
 {
@@ -87,8 +89,39 @@ fn local_of(program: &Table<'_>, shape: Shape<'_>) -> Result<Local, LowerFault>
     }
 }
 
-/// Locals of these shapes. Refuses what is no integer, no pointer, no handle and no struct of the program.
-pub fn locals_of(
+/// The layout of what a name stands for, and of how many elements it is. Refuses what is no integer, no pointer, no handle, no struct of
+/// the program and no array of these.
+pub fn stored_layout(
+    alloc: Global,
+    program: &Table<'_>,
+    stored: Stored<'_>,
+) -> Result<(Rc<Layout>, u32), LowerFault>
+    ensures layout { IfOk result (λ found. layout_tree found.0.value ≡ (local_of (world_of program.now) (stored_tree stored.entry)).layout) }
+    ensures count { IfOk result (λ found. found.1 ≡ (local_of (world_of program.now) (stored_tree stored.entry)).count) }
+    ensures taken { IsVariable (world_of program.now).structs (stored_tree stored.entry) → NeverRefused result }
+{
+    match stored {
+        Stored::One(shape) => Ok((object_layout(alloc, program, shape)?, 1)),
+        Stored::Array(count, of) => Ok((object_layout(alloc, program, of.shape())?, count)),
+    }
+}
+
+/// A local. Refuses what is no integer, no pointer, no handle, no struct of the program and no array of these.
+fn local_of(alloc: Global, program: &Table<'_>, stored: Stored<'_>) -> Result<Local, LowerFault>
+    ensures local { IfOk result (λ local. local_tree local ≡ local_of (world_of program.now) (stored_tree stored.entry)) }
+    ensures taken { IsVariable (world_of program.now).structs (stored_tree stored.entry) → NeverRefused result }
+{
+    match stored {
+        Stored::One(shape) => value_of(program, shape),
+        Stored::Array(_, _) => {
+            let (layout, count) = stored_layout(alloc, program, stored)?;
+            Ok(Local::Whole(layout, count))
+        }
+    }
+}
+
+/// Unnamed values of these shapes. Refuses what is no integer, no pointer, no handle and no struct of the program.
+pub fn values_of(
     alloc: Global,
     program: &Table<'_>,
     shapes: &[Shape<'_>],
@@ -98,7 +131,26 @@ pub fn locals_of(
 {
     let mut locals = Vec::new(alloc);
     'each: for shape in shapes {
-        let local = local_of(program, *shape)?;
+        let local = value_of(program, *shape)?;
+        if let Err(_) = locals.push(local) {
+            return Err(LowerFault::Memory);
+        }
+    }
+    Ok(locals)
+}
+
+/// Locals. Refuses what is no integer, no pointer, no handle, no struct of the program and no array of these.
+pub fn locals_of(
+    alloc: Global,
+    program: &Table<'_>,
+    all: &[Stored<'_>],
+) -> Result<Vec<Local>, LowerFault>
+    ensures locals { IfOk result (λ locals. map local_tree locals.items ≡ locals_of (world_of program.now) (map stored_tree all.now)) }
+    ensures taken { AreVariables (world_of program.now).structs (map stored_tree all.now) → NeverRefused result }
+{
+    let mut locals = Vec::new(alloc);
+    'each: for stored in all {
+        let local = local_of(alloc, program, *stored)?;
         if let Err(_) = locals.push(local) {
             return Err(LowerFault::Memory);
         }

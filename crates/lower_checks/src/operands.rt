@@ -8,11 +8,11 @@ ghost use Rattle.source_lowering.specs.Lowered.{
   all_code,
   all_values,
   any_code,
+  argument_words,
   arguments_code,
   call_code,
   call_parameters,
   call_shape,
-  count_of,
   link_values,
   linked_shape,
   links_code,
@@ -26,8 +26,9 @@ use crate::call::{call_parameters, lower_call};
 use crate::emit::emit_if;
 use crate::expression::lower_expression;
 use crate::fault::LowerFault;
+use crate::layouts::sum;
 use crate::locals::Locals;
-use crate::names::after;
+use crate::names::further;
 use crate::operator::operator_shape;
 use crate::shape::Shape;
 use crate::shaped::call_shape;
@@ -37,7 +38,7 @@ use cyc_core::{Statement, Temporary};
 use cyc_tree::{Expression, Link};
 use std::alloc::Global;
 
-/// Appends what applies the operators of a chain to the value in a temporary, which has this shape; gives the result's shape.
+/// Appends what applies the operators of a chain to the value in a temporary and those behind it, which has this shape; gives the result's shape.
 #[cycle(expression)]
 pub fn lower_links<'p>(
     alloc: Global,
@@ -61,9 +62,9 @@ pub fn lower_links<'p>(
         shape_tree shape ≡ linked_shape (world_of program.now) (names_of locals.now) (links_of (map link_tree links.entry.now)) (shape_tree first.entry)) }
     ensures taken { TakesLinks (world_of program.now) (names_of locals.now) (links_of (map link_tree links.entry.now)) → NeverRefused result }
 {
-    let right = Temporary(after(to.0)?);
     let mut left = first;
     'each: for link in links {
+        let right = further(to, left.words())?;
         let shape = lower_expression(alloc, program, locals, &link.operand, body, own, right)?;
         lower_operator(body, link.operator, left, shape, to)?;
         left = operator_shape(link.operator, left, shape);
@@ -129,9 +130,10 @@ pub fn lower_any<'p>(
     Ok(())
 }
 
-/// Appends what leaves the arguments of a call in the temporaries from this one on, each converted to its parameter's shape.
+/// Appends what leaves the arguments of a call in the temporaries from this one on, each converted to its parameter's shape; gives how many
+/// words they take.
 #[cycle(expression)]
-#[tactic(auto, using(crate::proofs::Arguments::no_arguments))]
+#[tactic(auto, using(crate::proofs::Arguments::no_arguments, crate::proofs::Arguments::no_words))]
 fn lower_arguments<'p>(
     alloc: Global,
     program: &Table<'p>,
@@ -141,32 +143,34 @@ fn lower_arguments<'p>(
     own: &mut Vec<Shape<'p>>,
     shapes: &[Shape<'p>],
     first: Temporary,
-) -> Result<(), LowerFault>
+) -> Result<u32, LowerFault>
     ensures code { OnOk result
         (map statement_tree body.new.items ≡
         map statement_tree body.old.items ++
         arguments_code (world_of program.now) (names_of locals.now) (map shape_tree shapes.now)
         (expressions_of (map expression_tree arguments.entry.now)) first.0 (length own.old.items)) }
+    ensures words { IfOk result (λ words. words ≡ argument_words (map shape_tree shapes.now) (expressions_of (map expression_tree arguments.entry.now))) }
     ensures values { OnOk result
         (map shape_tree own.new.items ≡
         map shape_tree own.old.items ++ all_values (world_of program.now) (names_of locals.now) (expressions_of (map expression_tree arguments.entry.now))) }
     ensures taken { TakesAll (world_of program.now) (names_of locals.now) (expressions_of (map expression_tree arguments.entry.now)) → NeverRefused result }
 {
     let mut left = shapes;
-    let mut to = first;
+    let mut words = 0;
     'each: for argument in arguments {
         let [shape, others @ ..] = left else {
             // without a parameter it has no code
             let mut apart = Vec::new(alloc);
-            lower_expression(alloc, program, locals, argument, &mut apart, own, to)?;
+            lower_expression(alloc, program, locals, argument, &mut apart, own, first)?;
             continue;
         };
+        let to = further(first, words)?;
         let from = lower_expression(alloc, program, locals, argument, body, own, to)?;
-        lower_conversion(alloc, body, *shape, from, to)?;
+        lower_conversion(alloc, program, body, *shape, from, to)?;
         left = others;
-        to = Temporary(after(to.0)?);
+        words = sum(words, shape.words())?;
     }
-    Ok(())
+    Ok(words)
 }
 
 /// Appends a call of the function of a name, after its arguments; gives the shape of its result.
@@ -187,7 +191,7 @@ pub fn lower_called<'p>(
         map statement_tree body.old.items ++
         (arguments_code w (names_of locals.now) (call_parameters w name.entry.now) (expressions_of (map expression_tree arguments.entry.now)) to.0
         (length own.old.items) ++
-        call_code w name.entry.now (count_of (expressions_of (map expression_tree arguments.entry.now))) to.0)) }
+        call_code w name.entry.now (argument_words (call_parameters w name.entry.now) (expressions_of (map expression_tree arguments.entry.now))) to.0)) }
     ensures values { OnOk result
         (map shape_tree own.new.items ≡
         map shape_tree own.old.items ++ all_values (world_of program.now) (names_of locals.now) (expressions_of (map expression_tree arguments.entry.now))) }
@@ -195,7 +199,7 @@ pub fn lower_called<'p>(
     ensures taken { TakesAll (world_of program.now) (names_of locals.now) (expressions_of (map expression_tree arguments.entry.now)) → NeverRefused result }
 {
     let shapes = call_parameters(alloc, program, name)?;
-    lower_arguments(alloc, program, locals, arguments, body, own, &shapes, to)?;
-    lower_call(alloc, program, body, name, arguments, to)?;
+    let words = lower_arguments(alloc, program, locals, arguments, body, own, &shapes, to)?;
+    lower_call(alloc, program, body, name, words, to)?;
     Ok(call_shape(program, name))
 }

@@ -5,7 +5,7 @@ ghost use Rattle.cyc_tree.specs.View.{constant_tree, initial_tree, global_tree};
 ghost use Rattle.core_meaning.specs.Memory.{Word};
 ghost use Rattle.cyc_core.specs.Trees.{function_tree, datum_tree, program_tree};
 ghost use Rattle.source_meaning.specs.Shapes.{IntShape, UnsignedShape, CharShape, written, settled};
-ghost use Rattle.source_meaning.specs.Programs.{world_of, functions_of};
+ghost use Rattle.source_meaning.specs.Programs.{world_of, functions_of, global_shape};
 ghost use Rattle.source_lowering.specs.Programs.{function_code, constant_content, initial_content, global_datum, data_of, program_code};
 ghost use Rattle.source_lowering.specs.Taken.{TakesConstant};
 ghost use Rattle.source_lowering.specs.Lowerable.{IsLowerable, IsObject, IsObjectType, TakesGlobal, TakesProgram};
@@ -15,9 +15,10 @@ ghost use Rattle.lower_checks.specs.Refusals.{NeverRefused};
 
 use crate::fault::LowerFault;
 use crate::function::lower_function;
-use crate::objects::struct_layout;
+use crate::objects::object_layout;
 use crate::shape::Shape;
-use crate::table::{Table, function_number};
+use crate::stored::Stored;
+use crate::table::{Table, function_number, global_stored};
 use cyc_core::{Datum, Function, Program};
 use cyc_tree::{Constant, Global as Declared, Initial, Item, Program as Source};
 use cyc_words::sub32;
@@ -41,7 +42,7 @@ fn constant_word(constant: &Constant) -> Result<u32, LowerFault>
     }
 }
 
-/// The word that a global begins with, before it is narrowed: 0, or its constant. Refuses an array.
+/// The word that a global begins with, before it is narrowed: 0, or its constant.
 fn initial_word(initial: &Initial) -> Result<u32, LowerFault>
     ensures int { IfOk result (λ word. initial_content (initial_tree initial.now) IntShape ≡ Word word) }
     ensures unsigned { IfOk result (λ word. initial_content (initial_tree initial.now) UnsignedShape ≡ Word word) }
@@ -51,14 +52,14 @@ fn initial_word(initial: &Initial) -> Result<u32, LowerFault>
     ensures taken_char { TakesGlobal CharShape (initial_tree initial.now) → NeverRefused result }
 {
     match initial {
-        Initial::None => Ok(0),
-        Initial::Array(_) => Err(LowerFault::NotTaken),
+        Initial::None | Initial::Array(_) => Ok(0),
         Initial::Constant(constant) => constant_word(constant),
     }
 }
 
-/// A global of a shape, with what it begins with. Refuses what is no integer, no thin pointer and no struct of the program.
+/// A global of a shape, with what it begins with. Refuses what is no integer, no pointer and no struct of the program.
 fn first_datum(
+    alloc: Global,
     program: &Table<'_>,
     shape: Shape<'_>,
     initial: &Initial,
@@ -69,28 +70,39 @@ fn first_datum(
         TakesGlobal (shape_tree shape.entry) (initial_tree initial.now) → NeverRefused result }
 {
     match shape {
+        Shape::Struct(_) | Shape::Fat(_) => Ok(Datum::Whole(
+            object_layout(alloc, program, shape)?,
+            1,
+        )),
         Shape::Thin(_, _, _) | Shape::Address(_, _) => match initial {
-            Initial::None | Initial::Constant(Constant::Null(_)) => Ok(Datum::Null),
+            Initial::None | Initial::Array(_) | Initial::Constant(Constant::Null(_)) => Ok(
+                Datum::Null,
+            ),
             _ => Err(LowerFault::NotTaken),
         },
         Shape::Char => Ok(Datum::Byte((initial_word(initial)? % 256) as u8)),
         Shape::Int | Shape::Unsigned => Ok(Datum::Word(initial_word(initial)?)),
-        Shape::Struct(_) => Ok(Datum::Whole(struct_layout(program, shape)?, 1)),
         _ => Err(LowerFault::NotTaken),
     }
 }
 
-/// A global, with what it begins with. Refuses what is no integer, no thin pointer and no struct of the program.
-fn lower_global(program: &Table<'_>, global: &Declared) -> Result<Datum, LowerFault>
+/// A global, with what it begins with. Refuses what is no integer, no pointer, no struct of the program and no array of these.
+fn lower_global(alloc: Global, program: &Table<'_>, global: &Declared) -> Result<Datum, LowerFault>
     ensures datum { let g = global_tree global.now in
-        IfOk result (λ datum. datum_tree datum ≡ global_datum (world_of program.now) g.initial (settled (written g.of))) }
+        IfOk result (λ datum. datum_tree datum ≡ global_datum (world_of program.now) g.initial (global_shape g.initial (settled (written g.of)))) }
     ensures taken { let g = global_tree global.now in
         IsObjectType (world_of program.now).structs g.of → TakesGlobal (settled (written g.of)) g.initial → NeverRefused result }
 {
-    first_datum(program, Shape::of(&global.of), &global.initial)
+    match global_stored(global) {
+        Stored::One(shape) => first_datum(alloc, program, shape, &global.initial),
+        Stored::Array(count, of) => {
+            let layout = object_layout(alloc, program, of.shape())?;
+            Ok(Datum::Whole(layout, count))
+        }
+    }
 }
 
-/// The globals, in their order. Refuses a union, and a global that is no integer, no thin pointer and no struct of the program.
+/// The globals, in their order. Refuses a union, and a global that is no integer, no pointer, no struct of the program and no array of these.
 fn lower_globals(alloc: Global, program: &Table<'_>) -> Result<Vec<Datum>, LowerFault>
     ensures globals { IfOk result (λ globals. map datum_tree globals.items ≡ data_of (world_of program.now) program.now) }
     ensures taken { TakesProgram (world_of program.now) program.now → NeverRefused result }
@@ -100,7 +112,7 @@ fn lower_globals(alloc: Global, program: &Table<'_>) -> Result<Vec<Datum>, Lower
     'each: for item in items {
         match item {
             Item::Global(global) => {
-                if let Err(_) = globals.push(lower_global(program, global)?) {
+                if let Err(_) = globals.push(lower_global(alloc, program, global)?) {
                     return Err(LowerFault::Memory);
                 }
             }
@@ -131,7 +143,7 @@ fn lower_functions(alloc: Global, program: &Table<'_>) -> Result<Vec<Function>, 
 }
 
 /// The Core of a program's tree. Refuses a tree that has something else than functions, globals and locals of integers, of structs, of
-/// handles and of thin pointers to these, and the heap and lexical regions.
+/// handles, of pointers to these and of arrays of them, and the heap and lexical regions.
 fn lower_tree(alloc: Global, program: &Source) -> Result<Program, LowerFault>
     ensures code { IfOk result (λ core. program_tree core ≡ program_code program.now) }
     ensures taken { IsLowerable program.now → NeverRefused result }

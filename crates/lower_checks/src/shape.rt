@@ -3,14 +3,15 @@
 ghost use Rattle.std.specs.Prelude.{◌≡◌, ◌∷◌, ◌++◌, [], suc, true, false, length, IfOk, OnOk, map, option_map};
 ghost use Rattle.cyc_tree.specs.View.{base_tree, pointer_tree, region_tree, type_tree};
 ghost use Rattle.source_meaning.specs.Shapes.{ThinShape, VoidShape, Shared, base_shape, owner_of, pointee, settled, shared_owner, signed_shape, written};
-ghost use Rattle.source_lowering.specs.Lowered.{width_of, results_in};
+ghost use Rattle.source_lowering.specs.Lowered.{results_in, width_of};
+ghost use Rattle.source_lowering.specs.Members.{words_in};
 ghost use Rattle.cyc_core.specs.Trees.{bytes_of, optional_tree};
 ghost use Rattle.lower_checks.specs.declared.shape.Written.TheVariants.{Pointed};
 ghost use Rattle.lower_checks.specs.Views.{owner_tree, plain_tree, shape_tree, written_shape, written_tree};
 ghost use Rattle.lower_checks.specs.Refusals.{NeverRefused};
 
 use crate::fault::LowerFault;
-use crate::names::after;
+use crate::names::{after, further};
 use cyc_core::{Temporary, Width, Words};
 use cyc_tree::{Base, Pointer, RegionName, Sign, TypeName};
 
@@ -213,13 +214,25 @@ impl<'p> Shape<'p> {
         }
     }
 
-    /// Where a result of the shape goes.
-    pub fn result_in(self, to: Temporary) -> Option<Words>
-        ensures { optional_tree result ≡ results_in (shape_tree self.entry) to.0 }
+    /// How many temporaries a value of the shape takes: a fat pointer three, all else one.
+    pub fn words(self) -> u32
+        ensures { result ≡ words_in (shape_tree self.entry) }
     {
         match self {
-            Shape::Void => None,
-            _ => Some(Words::One(to)),
+            Shape::Fat(_) => 3,
+            _ => 1,
+        }
+    }
+
+    /// Where a result of the shape goes.
+    pub fn result_in(self, to: Temporary) -> Result<Option<Words>, LowerFault>
+        ensures place { IfOk result (λ place. optional_tree place ≡ results_in (shape_tree self.entry) to.0) }
+        ensures taken { NeverRefused result }
+    {
+        match self {
+            Shape::Void => Ok(None),
+            Shape::Fat(_) => Ok(Some(Words::Three(to, further(to, 1)?, further(to, 2)?))),
+            _ => Ok(Some(Words::One(to))),
         }
     }
 }

@@ -5,7 +5,7 @@ ghost use Rattle.cyc_tree.specs.View.{expression_tree, link_tree, links_of, made
 ghost use Rattle.source_meaning.specs.Shapes.{part_of, part_shape};
 ghost use Rattle.source_meaning.specs.Calls.{number_type};
 ghost use Rattle.source_meaning.specs.Programs.{world_of, integer_shape};
-ghost use Rattle.source_lowering.specs.Lowered.{call_shape, linked_shape, makes_struct, member_shape, named_shape, new_shape, prefix_shape, static_shape, suffixed_shape};
+ghost use Rattle.source_lowering.specs.Lowered.{call_shape, linked_shape, makes_struct, member_shape, named_shape, new_shape, prefix_shape, static_shape, suffixed_shape, valued};
 ghost use Rattle.lower_checks.specs.Refusals.{NeverRefused};
 ghost use Rattle.lower_checks.specs.Views.{shape_tree};
 ghost use Rattle.lower_checks.specs.Visible.{names_of};
@@ -54,15 +54,15 @@ pub fn call_shape<'p>(program: &Table<'p>, name: &'p [u8]) -> Shape<'p>
     }
 }
 
-/// The shape of the variable of a name: a local, or else a global; `void` where there is none.
+/// The shape of the value of the variable of a name: a local, or else a global; `void` where there is none.
 fn named_shape<'p>(program: &Table<'p>, locals: &Locals<'p>, name: &[u8]) -> Shape<'p>
-    ensures { shape_tree result ≡ named_shape (world_of program.now) (names_of locals.now) name.now }
+    ensures { shape_tree result ≡ valued (named_shape (world_of program.now) (names_of locals.now) name.now) }
 {
     if let Some(local) = locals.named(name) {
-        return local.shape;
+        return local.stored.value();
     }
     match program.global_named(name) {
-        Some(global) => global.shape,
+        Some(global) => global.stored.value(),
         None => Shape::Void,
     }
 }
@@ -93,7 +93,7 @@ fn member_shape<'p>(program: &Table<'p>, shape: Shape<'_>, name: &[u8]) -> Shape
     }
 }
 
-/// The shape of what suffixes lead to, from that of what is on their left; `void` where there is an index.
+/// The shape of what suffixes lead to, from that of what is on their left.
 fn suffixed_shape<'p>(program: &Table<'p>, suffixes: &[Suffix], first: Shape<'p>) -> Shape<'p>
     ensures { shape_tree result ≡ suffixed_shape (world_of program.now) (suffixes_of (map suffix_tree suffixes.now)) (shape_tree first.entry) }
 {
@@ -102,7 +102,7 @@ fn suffixed_shape<'p>(program: &Table<'p>, suffixes: &[Suffix], first: Shape<'p>
         left = match suffix {
             Suffix::Dot(name) => member_shape(program, left, &name.text),
             Suffix::Arrow(name) => member_shape(program, left.pointee(), &name.text),
-            Suffix::Index(_) => return Shape::Void,
+            Suffix::Index(_) => left.pointee(),
         };
     }
     left
@@ -193,9 +193,9 @@ pub fn shape_of<'p>(
         }
         Expression::AllOf(_, _) | Expression::AnyOf(_, _) => Ok(Shape::Int),
         Expression::Assign(place, _) => shape_of(program, locals, place),
-        Expression::Text(_, _)
-        | Expression::UniqueRegion(_)
-        | Expression::MakeUnion(_, _, _)
-        | Expression::NumElts(_, _) => Ok(Shape::Void),
+        Expression::NumElts(_, _) => Ok(Shape::Unsigned),
+        Expression::Text(_, _) | Expression::UniqueRegion(_) | Expression::MakeUnion(_, _, _) => Ok(
+            Shape::Void,
+        ),
     }
 }

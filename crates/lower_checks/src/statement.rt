@@ -8,12 +8,12 @@ ghost use Rattle.core_meaning.specs.Core as core;
 ghost use Rattle.source_lowering.specs.Lowered.{all_of};
 ghost use Rattle.source_lowering.specs.Programs.{block_shapes, item_values, items_code, locals_of, outward, statement_code, statement_values};
 ghost use Rattle.source_lowering.specs.Lowerable.{TakesItems, TakesStatement};
-ghost use Rattle.lower_checks.specs.Views.{regions_tree, shape_tree};
+ghost use Rattle.lower_checks.specs.Views.{regions_tree, shape_tree, stored_tree};
 ghost use Rattle.lower_checks.specs.Visible.{left, names_of};
 ghost use Rattle.lower_checks.specs.Refusals.{NeverRefused};
 
 use crate::assigned::lower_run;
-use crate::declaration::{declared_shape, lower_declaration};
+use crate::declaration::{declared, lower_declaration};
 use crate::emit::{emit_block, emit_if, emit_while};
 use crate::expression::lower_expression;
 use crate::fault::LowerFault;
@@ -21,7 +21,8 @@ use crate::leaving::{RegionsAround, lower_leaving, lower_left, lower_return};
 use crate::locals::Locals;
 use crate::names::number;
 use crate::objects::locals_of;
-use crate::shape::{Shape, add_shape};
+use crate::shape::Shape;
+use crate::stored::{Stored, add_stored};
 use crate::table::Table;
 use cyc_core::Statement;
 use cyc_tree::{BlockItem, Statement as Source};
@@ -146,7 +147,7 @@ fn lower_block<'p>(
         let inside = items_of (map item_tree items.entry.now) in
         TakesItems w (shape_tree shape.entry) (outward (names_of locals.old)) 0 inside → NeverRefused result }
 {
-    let mut shapes = Vec::new(alloc);
+    let mut declared_here = Vec::new(alloc);
     let mut inside = Vec::new(alloc);
     locals.enter()?;
     lower_items(
@@ -155,16 +156,16 @@ fn lower_block<'p>(
         shape,
         locals,
         items,
-        &mut shapes,
+        &mut declared_here,
         &mut inside,
         own,
         around,
     )?;
     locals.leave();
-    emit_block(body, locals_of(alloc, program, &shapes)?, inside)
+    emit_block(body, locals_of(alloc, program, &declared_here)?, inside)
 }
 
-/// Appends what the items of a block do, the shapes of the locals that they declare, and the shapes of the unnamed values. The next local's
+/// Appends what the items of a block do, the locals that they declare, and the shapes of the unnamed values. The next local's
 /// number is how many there are, and so is the next unnamed value's. The regions that the items declare are freed at the end.
 #[cycle(statement)]
 pub fn lower_items<'p>(
@@ -173,29 +174,29 @@ pub fn lower_items<'p>(
     shape: Shape<'_>,
     locals: &mut Locals<'p>,
     items: &'p [BlockItem],
-    shapes: &mut Vec<Shape<'p>>,
+    declared_here: &mut Vec<Stored<'p>>,
     body: &mut Vec<Statement>,
     own: &mut Vec<Shape<'p>>,
     around: RegionsAround,
 ) -> Result<(), LowerFault>
     ensures code { let w = world_of program.now in
-        let index = length shapes.old.items in
+        let index = length declared_here.old.items in
         let inside = items_of (map item_tree items.entry.now) in
         OnOk result
         (map statement_tree body.new.items ≡
         map statement_tree body.old.items ++
         items_code w (shape_tree shape.entry) (names_of locals.old) (regions_tree around) index (length own.old.items) inside) }
-    ensures values { let index = length shapes.old.items in
+    ensures values { let index = length declared_here.old.items in
         let inside = items_of (map item_tree items.entry.now) in
         OnOk result
         (map shape_tree own.new.items ≡
         map shape_tree own.old.items ++ item_values (world_of program.now) (names_of locals.old) index inside) }
     ensures shapes { OnOk result
-        (map shape_tree shapes.new.items ≡
-        map shape_tree shapes.old.items ++ block_shapes (items_of (map item_tree items.entry.now))) }
+        (map stored_tree declared_here.new.items ≡
+        map stored_tree declared_here.old.items ++ block_shapes (items_of (map item_tree items.entry.now))) }
     ensures left { OnOk result (left locals.new ≡ left locals.old) }
     ensures taken { let w = world_of program.now in
-        let index = length shapes.old.items in
+        let index = length declared_here.old.items in
         let inside = items_of (map item_tree items.entry.now) in
         TakesItems w (shape_tree shape.entry) (names_of locals.old) index inside → NeverRefused result }
 {
@@ -203,12 +204,12 @@ pub fn lower_items<'p>(
     'each: for item in items {
         match item {
             BlockItem::Declare(declaration) => {
-                let index = number(shapes.len())?;
+                let index = number(declared_here.len())?;
                 let to = regions.value();
                 lower_declaration(alloc, program, locals, declaration, body, own, to, index)?;
-                let declared = declared_shape(declaration)?;
-                add_shape(shapes, declared)?;
-                locals.declare(declaration.local(), declared, index)?;
+                let stored = declared(declaration)?;
+                add_stored(declared_here, stored)?;
+                locals.declare(declaration.local(), stored, index)?;
                 regions = regions.with(declaration)?;
             }
             BlockItem::Execute(statement) => {

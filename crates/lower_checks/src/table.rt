@@ -4,32 +4,33 @@ ghost use Rattle.std.specs.Prelude.{◌≡◌, ℕ, suc, List, ◌∷◌, [], If
 ghost use Rattle.cyc_tree.specs.Tree as tree;
 ghost use Rattle.cyc_tree.specs.View.{program_tree, function_tree, global_tree};
 ghost use Rattle.source_meaning.specs.Shapes.{StructShape, written, settled};
-ghost use Rattle.source_meaning.specs.Steps.{Variable};
 ghost use Rattle.source_meaning.specs.Places.{bound_to, or_else};
 ghost use Rattle.source_meaning.specs.Calls.{function_of};
-ghost use Rattle.source_meaning.specs.Programs.{functions_of, routine_of, globals_from, global_shape, heap_spot, structs_from, world_of};
+ghost use Rattle.source_meaning.specs.Programs.{functions_of, routine_of, globals_from, global_shape, structs_from, unions_of, world_of};
 ghost use Rattle.source_lowering.specs.Lowered.{number_of};
-ghost use Rattle.lower_checks.specs.Structs.{IsFound, Knows};
-ghost use Rattle.lower_checks.specs.Views.{found_entity};
+ghost use Rattle.source_meaning.specs.Sizes.{union_extent};
+ghost use Rattle.lower_checks.specs.Structs.{IsFound, Knows, room_tree};
+ghost use Rattle.lower_checks.specs.Views.{found_entity, stored_tree};
 ghost use Rattle.lower_checks.specs.Tables.{first_function, function_in, global_in};
 ghost use Rattle.cyc_core.specs.Trees.{layout_tree};
 ghost use Rattle.source_lowering.specs.Layouts.{layout_of};
-ghost use Rattle.source_lowering.specs.Lowerable.{AreStructs, TakesGlobal, TakesProgram};
+ghost use Rattle.source_lowering.specs.Lowerable.{AreStructs, TakesProgram};
 ghost use Rattle.lower_checks.specs.Refusals.{NeverRefused};
 
 use crate::fault::LowerFault;
 use crate::first::Firsts;
-use crate::layouts::{Known, Structs};
+use crate::layouts::{Known, Room, Structs};
 use crate::names::after;
-use crate::shape::Shape;
+use crate::stored::Stored;
+use cyc_core::Width;
 use cyc_tree::{Function, Global as Declared, Initial, Item};
 use std::alloc::Global;
 use std::marker::Model;
 
-/// A global: its shape, and its number among the globals.
+/// A global: what it is, and its number among the globals.
 #[derive(Clone, Copy)]
 pub struct Found<'p> {
-    pub shape: Shape<'p>,
+    pub stored: Stored<'p>,
     pub object: u32,
 }
 
@@ -84,22 +85,17 @@ fn first_functions<'p>(
     Ok(functions)
 }
 
-/// A global of this number. Refuses an array.
-fn global_entry<'p>(global: &'p Declared, object: u32) -> Result<Found<'p>, LowerFault>
-    ensures entry { let g = global_tree global.entry.now in
-        IfOk result (λ found. found_entity found ≡ Variable (global_shape g.initial (settled (written g.of))) (heap_spot object)) }
-    ensures taken { let g = global_tree global.entry.now in TakesGlobal (settled (written g.of)) g.initial → NeverRefused result }
+/// What a global is, as it is declared.
+pub fn global_stored<'p>(global: &'p Declared) -> Stored<'p>
+    ensures { let g = global_tree global.entry.now in stored_tree result ≡ global_shape g.initial (settled (written g.of)) }
 {
-    if let Initial::Array(_) = &global.initial {
-        return Err(LowerFault::NotTaken);
+    match &global.initial {
+        Initial::Array(count) => Stored::array(&global.of, *count),
+        Initial::None | Initial::Constant(_) => Stored::one(&global.of),
     }
-    Ok(Found {
-        shape: Shape::of(&global.of),
-        object,
-    })
 }
 
-/// Adds a global of this number, which is the first of its name where there is none. Refuses an array.
+/// Adds a global of this number, which is the first of its name where there is none. Fails only where no host memory is left.
 fn add_global<'p>(
     globals: &mut Firsts<'p, Found<'p>>,
     global: &'p Declared,
@@ -108,17 +104,17 @@ fn add_global<'p>(
     ensures added { OnOk result ((items : List tree.Item) (name : List ℕ) →
         or_else (global_in globals.new name) (bound_to (globals_from items (suc object)) name) ≡
         or_else (global_in globals.old name) (bound_to (globals_from (tree.GlobalItem (global_tree global.entry.now) ∷ items) object) name)) }
-    ensures taken { let g = global_tree global.entry.now in TakesGlobal (settled (written g.of)) g.initial → NeverRefused result }
+    ensures taken { NeverRefused result }
 {
-    let entity = global_entry(global, object)?;
-    globals.add(&global.name.text, entity)?;
+    let stored = global_stored(global);
+    globals.add(&global.name.text, Found { stored, object })?;
     Ok(())
 }
 
-/// The first global of each name. Refuses arrays.
+/// The first global of each name.
 fn first_globals<'p>(alloc: Global, items: &'p [Item]) -> Result<Firsts<'p, Found<'p>>, LowerFault>
     ensures first { IfOk result (λ globals. (name : List ℕ) → global_in globals name ≡ bound_to (globals_from (program_tree items.entry.now) 0) name) }
-    ensures taken { let p = program_tree items.entry.now in TakesProgram (world_of p) p → NeverRefused result }
+    ensures taken { NeverRefused result }
 {
     let mut globals = Firsts::new(alloc);
     let mut object = 0;
@@ -131,25 +127,28 @@ fn first_globals<'p>(alloc: Global, items: &'p [Item]) -> Result<Firsts<'p, Foun
     Ok(globals)
 }
 
-/// The structs, each behind those that its members are. Refuses two of one tag, and structs with other members than integers, thin
-/// pointers, handles and earlier structs.
+/// The structs, each behind those that its members are. Refuses two of one tag, structs with other members than integers, pointers,
+/// handles and earlier structs, and unions.
 fn all_structs<'p>(alloc: Global, items: &'p [Item]) -> Result<Structs<'p>, LowerFault>
     ensures structs { IfOk result (λ structs. Knows structs (structs_from (program_tree items.entry.now) [])) }
-    ensures taken { let p = program_tree items.entry.now in AreStructs (world_of p).unions (world_of p).structs → NeverRefused result }
+    ensures unions { OnOk result (unions_of (program_tree items.entry.now) ≡ []) }
+    ensures taken { let p = program_tree items.entry.now in
+        AreStructs (world_of p).unions (world_of p).structs → TakesProgram (world_of p) p → NeverRefused result }
 {
     let mut structs = Structs::new(alloc);
     'each: for item in items {
         match item {
             Item::Struct(structure) => structs.add(alloc, structure)?,
-            Item::Function(_) | Item::Global(_) | Item::Union(_) => {}
+            Item::Union(_) => return Err(LowerFault::NotTaken),
+            Item::Function(_) | Item::Global(_) => {}
         }
     }
     Ok(structs)
 }
 
 impl<'p> Table<'p> {
-    /// The tables of a program. Refuses a global array, two structs of one tag, and a struct with a member that is no integer, no thin
-    /// pointer, no handle and no earlier struct.
+    /// The tables of a program. Refuses a union, two structs of one tag, and a struct with a member that is no integer, no pointer, no
+    /// handle and no earlier struct.
     pub fn new(alloc: Global, items: &'p [Item]) -> Result<Self, LowerFault>
         ensures program { IfOk result (λ table. table ≡ program_tree items.entry.now) }
         ensures taken { let p = program_tree items.entry.now in
@@ -179,6 +178,18 @@ impl<'p> Table<'p> {
         ensures layout { IfSome (option_copied result) (λ k. layout_tree k.layout.value ≡ layout_of (world_of self.now) (StructShape tag.now)) }
     {
         self.structs.of(tag)
+    }
+
+    /// The bytes of a union, as there is none: a word for its tag.
+    pub fn union_room(&self) -> Room
+        ensures { (tag : List ℕ) → room_tree result ≡ union_extent (world_of self.now).unions tag }
+    {
+        // so says the table's invariant
+        let _ = &self.items;
+        Room {
+            size: 4,
+            align: Width::Word,
+        }
     }
 
     /// The first function of a name.

@@ -1,9 +1,9 @@
 // Structs as values: made of their members, or copied from a place.
 
-ghost use Rattle.std.specs.Prelude.{◌≡◌, ◌+◌, ◌++◌, ◌∷◌, [], suc, true, IfOk, OnOk, length, map};
+ghost use Rattle.std.specs.Prelude.{◌≡◌, ◌+◌, ◌++◌, ◌∷◌, suc, true, OnOk, length, map};
 ghost use Rattle.core_meaning.specs.Core as core;
 ghost use Rattle.cyc_tree.specs.View.{member_tree, expression_tree, expressions_of};
-ghost use Rattle.cyc_core.specs.Trees.{layout_tree, statement_tree};
+ghost use Rattle.cyc_core.specs.Trees.{statement_tree};
 ghost use Rattle.source_meaning.specs.Shapes.{StructShape, part_of, parts_of};
 ghost use Rattle.source_meaning.specs.Programs.{world_of};
 ghost use Rattle.source_lowering.specs.Lowered.{
@@ -40,15 +40,17 @@ use crate::expression::lower_expression;
 use crate::fault::LowerFault;
 use crate::layouts::{rounded, sum};
 use crate::locals::Locals;
-use crate::member::{count, extent};
+use crate::member::Reached;
 use crate::names::{after, number};
 use crate::objects::struct_layout;
 use crate::place::lower_place;
 use crate::shape::{Shape, add_shape};
 use crate::shaped::shape_of;
+use crate::sizes::{count, extent};
 use crate::table::Table;
 use crate::values::lower_conversion;
-use cyc_core::{Distance, Operation, Statement, Temporary};
+use crate::words::lower_stores;
+use cyc_core::{Operation, Statement, Temporary};
 use cyc_tree::{Expression, Member, Prefix};
 use std::alloc::Global;
 
@@ -104,6 +106,7 @@ fn lower_struct_member(
 /// Appends what converts the value in the next temporary to a member's shape, and stores it where the member goes.
 fn lower_word_member(
     alloc: Global,
+    program: &Table<'_>,
     shape: Shape<'_>,
     from: Shape<'_>,
     body: &mut Vec<Statement>,
@@ -112,18 +115,17 @@ fn lower_word_member(
     ensures code { OnOk result
         (map statement_tree body.new.items ≡
         map statement_tree body.old.items ++
-        word_member_code (shape_tree shape.entry) (shape_tree from.entry) slot.to.0 slot.cells slot.bytes) }
+        word_member_code (world_of program.now) (shape_tree shape.entry) (shape_tree from.entry) slot.to.0 slot.cells slot.bytes) }
     ensures taken { NeverRefused result }
 {
     let value = Temporary(after(slot.to.0)?);
-    lower_conversion(alloc, body, shape, from, value)?;
-    let distance = Distance {
+    lower_conversion(alloc, program, body, shape, from, value)?;
+    let reached = Reached {
+        shape,
         cells: slot.cells,
         bytes: slot.bytes,
-        part: 0,
-        width: shape.width(),
     };
-    emit_operation(body, Operation::Store(slot.to, distance, value))
+    lower_stores(body, reached, slot.to, value)
 }
 
 /// Appends what copies the struct that an expression names to a further unnamed value, and leaves a pointer to that value in a
@@ -290,7 +292,7 @@ fn lower_members<'p>(
             return Ok(());
         };
         let shape = Shape::of(&member.of);
-        let room = extent(program, shape)?;
+        let room = extent(program, shape);
         slot.bytes = rounded(slot.bytes, room.align)?;
         lower_member(alloc, program, locals, shape, argument, body, own, slot)?;
         slot.cells = sum(slot.cells, count(program, shape)?)?;
@@ -341,7 +343,7 @@ fn lower_member<'p>(
         }
         _ => {
             let from = lower_expression(alloc, program, locals, argument, body, own, next)?;
-            lower_word_member(alloc, shape, from, body, slot)
+            lower_word_member(alloc, program, shape, from, body, slot)
         }
     }
 }

@@ -1,9 +1,9 @@
-use Rattle.std.proofs.Common.{◌≡◌, ◌∙◌, ℕ, ◌+◌, ◌-◌, sym, ap, subst, List, [], ◌∷◌, ◌++◌, length, map, drop, take, append_assoc}
-use Rattle.cyc_tree.proofs.Forms.{all_of_tree, any_of_tree, assign_tree, chain_tree, new_in_tree}
-use Rattle.cyc_tree.specs.Tree.{MoreExpressions}
-use Rattle.cyc_tree.specs.View.{expression_tree, expressions_of, link_tree, links_of, made_tree, member_tree}
+use Rattle.std.proofs.Common.{◌≡◌, ◌∙◌, ◌<◌, ℕ, ◌+◌, ◌-◌, rules, sym, ap, subst, List, [], ◌∷◌, ◌++◌, add_assoc, arith, length, map, drop, take, append_assoc}
+use Rattle.cyc_tree.proofs.Forms.{all_of_tree, any_of_tree, assign_tree, chain_tree, new_in_tree, new_tree, suffixed_tree}
+use Rattle.cyc_tree.specs.Tree.{Expression, MoreExpressions}
+use Rattle.cyc_tree.specs.View.{expression_tree, expressions_of, link_tree, links_of, made_tree, member_tree, suffix_tree, suffixes_of}
 use Rattle.cyc_core.specs.Trees.{statement_tree}
-use Rattle.core_meaning.specs.Core.{If, NoStatements, Statement}
+use Rattle.core_meaning.specs.Core.{Do, HeapHandle, If, NoStatements, Statement}
 use Rattle.source_meaning.specs.Conversions.{cells_of}
 use Rattle.source_meaning.specs.Operators.{operator_shape}
 use Rattle.source_meaning.specs.Shapes.{Shape, part_of}
@@ -15,6 +15,7 @@ use Rattle.source_lowering.specs.Lowered.{
   all_of,
   all_values,
   any_code,
+  argument_words,
   arguments_code,
   conversion_code,
   expression_code,
@@ -22,26 +23,66 @@ use Rattle.source_lowering.specs.Lowered.{
   link_values,
   linked_shape,
   links_code,
+  loads_code,
   made_values,
   member_code,
   members_code,
   new_code,
+  new_values,
+  offset_code,
   operator_code,
+  place_code,
   put_code,
   static_shape,
+  stores_code,
+  suffix_values,
   truth_code,
   values_by,
   whole_code,
   whole_values,
   word_code,
 }
-use Rattle.source_lowering.specs.Lowerable.{TakesAll, TakesLinks, TakesMade}
+use Rattle.source_lowering.specs.Lowerable.{Takes, TakesAll, TakesLinks, TakesMade, TakesPlace}
+use Rattle.source_lowering.proofs.Indices.{TakesIndices, indices_taken}
+use Rattle.source_lowering.specs.Members.{words_in}
+use Rattle.lower_checks.specs.Reaching.{IsLeftAt, Place, TakesSuffixed, further_place, indices_code, indices_in, place_at_once, reached_place, suffixed_left}
 use Rattle.lower_checks.specs.Structs.{HaveRoom, room_tree}
 use Rattle.lower_checks.specs.Views.{shape_tree}
 use Rattle.lower_checks.specs.Visible.{names_of}
-use Rattle.lower_checks.proofs.Lists.{on_ok, then_of}
-use Rattle.lower_checks.proofs.Remaining.{behind, first_of, left_links, left_operands}
-use Rattle.lower_checks.proofs.Parts.{all_of_code, any_of_code, assign_code, chain_code, new_in_code}
+use Rattle.lower_checks.proofs.Lists.{if_ok, on_ok, then_of}
+use Rattle.lower_checks.proofs.Remaining.{behind, first_of, left_links, left_operands, left_suffixes}
+use Rattle.lower_checks.proofs.Parts.{
+  all_of_code,
+  all_of_values,
+  any_of_code,
+  any_of_values,
+  assign_code,
+  assign_values,
+  chain_code,
+  chain_values,
+  new_heap_code,
+  new_in_code,
+  new_in_values,
+  suffixed_is,
+  suffixed_place,
+  suffixed_put,
+  suffixed_value,
+}
+use Rattle.lower_checks.proofs.Suffixes.{
+  begun_place,
+  each_taken,
+  further_taken,
+  indices_count,
+  more_indices,
+  place_one,
+  place_shape,
+  pointed_left,
+  read_left,
+  stored_left,
+  suffixed_whole,
+  suffixes_one,
+  values_behind,
+}
 use Rattle.lower_checks.proofs.Wholes.{grown}
 use Rattle.lower_checks.proofs.+expression.Goals as goal
 
@@ -135,7 +176,7 @@ expression::lower_expression-returns-in_ok-from-in-Assign-clause-code t c =
     on_ok c.lower_assign.result c.lower_assign.ensures.code
     (λ is.
     then_of (map statement_tree c.args.body.now.items) (expression_code w names value d own)
-    (map statement_tree c.lower_expression-in-Assign.new.body.items) (conversion_code (static_shape w names place) from d ++ put_code w names place d n)
+    (map statement_tree c.lower_expression-in-Assign.new.body.items) (conversion_code w (static_shape w names place) from d ++ put_code w names place d n)
     (map statement_tree c.lower_assign.new.body.items) (expression_code w names e d own) c.in_ok-from-in-Assign.ensures.code is code)
 
 pub expression::lower_expression-returns-in_ok-lower_expression-in-NewIn-clause-code : goal.expression::lower_expression-returns-in_ok-lower_expression-in-NewIn-clause-code
@@ -158,6 +199,353 @@ expression::lower_expression-returns-in_ok-lower_expression-in-NewIn-clause-code
     then_of (map statement_tree c.args.body.now.items) (expression_code w names handle d own)
     (map statement_tree c.lower_expression-in-NewIn.new.body.items) (new_code w names made d n)
     (map statement_tree c.lower_new-in-NewIn.new.body.items) (expression_code w names e d own) c.in_ok-lower_expression-in-NewIn.ensures.code is code)
+
+pub expression::lower_expression-returns-in_ok-left-in-Chain-clause-values : goal.expression::lower_expression-returns-in_ok-left-in-Chain-clause-values
+expression::lower_expression-returns-in_ok-left-in-Chain-clause-values t c =
+    let w = world_of c.args.program.now in
+    let names = names_of c.args.locals.now in
+    let e = expression_tree c.args.expression.now in
+    let first = expression_tree c.deref-in-Chain.result.now in
+    let others = links_of (map link_tree c.deref-in-Chain-2.result.now) in
+    let values =
+    chain_values w names e (expression_tree c.in-Chain.first.value) first (links_of (map link_tree c.in-Chain.links.items)) others
+    (ap expression_tree c.in-Chain.is ∙ chain_tree c.in-Chain.first c.in-Chain.links) (ap expression_tree c.deref-in-Chain.ensures)
+    (ap (λ ls. links_of (map link_tree ls)) c.deref-in-Chain-2.ensures.value) in
+    on_ok c.lower_links.result c.lower_links.ensures.values
+    (λ is.
+    then_of (map shape_tree c.args.own.now.items) (expression_values w names first) (map shape_tree c.lower_expression-in-Chain.new.own.items)
+    (link_values w names others) (map shape_tree c.lower_links.new.own.items) (expression_values w names e) c.in_ok-left-in-Chain.ensures.values is values)
+
+pub expression::lower_expression-returns-in_ok-shape-in-AllOf-clause-values : goal.expression::lower_expression-returns-in_ok-shape-in-AllOf-clause-values
+expression::lower_expression-returns-in_ok-shape-in-AllOf-clause-values t c =
+    let w = world_of c.args.program.now in
+    let names = names_of c.args.locals.now in
+    let e = expression_tree c.args.expression.now in
+    let first = expression_tree c.deref-in-AllOf.result.now in
+    let others = expressions_of (map expression_tree c.deref-in-AllOf-2.result.now) in
+    let values =
+    all_of_values w names e (expression_tree c.in-AllOf.first.value) first (expressions_of (map expression_tree c.in-AllOf.others.items)) others
+    (ap expression_tree c.in-AllOf.is ∙ all_of_tree c.in-AllOf.first c.in-AllOf.others) (ap expression_tree c.deref-in-AllOf.ensures)
+    (ap (λ es. expressions_of (map expression_tree es)) c.deref-in-AllOf-2.ensures.value) in
+    on_ok c.lower_all_of.result c.lower_all_of.ensures.values
+    (λ is.
+    then_of (map shape_tree c.args.own.now.items) (expression_values w names first) (map shape_tree c.lower_expression-in-AllOf.new.own.items)
+    (all_values w names others) (map shape_tree c.lower_all_of.new.own.items) (expression_values w names e) c.in_ok-shape-in-AllOf.ensures.values is values)
+
+pub expression::lower_expression-returns-in_ok-shape-in-AnyOf-clause-values : goal.expression::lower_expression-returns-in_ok-shape-in-AnyOf-clause-values
+expression::lower_expression-returns-in_ok-shape-in-AnyOf-clause-values t c =
+    let w = world_of c.args.program.now in
+    let names = names_of c.args.locals.now in
+    let e = expression_tree c.args.expression.now in
+    let first = expression_tree c.deref-in-AnyOf.result.now in
+    let others = expressions_of (map expression_tree c.deref-in-AnyOf-2.result.now) in
+    let values =
+    any_of_values w names e (expression_tree c.in-AnyOf.first.value) first (expressions_of (map expression_tree c.in-AnyOf.others.items)) others
+    (ap expression_tree c.in-AnyOf.is ∙ any_of_tree c.in-AnyOf.first c.in-AnyOf.others) (ap expression_tree c.deref-in-AnyOf.ensures)
+    (ap (λ es. expressions_of (map expression_tree es)) c.deref-in-AnyOf-2.ensures.value) in
+    on_ok c.lower_any_of.result c.lower_any_of.ensures.values
+    (λ is.
+    then_of (map shape_tree c.args.own.now.items) (expression_values w names first) (map shape_tree c.lower_expression-in-AnyOf.new.own.items)
+    (all_values w names others) (map shape_tree c.lower_any_of.new.own.items) (expression_values w names e) c.in_ok-shape-in-AnyOf.ensures.values is values)
+
+pub expression::lower_expression-returns-in_ok-from-in-Assign-clause-values : goal.expression::lower_expression-returns-in_ok-from-in-Assign-clause-values
+expression::lower_expression-returns-in_ok-from-in-Assign-clause-values t c =
+    let w = world_of c.args.program.now in
+    let names = names_of c.args.locals.now in
+    let e = expression_tree c.args.expression.now in
+    let value = expression_tree c.deref-in-Assign.result.now in
+    let place = expression_tree c.deref-in-Assign-2.result.now in
+    let values =
+    assign_values w names e (expression_tree c.in-Assign.place.value) place (expression_tree c.in-Assign.value.value) value
+    (ap expression_tree c.in-Assign.is ∙ assign_tree c.in-Assign.place c.in-Assign.value) (ap expression_tree c.deref-in-Assign-2.ensures)
+    (ap expression_tree c.deref-in-Assign.ensures) in
+    on_ok c.lower_assign.result c.lower_assign.ensures.values
+    (λ is.
+    then_of (map shape_tree c.args.own.now.items) (expression_values w names value) (map shape_tree c.lower_expression-in-Assign.new.own.items)
+    (expression_values w names place) (map shape_tree c.lower_assign.new.own.items) (expression_values w names e) c.in_ok-from-in-Assign.ensures.values is
+    values)
+
+pub expression::lower_expression-returns-in_ok-lower_expression-in-NewIn-clause-values : goal.expression::lower_expression-returns-in_ok-lower_expression-in-NewIn-clause-values
+expression::lower_expression-returns-in_ok-lower_expression-in-NewIn-clause-values t c =
+    let w = world_of c.args.program.now in
+    let names = names_of c.args.locals.now in
+    let e = expression_tree c.args.expression.now in
+    let handle = expression_tree c.deref-in-NewIn.result.now in
+    let made = made_tree c.in-NewIn.made in
+    let values =
+    new_in_values w names e c.in-NewIn.field-0 (expression_tree c.in-NewIn.handle.value) handle made
+    (ap expression_tree c.in-NewIn.is ∙ new_in_tree c.in-NewIn.field-0 c.in-NewIn.handle c.in-NewIn.made) (ap expression_tree c.deref-in-NewIn.ensures) in
+    on_ok c.lower_new-in-NewIn.result c.lower_new-in-NewIn.ensures.values
+    (λ is.
+    then_of (map shape_tree c.args.own.now.items) (expression_values w names handle) (map shape_tree c.lower_expression-in-NewIn.new.own.items)
+    (new_values w names made) (map shape_tree c.lower_new-in-NewIn.new.own.items) (expression_values w names e)
+    c.in_ok-lower_expression-in-NewIn.ensures.values is values)
+
+pub expression::lower_expression-returns-in_ok-emit_operation-in-New-clause-code : goal.expression::lower_expression-returns-in_ok-emit_operation-in-New-clause-code
+expression::lower_expression-returns-in_ok-emit_operation-in-New-clause-code t c =
+    let w = world_of c.args.program.now in
+    let names = names_of c.args.locals.now in
+    let d = c.args.to.0 in
+    let own = length c.args.own.now.items in
+    let e = expression_tree c.args.expression.now in
+    let made = made_tree c.in-New.made in
+    let code = new_heap_code w names d own e c.in-New.field-0 made (ap expression_tree c.in-New.is ∙ new_tree c.in-New.field-0 c.in-New.made) in
+    on_ok c.lower_new.result c.lower_new.ensures.code
+    (λ is.
+    then_of (map statement_tree c.args.body.now.items) (Do (HeapHandle d) ∷ []) (map statement_tree c.emit_operation-in-New.new.body.items)
+    (new_code w names made d own) (map statement_tree c.lower_new.new.body.items) (expression_code w names e d own)
+    c.in_ok-emit_operation-in-New.ensures.code is code)
+
+pub expression::lower_expression-returns-in_ok-lower_loads-in-Suffixed-clause-code : goal.expression::lower_expression-returns-in_ok-lower_loads-in-Suffixed-clause-code
+expression::lower_expression-returns-in_ok-lower_loads-in-Suffixed-clause-code t c =
+    let w = world_of c.args.program.now in
+    let names = names_of c.args.locals.now in
+    let d = c.args.to.0 in
+    let own = length c.args.own.now.items in
+    let e = expression_tree c.args.expression.now in
+    let p = reached_place c.in_ok-reached-in-Suffixed.reached in
+    let left = suffixed_left w names e own in
+    let code =
+    suffixed_value w names d own e (expression_tree c.in-Suffixed.field-0.value) (suffixes_of (map suffix_tree c.in-Suffixed.field-1.items))
+    (ap expression_tree c.in-Suffixed.is ∙ suffixed_tree c.in-Suffixed.field-0 c.in-Suffixed.field-1) in
+    then_of (map statement_tree c.args.body.now.items) (left.pointer d) (map statement_tree c.lower_suffixed.new.body.items)
+    (loads_code p.shape d p.cells p.bytes) (map statement_tree c.lower_loads.new.body.items) (expression_code w names e d own)
+    c.in_ok-reached-in-Suffixed.ensures.code c.in_ok-lower_loads-in-Suffixed.ensures.code
+    (code ∙ read_left left p d c.in_ok-reached-in-Suffixed.ensures.place)
+
+pub place::lower_place-returns-in_ok-lower_pointed-in-Suffixed-clause-code : goal.place::lower_place-returns-in_ok-lower_pointed-in-Suffixed-clause-code
+place::lower_place-returns-in_ok-lower_pointed-in-Suffixed-clause-code t c =
+    let w = world_of c.args.program.now in
+    let names = names_of c.args.locals.now in
+    let d = c.args.to.0 in
+    let own = length c.args.own.now.items in
+    let e = expression_tree c.args.place.now in
+    let p = reached_place c.in_ok-reached-in-Suffixed.reached in
+    let left = suffixed_left w names e own in
+    let code =
+    suffixed_place w names d own e (expression_tree c.in-Suffixed.field-0.value) (suffixes_of (map suffix_tree c.in-Suffixed.field-1.items))
+    (ap expression_tree c.in-Suffixed.is ∙ suffixed_tree c.in-Suffixed.field-0 c.in-Suffixed.field-1) in
+    then_of (map statement_tree c.args.body.now.items) (left.pointer d) (map statement_tree c.lower_suffixed.new.body.items)
+    (offset_code d p.cells p.bytes) (map statement_tree c.lower_pointed.new.body.items) (place_code w names e d own)
+    c.in_ok-reached-in-Suffixed.ensures.code c.in_ok-lower_pointed-in-Suffixed.ensures.code
+    (code ∙ pointed_left left p d c.in_ok-reached-in-Suffixed.ensures.place)
+
+pub place::lower_put-returns-in_ok-lower_stores-in-Suffixed-clause-code : goal.place::lower_put-returns-in_ok-lower_stores-in-Suffixed-clause-code
+place::lower_put-returns-in_ok-lower_stores-in-Suffixed-clause-code t c =
+    let w = world_of c.args.program.now in
+    let names = names_of c.args.locals.now in
+    let d = c.args.from.0 in
+    let own = length c.args.own.now.items in
+    let e = expression_tree c.args.place.now in
+    let p = reached_place c.in_ok-reached-in-Suffixed.reached in
+    let at = c.in_ok-at-in-Suffixed.at.0 in
+    let s = shape_tree c.in_ok-shape-in-Suffixed.shape in
+    let left = suffixed_left w names e own in
+    let at_is : at ≡ d + words_in s = c.in_ok-at-in-Suffixed.ensures.further ∙ ap (λ x. d + x) c.words.ensures in
+    let code =
+    suffixed_put w names d own e (expression_tree c.in-Suffixed.field-0.value) (suffixes_of (map suffix_tree c.in-Suffixed.field-1.items)) s at
+    (ap expression_tree c.in-Suffixed.is ∙ suffixed_tree c.in-Suffixed.field-0 c.in-Suffixed.field-1) c.in_ok-shape-in-Suffixed.ensures.shape at_is in
+    then_of (map statement_tree c.args.body.now.items) (left.pointer at) (map statement_tree c.lower_suffixed.new.body.items)
+    (stores_code p.shape at d p.cells p.bytes) (map statement_tree c.lower_stores.new.body.items) (put_code w names e d own)
+    c.in_ok-reached-in-Suffixed.ensures.code c.in_ok-lower_stores-in-Suffixed.ensures.code
+    (code ∙ stored_left left p at d c.in_ok-reached-in-Suffixed.ensures.place)
+
+-- indices: the last one that is left comes behind those that were evaluated
+pub place::lower_indices-returns-in_err-to-clause-taken : goal.place::lower_indices-returns-in_err-to-clause-taken
+place::lower_indices-returns-in_err-to-clause-taken t c = λ h.
+    let w = world_of c.args.program.now in
+    let names = names_of c.args.locals.now in
+    let ss = c.args.suffixes.now in
+    let at = length ss - 1 - c.each.k in
+    let item = c.index-suffixes-suffixes.result in
+    let within : at < length ss = omega (arith, c.each-test.true) in
+    let here = left_suffixes ss at item within c.index-suffixes-suffixes.is in
+    let takes = subst (TakesIndices w names) here (further_taken w names ss at h) in
+    let memory = c.in_err-to.ensures.taken (each_taken w names (suffix_tree item) (map suffix_tree (drop (at + 1) ss)) takes).0 in
+    search (rules, memory)
+
+pub place::lower_indices-each-preserved : goal.place::lower_indices-each-preserved
+place::lower_indices-each-preserved t c =
+    let w = world_of c.args.program.now in
+    let names = names_of c.args.locals.now in
+    let d = c.args.first.0 in
+    let own = length c.args.own.now.items in
+    let ss = c.args.suffixes.now in
+    let k = c.each.k in
+    let at = length ss - 1 - k in
+    let item = c.index-suffixes-suffixes.result in
+    let one = suffix_tree item in
+    let rest = map suffix_tree (drop (at + 1) ss) in
+    let within : at < length ss = omega (arith, c.each-test.true) in
+    let begun : length ss - k ≡ at + 1 = omega (arith, c.each-test.true) in
+    let next : length ss - (k + 1) ≡ at = omega (arith, c.each-test.true) in
+    let from : suffixes_of (map suffix_tree (drop (length ss - k) ss)) ≡ suffixes_of rest = ap (λ n. suffixes_of (map suffix_tree (drop n ss))) begun in
+    let to : suffixes_of (map suffix_tree (drop (length ss - (k + 1)) ss)) ≡ suffixes_of (one ∷ rest) =
+    ap (λ n. suffixes_of (map suffix_tree (drop n ss))) next ∙ left_suffixes ss at item within c.index-suffixes-suffixes.is in
+    let before = map statement_tree c.args.body.now.items in
+    let owned = map shape_tree c.args.own.now.items in
+    let values_are : map shape_tree c.each.own.items ≡ owned ++ suffix_values w names (suffixes_of rest) =
+    c.each.invariant.values ∙ ap (λ x. owned ++ suffix_values w names x) from in
+    let behind_is : c.each.to.0 ≡ d + indices_in (suffixes_of rest) = c.each.invariant.behind ∙ ap (λ x. d + indices_in x) from in
+    let to_is : c.in_ok-to.to.0 ≡ d + indices_in (suffixes_of (one ∷ rest)) =
+    omega (arith, c.in_ok-to.ensures.behind, behind_is, indices_count one rest) in
+    record {
+      code = more_indices w names one rest d own c.each.to.0 (length c.each.own.items) before (map statement_tree c.each.body.items)
+          (map statement_tree c.lower_subscript.new.body.items) (c.each.invariant.code ∙ ap (λ x. before ++ indices_code w names x d own) from) behind_is
+          (grown shape_tree c.each.own.items c.args.own.now.items (suffix_values w names (suffixes_of rest)) values_are) c.in_ok-to.ensures.code
+          ∙ ap (λ x. before ++ indices_code w names x d own) (sym to);
+      values = then_of owned (suffix_values w names (suffixes_of rest)) (map shape_tree c.each.own.items) (suffix_values w names (suffixes_of (one ∷ [])))
+          (map shape_tree c.lower_subscript.new.own.items) (suffix_values w names (suffixes_of (one ∷ rest))) values_are c.in_ok-to.ensures.values
+          (values_behind w names one rest)
+          ∙ ap (λ x. owned ++ suffix_values w names x) (sym to);
+      behind = to_is ∙ ap (λ x. d + indices_in x) (sym to);
+    }
+
+pub place::lower_indices-returns-clause-values : goal.place::lower_indices-returns-clause-values
+place::lower_indices-returns-clause-values t c =
+    let ss = c.args.suffixes.now in
+    let all : length ss - c.each.k ≡ 0 = omega (arith, c.each-test.false) in
+    c.each.invariant.values
+    ∙ ap (λ n. map shape_tree c.args.own.now.items ++
+    suffix_values (world_of c.args.program.now) (names_of c.args.locals.now) (suffixes_of (map suffix_tree (drop n ss)))) all
+
+-- suffixes: the indices, then the primary, and then what is behind the first suffix
+pub place::lower_suffixed-returns-in_err-behind-clause-taken : goal.place::lower_suffixed-returns-in_err-behind-clause-taken
+place::lower_suffixed-returns-in_err-behind-clause-taken t c = λ h.
+    let w = world_of c.args.program.now in
+    let names = names_of c.args.locals.now in
+    let primary = expression_tree c.in-Suffixed.primary.value in
+    let items = suffixes_of (map suffix_tree c.in-Suffixed.suffixes.items) in
+    let takes = subst (TakesSuffixed w names) (ap expression_tree c.in-Suffixed.is ∙ suffixed_tree c.in-Suffixed.primary c.in-Suffixed.suffixes) h in
+    let indices = indices_taken w names items (static_shape w names primary) (Takes w names primary) (TakesPlace w names primary) takes in
+    let memory = c.in_err-behind.ensures.taken
+    (subst (TakesIndices w names) (sym (ap (λ ss. suffixes_of (map suffix_tree ss)) c.deref.ensures.value)) indices) in
+    search (rules, memory)
+
+pub place::lower_suffixed-returns-in_err-reached-clause-taken : goal.place::lower_suffixed-returns-in_err-reached-clause-taken
+place::lower_suffixed-returns-in_err-reached-clause-taken t c = λ h.
+    let w = world_of c.args.program.now in
+    let names = names_of c.args.locals.now in
+    let d = c.args.to.0 in
+    let own = length c.args.own.now.items in
+    let e = expression_tree c.args.place.now in
+    let a = expression_tree c.deref-3.result.now in
+    let one = suffix_tree c.in-Some.first.now in
+    let rest = map suffix_tree c.in-Some.others.now in
+    let all = suffixes_of (one ∷ rest) in
+    let items = suffixes_of (map suffix_tree c.in-Suffixed.suffixes.items) in
+    let here : all ≡ items = ap (λ ss. suffixes_of (map suffix_tree ss)) (sym c.in-Some.ensures.cases.0 ∙ c.deref-2.ensures.value) in
+    let place_is : e ≡ Expression.Suffixed a all =
+    suffixed_is w names d own e (expression_tree c.in-Suffixed.primary.value) a items all
+    (ap expression_tree c.in-Suffixed.is ∙ suffixed_tree c.in-Suffixed.primary c.in-Suffixed.suffixes) (ap expression_tree c.deref-3.ensures) here in
+    let takes = subst (TakesSuffixed w names) place_is h in
+    let memory = c.in_err-reached.ensures.taken
+    (suffixes_one w names one rest (static_shape w names a) (Takes w names a) (TakesPlace w names a) takes).0 in
+    search (rules, memory)
+
+pub place::lower_suffixed-returns-clause-code : goal.place::lower_suffixed-returns-clause-code
+place::lower_suffixed-returns-clause-code t c =
+    let w = world_of c.args.program.now in
+    let names = names_of c.args.locals.now in
+    let d = c.args.to.0 in
+    let own = length c.args.own.now.items in
+    let e = expression_tree c.args.place.now in
+    let a = expression_tree c.deref-3.result.now in
+    let one = suffix_tree c.in-Some.first.now in
+    let rest = map suffix_tree c.in-Some.others.now in
+    let all = suffixes_of (one ∷ rest) in
+    let items = suffixes_of (map suffix_tree c.in-Suffixed.suffixes.items) in
+    let here : all ≡ items = ap (λ ss. suffixes_of (map suffix_tree ss)) (sym c.in-Some.ensures.cases.0 ∙ c.deref-2.ensures.value) in
+    let place_is : e ≡ Expression.Suffixed a all =
+    suffixed_is w names d own e (expression_tree c.in-Suffixed.primary.value) a items all
+    (ap expression_tree c.in-Suffixed.is ∙ suffixed_tree c.in-Suffixed.primary c.in-Suffixed.suffixes) (ap expression_tree c.deref-3.ensures) here in
+    let indexed : suffixes_of (map suffix_tree c.deref.result.now) ≡ all =
+    ap (λ ss. suffixes_of (map suffix_tree ss)) c.deref.ensures.value ∙ sym here in
+    let before = map statement_tree c.args.body.now.items in
+    let owned = c.lower_indices.new.own.items in
+    let pointer = c.reached_in-pointer.result.0 in
+    let number = grown shape_tree owned c.args.own.now.items (suffix_values w names all)
+    (c.in_ok-behind.ensures.values ∙ ap (λ x. map shape_tree c.args.own.now.items ++ suffix_values w names x) indexed) in
+    let behind_is : c.in_ok-behind.behind.0 ≡ d + indices_in all = c.in_ok-behind.ensures.behind ∙ ap (λ x. d + indices_in x) indexed in
+    let pointer_is : pointer ≡ d + indices_in (suffixes_of rest) = omega (arith, behind_is, c.reached_in-pointer.ensures, indices_count one rest) in
+    on_ok c.follow.result c.follow.ensures.code
+    (λ is.
+    suffixed_whole w names one rest a d own (length owned) c.in_ok-behind.behind.0 pointer before (map statement_tree c.lower_indices.new.body.items)
+    (map statement_tree c.lower_first.new.body.items) (map statement_tree c.follow.new.body.items) (reached_place c.in_ok-reached.reached) number behind_is
+    pointer_is c.in_ok-reached.ensures.place (c.in_ok-behind.ensures.code ∙ ap (λ x. before ++ indices_code w names x d own) indexed)
+    c.in_ok-reached.ensures.code is
+    ∙ ap (λ x. before ++ (suffixed_left w names x own).pointer d) (sym place_is))
+
+pub place::lower_suffixed-returns-clause-values : goal.place::lower_suffixed-returns-clause-values
+place::lower_suffixed-returns-clause-values t c =
+    let w = world_of c.args.program.now in
+    let names = names_of c.args.locals.now in
+    let d = c.args.to.0 in
+    let own = length c.args.own.now.items in
+    let e = expression_tree c.args.place.now in
+    let a = expression_tree c.deref-3.result.now in
+    let one = suffix_tree c.in-Some.first.now in
+    let rest = map suffix_tree c.in-Some.others.now in
+    let all = suffixes_of (one ∷ rest) in
+    let items = suffixes_of (map suffix_tree c.in-Suffixed.suffixes.items) in
+    let here : all ≡ items = ap (λ ss. suffixes_of (map suffix_tree ss)) (sym c.in-Some.ensures.cases.0 ∙ c.deref-2.ensures.value) in
+    let place_is : e ≡ Expression.Suffixed a all =
+    suffixed_is w names d own e (expression_tree c.in-Suffixed.primary.value) a items all
+    (ap expression_tree c.in-Suffixed.is ∙ suffixed_tree c.in-Suffixed.primary c.in-Suffixed.suffixes) (ap expression_tree c.deref-3.ensures) here in
+    let indexed : suffixes_of (map suffix_tree c.deref.result.now) ≡ all =
+    ap (λ ss. suffixes_of (map suffix_tree ss)) c.deref.ensures.value ∙ sym here in
+    let owned = map shape_tree c.args.own.now.items in
+    on_ok c.follow.result c.follow.ensures.code
+    (λ is.
+    then_of owned (suffix_values w names all) (map shape_tree c.lower_indices.new.own.items) (expression_values w names a)
+    (map shape_tree c.lower_first.new.own.items) (expression_values w names e)
+    (c.in_ok-behind.ensures.values ∙ ap (λ x. owned ++ suffix_values w names x) indexed) c.in_ok-reached.ensures.values
+    (ap (expression_values w names) place_is))
+
+pub place::lower_suffixed-returns-clause-place : goal.place::lower_suffixed-returns-clause-place
+place::lower_suffixed-returns-clause-place t c =
+    let w = world_of c.args.program.now in
+    let names = names_of c.args.locals.now in
+    let d = c.args.to.0 in
+    let own = length c.args.own.now.items in
+    let e = expression_tree c.args.place.now in
+    let a = expression_tree c.deref-3.result.now in
+    let one = suffix_tree c.in-Some.first.now in
+    let rest = map suffix_tree c.in-Some.others.now in
+    let all = suffixes_of (one ∷ rest) in
+    let items = suffixes_of (map suffix_tree c.in-Suffixed.suffixes.items) in
+    let here : all ≡ items = ap (λ ss. suffixes_of (map suffix_tree ss)) (sym c.in-Some.ensures.cases.0 ∙ c.deref-2.ensures.value) in
+    let place_is : e ≡ Expression.Suffixed a all =
+    suffixed_is w names d own e (expression_tree c.in-Suffixed.primary.value) a items all
+    (ap expression_tree c.in-Suffixed.is ∙ suffixed_tree c.in-Suffixed.primary c.in-Suffixed.suffixes) (ap expression_tree c.deref-3.ensures) here in
+    let first = own + length (suffix_values w names all) in
+    if_ok c.follow.result c.follow.ensures.place
+    (λ reached is.
+    subst (λ x. IsLeftAt (suffixed_left w names x own) (reached_place reached) d) (sym place_is)
+    (begun_place w names (static_shape w names a) (λ u. expression_code w names a u first) (λ u. place_code w names a u first) own one rest
+    (reached_place reached) (reached_place c.in_ok-reached.reached) d c.in_ok-reached.ensures.place is))
+
+pub place::lower_suffixed-returns-clause-shape : goal.place::lower_suffixed-returns-clause-shape
+place::lower_suffixed-returns-clause-shape t c =
+    let w = world_of c.args.program.now in
+    let names = names_of c.args.locals.now in
+    let d = c.args.to.0 in
+    let own = length c.args.own.now.items in
+    let e = expression_tree c.args.place.now in
+    let a = expression_tree c.deref-3.result.now in
+    let one = suffix_tree c.in-Some.first.now in
+    let rest = map suffix_tree c.in-Some.others.now in
+    let all = suffixes_of (one ∷ rest) in
+    let items = suffixes_of (map suffix_tree c.in-Suffixed.suffixes.items) in
+    let here : all ≡ items = ap (λ ss. suffixes_of (map suffix_tree ss)) (sym c.in-Some.ensures.cases.0 ∙ c.deref-2.ensures.value) in
+    let place_is : e ≡ Expression.Suffixed a all =
+    suffixed_is w names d own e (expression_tree c.in-Suffixed.primary.value) a items all
+    (ap expression_tree c.in-Suffixed.is ∙ suffixed_tree c.in-Suffixed.primary c.in-Suffixed.suffixes) (ap expression_tree c.deref-3.ensures) here in
+    let s = static_shape w names a in
+    if_ok c.follow.result c.follow.ensures.place
+    (λ reached is.
+    ap (λ (x : Place). x.shape) (is ∙ ap (further_place w (suffixes_of rest)) c.in_ok-reached.ensures.place ∙ sym (place_one w one rest (place_at_once s)))
+    ∙ place_shape w all (place_at_once s) ∙ ap (static_shape w names) (sym place_is))
 
 -- what is left has its numbers behind those of what was appended
 pub operands::lower_links-each-preserved : goal.operands::lower_links-each-preserved
@@ -182,21 +570,23 @@ operands::lower_links-each-preserved t c =
     let s = static_shape w names e in
     let shape_is : shape ≡ s = c.in_ok-shape.ensures.shape in
     let left_is : shape_tree c.operator_shape-left.result ≡ operator_shape o left s = c.operator_shape-left.ensures ∙ ap (operator_shape o left) shape_is in
-    let code = expression_code w names e (d + 1) own ++ operator_code o left s d in
+    let right = d + words_in left in
+    let right_is : c.in_ok-right.right.0 ≡ right = c.in_ok-right.ensures.further ∙ ap (λ n. d + n) c.words.ensures in
+    let code = expression_code w names e right own ++ operator_code o left s d in
     let rest = links_code w names others (operator_shape o left s) d (own + length values) in
     let all = map statement_tree c.args.body.now.items ++
     links_code w names (links_of (map link_tree c.args.links.now)) (shape_tree c.args.first) d (length c.args.own.now.items) in
     let every = map shape_tree c.args.own.now.items ++ link_values w names (links_of (map link_tree c.args.links.now)) in
-    let middle_is : map statement_tree c.lower_expression.new.body.items ≡ before ++ expression_code w names e (d + 1) own =
-    c.in_ok-shape.ensures.code ∙ ap (λ x. before ++ expression_code w names e x own) c.in_ok-after.ensures.next in
+    let middle_is : map statement_tree c.lower_expression.new.body.items ≡ before ++ expression_code w names e right own =
+    c.in_ok-shape.ensures.code ∙ ap (λ x. before ++ expression_code w names e x own) right_is in
     let after_is : after ≡ before ++ code =
-    then_of before (expression_code w names e (d + 1) own) (map statement_tree c.lower_expression.new.body.items) (operator_code o left shape d) after code
-    middle_is c.in_ok-lower_operator.ensures.code (ap (λ x. expression_code w names e (d + 1) own ++ operator_code o left x d) (sym shape_is)) in
+    then_of before (expression_code w names e right own) (map statement_tree c.lower_expression.new.body.items) (operator_code o left shape d) after code
+    middle_is c.in_ok-lower_operator.ensures.code (ap (λ x. expression_code w names e right own ++ operator_code o left x d) (sym shape_is)) in
     record {
       code = ap (λ x. after ++ links_code w names others x d (length more)) left_is
           ∙ ap (λ x. after ++ links_code w names others (operator_shape o left s) d x) number
           ∙ behind before code rest after all after_is
-          (ap (λ x. before ++ x) (append_assoc (expression_code w names e (d + 1) own) (operator_code o left s d) rest)
+          (ap (λ x. before ++ x) (append_assoc (expression_code w names e right own) (operator_code o left s d) rest)
           ∙ ap (λ x. before ++ links_code w names x left d own) (sym here) ∙ c.each.invariant.code);
       values = behind owned values (link_values w names others) (map shape_tree more) every c.in_ok-shape.ensures.values
           (ap (λ x. owned ++ link_values w names x) (sym here) ∙ c.each.invariant.values);
@@ -282,7 +672,9 @@ pub operands::lower_arguments-each-preserved : goal.operands::lower_arguments-ea
 operands::lower_arguments-each-preserved t c =
     let w = world_of c.args.program.now in
     let names = names_of c.args.locals.now in
-    let d = c.each.to.0 in
+    let first_at = c.args.first.0 in
+    let d = first_at + c.each.words in
+    let to_is : c.in_ok-to.to.0 ≡ d = c.in_ok-to.ensures.further in
     let k = c.each.argument-index in
     let own = length c.each.own.items in
     let e = expression_tree c.argument-item.result in
@@ -301,24 +693,34 @@ operands::lower_arguments-each-preserved t c =
     let owned = map shape_tree c.each.own.items in
     let from_is = c.in_ok-from.ensures.shape in
     let first = expression_code w names e d own in
-    let conversion = conversion_code shape (static_shape w names e) d in
-    let rest = arguments_code w names more_shapes others (d + 1) (own + length values) in
+    let conversion = conversion_code w shape (static_shape w names e) d in
+    let behind_it = d + words_in shape in
+    let rest = arguments_code w names more_shapes others behind_it (own + length values) in
+    let words_are : c.in_ok-words.words ≡ c.each.words + words_in shape = c.in_ok-words.ensures.sum ∙ ap (λ n. c.each.words + n) c.words.ensures in
+    let further_is : first_at + c.in_ok-words.words ≡ behind_it = omega (arith, words_are) in
     let all = map statement_tree c.args.body.now.items ++
     arguments_code w names (map shape_tree c.args.shapes.now) (expressions_of (map expression_tree c.args.arguments.now)) c.args.first.0
     (length c.args.own.now.items) in
     let every = map shape_tree c.args.own.now.items ++ all_values w names (expressions_of (map expression_tree c.args.arguments.now)) in
     let after_is : after ≡ before ++ (first ++ conversion) =
-    then_of before first (map statement_tree c.lower_expression-in-each.new.body.items) (conversion_code shape (shape_tree c.in_ok-from.from) d) after
-    (first ++ conversion) c.in_ok-from.ensures.code c.in_ok-lower_conversion.ensures.code (ap (λ x. first ++ conversion_code shape x d) (sym from_is)) in
+    then_of before first (map statement_tree c.lower_expression-in-each.new.body.items) (conversion_code w shape (static_shape w names e) c.in_ok-to.to.0) after
+    (first ++ conversion) (c.in_ok-from.ensures.code ∙ ap (λ x. before ++ expression_code w names e x own) to_is)
+    (c.in_ok-lower_conversion.ensures.code
+    ∙ ap (λ x. map statement_tree c.lower_expression-in-each.new.body.items ++ conversion_code w shape x c.in_ok-to.to.0) from_is)
+    (ap (λ x. first ++ conversion_code w shape (static_shape w names e) x) (sym to_is)) in
     record {
-      code = ap (λ x. after ++ arguments_code w names more_shapes others x (length more)) c.in_ok-after.ensures.next
-          ∙ ap (λ x. after ++ arguments_code w names more_shapes others (d + 1) x) number
+      code = ap (λ x. after ++ arguments_code w names more_shapes others x (length more)) further_is
+          ∙ ap (λ x. after ++ arguments_code w names more_shapes others behind_it x) number
           ∙ behind before (first ++ conversion) rest after all after_is
           (ap (λ x. before ++ x) (append_assoc first conversion rest)
           ∙ ap (λ x. before ++ arguments_code w names x (MoreExpressions e others) d own) (sym shapes_are)
           ∙ ap (λ x. before ++ arguments_code w names shapes x d own) (sym here) ∙ c.each.invariant.code);
       values = behind owned values (all_values w names others) (map shape_tree more) every c.in_ok-from.ensures.values
           (ap (λ x. owned ++ all_values w names x) (sym here) ∙ c.each.invariant.values);
+      words = ap (λ x. x + argument_words more_shapes others) words_are
+          ∙ add_assoc c.each.words (words_in shape) (argument_words more_shapes others)
+          ∙ ap (λ x. c.each.words + argument_words x (MoreExpressions e others)) (sym shapes_are)
+          ∙ ap (λ x. c.each.words + argument_words shapes x) (sym here) ∙ c.each.invariant.words;
       taken = λ h. (subst (TakesAll w names) here (c.each.invariant.taken h)).1;
     }
 
@@ -340,14 +742,14 @@ whole::lower_members-each-preserved t c =
     ap (λ ms. map part_of (map member_tree ms)) (first_of c.each.left.now c.member-item.result c.in-len1-up.len_at_least c.member-item.is) in
     let shape_is : shape_tree c.of-shape.result ≡ p.shape = c.of-shape.ensures in
     let room = extent_of w p.shape in
-    let room_is : room_tree c.in_ok-room.room ≡ room = c.in_ok-room.ensures.room ∙ ap (extent_of w) shape_is in
+    let room_is : room_tree c.extent-room.result ≡ room = c.extent-room.ensures ∙ ap (extent_of w) shape_is in
     let at = rounded_up c.each.slot.bytes room.align in
     let at_is : c.in_ok-slot.field-0 ≡ at = c.in_ok-slot.ensures.rounded ∙ ap (λ (x : Extent). rounded_up c.each.slot.bytes x.align) room_is in
     let more_cells = cells + length (cells_of w p.shape) in
     let cells_are : c.in_ok-slot-2.field-0 ≡ more_cells =
     c.in_ok-slot-2.ensures.sum ∙ ap (λ x. cells + x) (c.in_ok-count.ensures.count ∙ ap (λ x. length (cells_of w x)) shape_is) in
     let bytes_are : c.in_ok-slot-3.field-0 ≡ at + room.size =
-    c.in_ok-slot-3.ensures.sum ∙ ap (λ x. x + c.in_ok-room.room.size) at_is ∙ ap (λ (x : Extent). at + x.size) room_is in
+    c.in_ok-slot-3.ensures.sum ∙ ap (λ x. x + c.extent-room.result.size) at_is ∙ ap (λ (x : Extent). at + x.size) room_is in
     let values = values_by p.shape (whole_values w names e) (expression_values w names e) in
     let more = c.lower_member.new.own.items in
     let owned = map shape_tree c.each.own.items in

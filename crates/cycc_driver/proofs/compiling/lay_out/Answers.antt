@@ -7,10 +7,9 @@ use Rattle.core_frames.specs.Statics.{data_bytes}
 use Rattle.core_meaning.specs.Core as core
 use Rattle.rv32_layout.specs.declared.fault.PlaceFault.{PlaceFault}
 use Rattle.rv32_layout.specs.Holding.{IsCodeOf}
-use Rattle.rv32_layout.specs.Limits.{AreTooLarge}
 use Rattle.rv32_layout.specs.Placed.{ArePlaced, place_of}
-use Rattle.cyc_image.specs.Format.{data_limit}
-use Rattle.cycc_driver.proofs.Implementing.{data_fit, implemented, is_code, long_code}
+use Rattle.cyc_image.specs.Format.{code_limit, data_limit}
+use Rattle.cycc_driver.proofs.Implementing.{data_fit, implemented, is_code}
 use Rattle.cycc_driver.proofs.compiling.lay_out.Goals as goal
 
 pub returns-in-Err-TooLarge-clause-refused : goal.returns-in-Err-TooLarge-clause-refused
@@ -18,7 +17,7 @@ returns-in-Err-TooLarge-clause-refused c =
     let lines = c.in_ok-labelled.ensures.code ∙ ap select.program_code c.in_ok-core.ensures.code in
     let large = c.in-Err-TooLarge.ensures.too_large.0 (ap (λ (f : PlaceFault). Err f) c.in-Err-TooLarge.field-0-is) in
     record {
-      long = long_code c.args.checked.now c.in_ok-core.ensures.accepted (subst AreTooLarge lines large);
+      long = subst (λ (ls : List Line). code_limit < code_length ls) lines large;
       line = refl;
       column = refl;
     }

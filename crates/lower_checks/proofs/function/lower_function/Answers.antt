@@ -15,6 +15,6 @@ returns-in_err-own-clause-taken c =
     let f = routine_of (source_tree c.args.function.now) in
     let objects : AreObjects w.structs (routine_values w f) =
     item_objects w f.result (parameter_names f.parameters 0 []) (length f.parameters) f.body h.body in
-    let values_are : map shape_tree c.deref-3.result.now ≡ routine_values w f = ap (map shape_tree) c.deref-3.ensures.value ∙ c.in_ok-body.ensures.values in
+    let values_are : map shape_tree c.deref-3.result.now ≡ routine_values w f = ap (map shape_tree) c.deref-3.ensures.value ∙ c.in_ok-parameters.ensures.values in
     let values : AreObjects w.structs (map shape_tree c.deref-3.result.now) = subst (AreObjects w.structs) (sym values_are) objects in
     search rules

@@ -1,23 +1,38 @@
-use Rattle.std.proofs.Common.{◌≡◌, sym, subst, IfOk}
+use Rattle.std.proofs.Common.{◌≡◌, ◌∙◌, rules, sym, ap, subst, IfOk}
 use Rattle.cyc_tree.specs.View.{initial_tree, type_tree}
 use Rattle.cyc_core.specs.Trees.{datum_tree}
-use Rattle.source_meaning.specs.Shapes.{Shape}
+use Rattle.source_meaning.specs.Shapes.{Shape, settled, written}
 use Rattle.source_meaning.specs.Programs.{world_of}
 use Rattle.source_lowering.specs.Programs.{global_datum}
 use Rattle.source_lowering.specs.Lowerable.{IsObject, TakesGlobal}
 use Rattle.source_lowering.proofs.WrittenTypes.{object_settled}
+use Rattle.lower_checks.specs.Views.{stored_tree, written_shape}
+use Rattle.lower_checks.proofs.Taken.{array_global, one_global}
 use Rattle.lower_checks.proofs.program.lower_global.Goals as goal
 
-pub returns-clause-datum : goal.returns-clause-datum
-returns-clause-datum c =
+pub returns-in-One-clause-datum : goal.returns-in-One-clause-datum
+returns-in-One-clause-datum c =
     let w = world_of c.args.program.now in
     let initial = initial_tree c.args.global.now.initial in
-    subst (λ (s : Shape). IfOk c.first_datum.result (λ datum. datum_tree datum ≡ global_datum w initial s)) c.of.ensures c.first_datum.ensures.datum
+    let is = sym (ap stored_tree c.in-One.is) ∙ c.global_stored.ensures in
+    subst (λ (s : Shape). IfOk c.first_datum.result (λ datum. datum_tree datum ≡ global_datum w initial s)) is c.first_datum.ensures.datum
 
-pub returns-clause-taken : goal.returns-clause-taken
-returns-clause-taken c =
+pub returns-in-One-clause-taken : goal.returns-in-One-clause-taken
+returns-in-One-clause-taken c =
     λ object takes.
     let w = world_of c.args.program.now in
+    let of = type_tree c.args.global.now.of in
     let initial = initial_tree c.args.global.now.initial in
-    c.first_datum.ensures.taken (subst (IsObject w.structs) (sym c.of.ensures) (object_settled w.structs (type_tree c.args.global.now.of) object))
-    (subst (λ (s : Shape). TakesGlobal s initial) (sym c.of.ensures) takes)
+    let is = one_global c.in-One.shape initial (settled (written of)) (sym (ap stored_tree c.in-One.is) ∙ c.global_stored.ensures) in
+    c.first_datum.ensures.taken (subst (IsObject w.structs) is (object_settled w.structs of object)) (subst (λ (s : Shape). TakesGlobal s initial) is takes)
+
+pub returns-in_err-layout-in-Array-clause-taken : goal.returns-in_err-layout-in-Array-clause-taken
+returns-in_err-layout-in-Array-clause-taken c =
+    λ object takes.
+    let w = world_of c.args.program.now in
+    let of = type_tree c.args.global.now.of in
+    let initial = initial_tree c.args.global.now.initial in
+    let is = sym (ap stored_tree c.in-Array.is) ∙ c.global_stored.ensures in
+    let element = array_global w.structs initial (settled (written of)) c.in-Array.count (written_shape c.in-Array.of) is (object_settled w.structs of object) in
+    let taken = c.in_err-layout-in-Array.ensures.taken (subst (IsObject w.structs) (sym c.shape.ensures) element) in
+    search rules

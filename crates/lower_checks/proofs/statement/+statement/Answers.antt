@@ -23,8 +23,9 @@ use Rattle.source_lowering.specs.Programs.{
   statement_code,
   statement_values,
 }
-use Rattle.source_lowering.specs.Lowerable.{AreObjects, TakesItems}
-use Rattle.lower_checks.specs.Views.{regions_tree, shape_tree}
+use Rattle.source_lowering.specs.Lowerable.{TakesItems}
+use Rattle.lower_checks.specs.Structs.{AreVariables}
+use Rattle.lower_checks.specs.Views.{regions_tree, shape_tree, stored_tree}
 use Rattle.lower_checks.specs.Visible.{Declared, names_of, left as left_of}
 use Rattle.lower_checks.proofs.Items.{
   left_items,
@@ -38,11 +39,11 @@ use Rattle.lower_checks.proofs.Items.{
   values_executed,
 }
 use Rattle.lower_checks.proofs.Lists.{on_ok, choice_of, loop_of}
-use Rattle.source_lowering.proofs.EachDeclaration.{block_objects}
+use Rattle.lower_checks.proofs.Taken.{block_variables}
 use Rattle.lower_checks.proofs.Wholes.{grown}
 use Rattle.lower_checks.proofs.statement.+statement.Goals as goal
 use Rattle.lower_checks.proofs.statement.+statement.Goals.{
-  lower_items-in-Declare+in_ok-index-in-Declare+in_ok-lower_declaration-in-Declare+in_ok-declared-in-Declare+in_ok-add_shape-in-Declare+in_ok-declare-in-Declare+in_ok-regions-in-Declare,
+  lower_items-in-Declare+in_ok-index-in-Declare+in_ok-lower_declaration-in-Declare+in_ok-stored-in-Declare+in_ok-add_stored-in-Declare+in_ok-declare-in-Declare+in_ok-regions-in-Declare,
   lower_items-in-Execute+in_ok-lower_statement-in-Execute,
 }
 
@@ -185,7 +186,7 @@ lower_statement-returns-in_ok-turn-in-While-clause-code t c =
     (statement_code w result names h own (source_tree c.args.statement.now)) c.value-to.result.0 h.all to_is test_is turn_is
     (ap (statement_code w result names h own) is))
 
--- the locals of a block that is taken are objects
+-- the locals of a block that is taken are variables
 pub lower_block-returns-in_err-locals_of-clause-taken : goal.lower_block-returns-in_err-locals_of-clause-taken
 lower_block-returns-in_err-locals_of-clause-taken t c =
     λ h.
@@ -193,22 +194,22 @@ lower_block-returns-in_err-locals_of-clause-taken t c =
     let names = names_of c.args.locals.now in
     let result = shape_tree c.args.shape in
     let items = items_of (map item_tree c.args.items.now) in
-    let shapes_are : map shape_tree c.deref.result.now ≡ block_shapes items =
-    ap (map shape_tree) c.deref.ensures.value ∙ c.in_ok-lower_items.ensures.shapes
-    ∙ ap (λ ss. map shape_tree ss ++ block_shapes items) c.new-shapes.ensures.items in
-    let locals : AreObjects w.structs (map shape_tree c.deref.result.now) =
-    subst (AreObjects w.structs) (sym shapes_are) (block_objects w result (outward names) 0 items h) in
+    let shapes_are : map stored_tree c.deref.result.now ≡ block_shapes items =
+    ap (map stored_tree) c.deref.ensures.value ∙ c.in_ok-lower_items.ensures.shapes
+    ∙ ap (λ ss. map stored_tree ss ++ block_shapes items) c.new-declared_here.ensures.items in
+    let locals : AreVariables w.structs (map stored_tree c.deref.result.now) =
+    subst (AreVariables w.structs) (sym shapes_are) (block_variables w result (outward names) 0 items h) in
     search rules
 
 -- an item of a block that is taken is taken
-pub lower_items-returns-in_err-declared-in-Declare-clause-taken : goal.lower_items-returns-in_err-declared-in-Declare-clause-taken
-lower_items-returns-in_err-declared-in-Declare-clause-taken t c =
+pub lower_items-returns-in_err-stored-in-Declare-clause-taken : goal.lower_items-returns-in_err-stored-in-Declare-clause-taken
+lower_items-returns-in_err-stored-in-Declare-clause-taken t c =
     λ h.
     let w = world_of c.args.program.now in
     let result = shape_tree c.args.shape in
     let n = c.each.item-index in
     let names = names_of c.each.locals in
-    let index = length c.each.shapes.items in
+    let index = length c.each.declared_here.items in
     let d = declaration_tree c.in-Declare.declaration in
     let others = items_of (map item_tree (drop (n + 1) c.args.items.now)) in
     let here : items_of (map item_tree (drop n c.args.items.now)) ≡ Declare d others =
@@ -216,7 +217,7 @@ lower_items-returns-in_err-declared-in-Declare-clause-taken t c =
     (ap item_tree c.in-Declare.is ∙ declare_tree c.in-Declare.declaration) in
     let both : TakesItems w result names index (Declare d others) =
     subst (λ (x : BlockItems). TakesItems w result names index x) here (c.each.invariant.taken h) in
-    let refused = c.in_err-declared-in-Declare.ensures.taken w names both.0 in
+    let refused = c.in_err-stored-in-Declare.ensures.taken w names both.0 in
     search rules
 
 pub lower_items-returns-in_err-lower_declaration-in-Declare-clause-taken : goal.lower_items-returns-in_err-lower_declaration-in-Declare-clause-taken
@@ -226,7 +227,7 @@ lower_items-returns-in_err-lower_declaration-in-Declare-clause-taken t c =
     let result = shape_tree c.args.shape in
     let n = c.each.item-index in
     let names = names_of c.each.locals in
-    let index = length c.each.shapes.items in
+    let index = length c.each.declared_here.items in
     let d = declaration_tree c.in-Declare.declaration in
     let others = items_of (map item_tree (drop (n + 1) c.args.items.now)) in
     let here : items_of (map item_tree (drop n c.args.items.now)) ≡ Declare d others =
@@ -244,7 +245,7 @@ lower_items-returns-in_err-lower_statement-in-Execute-clause-taken t c =
     let result = shape_tree c.args.shape in
     let n = c.each.item-index in
     let names = names_of c.each.locals in
-    let index = length c.each.shapes.items in
+    let index = length c.each.declared_here.items in
     let s = source_tree c.in-Execute.statement in
     let others = items_of (map item_tree (drop (n + 1) c.args.items.now)) in
     let here : items_of (map item_tree (drop n c.args.items.now)) ≡ Execute s others =
@@ -261,7 +262,7 @@ lower_items-each-init t c = record {
   within = omega arith;
   code = ap (λ (x : List core.Statement). map statement_tree c.args.body.now.items ++ x)
       (none_opened (world_of c.args.program.now) (shape_tree c.args.shape) (names_of c.args.locals.now) (regions_tree c.args.around)
-      (length c.args.shapes.now.items) (length c.args.own.now.items) (items_of (map item_tree c.args.items.now)));
+      (length c.args.declared_here.now.items) (length c.args.own.now.items) (items_of (map item_tree c.args.items.now)));
   values = refl;
   shapes = refl;
   left = refl;
@@ -277,8 +278,8 @@ lower_items-each-preserved t c =
     let item = c.item-item.result in
     let names = names_of c.each.locals in
     let more = names_of c.match-item.locals in
-    let index = length c.each.shapes.items in
-    let next = length c.match-item.shapes.items in
+    let index = length c.each.declared_here.items in
+    let next = length c.match-item.declared_here.items in
     let own = length c.each.own.items in
     let number = length c.match-item.own.items in
     let all = items_of (map item_tree items) in
@@ -290,23 +291,23 @@ lower_items-each-preserved t c =
     let before = map statement_tree c.each.body.items in
     let after = map statement_tree c.match-item.body.items in
     let code = map statement_tree c.args.body.now.items ++
-    items_code w result (names_of c.args.locals.now) (regions_tree c.args.around) (length c.args.shapes.now.items) (length c.args.own.now.items) all in
-    let values = map shape_tree c.args.own.now.items ++ item_values w (names_of c.args.locals.now) (length c.args.shapes.now.items) all in
+    items_code w result (names_of c.args.locals.now) (regions_tree c.args.around) (length c.args.declared_here.now.items) (length c.args.own.now.items) all in
+    let values = map shape_tree c.args.own.now.items ++ item_values w (names_of c.args.locals.now) (length c.args.declared_here.now.items) all in
     let owned = map shape_tree c.each.own.items in
     let owning = map shape_tree c.match-item.own.items in
     elim c.match-item.branch [
-      | lower_items-in-Declare+in_ok-index-in-Declare+in_ok-lower_declaration-in-Declare+in_ok-declared-in-Declare+in_ok-add_shape-in-Declare+in_ok-declare-in-Declare+in_ok-regions-in-Declare v ↦
+      | lower_items-in-Declare+in_ok-index-in-Declare+in_ok-lower_declaration-in-Declare+in_ok-stored-in-Declare+in_ok-add_stored-in-Declare+in_ok-declare-in-Declare+in_ok-regions-in-Declare v ↦
           let d = declaration_tree v.in-Declare.declaration in
           let here : left ≡ Declare d others = left_items items n item (OneItem.Declare d) c.each-test.true c.item-item.is
           (ap item_tree v.in-Declare.is ∙ declare_tree v.in-Declare.declaration) in
           let index_is : v.in_ok-index-in-Declare.index ≡ index =
-          omega (arith, v.in_ok-index-in-Declare.ensures.number, v.len.ensures, c.each.shapes.ok.0) in
+          omega (arith, v.in_ok-index-in-Declare.ensures.number, v.len.ensures, c.each.declared_here.ok.0) in
           let names_are : more ≡ named_here (local_of d).text (local_shape d) index ∷ names =
           ap names_of (v.locals-is ∙ v.in_ok-declare-in-Declare.ensures.declared)
-          ∙ same_name (name_tree v.local.result.now).text (local_of d).text (shape_tree v.in_ok-declared-in-Declare.declared) (local_shape d)
-          v.in_ok-index-in-Declare.index index names (ap (λ (x : Name). x.text) v.local.ensures) v.in_ok-declared-in-Declare.ensures.shape index_is in
-          let shapes_is : next ≡ length v.add_shape.new.shapes.items = cc v.shapes-is in
-          let next_is : next ≡ suc index = shapes_is ∙ v.in_ok-add_shape-in-Declare.ensures.grows in
+          ∙ same_name (name_tree v.local.result.now).text (local_of d).text (stored_tree v.in_ok-stored-in-Declare.stored) (local_shape d)
+          v.in_ok-index-in-Declare.index index names (ap (λ (x : Name). x.text) v.local.ensures) v.in_ok-stored-in-Declare.ensures.stored index_is in
+          let shapes_is : next ≡ length v.add_stored.new.all.items = cc v.declared_here-is in
+          let next_is : next ≡ suc index = shapes_is ∙ v.in_ok-add_stored-in-Declare.ensures.grows in
           let own_is : owning ≡ map shape_tree v.lower_declaration.new.own.items = cc v.own-is in
           let owning_is : owning ≡ owned ++ declaration_values w names d = own_is ∙ v.in_ok-lower_declaration-in-Declare.ensures.values in
           let number_is : number ≡ own + length (declaration_values w names d) =
@@ -326,11 +327,11 @@ lower_items-each-preserved t c =
             values = values_declared w result names more h inside first index next own number others left d names_are next_is here owned owning values owning_is
                 c.each.invariant.values;
             shapes =
-                let added : map shape_tree c.match-item.shapes.items ≡ map shape_tree v.add_shape.new.shapes.items = cc v.shapes-is in
+                let added : map stored_tree c.match-item.declared_here.items ≡ map stored_tree v.add_stored.new.all.items = cc v.declared_here-is in
                 shapes_declared w result names more h inside first index next own number others left d names_are next_is here
-                (map shape_tree c.each.shapes.items) (map shape_tree c.match-item.shapes.items)
-                (map shape_tree c.args.shapes.now.items ++ block_shapes all) (shape_tree v.in_ok-declared-in-Declare.declared)
-                (added ∙ v.in_ok-add_shape-in-Declare.ensures.added) v.in_ok-declared-in-Declare.ensures.shape c.each.invariant.shapes;
+                (map stored_tree c.each.declared_here.items) (map stored_tree c.match-item.declared_here.items)
+                (map stored_tree c.args.declared_here.now.items ++ block_shapes all) (stored_tree v.in_ok-stored-in-Declare.stored)
+                (added ∙ v.in_ok-add_stored-in-Declare.ensures.added) v.in_ok-stored-in-Declare.ensures.stored c.each.invariant.shapes;
             left = ap left_of (v.locals-is ∙ v.in_ok-declare-in-Declare.ensures.declared) ∙ c.each.invariant.left;
             taken = λ h.
                 let inside = named_here (local_of d).text (local_shape d) index ∷ names in
@@ -343,7 +344,7 @@ lower_items-each-preserved t c =
           let here : left ≡ Execute s others = left_items items n item (OneItem.Execute s) c.each-test.true c.item-item.is
           (ap item_tree v.in-Execute.is ∙ execute_tree v.in-Execute.statement) in
           let names_are : more ≡ names = ap names_of (v.locals-is ∙ v.in_ok-lower_statement-in-Execute.ensures.kept) in
-          let next_is : next ≡ index = cc v.shapes-is in
+          let next_is : next ≡ index = cc v.declared_here-is in
           let own_is : owning ≡ map shape_tree v.lower_statement.new.own.items = cc v.own-is in
           let owning_is : owning ≡ owned ++ statement_values w names s = own_is ∙ v.in_ok-lower_statement-in-Execute.ensures.values in
           let number_is : number ≡ own + length (statement_values w names s) =
@@ -358,9 +359,9 @@ lower_items-each-preserved t c =
             values = values_executed w result names more h inside first index next own number others left s names_are next_is here owned owning values owning_is
                 c.each.invariant.values;
             shapes =
-                let same : map shape_tree c.match-item.shapes.items ≡ map shape_tree c.each.shapes.items = cc v.shapes-is in
+                let same : map stored_tree c.match-item.declared_here.items ≡ map stored_tree c.each.declared_here.items = cc v.declared_here-is in
                 ap (λ (x : List Shape). x ++ block_shapes others) same
-                ∙ ap (λ (x : BlockItems). map shape_tree c.each.shapes.items ++ block_shapes x) (sym here) ∙ c.each.invariant.shapes;
+                ∙ ap (λ (x : BlockItems). map stored_tree c.each.declared_here.items ++ block_shapes x) (sym here) ∙ c.each.invariant.shapes;
             left = ap left_of (v.locals-is ∙ v.in_ok-lower_statement-in-Execute.ensures.kept) ∙ c.each.invariant.left;
             taken = λ h.
                 subst (λ (x : List Named). TakesItems w result x next others) (sym names_are)

@@ -8,7 +8,7 @@ use Rattle.lower_checks.proofs.table.all_structs.Goals as goal
 
 pub returns-in_err-add-in-Struct-clause-taken : goal.returns-in_err-add-in-Struct-clause-taken
 returns-in_err-add-in-Struct-clause-taken c =
-    λ are.
+    λ are takes.
     let p = program_tree c.args.items.now in
     let s = structure_tree c.in-Struct.structure in
     let found = c.each.invariant.found in

@@ -1,16 +1,12 @@
 use Rattle.std.proofs.Common.{◌≡◌, ℕ, List, drop}
 use Rattle.cyc_tree.specs.View.{program_tree}
 use Rattle.source_meaning.specs.Places.{bound_to, or_else}
-use Rattle.source_meaning.specs.Programs.{globals_from, world_of}
-use Rattle.source_lowering.specs.Lowerable.{TakesProgram}
+use Rattle.source_meaning.specs.Programs.{globals_from}
 use Rattle.lower_checks.specs.Tables.{global_in}
 use Rattle.lower_checks.proofs.table.first_globals.Given as goal
 
 -- what the table has, or else what the rest binds, is what all bind
 abbrev pub invariant-each : goal.invariant-each
-invariant-each l = record {
-  first : (name : List ℕ) → or_else (global_in l.globals name) (bound_to (globals_from (program_tree (drop l.item-index l.items)) l.object) name) ≡
-      bound_to (globals_from (program_tree l.items) 0) name;
-  taken : TakesProgram (world_of (program_tree l.items)) (program_tree l.items) →
-      TakesProgram (world_of (program_tree l.items)) (program_tree (drop l.item-index l.items));
-}
+invariant-each l = (name : List ℕ) →
+    or_else (global_in l.globals name) (bound_to (globals_from (program_tree (drop l.item-index l.items)) l.object) name) ≡
+    bound_to (globals_from (program_tree l.items) 0) name

@@ -27,9 +27,10 @@ use Rattle.core_meaning.specs.Steps.{
   needed,
   checked,
 }
-use Rattle.core_meaning.specs.Operations.{does, reached, is_null, same_place, at_once, local_spot, fitting}
+use Rattle.core_meaning.specs.Operations.{alone_freed, does, reached, is_null, same_place, at_once, local_spot, fitting}
 use Rattle.core_meaning.specs.Meaning.{
   falls_to,
+  left_by,
   branch,
   with_results,
   statement,
@@ -137,20 +138,11 @@ same_quiet m (memory.Birth d) y next h = tt
 
 -- ---- operations
 
-free_quiet : (p : ℕ) (next : Config → Step) → ((c : Config) → IsQuiet (next c)) → (c : Config) (r : Region) (object cell b : ℕ)
-    → c.temps p ≡ memory.Pointer (record { region = r; object = object; cell = cell }) b → IsQuiet (does (core.UniqueFree p) next c)
-free_quiet p next h c (Frame k) object cell b e = rw e tt
-free_quiet p next h c (Own k) object cell b e = rw e tt
-free_quiet p next h c (Born d) object cell b e = rw e
-    (checked_quiet (memory.is_single (c.memory.standing (Born d))) (Says (Visible (events.UniqueFree d)) _) (tt, h _))
-
-freed_quiet : (p : ℕ) (next : Config → Step) → ((c : Config) → IsQuiet (next c)) → (c : Config) (x : Content) → c.temps p ≡ x
-    → IsQuiet (does (core.UniqueFree p) next c)
-freed_quiet p next h c (memory.Word n) e = rw e tt
-freed_quiet p next h c memory.Blank e = rw e tt
-freed_quiet p next h c memory.Null e = rw e tt
-freed_quiet p next h c (memory.Pointer s b) e = free_quiet p next h c s.region s.object s.cell b e
-freed_quiet p next h c (memory.Birth d) e = rw e tt
+alone_quiet : (r : Region) (next : Config → Step) → ((c : Config) → IsQuiet (next c)) → (c : Config) → IsQuiet (alone_freed r next c)
+alone_quiet (Frame k) next h c = tt
+alone_quiet (Own k) next h c = tt
+alone_quiet (Born d) next h c =
+    checked_quiet (memory.is_single (c.memory.standing (Born d))) (Says (Visible (events.UniqueFree d)) _) (tt, h _)
 
 does_quiet : (o : core.Operation) (next : Config → Step) → ((c : Config) → IsQuiet (next c)) → (c : Config) → IsQuiet (does o next c)
 does_quiet (core.Constant t w) next h c = h _
@@ -186,7 +178,7 @@ does_quiet (core.RegionAlloc t r n l) next h c = birth_quiet (c.temps r) _
     (λ d. word_quiet (c.temps n) _ (λ count. checked_quiet _ (Says (Visible (events.RegionAlloc d _)) _) (tt, h _)))
 does_quiet (core.RegionFree r) next h c = birth_quiet (c.temps r) _ (λ d. checked_quiet _ (Says (Visible (events.RegionFree d)) _) (tt, h _))
 does_quiet (core.UniqueAlloc t l) next h c = (tt, h _)
-does_quiet (core.UniqueFree p) next h c = freed_quiet p next h c (c.temps p) refl
+does_quiet (core.UniqueFree p) next h c = pointer_quiet (c.temps p) _ (λ s b. checked_quiet (nat_eq b 0) _ (alone_quiet s.region next h c))
 does_quiet (core.KeyNew t) next h c = (tt, h _)
 does_quiet (core.KeyOpen k) next h c = birth_quiet (c.temps k) _ (λ d. checked_quiet _ (Says (Visible (events.KeyOpen d)) _) (tt, h _))
 does_quiet (core.KeyClose k) next h c = birth_quiet (c.temps k) _ (λ d. checked_quiet _ (Says (Visible (events.KeyClose d)) _) (tt, h _))
@@ -216,6 +208,12 @@ falls_quiet steps.Breaks rest next c h k = k _ c
 falls_quiet steps.Continues rest next c h k = k _ c
 falls_quiet (steps.Returns vs) rest next c h k = k _ c
 
+ended_quiet : (exit : Exit) (next : Exit → Config → Step) (c : Config) → IsQuietRest next → IsQuiet (left_by exit next c)
+ended_quiet steps.Falls next c h = h _ c
+ended_quiet steps.Breaks next c h = h _ c
+ended_quiet steps.Continues next c h = h _ c
+ended_quiet (steps.Returns vs) next c h = h _ c
+
 mutual
   statement_quiet : (s : core.Statement) (next : Exit → Config → Step) → IsQuietRest next → (c : Config) → IsQuiet (statement s next c)
   statement_quiet (core.Do o) next h c = does_quiet o (next steps.Falls) (h steps.Falls) c
@@ -224,6 +222,7 @@ mutual
       statements_quiet test (tested test t body next)
       (λ exit d. falls_quiet exit _ next d (λ e. branch_quiet (e.temps t) _ _ tt (h steps.Falls e)) h) c
   statement_quiet (core.Block ls body) next h c = statements_quiet body _ (λ exit d. h exit _) _
+  statement_quiet (core.Leave body) next h c = statements_quiet body _ (λ exit d. ended_quiet exit next d h) c
   statement_quiet core.Break next h c = h steps.Breaks c
   statement_quiet core.Continue next h c = h steps.Continues c
   statement_quiet (core.Call results f arguments) next h c = tt

@@ -5,12 +5,14 @@ use Rattle.core_meaning.specs.Memory.{Content, Memory}
 use Rattle.core_frames.specs.Machines.{Machine}
 use Rattle.rv32_machine.specs.State.{Areas, set_word}
 use Rattle.core_frames.specs.declared.line.Line.{Line}
-use Rattle.core_frames.specs.declared.line.Line.TheVariants.{Plain, Label, Jump, JumpIfZero, CallTo}
+use Rattle.core_frames.specs.declared.line.Line.TheVariants.{Plain, Label, Jump, JumpIfZero, BranchIfZero, CallTo}
 use Rattle.core_frames.specs.Lines.{size_of, HasLines, code_length}
 use Rattle.core_frames.specs.Frames.{load_code, save_code}
 use Rattle.core_frames.specs.Lies.{Maps, Shows, Activation, Slot, SlotsLie}
 use Rattle.core_frames.proofs.Relations.{Moves, World, IsInOrder, Has, Stands}
 use Rattle.core_frames.proofs.Bytes.{word_is_small}
+use Rattle.core_frames.specs.Homes.{stays}
+use Rattle.core_frames.proofs.Homes.{Stays, homes_of, kept_stays, homes_on}
 use Rattle.core_frames.proofs.Steps.{state_at}
 use Rattle.core_frames.proofs.Slots.{Kept, loads_slot, saves_slot}
 use Rattle.core_frames.proofs.Fitting.{Writes, writes_word, store_fits, slot_change, with_slot, allowed, inside, slot_ground}
@@ -22,6 +24,7 @@ of_words (Plain instr ∷ lines) = omega (arith, of_words lines)
 of_words (Label l ∷ lines) = omega (arith, of_words lines)
 of_words (Jump l ∷ lines) = omega (arith, of_words lines)
 of_words (JumpIfZero r l ∷ lines) = omega (arith, of_words lines)
+of_words (BranchIfZero r l ∷ lines) = omega (arith, of_words lines)
 of_words (CallTo l ∷ lines) = omega (arith, of_words lines)
 
 pub behind : (place : ℕ) (lines : List Line) → place % 4 ≡ 0 → (place + code_length lines) % 4 ≡ 0
@@ -59,25 +62,34 @@ module _ (w : World) (order : IsInOrder w) (mem : Memory) (place : ℕ) (m : Map
     pub kept : Kept r new s.registers
 
   -- what stands here still stands behind, with other registers
-  pub stands_behind : (place' : ℕ) (new : ℕ → ℕ) → place' % 4 ≡ 0 → new 2 ≡ s.registers 2 → Stands w mem place' m fs sp sp (state_at place' new s.bytes s.store)
-  stands_behind place' new aligned two = record {
+  pub stands_behind : (place' : ℕ) (new : ℕ → ℕ) → place' % 4 ≡ 0 → Stays new s.registers
+      → Stands w mem place' m fs sp sp (state_at place' new s.bytes s.store)
+  stands_behind place' new aligned stay = record {
     runs = refl;
     there = refl;
     aligned = aligned;
-    pointer = two ∙ stands.pointer;
+    pointer = stay 2 refl ∙ stands.pointer;
     small = stands.small;
     kept = stands.kept;
     stacked = stands.stacked;
     fits = stands.fits;
+    homes = homes_on m mem fs new s.registers (homes_of new s.registers stay) stands.homes;
     known = stands.known;
     holds_blocks = stands.holds_blocks;
     data_based = stands.data_based;
   }
 
-  -- the slot of a frame, k slots from the stack pointer on
-  pub loads : (f j k r : ℕ) (v : Content) → SlotsLie fs f j (sp + 4 * k) 4 v → nat_eq 2 (suc r) ≡ false → Has w place (load_code (suc r) k)
-      → Loaded (code_length (load_code (suc r) k) / 4) (place + code_length (load_code (suc r) k)) (suc r) v
-  loads f j k r v lies other has =
+  -- the slot of a frame, k slots from the stack pointer on, into a register
+  pub record Read (count behind r : ℕ) (v : Content) : Type 0 where
+    pub new : ℕ → ℕ
+    pub moves : Moves w.areas count s (state_at behind new s.bytes s.store)
+    pub holds : Shows m v (new r)
+    pub below : new r < 2 ^ 32
+    pub kept : Kept r new s.registers
+
+  pub reads : (f j k r : ℕ) (v : Content) → SlotsLie fs f j (sp + 4 * k) 4 v → Has w place (load_code (suc r) k)
+      → Read (code_length (load_code (suc r) k) / 4) (place + code_length (load_code (suc r) k)) (suc r) v
+  reads f j k r v lies has =
       let at = sp + 4 * k in
       let g = slot_ground w.areas order.statics_within order.pages_within order.stack_whole order.code_within w.code s.store sp fs stands.stacked f j at 4 v
       lies in
@@ -92,10 +104,24 @@ module _ (w : World) (order : IsInOrder w) (mem : Memory) (place : ℕ) (m : Map
         new = p.new;
         moves = subst (λ (t : Machine). Moves w.areas (code_length (load_code (suc r) k) / 4) t (state_at there p.new s.bytes s.store))
             (sym written_out) p.moves;
-        stands_on = stands_behind there p.new (behind place (load_code (suc r) k) stands.aligned) (p.kept 2 refl other);
         holds = subst (λ x. Shows m v x) (sym p.holds) (stands.fits.shows (Slot f j) at 4 v lies);
         below = subst (λ x. x < 2 ^ 32) (sym p.holds)
             (word_is_small s.bytes at (stands.small at) (stands.small (at + 1)) (stands.small (at + 2)) (stands.small (at + 3)));
+        kept = p.kept;
+      }
+
+  pub loads : (f j k r : ℕ) (v : Content) → SlotsLie fs f j (sp + 4 * k) 4 v → stays (suc r) ≡ false → Has w place (load_code (suc r) k)
+      → Loaded (code_length (load_code (suc r) k) / 4) (place + code_length (load_code (suc r) k)) (suc r) v
+  loads f j k r v lies other has =
+      let p = reads f j k r v lies has in
+      let there = place + code_length (load_code (suc r) k) in
+      record {
+        new = p.new;
+        moves = p.moves;
+        stands_on = stands_behind there p.new (behind place (load_code (suc r) k) stands.aligned)
+            (kept_stays (suc r) p.new s.registers other p.kept);
+        holds = p.holds;
+        below = p.below;
         kept = p.kept;
       }
 
@@ -149,6 +175,7 @@ module _ (w : World) (order : IsInOrder w) (mem : Memory) (place : ℕ) (m : Map
               (a.slots k) x
               stands.fits (record { within = within; there = refl; wide = refl; value = refl }) (slot_change w.areas m a fs mem k v)
               (subst (λ q. Writes s.bytes (set_word at x s.bytes) q 4 x) (sym here) writes) shows;
+          homes = homes_on m mem (a ∷ fs) p.new s.registers (homes_of p.new s.registers (kept_stays 7 p.new s.registers refl p.kept)) stands.homes;
           known = stands.known;
           holds_blocks = stands.holds_blocks;
           data_based = stands.data_based;

@@ -30,7 +30,8 @@ use Rattle.core_frames.proofs.Moving.{goes_nowhere}
 use Rattle.std.proofs.Common.{inl, inr, ◌*◌}
 use Rattle.std.specs.Prelude.{if◌then◌else◌}
 use Rattle.core_frames.proofs.Moving.{Reach}
-use Rattle.core_frames.proofs.Relations.{slots_in}
+use Rattle.core_frames.proofs.Relations.{slots_in, Inside, EndsThere}
+use Rattle.core_frames.specs.Homes.{saved_by, saved_slot}
 use Rattle.std.proofs.lemmas.Bool.{eq-eqb}
 use Rattle.core_meaning.specs.Memory.{Live, is_live}
 use Rattle.core_frames.proofs.Laying.{LaidOut}
@@ -136,6 +137,9 @@ came_back w order x outer c m values place s b = by b.frames b.stands b.stack
         own = f.own;
         own_high = f.own_high;
         own_based = f.own_based;
+        saved = f.saved;
+        changed = f.changed;
+        homes = f.homes;
       });
       stack = stack.1;
       results = b.results;
@@ -219,11 +223,12 @@ GoesReturning w x outer most next =
     → Goes w most (next (Returns values) c) (Returning w (with_config x c) outer c.memory values) (active_of w (x ∷ outer))
 
 pub return_goes : (w : World) (order : IsInOrder w) (x : Waiting) (outer : List Waiting) (most : ℕ) (ts : List ℕ) (next : Exit → Config → Step) (place : ℕ)
-    → AreWithin x.fn.temporaries ts → length ts ≤ 8 → Has w place (return_code (w.frame_bytes x.function) x.fn.passed ts)
+    → EndsThere w x.function x.fn → x.phase ≡ Inside → AreWithin x.fn.temporaries ts → length ts ≤ 8
+    → Has w place (return_code x.fn.passed ts (w.exits x.function))
     → GoesReturning w x outer most next → GoesFrom w x outer most place (core.statement (Return ts) next)
-return_goes w order x outer most ts next place named few has goes c is =
+return_goes w order x outer most ts next place ends inside named few has goes c is =
     goes_from w _ _ most (next (Returns (values_of c.temps ts)) c) _
-    (returns w order (with_config x c) outer c.memory ts place named few (let e = length_of_values c.temps ts in omega (arith, e, few)) has)
+    (returns w order (with_config x c) outer c.memory ts place ends inside named few (let e = length_of_values c.temps ts in omega (arith, e, few)) has)
     (goes c (values_of c.temps ts) is)
 
 -- ---- functions
@@ -242,14 +247,14 @@ pub record FunctionDoes (w : World) (order : IsInOrder w) (f : ℕ) (fn : Functi
   pub high : ℕ
   pub laid : w.frame_bytes f ≤ 2 ^ 20 → LaidOut fn.own offsets (4 * slots_in fn) high × (high ≤ w.frame_bytes f)
   pub few : fn.parameters ≤ fn.temporaries
-  pub prologue : Has w (w.places f) (prologue_code (w.frame_bytes f) fn.passed fn.parameters)
+  pub prologue : Has w (w.places f) (prologue_code (w.frame_bytes f) fn.passed (saved_slot fn) (saved_by fn) fn.parameters)
   pub does : (is : slice_get w.functions f ≡ Some fn) (most : ℕ) → w.frame_bytes f ≤ 2 ^ 20 → ((j : ℕ) → suc j ≤ most → (g : ℕ) → BodyGoes w j g)
       → (outer : List Waiting) (mem : Memory) (arguments : List Content) (next : Exit → Config → Step)
       → GoesReturning w (activation w order f fn is outer mem arguments offsets high) outer most next
       → ((c : Config) → (next Falls c ≡ stuck) × (next Breaks c ≡ stuck) × (next Continues c ≡ stuck))
       → Goes w most (core.statements fn.body next (entered fn arguments mem))
       (At w (activation w order f fn is outer mem arguments offsets high) outer (entered fn arguments mem).memory
-      (w.places f + code_length (prologue_code (w.frame_bytes f) fn.passed fn.parameters)))
+      (w.places f + code_length (prologue_code (w.frame_bytes f) fn.passed (saved_slot fn) (saved_by fn) fn.parameters)))
       (w.names f ∷ active_of w outer)
 
 module _ (w : World) (order : IsInOrder w) (each : (f : ℕ) (fn : Function) → slice_get w.functions f ≡ Some fn → FunctionDoes w order f fn) where
@@ -288,11 +293,11 @@ module _ (w : World) (order : IsInOrder w) (each : (f : ℕ) (fn : Function) →
       let d = each f fn is in
       let as_many : length arguments ≡ fn.parameters = eqb-true (length arguments) fn.parameters e in
       let few = d.few in
-      let prologue = subst (λ k. Has w (w.places f) (prologue_code (w.frame_bytes f) fn.passed k)) (sym as_many) d.prologue in
+      let prologue = subst (λ k. Has w (w.places f) (prologue_code (w.frame_bytes f) fn.passed (saved_slot fn) (saved_by fn) k)) (sym as_many) d.prologue in
       let x = callee w order f fn is outer mem arguments arguments in
       let y = activation w order f fn is outer mem arguments d.offsets d.high in
       let way = enters w order f fn is outer mem arguments (omega (arith, as_many, few)) prologue in
-      let place = w.places f + code_length (prologue_code (w.frame_bytes f) fn.passed (length arguments)) in
+      let place = w.places f + code_length (prologue_code (w.frame_bytes f) fn.passed (saved_slot fn) (saved_by fn) (length arguments)) in
       let R' = At w y outer (entered fn arguments mem).memory place in
       let c = core.statements fn.body (left f mem.calls next) (entered fn arguments mem) in
       let body : Goes w most c R' (w.names f ∷ active_of w outer) =
@@ -300,7 +305,7 @@ module _ (w : World) (order : IsInOrder w) (each : (f : ℕ) (fn : Function) →
       (λ (large : 2 ^ 20 < w.frame_bytes f). goes_nowhere w R' (w.names f ∷ active_of w outer) most c
       (λ s a. too_large y outer (entered fn arguments mem).memory place s large a))
       (λ (fits : w.frame_bytes f ≤ 2 ^ 20).
-      subst (λ k. Goes w most c (At w y outer (entered fn arguments mem).memory (w.places f + code_length (prologue_code (w.frame_bytes f) fn.passed k)))
+      subst (λ k. Goes w most c (At w y outer (entered fn arguments mem).memory (w.places f + code_length (prologue_code (w.frame_bytes f) fn.passed (saved_slot fn) (saved_by fn) k)))
       (w.names f ∷ active_of w outer)) (sym as_many)
       (d.does is most fits calls outer mem arguments (left f mem.calls next) (left_goes most f fn is outer mem arguments next goes) (λ c. (refl, refl, refl))))
       (cases_lt (2 ^ 20) (w.frame_bytes f)) in

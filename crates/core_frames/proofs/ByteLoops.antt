@@ -10,6 +10,7 @@ use Rattle.rv32_machine.specs.Step.{branches}
 use Rattle.core_frames.specs.Machines.{Store, state_of}
 use Rattle.core_frames.specs.Lines.{HasInstr}
 use Rattle.core_frames.specs.Loops.{copy_loop, clear_loop}
+use Rattle.core_frames.proofs.Homes.{Stays, set_stays, stays_on}
 use Rattle.core_frames.proofs.Relations.{Moves, World, IsInOrder, Has}
 use Rattle.core_frames.proofs.Moving.{and_then}
 use Rattle.core_frames.proofs.Steps.{state_at, IsKeptBelow, IsAllowed, is_in_code, gives_value, passes, goes_to, loads_word, stores_word, stores_byte}
@@ -21,7 +22,7 @@ abbrev pub turn_count : ℕ → ℕ → ℕ
 turn_count count zero = count + 1
 turn_count count (suc left) = count + 1 + turn_count count left
 
-module _ (w : World) (order : IsInOrder w) (st : Store) (x2 : ℕ) where
+module _ (w : World) (order : IsInOrder w) (st : Store) (x2 : ℕ) (first : ℕ → ℕ) where
   abbrev Allowed : ℕ → ℕ → Type 0
   Allowed at width = IsAllowed w.areas w.code order.code_within st x2 at width
 
@@ -33,6 +34,7 @@ module _ (w : World) (order : IsInOrder w) (st : Store) (x2 : ℕ) where
     pub six : Six i (registers 6)
     pub seven : registers 7 ≡ to + n
     pub two : registers 2 ≡ x2
+    pub stay : Stays registers first
     pub filled : Filled b bytes to i v
     pub kept : IsKeptBelow w.code bytes
     pub small : (q : ℕ) → bytes q < 256
@@ -216,6 +218,8 @@ module _ (w : World) (order : IsInOrder w) (st : Store) (x2 : ℕ) where
             six = (omega (arith, six, end'), whole_unit words i whole);
             seven = r.seven;
             two = r.two;
+            stay = stays_on three two first (set_stays 5 moved' two refl) (stays_on two one first (set_stays 4 moved one refl)
+                (stays_on one registers first (set_stays 27 x registers refl) r.stay));
             filled = filled_more words b bytes to i x source r.filled (λ d less.
                 unit_copied words (to + i) (from + i) bytes r.small d less
                 ∙ r.filled.outside (from + i + d)
@@ -227,9 +231,9 @@ module _ (w : World) (order : IsInOrder w) (st : Store) (x2 : ℕ) where
         }
 
     pub copies : (left : ℕ) → suc left * unit_size words ≡ n → (registers : ℕ → ℕ) → registers 5 ≡ to → registers 6 ≡ from → registers 7 ≡ to + n
-        → registers 2 ≡ x2 → IsKeptBelow w.code b → ((q : ℕ) → b q < 256)
+        → registers 2 ≡ x2 → Stays registers first → IsKeptBelow w.code b → ((q : ℕ) → b q < 256)
         → Runs place (place + 4 + 4 + 4 + 4 + 4) (turn_count 4 left) to n b source (Reading words from) n registers b
-    copies left e registers five six seven two kept small =
+    copies left e registers five six seven two stay kept small =
         let code = has_copy words place has in
         let near = is_in_code w.areas w.code order.code_within st (place + 4 + 4 + 4 + 4) (instr.Bne 5 7 (negsuc 15)) code.branch in
         loops place (place + 4 + 4 + 4 + 4) (place + 4 + 4 + 4 + 4 + 4) 4 (unit_size words) (negsuc 15) code.branch (omega (arith, near)) refl aligned
@@ -239,6 +243,7 @@ module _ (w : World) (order : IsInOrder w) (st : Store) (x2 : ℕ) where
           six = (omega (arith, six), no_unit words);
           seven = seven;
           two = two;
+          stay = stay;
           filled = filled_none b to source;
           kept = kept;
           small = small;
@@ -286,6 +291,7 @@ module _ (w : World) (order : IsInOrder w) (st : Store) (x2 : ℕ) where
             six = whole_unit words i r.six;
             seven = r.seven;
             two = r.two;
+            stay = stays_on (set_register 5 moved registers) registers first (set_stays 4 moved registers refl) r.stay;
             filled = filled_more words b bytes to i 0 zeros r.filled (λ d less. unit_cleared words (to + i) bytes d less);
             kept = kept;
             small = λ q. unit_small words (to + i) 0 bytes q (r.small q);
@@ -293,9 +299,9 @@ module _ (w : World) (order : IsInOrder w) (st : Store) (x2 : ℕ) where
         }
 
     pub clears : (left : ℕ) → suc left * unit_size words ≡ n → (registers : ℕ → ℕ) → registers 5 ≡ to → registers 7 ≡ to + n
-        → registers 2 ≡ x2 → IsKeptBelow w.code b → ((q : ℕ) → b q < 256)
+        → registers 2 ≡ x2 → Stays registers first → IsKeptBelow w.code b → ((q : ℕ) → b q < 256)
         → Runs place (place + 4 + 4 + 4) (turn_count 2 left) to n b zeros (Clearing words) n registers b
-    clears left e registers five seven two kept small =
+    clears left e registers five seven two stay kept small =
         let code = has_clear words place has in
         let near = is_in_code w.areas w.code order.code_within st (place + 4 + 4) (instr.Bne 5 7 (negsuc 7)) code.branch in
         loops place (place + 4 + 4) (place + 4 + 4 + 4) 2 (unit_size words) (negsuc 7) code.branch (omega (arith, near)) refl aligned
@@ -305,6 +311,7 @@ module _ (w : World) (order : IsInOrder w) (st : Store) (x2 : ℕ) where
           six = no_unit words;
           seven = seven;
           two = two;
+          stay = stay;
           filled = filled_none b to zeros;
           kept = kept;
           small = small;

@@ -26,7 +26,7 @@ use Rattle.core_frames.proofs.Offsets.{further_into}
 use Rattle.core_frames.proofs.Filling.{unit_size}
 use Rattle.core_frames.proofs.ByteLoops.{turn_count, clears}
 use Rattle.core_frames.proofs.Covering.{multiple_of_four, whole_units, unit_allowed, object_below}
-use Rattle.core_frames.proofs.Refilling.{Stays, Renewed, refilled_at}
+use Rattle.core_frames.proofs.Refilling.{Stays_part, Renewed, refilled_at}
 
 -- ---- what a cleared part shows
 
@@ -49,7 +49,7 @@ nothing_shows m (Birth d) e = absurd e
 
 cleared_part : (m : Maps) (mem : Memory) (l : Layout) (count : ℕ) (s : Spot) → IsZero l → (u : Spot) (j : ℕ) (p : Part)
     → (cleared l count s mem).parts u j ≡ Some p
-    → Stays mem l count s u j p ⊎ Renewed m mem l count s zeros u j p
+    → Stays_part mem l count s u j p ⊎ Renewed m mem l count s zeros u j p
 cleared_part m mem l count s zero u j p e = ⊎_elim
     (λ (kept : (mem.parts u j ≡ Some p) × (IsAmong l count s u j → ⊥)). inl (record { was = kept.0; other = kept.1 }))
     (λ (clear : IsCleared l count s mem u j p). let a = clear.among in inr (record {
@@ -123,11 +123,12 @@ module _ (w : World) (order : IsInOrder w) (x : Waiting) (outer : List Waiting) 
           let end = below place q here p.base p.known (omega (arith, some)) in
           let same : bytes_in l count ≡ count * l.bytes = omega (arith, end) in
           let sum = a.holds.1 in
-          let ran = clears w order q.store a.sp words place has aligned (p.base + b) (count * l.bytes) q.bytes
+          let ran = clears w order q.store a.sp q.registers words place has aligned (p.base + b) (count * l.bytes) q.bytes
           (unit_allowed w.areas order.statics_within order.pages_within order.stack_whole order.code_within w.code q.store a.sp fs a.stands.stacked m mem
           q.bytes a.stands.fits s b p.base p.known live l count layout full there words are)
           (turns words) (all_turns words (all_whole words (whole_units l layout full words are some_bytes)) same) q.registers at
-          (omega (arith, sum, at, end, same)) a.stands.pointer a.stands.kept a.stands.small in
+          (omega (arith, sum, at, end, same)) a.stands.pointer (λ r h. refl)
+          a.stands.kept a.stands.small in
           let done = ran.there in
           let behind = place + 4 + 4 + 4 in
           let next = state_at behind ran.new ran.new_bytes q.store in
@@ -136,7 +137,7 @@ module _ (w : World) (order : IsInOrder w) (x : Waiting) (outer : List Waiting) 
             moves = subst (λ (r : Machine). Moves w.areas (turn_count 2 (turns words)) r next)
                 (sym (written_out w order mem place m fs a.sp q a.stands)) ran.moves;
             there = refilled_at w order x outer mem s b live l count layout full there place behind q here p.base p.known ran.new ran.new_bytes zeros
-                (cleared l count s mem).parts (cleared_part m mem l count s zero) (omega (arith, aligned)) done.two done.kept done.small done.filled;
+                (cleared l count s mem).parts (cleared_part m mem l count s zero) (omega (arith, aligned)) done.stay done.kept done.small done.filled;
           })
 
   -- all of it
@@ -171,7 +172,7 @@ module _ (w : World) (order : IsInOrder w) (x : Waiting) (outer : List Waiting) 
             (subst (λ (r : Machine). At w x outer (cleared l count s mem) place r)
             (sym (written_out w order mem place a.maps (a.frame ∷ a.others) a.sp q a.stands))
             (refilled_at w order x outer mem s b live l count layout full there place place q a p.base p.known q.registers q.bytes zeros
-            (cleared l count s mem).parts (cleared_part a.maps mem l count s zero) a.stands.aligned a.stands.pointer a.stands.kept a.stands.small
+            (cleared l count s mem).parts (cleared_part a.maps mem l count s zero) a.stands.aligned (λ r h. refl) a.stands.kept a.stands.small
             (record { inside = λ i less. absurd (omega (arith, less, empty)); outside = λ r far. refl }))))
         by false some has =
             let second = further_code 7 (bytes_in l count) in

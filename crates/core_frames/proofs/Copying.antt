@@ -58,7 +58,7 @@ use Rattle.core_frames.proofs.Offsets.{further_into}
 use Rattle.core_frames.proofs.Filling.{unit_size, read_on}
 use Rattle.core_frames.proofs.ByteLoops.{turn_count, copies}
 use Rattle.core_frames.proofs.Covering.{unit_allowed, object_below, objects_apart, whole_units}
-use Rattle.core_frames.proofs.Refilling.{Stays, Renewed, refilled_at}
+use Rattle.core_frames.proofs.Refilling.{Stays_part, Renewed, refilled_at}
 
 -- ---- what a copied part shows
 
@@ -68,7 +68,7 @@ module _ (n : Areas) (m : Maps) (fs : List Activation) (mem : Memory) (bytes : �
   abbrev source : ℕ → ℕ
   source j = bytes (base + c + j)
 
-  pub copied_part : (u : Spot) (j : ℕ) (p : Part) → (copied l s t mem).parts u j ≡ Some p → Stays mem l 1 s u j p ⊎ Renewed m mem l 1 s source u j p
+  pub copied_part : (u : Spot) (j : ℕ) (p : Part) → (copied l s t mem).parts u j ≡ Some p → Stays_part mem l 1 s u j p ⊎ Renewed m mem l 1 s source u j p
   copied_part u j p e = ⊎_elim
       (λ (kept : (mem.parts u j ≡ Some p) × (IsAmong l 1 s u j → ⊥)). inl (record { was = kept.0; other = kept.1 }))
       (λ (copy : IsCopy l s t mem u j p). inr (renewed copy))
@@ -161,13 +161,13 @@ module _ (w : World) (order : IsInOrder w) (x : Waiting) (outer : List Waiting) 
           let end = object_below w.areas order.statics_within order.pages_within order.stack_whole order.code_within w.code q.store a.sp fs a.stands.stacked m
           mem q.bytes fits s b p.base p.known live l 1 layout full one (omega (arith, some)) in
           let sum = a.holds.1 in
-          let ran = copies w order q.store a.sp words place has aligned (p.base + b) (p'.base + c) (1 * l.bytes) q.bytes
+          let ran = copies w order q.store a.sp q.registers words place has aligned (p.base + b) (p'.base + c) (1 * l.bytes) q.bytes
           (unit_allowed w.areas order.statics_within order.pages_within order.stack_whole order.code_within w.code q.store a.sp fs a.stands.stacked m mem
           q.bytes fits s b p.base p.known live l 1 layout full one words are)
           (unit_allowed w.areas order.statics_within order.pages_within order.stack_whole order.code_within w.code q.store a.sp fs a.stands.stacked m mem
           q.bytes fits t c p'.base p'.known live' l 1 layout full one' words are)
           (objects_apart w.areas m fs mem q.bytes q.store fits s b p.base p.known live t c p'.base p'.known live' l 1 full one one' two)
-          (turns words) (all_turns words (whole_units l layout full words are some)) q.registers at p'.at (omega (arith, sum, at, end)) a.stands.pointer
+          (turns words) (all_turns words (whole_units l layout full words are some)) q.registers at p'.at (omega (arith, sum, at, end)) a.stands.pointer (λ r h. refl)
           a.stands.kept a.stands.small in
           let done = ran.there in
           let behind = place + 4 + 4 + 4 + 4 + 4 in
@@ -179,7 +179,7 @@ module _ (w : World) (order : IsInOrder w) (x : Waiting) (outer : List Waiting) 
             there = refilled_at w order x outer mem s b live l 1 layout full one place behind q (at_of w order x outer mem place Ready q a) p.base p.known
                 ran.new ran.new_bytes (λ j. q.bytes (p'.base + c + j)) (copied l s t mem).parts
                 (copied_part w.areas m fs mem q.bytes q.store fits l s t b c p'.base one one' p'.known live')
-                (omega (arith, aligned)) done.two done.kept done.small done.filled;
+                (omega (arith, aligned)) done.stay done.kept done.small done.filled;
           })
 
   -- all of it
@@ -230,7 +230,7 @@ module _ (w : World) (order : IsInOrder w) (x : Waiting) (outer : List Waiting) 
             (refilled_at w order x outer mem s b live l 1 layout full one place place q a p.base p.known q.registers q.bytes
             (λ j. q.bytes (p'.base + c + j)) (copied l s t mem).parts
             (copied_part w.areas a.maps fs mem q.bytes q.store a.stands.fits l s t b c p'.base one one' p'.known live')
-            a.stands.aligned a.stands.pointer a.stands.kept a.stands.small
+            a.stands.aligned (λ r h. refl) a.stands.kept a.stands.small
             (record { inside = λ i less. absurd (omega (arith, less, nothing)); outside = λ r far. refl }))))
         by false some has =
             let second = further_code 7 l.bytes in

@@ -1,6 +1,6 @@
 -- A function is entered: the frame is pushed, with the return address and the parameters.
 use Rattle.std.specs.Prelude.{nat_eq, length, slice_get, if◌then◌else◌}
-use Rattle.std.proofs.Common.{◌≡◌, ℕ, zero, suc, ◌+◌, ◌-◌, ◌*◌, ◌/◌, ◌<◌, ◌≤◌, ◌⊎◌, inl, inr, ⊎_elim, Bool, true, false, List, [], ◌∷◌, ◌++◌, Some, refl, sym}
+use Rattle.std.proofs.Common.{◌≡◌, ℕ, zero, suc, ◌+◌, ◌-◌, ◌*◌, ◌/◌, ◌<◌, ◌≤◌, ◌⊎◌, inl, inr, ⊎_elim, Bool, true, false, List, [], ◌∷◌, ◌++◌, ◌^◌, Some, None, refl, sym}
 use Rattle.std.proofs.Common.{ap, ◌∙◌, subst, arith, append_assoc, append-nil, length-append}
 use Rattle.std.proofs.lemmas.Bool.{ne_eqb, eq-eqb, cases_lt}
 use Rattle.std.proofs.lemmas.Option.{none-some}
@@ -12,12 +12,16 @@ use Rattle.core_frames.specs.Machines.{Machine, Store}
 use Rattle.rv32_machine.specs.State.{Areas, code_base, stack_base}
 use Rattle.core_frames.specs.declared.line.Line.{Line}
 use Rattle.core_frames.specs.Lines.{code_length}
-use Rattle.core_frames.specs.Frames.{load_code, save_code, slot_of, test_code, move_code, take_code, prologue_code}
+use Rattle.core_frames.specs.Frames.{load_code, save_code, slot_of, test_code, move_code, take_code, saves_code, prologue_code}
 use Rattle.core_frames.specs.Lies.{Maps, Activation, Name, Slot, Cell, PartLies, SlotsLie, Lies, Laid, Stacked, Fits, Known}
-use Rattle.core_frames.proofs.Relations.{World, IsInOrder, Has, Waiting, slots_in, back_of, FrameShows, StackShows, Stands, At, Calling, Passed, active_of}
+use Rattle.core_frames.specs.Homes.{is_home, is_among, saved_by, saved_slot}
+use Rattle.core_frames.proofs.Relations.{Phase, Saving, Inside, World, IsInOrder, Has, Waiting, slots_in, back_of, FrameShows, StackShows, Stands, At, Calling, Passed, active_of}
 use Rattle.core_frames.proofs.Moving.{Reach, Comes, comes_then, comes_as, and_then, Full}
 use Rattle.core_frames.proofs.Steps.{state_at}
-use Rattle.core_frames.proofs.Fitting.{with_slot}
+use Rattle.core_frames.proofs.Homes.{other_home, homes_small, homes_spared, spares_standing}
+use Rattle.core_frames.proofs.Saving.{saved_more, AreHomeRegisters, saved_homes}
+use Rattle.core_frames.proofs.Homed.{homed_fits, laid_homed}
+use Rattle.core_frames.proofs.Fitting.{with_slot, set_slot}
 use Rattle.core_frames.proofs.Frames.{push_fits, push_stacked}
 use Rattle.core_frames.proofs.Knowing.{known_called, no_parts}
 use Rattle.core_frames.proofs.Access.{length_of_both, loads, saves}
@@ -123,16 +127,100 @@ module _ (w : World) (order : IsInOrder w) (f : ℕ) (fn : Function) (is : slice
   size = w.frame_bytes f
 
   -- the activation, with some of its parameters
-  abbrev pub callee : List Content → Waiting
-  callee done = record {
+  abbrev pub staged : Phase → List Content → Waiting
+  staged phase done = record {
     function = f;
     fn = fn;
+    phase = phase;
     nest = [];
     unnamed = [];
     own_high = 4 * slots_in fn;
     config = record { temps = passed_in done; blocks = []; own = mem.calls; memory = with_call mem };
     behind = 0;
   }
+
+  abbrev pub callee : List Content → Waiting
+  callee done = staged Inside done
+
+  -- ---- the caller's registers are saved
+
+  pub record Keeping (done : List ℕ) (place : ℕ) (s : Machine) : Type 0 where
+    pub maps : Maps
+    pub frame : Activation
+    pub others : List Activation
+    pub sp : ℕ
+    pub stands : Stands w (with_call mem) place maps (frame ∷ others) sp sp s
+    pub shows : FrameShows w maps (staged (Saving done) []) (back_of w outer) frame
+    pub stack : StackShows w maps outer others
+    pub passed : Passed 0 arguments others
+
+  keep_one : (done : List ℕ) (r : ℕ) (place : ℕ) → is_home r ≡ true → length done < length (saved_by fn)
+      → Has w place (save_code r (saved_slot fn + length done))
+      → Comes w (Keeping done place) (Keeping (done ++ r ∷ []) (place + code_length (save_code r (saved_slot fn + length done))))
+  keep_one done zero place home less has = absurd (cc home)
+  keep_one done (suc r) place home less has = record {
+    count = code_length (save_code (suc r) (saved_slot fn + length done)) / 4;
+    by = λ s a.
+        let k = saved_slot fn + length done in
+        let size = a.shows.size in
+        let h = a.stands.homes.0 in
+        let v = Word (a.frame.callers (suc r)) in
+        let same : s.registers (suc r) ≡ a.frame.callers (suc r) = h.others (suc r) home (a.shows.changed (suc r)) in
+        let l = saves w order (with_call mem) place a.maps a.frame a.others a.sp s a.stands k r v (omega (arith, size, less))
+        (other_home 7 (suc r) refl home) same (h.small (suc r) home) has in
+        record {
+          next = state_at (place + code_length (save_code (suc r) k)) l.new l.bytes s.store;
+          moves = l.moves;
+          there = record {
+            maps = a.maps;
+            frame = with_slot k v a.frame;
+            others = a.others;
+            sp = a.sp;
+            stands = l.stands_on;
+            shows = (let g = a.shows in record {
+              function = g.function;
+              bytes = g.bytes;
+              size = g.size;
+              is = g.is;
+              back_place = g.back_place;
+              returns_to = ap (λ c. if c then v else a.frame.slots 0) (ne_eqb 0 k (λ e. omega (arith, e))) ∙ g.returns_to;
+              temps = λ t few. ap (λ c. if c then v else a.frame.slots (1 + fn.passed + t)) (ne_eqb (1 + fn.passed + t) k (λ e. omega (arith, e, few)))
+                  ∙ g.temps t few;
+              blocks = g.blocks;
+              own = g.own;
+              own_high = g.own_high;
+              own_based = g.own_based;
+              saved = saved_more (saved_slot fn) done (suc r) (set_slot k v a.frame.slots) a.frame.slots a.frame.callers
+                  (λ j other. ap (λ c. if c then v else a.frame.slots j) other)
+                  (ap (λ c. if c then v else a.frame.slots k) (eq-eqb k k refl)) g.saved;
+              changed = g.changed;
+              homes = g.homes;
+            });
+            stack = a.stack;
+            passed = a.passed;
+          };
+        };
+  }
+
+  keeps : (done rest : List ℕ) (place : ℕ) → saved_by fn ≡ done ++ rest → AreHomeRegisters rest → Has w place (saves_code (saved_slot fn + length done) rest)
+      → Comes w (Keeping done place) (Keeping (saved_by fn) (place + code_length (saves_code (saved_slot fn + length done) rest)))
+  keeps done [] place are homes has =
+      let e : place ≡ place + 0 = omega arith in
+      comes_as w _ _ (λ s a. subst (λ rs. Keeping rs (place + 0) s) (sym (are ∙ append-nil done)) (subst (λ p. Keeping done p s) e a))
+  keeps done (r ∷ rest) place are homes has =
+      let k = saved_slot fn + length done in
+      let first = save_code r k in
+      let others = saves_code (suc k) rest in
+      let more = done ++ r ∷ [] in
+      let longer : saved_slot fn + length more ≡ suc k = ap (λ n. saved_slot fn + n) (length-append done (r ∷ [])) ∙ omega arith in
+      let all : length (saved_by fn) ≡ length done + length (r ∷ rest) = ap (λ (rs : List ℕ). length rs) are ∙ length-append done (r ∷ rest) in
+      let middle = place + code_length first in
+      let has_others = subst (λ q. Has w middle (saves_code q rest)) (sym longer) (has_second w place first others has) in
+      let there : middle + code_length (saves_code (saved_slot fn + length more) rest) ≡ place + code_length (first ++ others) =
+      ap (λ q. middle + code_length (saves_code q rest)) longer ∙ omega (arith, length_of_both first others) in
+      comes_then w _ _ _ (keep_one done r place homes.0 (omega (arith, all)) (has_first w place first others has))
+      (subst (λ p. Comes w (Keeping more middle) (Keeping (saved_by fn) p)) there
+      (keeps more rest middle (are ∙ sym (append_assoc done (r ∷ []) rest)) homes.1 has_others))
 
   pub record Taking (done : List Content) (place : ℕ) (s : Machine) : Type 0 where
     pub maps : Maps
@@ -193,7 +281,7 @@ module _ (w : World) (order : IsInOrder w) (f : ℕ) (fn : Function) (is : slice
                 stands = q.stands_on;
                 shows = subst (λ temps. FrameShows w r.maps (record (callee done) { config = record (callee done).config { temps = temps } }) (back_of w outer)
                     (with_slot (slot_of fn.passed k) v r.frame)) (sym (passed_in_more done v))
-                    (frame_set w r.maps (callee done) (back_of w outer) r.frame k v r.shows);
+                    (frame_set w r.maps (callee done) (back_of w outer) r.frame k v less r.shows);
                 stack = r.stack;
                 passed = r.passed;
               };
@@ -221,17 +309,70 @@ module _ (w : World) (order : IsInOrder w) (f : ℕ) (fn : Function) (is : slice
       (subst (λ p. Comes w (Taking more middle) (Taking arguments p)) there
       (takes more rest middle (are ∙ sym (append_assoc done (v ∷ []) rest)) less has_others))
 
+  -- all that the function changes are saved
+  kept_all : (place : ℕ) (s : Machine) → Keeping (saved_by fn) place s → Taking [] place s
+  kept_all place s a =
+      let fewer : ℕ → Bool = λ q. is_among q (saved_by fn) in
+      let h = a.stands.homes.0 in
+      record {
+        maps = a.maps;
+        frame = record a.frame { saves = fewer };
+        others = a.others;
+        sp = a.sp;
+        stands = record {
+          runs = a.stands.runs;
+          there = a.stands.there;
+          aligned = a.stands.aligned;
+          pointer = a.stands.pointer;
+          small = a.stands.small;
+          kept = a.stands.kept;
+          stacked = (laid_homed a.sp a.frame a.frame.homes fewer a.frame.callers a.stands.stacked.0, a.stands.stacked.1);
+          fits = homed_fits w.areas a.maps a.frame a.others a.frame.homes fewer a.frame.callers (with_call mem) s.bytes s.store a.stands.fits;
+          homes = (record {
+            small = h.small;
+            lie = λ j o q e. absurd (none-some q (sym (a.shows.homes j o) ∙ e));
+            apart = λ j o j' o' q e e'. absurd (none-some q (sym (a.shows.homes j o) ∙ e));
+            saved = λ j o q e. absurd (none-some q (sym (a.shows.homes j o) ∙ e));
+            others = λ q is not. h.others q is (a.shows.changed q);
+          }, (λ j o q e. absurd (none-some q (sym (a.shows.homes j o) ∙ e))), a.stands.homes.2);
+          known = a.stands.known;
+          holds_blocks = a.stands.holds_blocks;
+          data_based = a.stands.data_based;
+        };
+        shows = (let g = a.shows in record {
+          function = g.function;
+          bytes = g.bytes;
+          size = g.size;
+          is = g.is;
+          back_place = g.back_place;
+          returns_to = g.returns_to;
+          temps = g.temps;
+          blocks = g.blocks;
+          own = g.own;
+          own_high = g.own_high;
+          own_based = g.own_based;
+          saved = g.saved;
+          changed = λ q. refl;
+          homes = (tt, λ j o q e. absurd (none-some q (sym (g.homes j o) ∙ e)));
+        });
+        stack = a.stack;
+        passed = a.passed;
+      }
+
   -- ---- from the call to the first line behind the prologue
 
   abbrev lines : List Line
-  lines = prologue_code size fn.passed (length arguments)
+  lines = prologue_code size fn.passed (saved_slot fn) (saved_by fn) (length arguments)
 
   abbrev entry : ℕ
   entry = w.places f
 
+  abbrev saving_lines : List Line
+  saving_lines = saves_code (saved_slot fn) (saved_by fn)
+
   -- the frame is made: the return address is in it
   made : Has w entry lines → (s : Machine) (r : Calling w f outer mem arguments s) → stack_base + size ≤ r.sp
-      → Reach w.areas (6 + code_length (save_code 1 0) / 4) (Taking [] (entry + 40 + code_length (save_code 1 0))) s
+      → Reach w.areas (6 + code_length (save_code 1 0) / 4) (Keeping [] (entry + 40 + code_length (save_code 1 0))) s
   made has s r fits =
       let mem' = with_call mem in
       let ends = stack_low r.frames r.sp r.stands.stacked in
@@ -239,13 +380,13 @@ module _ (w : World) (order : IsInOrder w) (f : ℕ) (fn : Function) (is : slice
       let even = ends.2 in
       let size_even = order.even f in
       let room = order.frames f fn is (omega (arith, fits, high)) in
-      let tail = save_code 1 0 ++ take_code size fn.passed 0 (length arguments) in
+      let tail = save_code 1 0 ++ (saving_lines ++ take_code size fn.passed 0 (length arguments)) in
       let has_test = has_first w entry (test_code size) (move_code size ++ tail) has in
       let after_test : Has w (entry + 28) (move_code size ++ tail) = has_second w entry (test_code size) (move_code size ++ tail) has in
       let has_move = has_first w (entry + 28) (move_code size) tail after_test in
       let e40 : entry + 28 + 12 ≡ entry + 40 = omega arith in
       let has_save : Has w (entry + 40) (save_code 1 0) =
-      subst (λ p. Has w p (save_code 1 0)) e40 (has_first w (entry + 28 + 12) (save_code 1 0) (take_code size fn.passed 0 (length arguments))
+      subst (λ p. Has w p (save_code 1 0)) e40 (has_first w (entry + 28 + 12) (save_code 1 0) (saving_lines ++ take_code size fn.passed 0 (length arguments))
       (has_second w (entry + 28) (move_code size) tail after_test)) in
       let g = moved w order f fn is outer mem s r.maps r.frames r.sp entry r.stands has_test fits high has_move in
       let low = r.sp - size in
@@ -258,9 +399,12 @@ module _ (w : World) (order : IsInOrder w) (f : ℕ) (fn : Function) (is : slice
         slots = λ k. Blank;
         own_high = 4 * slots_in fn;
         zones = [];
-        own =
-            mem.calls;
+        own = mem.calls;
+        homes = λ k o. None;
+        saves = λ q. false;
+        callers = s.registers;
       } in
+      let mem_spares = spares_standing r.maps mem mem' refl refl in
       let laid : Laid low a = record {
         there = refl;
         even = omega (arith, even, size_even, fits);
@@ -280,6 +424,13 @@ module _ (w : World) (order : IsInOrder w) (f : ℕ) (fn : Function) (is : slice
         stacked = push_stacked w.areas order.statics_within r.maps r.frames mem s.bytes s.store r.sp r.stands.fits r.stands.stacked a laid (λ k. refl) end;
         fits = call_fits w.areas r.maps (a ∷ r.frames) mem s.bytes s.store r.stands.known
             (push_fits w.areas order.statics_within r.maps r.frames mem s.bytes s.store r.sp r.stands.fits r.stands.stacked a laid (λ k. refl) end);
+        homes = (record {
+          small = λ q is. subst (λ v. v < 2 ^ 32) (sym (g.same q is)) (homes_small r.maps mem r.frames s.registers r.stands.homes q is);
+          lie = λ k o q e. absurd (none-some q e);
+          apart = λ k o k' o' q e e'. absurd (none-some q e);
+          saved = λ k o q e. absurd (none-some q e);
+          others = λ q is not. g.same q is;
+        }, (λ k o q e. absurd (none-some q e)), homes_spared r.maps mem r.maps mem' r.frames s.registers mem_spares r.stands.homes);
         known = known_called r.maps mem s.store r.stands.known;
         holds_blocks = r.stands.holds_blocks;
         data_based = r.stands.data_based;
@@ -310,6 +461,9 @@ module _ (w : World) (order : IsInOrder w) (f : ℕ) (fn : Function) (is : slice
             own = refl;
             own_high = refl;
             own_based = λ o y e. absurd (none-some y e);
+            saved = tt;
+            changed = λ q. refl;
+            homes = λ k o. refl;
           };
           stack = r.stack;
           passed = r.passed;
@@ -326,20 +480,31 @@ module _ (w : World) (order : IsInOrder w) (f : ℕ) (fn : Function) (is : slice
       → Reach w.areas count (At w (callee arguments) outer (with_call mem) (entry + code_length lines)) s
       ⊎ (Full w count s × (w.areas.stack < frames w.bound (w.names f ∷ active_of w outer))))
   enters few has =
-      let tail = save_code 1 0 ++ taking_lines in
+      let both = saving_lines ++ taking_lines in
+      let tail = save_code 1 0 ++ both in
       let after_test : Has w (entry + 28) (move_code size ++ tail) = has_second w entry (test_code size) (move_code size ++ tail) has in
       let e40 : entry + 28 + 12 + code_length (save_code 1 0) ≡ entry + 40 + code_length (save_code 1 0) = omega arith in
-      let has_take : Has w (entry + 40 + code_length (save_code 1 0)) taking_lines =
-      subst (λ p. Has w p taking_lines) e40 (has_second w (entry + 28 + 12) (save_code 1 0) taking_lines
+      let begin = entry + 40 + code_length (save_code 1 0) in
+      let has_both : Has w begin both =
+      subst (λ p. Has w p both) e40 (has_second w (entry + 28 + 12) (save_code 1 0) both
       (has_second w (entry + 28) (move_code size) tail after_test)) in
-      let all = takes [] arguments (entry + 40 + code_length (save_code 1 0)) refl few has_take in
-      let there : entry + 40 + code_length (save_code 1 0) + code_length taking_lines ≡ entry + code_length lines =
+      let middle = begin + code_length saving_lines in
+      let plain : saved_slot fn + 0 ≡ saved_slot fn = omega arith in
+      let has_save = subst (λ k. Has w begin (saves_code k (saved_by fn))) (sym plain) (has_first w begin saving_lines taking_lines has_both) in
+      let keep : Comes w (Keeping [] begin) (Keeping (saved_by fn) middle) =
+      subst (λ k. Comes w (Keeping [] begin) (Keeping (saved_by fn) (begin + code_length (saves_code k (saved_by fn))))) plain
+      (keeps [] (saved_by fn) begin refl (saved_homes fn) has_save) in
+      let take = takes [] arguments middle refl few (has_second w begin saving_lines taking_lines has_both) in
+      let all : Comes w (Keeping [] begin) (Taking arguments (middle + code_length taking_lines)) =
+      comes_then w _ (Keeping (saved_by fn) middle) _ keep
+      (comes_then w _ (Taking [] middle) _ (comes_as w _ _ (λ s a. kept_all middle s a)) take) in
+      let there : middle + code_length taking_lines ≡ entry + code_length lines =
       omega (
         arith,
         length_of_both (test_code size) (move_code size ++ tail),
         length_of_both (move_code size) tail,
-        length_of_both
-            (save_code 1 0) taking_lines,
+        length_of_both (save_code 1 0) both,
+        length_of_both saving_lines taking_lines,
       ) in
       let count = 6 + code_length (save_code 1 0) / 4 + all.count in (
         count,

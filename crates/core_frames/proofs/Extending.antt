@@ -7,7 +7,7 @@ use Rattle.core_frames.proofs.Relations.{World, Waiting, Place, BlocksLie, back_
 blocks_on : (m n : Maps) (at : ℕ) (ps : List Place) (ks : List ℕ) (zs : List Zone) → Extends m n → BlocksLie m at ps ks zs → BlocksLie n at ps ks zs
 blocks_on m n at [] [] [] e l = tt
 blocks_on m n at (p ∷ ps) (k ∷ ks) (z ∷ zs) e l =
-    (l.0, (λ o x h. e.base (Frame k) o (at + x) (l.1 o x h)), blocks_on m n at ps ks zs e l.2)
+    (l.0, (λ o x h none. e.base (Frame k) o (at + x) (l.1 o x h none)), blocks_on m n at ps ks zs e l.2)
 blocks_on m n at [] [] (z ∷ zs) e l = absurd l
 blocks_on m n at [] (k ∷ ks) zs e l = absurd l
 blocks_on m n at (p ∷ ps) [] zs e l = absurd l
@@ -26,6 +26,9 @@ frame_extends w m n x back a e f = record {
   own = f.own;
   own_high = f.own_high;
   own_based = λ o y h. e.base (Own x.config.own) o (a.at + y) (f.own_based o y h);
+  saved = f.saved;
+  changed = f.changed;
+  homes = f.homes;
 }
 
 pub stack_extends : (w : World) (m n : Maps) (xs : List Waiting) (fs : List Activation) → Extends m n → StackShows w m xs fs → StackShows w n xs fs

@@ -12,13 +12,17 @@ use Rattle.rv32_machine.specs.State.{Runs}
 use Rattle.core_frames.specs.declared.line.Line.{Line}
 use Rattle.core_frames.specs.declared.line.Line.TheVariants.{Jump}
 use Rattle.core_frames.specs.Lines.{code_length}
+use Rattle.std.specs.Prelude.{length}
+use Rattle.core_frames.specs.Selected.{shrunk}
+use Rattle.core_frames.proofs.Saving.{HomesFit}
+use Rattle.core_frames.proofs.Relations.{Inside, AreHomes}
 use Rattle.core_frames.proofs.Relations.{World, IsInOrder, Has, Waiting, Place, Leads, Goes, At, Returning, active_of}
 use Rattle.core_frames.proofs.Moving.{Comes, goes_from, goes_as, goes_stuck, leads_from, fewer}
 use Rattle.core_frames.proofs.Access.{length_of_both, behind}
 use Rattle.core_frames.proofs.Passing.{has_first, has_second}
 use Rattle.core_frames.proofs.Bodies.{with_config, IsIn, GoesFrom, from_same, GoesHolding, goes_any, GoesReturning}
 use Rattle.core_frames.proofs.Registers.{AtHolding, at_any}
-use Rattle.core_frames.proofs.Laying.{LaidOut, NestFits, enters_block}
+use Rattle.core_frames.proofs.Laying.{AreTiny, LaidOut, NestFits, enters_block}
 use Rattle.core_frames.proofs.Zones.{leaves_block, leaves_block_returning}
 use Rattle.core_meaning.specs.Steps.{LoopTurn, stuck}
 use Rattle.step_trees.specs.Trees.{Turns}
@@ -256,6 +260,9 @@ at_config w x outer c d mem place s temps blocks own a = record {
     own_high = f.own_high;
     own_based = subst (λ k. (o y : ℕ) → slice_get x.unnamed o ≡ Some y → a.maps.base (Rattle.core_meaning.specs.Memory.Own k) o ≡ Some
         (a.frame.at + y)) own f.own_based;
+    saved = f.saved;
+    changed = f.changed;
+    homes = subst (λ ks. AreHomes x.phase x.nest ks a.frame.homes) blocks f.homes;
   });
 }
 
@@ -285,6 +292,9 @@ returning_config w x outer c d mem values s temps blocks own a = record {
     own_high = f.own_high;
     own_based = subst (λ k. (o y : ℕ) → slice_get x.unnamed o ≡ Some y → a.maps.base (Rattle.core_meaning.specs.Memory.Own k) o ≡ Some
         (a.frame.at + y)) own f.own_based;
+    saved = f.saved;
+    changed = f.changed;
+    homes = f.homes;
   });
 }
 
@@ -294,10 +304,11 @@ within_block x p k = record x { nest = p ∷ x.nest; config = record x.config { 
 
 pub block_does : (w : World) (order : IsInOrder w) (x : Waiting) (outer : List Waiting) (most : ℕ) (p : Place) (ls : List Local) (body : Statements)
     (last : Option ℕ) (lines : List Line) (out again : ℕ)
-    → LaidOut ls p.offsets p.low p.high → p.high ≤ w.frame_bytes x.function → NestFits x.own_high p.low x.nest
+    → LaidOut (shrunk ls p.homes) p.offsets p.low p.high → p.high ≤ w.frame_bytes x.function → NestFits x.own_high p.low x.nest
+    → AreTiny ls p.homes → HomesFit x.fn (length ls) p.homes x.nest → x.phase ≡ Inside
     → ((k : ℕ) → Does w (within_block x p k) outer most None last lines out again (core.statements body))
     → Does w x outer most None None lines out again (core.statement (Block ls body))
-block_does w order x outer most p ls body last lines out again laid room nest inner = record {
+block_does w order x outer most p ls body last lines out again laid room nest tiny fit inside inner = record {
   goes = λ place fuel le next aligned has ways c is.
       let k = c.memory.activations in
       let y = within_block x p k in
@@ -308,12 +319,12 @@ block_does w order x outer most p ls body last lines out again laid room nest in
       (At w (with_config x (out_of_block k c.blocks d)) outer (with_standing d.memory (Frame k) Dead) at)
       (λ s a. at_config w x outer (record d { blocks = x.config.blocks }) (out_of_block k c.blocks d) (with_standing d.memory (Frame k) Dead) at s refl
       (sym is.blocks) refl
-      (leaves_block w (with_config y d) outer p x.nest k x.config.blocks d.memory at s refl i.blocks a))
+      (leaves_block w (with_config y d) outer p x.nest k x.config.blocks d.memory at s refl i.blocks fit.differ a))
       (goes (out_of_block k c.blocks d) (out_is d i)) in
       goes_as w (At w (with_config x c) outer c.memory place) (active_of w (x ∷ outer)) fuel (core.statements body ends (in_block ls c))
       (At w (with_config y (in_block ls c)) outer (in_block ls c).memory place)
       (λ s a. at_config w y outer (record c { blocks = k ∷ c.blocks }) (in_block ls c) (in_block ls c).memory place s refl refl refl
-      (enters_block w order (with_config x c) outer p ls c.memory place s laid room nest a))
+      (enters_block w order (with_config x c) outer p ls c.memory place s laid room nest tiny fit inside a))
       ((inner k).goes place fuel le ends aligned has (record {
         falls = goes_any w y outer fuel (place + code_length lines) last (ends Falls) (leave (place + code_length lines) Falls ways.falls);
         breaks = leave (w.places out) Breaks ways.breaks;
@@ -322,7 +333,7 @@ block_does w order x outer most p ls body last lines out again laid room nest in
             (Returning w (with_config x (out_of_block k c.blocks d)) outer (with_standing d.memory (Frame k) Dead) values)
             (λ s a. returning_config w x outer (record d { blocks = x.config.blocks }) (out_of_block k c.blocks d)
             (with_standing d.memory (Frame k) Dead) values s refl (sym is.blocks) refl
-            (leaves_block_returning w (with_config y d) outer p x.nest k x.config.blocks d.memory values s refl i.blocks a))
+            (leaves_block_returning w (with_config y d) outer p x.nest k x.config.blocks d.memory values s refl i.blocks fit.differ a))
             (ways.returns (out_of_block k c.blocks d) values (out_is d i));
       }) (in_block ls c) (record { blocks = ap (λ bs. k ∷ bs) is.blocks; own = is.own }));
 }

@@ -2,35 +2,41 @@
 use Rattle.std.specs.Prelude.{nat_eq, nat_le, nat_lt, ◌&&◌, if◌then◌else◌}
 use Rattle.std.proofs.Common.{◌≡◌, ℕ, ◌+◌, ◌*◌, ◌/◌, ◌%◌, ◌^◌, ◌≤◌, ◌<◌, ◌⊎◌, inl, inr, ⊎_elim, true, List, ◌∷◌, Option, Some, None, refl, sym, ap, subst, ◌∙◌, arith}
 use Rattle.std.proofs.lemmas.Bool.{eqb-true, leb-true, le-leb, lt-ltb, ne_eqb, eq-eqb, and_parts, and_from, cases_eq, cases_lt}
+use Rattle.std.proofs.lemmas.Bool.Decides.{nat_tests}
 use Rattle.arena_laws.specs.declared.owner.Owner.{Owner}
 use Rattle.arena_laws.specs.declared.owner.Owner.TheVariants as owner
 use Rattle.arena_laws.specs.Blocks.{Block}
-use Rattle.arena_laws.specs.Counts.{room_of}
+use Rattle.arena_laws.specs.Counts.{Counts, room_of, class_of}
 use Rattle.arena_laws.specs.Holdings.{Holdings, arena_base}
-use Rattle.arena_laws.specs.Lawful.{is_clear, is_in_room, is_lawful_room, with_region_block}
+use Rattle.arena_laws.specs.Lawful.{is_clear, is_in_room, is_lawful_room, owns}
 use Rattle.arena_laws.proofs.Rooms.{outside}
+use Rattle.arena_laws.proofs.Classes.{class_is}
 use Rattle.rv32_machine.specs.State.{Areas}
-use Rattle.core_meaning.specs.Memory.{Region, Frame, Own, Born, Content, Part, Memory, is_live, with_object}
+use Rattle.core_meaning.specs.Memory.{Region, Frame, Own, Born, Single, Content, Part, Memory, is_live, first_spot, with_object}
 use Rattle.core_meaning.specs.Operations.{too_far}
 use Rattle.core_frames.specs.Machines.{Store}
 use Rattle.core_frames.specs.Lies.{
   Maps,
-  Extends,
+  Points,
   Activation,
   Name,
   Slot,
   Cell,
   Lies,
   Among,
+  birth_in,
   CellGround,
   Ground,
   Fits,
+  IsBlock,
   Known,
   IsNamed,
   HoldsBlock,
   HoldsBlocks,
   Stacked,
 }
+use Rattle.core_frames.proofs.Homes.{Changed}
+use Rattle.core_frames.proofs.Sparing.{object_spares}
 use Rattle.core_frames.proofs.Fitting.{width_some, inside}
 use Rattle.core_frames.proofs.Growing.{placed, placed_extends, ObjectFits, grow_fits, grow_known}
 
@@ -42,11 +48,18 @@ room_bound n = ⊎_elim
     (λ (e : n ≡ 0 → ⊥). let r : room_of n ≡ (n + 7) / 8 * 8 = ap (λ c. if c then 8 else (n + 7) / 8 * 8) (ne_eqb n 0 e) in omega (arith, r))
     (cases_eq n 0)
 
-room_some : (n : ℕ) → 1 ≤ room_of n
+pub room_some : (n : ℕ) → 1 ≤ room_of n
 room_some n = ⊎_elim
     (λ (e : n ≡ 0). let r : room_of n ≡ 8 = ap (λ c. if c then 8 else (n + 7) / 8 * 8) (eq-eqb n 0 e) in omega (arith, r))
     (λ (e : n ≡ 0 → ⊥). let bound = room_bound n in let some : 1 ≤ n = omega (arith, e) in omega (arith, bound, some))
     (cases_eq n 0)
+
+-- a class has the bytes asked for, where it is granted
+pub class_bound : (n : ℕ) → n ≤ 4096 → n ≤ class_of n
+class_bound n few = grind (arith, nat_tests)
+
+pub class_some : (n : ℕ) → 1 ≤ class_of n
+class_some n = let is = (class_is n).some in omega (arith, is)
 
 -- a room that may be granted
 pub record IsRoom (s : Holdings) (at room : ℕ) : Type 0 where
@@ -73,19 +86,20 @@ is_room s at room e =
 -- ---- a grant
 
 module _ (n : Areas) (few : n.statics ≤ 2 ^ 20) (m : Maps) (fs : List Activation) (mem : Memory) (b : ℕ → ℕ) (st : Store) (sp : ℕ) (stacked : Stacked sp fs)
-    (f : Fits n m fs mem b st) (k : Known m mem st) (holds_blocks : HoldsBlocks n st) (d h : ℕ) (o : ℕ → ℕ → Option Part) (bytes x : ℕ) (fits : ObjectFits o bytes)
-    (lawful : is_lawful_room st.holdings x (room_of bytes) ≡ true) (live : is_live (mem.standing (Born d)) ≡ true) (birth : st.ledger.birth_of h ≡ d)
-    (named : IsNamed st x (owner.Region h)) where
-  abbrev room : ℕ
-  room = room_of bytes
-
+    (f : Fits n m fs mem b st) (holds_blocks : HoldsBlocks n st) (d : ℕ) (o : ℕ → ℕ → Option Part) (bytes x : ℕ) (fits : ObjectFits o bytes) (who : Owner)
+    (room : ℕ) (bound : bytes ≤ room) (some_room : 1 ≤ room) (lawful : is_lawful_room st.holdings x room ≡ true) (counts : Counts) (births : ℕ) (alone : ℕ → ℕ)
+    (k : Known m mem (record st { ledger = record st.ledger { births = births } })) (live : is_live (mem.standing (Born d)) ≡ true)
+    (still : (c : Block) → Among c st.ledger.blocks → birth_in (record st.ledger { alone_birth = alone }) c.who ≡ birth_in st.ledger c.who)
+    (alone_still : (e at : ℕ) → IsBlock st e at → alone at ≡ st.ledger.alone_birth at)
+    (birth : birth_in (record st.ledger { alone_birth = alone }) who ≡ d) (named : IsNamed st x who)
+    (single : mem.standing (Born d) ≡ Single → (who ≡ owner.Alone x room) × (alone x ≡ d)) where
   abbrev block : Block
-  block = record { from = x; bytes = bytes; room = room; who = owner.Region h }
+  block = record { from = x; bytes = bytes; room = room; who = who }
 
   abbrev pub granting : Store
   granting = record {
-    holdings = with_region_block h x room st.holdings;
-    ledger = record st.ledger { blocks = block ∷ st.ledger.blocks };
+    holdings = record st.holdings { owner = owns x room who st.holdings.owner; counts = counts };
+    ledger = record { births = births; birth_of = st.ledger.birth_of; alone_birth = alone; blocks = block ∷ st.ledger.blocks };
   }
 
   fresh : m.base (Born d) (mem.objects (Born d)) ≡ None
@@ -103,8 +117,6 @@ module _ (n : Areas) (few : n.statics ≤ 2 ^ 20) (m : Maps) (fs : List Activati
   block_away c among at width some low high =
       let held = holds_blocks.blocks c among in
       let within = held.within in
-      let bound = room_bound bytes in
-      let some_room = room_some bytes in
       ⊎_elim
       (λ (over : x < at + width). ⊎_elim
       (λ (under : at < x + bytes). ⊎_elim
@@ -143,7 +155,7 @@ module _ (n : Areas) (few : n.statics ≤ 2 ^ 20) (m : Maps) (fs : List Activati
   region_on (Born q) at width (inr g) = inr (record {
     block = g.block;
     among = inr g.among;
-    owner = g.owner;
+    owner = still g.block g.among ∙ g.owner;
     low = g.low;
     high = g.high;
     bottom = g.bottom;
@@ -159,7 +171,6 @@ module _ (n : Areas) (few : n.statics ≤ 2 ^ 20) (m : Maps) (fs : List Activati
       let low = its_room.low in
       let high = its_room.high in
       let pages = holds_blocks.pages in
-      let bound = room_bound bytes in
       inr (record {
         block = block;
         among = inl refl;
@@ -173,10 +184,7 @@ module _ (n : Areas) (few : n.statics ≤ 2 ^ 20) (m : Maps) (fs : List Activati
   abbrev pub granted_maps : Maps
   granted_maps = placed (Born d) (mem.objects (Born d)) x m
 
-  pub granted_extends : Extends m granted_maps
-  granted_extends = placed_extends m (Born d) (mem.objects (Born d)) x fresh
-
-  pub granted_fits : Fits n granted_maps fs (with_object mem (Born d) o) b granting
+  granted_fits : Fits n granted_maps fs (with_object mem (Born d) o) b granting
   granted_fits = grow_fits n m fs mem b st granting (Born d) o bytes x f fresh fits even away ground_new ground_on
 
   its_low : n.pages ≤ 4096 → x < 2 ^ 31
@@ -187,29 +195,52 @@ module _ (n : Areas) (few : n.statics ≤ 2 ^ 20) (m : Maps) (fs : List Activati
       let low = its_room.low in
       let high = its_room.high in
       let pages = holds_blocks.pages in
-      let bound = room_bound bytes in
       omega (arith, low, high, pages, bound, few_pages)
 
-  pub granted_known : n.pages ≤ 4096 → Known granted_maps (with_object mem (Born d) o) granting
+  granted_known : n.pages ≤ 4096 → Known granted_maps (with_object mem (Born d) o) granting
   granted_known few_pages =
-      grow_known n m fs mem b st granting (Born d) o bytes x f fresh fits even away ground_new ground_on (its_low few_pages) (its_few few_pages) live refl
-      refl refl k
+      grow_known n m fs mem b st granting (Born d) o bytes x f fresh fits even away ground_new ground_on
+      (record st { ledger = record st.ledger { births = births } }) (its_low few_pages) (its_few few_pages) live refl refl refl
+      (λ e at i. record {
+        room = i.room;
+        owned = ap (λ t. if t then Some who else st.holdings.owner at) (outside st.holdings x room at (owner.Alone at i.room) lawful i.owned) ∙ i.owned;
+        birth = alone_still e at (record { room = i.room; owned = i.owned; birth = i.birth }) ∙ i.birth;
+      })
+      (λ e same is.
+      let here : d ≡ e = born_same same in
+      let its = single (ap (λ c. mem.standing (Born c)) here ∙ is) in
+      record {
+        room = room;
+        owned = ap (λ t. if t then Some who else st.holdings.owner x) (in_room x room x (omega arith) (omega (arith, some_room))) ∙ ap (λ w. Some w) its.0;
+        birth = its.1 ∙ here;
+      })
+      k
+    where
+      born_same : {e : ℕ} → Born d ≡ Born e → d ≡ e
+      born_same {e} same = cc same
 
   -- ---- what the store holds
 
   held_new : HoldsBlock granting block
   held_new = record {
-    within = room_bound bytes;
-    owned = λ q low high. ap (λ c. if c then Some (owner.Region h) else st.holdings.owner q) (in_room x room q low high);
-    named = named;
+    within = bound;
+    some = some_room;
+    owned = λ q low high. ap (λ c. if c then Some who else st.holdings.owner q) (in_room x room q low high);
+    named = named_new who named;
   }
+
+    where
+      named_new : (w : Owner) → IsNamed st x w → IsNamed granting x w
+      named_new (owner.Region r) is = is
+      named_new (owner.Alone at _) is = is
 
   held_old : (c : Block) → HoldsBlock st c → HoldsBlock granting c
   held_old c held = record {
     within = held.within;
+    some = held.some;
     owned = λ q low high.
         let its = held.owned q low high in
-        ap (λ t. if t then Some (owner.Region h) else st.holdings.owner q) (outside st.holdings x room q c.who lawful its) ∙ its;
+        ap (λ t. if t then Some who else st.holdings.owner q) (outside st.holdings x room q c.who lawful its) ∙ its;
     named = by c.who held.named;
   }
     where
@@ -217,15 +248,35 @@ module _ (n : Areas) (few : n.statics ≤ 2 ^ 20) (m : Maps) (fs : List Activati
       by (owner.Region r) is = is
       by (owner.Alone at _) is = is
 
-  pub granted_blocks : HoldsBlocks n granting
+  granted_blocks : HoldsBlocks n granting
   granted_blocks = record {
     pages = holds_blocks.pages;
     blocks = λ c among. ⊎_elim (λ (same : c ≡ block). subst (HoldsBlock granting) (sym same) held_new)
         (λ (i : Among c st.ledger.blocks). held_old c (holds_blocks.blocks c i)) among;
   }
 
-  pub granted_low : arena_base ≤ x
-  granted_low = its_room.low
+  -- all of it
+  pub granted : n.pages ≤ 4096 → Changed n m granted_maps fs mem (with_object mem (Born d) o) b granting
+  granted few_pages = record {
+    spares = object_spares m mem (Born d) o x (placed_extends m (Born d) (mem.objects (Born d)) x fresh);
+    fits = granted_fits;
+    known = granted_known few_pages;
+    blocks = granted_blocks;
+  }
 
-  pub granted_high : x ≤ arena_base + n.pages * 4096
-  granted_high = let high = its_room.high in let pages = holds_blocks.pages in omega (arith, high, pages)
+  -- a pointer to it is in a register
+  pub granted_points : (v : ℕ) → v ≡ x → n.pages ≤ 4096 → Points granted_maps (first_spot mem (Born d)) 0 v × (v < 2 ^ 32)
+  granted_points v same few_pages =
+      let low = its_room.low in
+      let high = its_room.high in
+      let pages = holds_blocks.pages in (
+        record {
+          base = x;
+          known = ap (λ c. if c then Some x else m.base (Born d) (mem.objects (Born d)))
+              (and_from (nat_eq d d) (nat_eq (mem.objects (Born d)) (mem.objects (Born d))) (eq-eqb d d refl)
+              (eq-eqb (mem.objects (Born d)) (mem.objects (Born d)) refl));
+          at = omega (arith, same);
+          positive = omega (arith, low, same);
+        },
+        omega (arith, same, high, pages, few_pages),
+      )

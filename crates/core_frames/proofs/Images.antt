@@ -30,6 +30,7 @@ pub record IsFirst (m : Arrays) : Type 0 where
   pub runs : m.mode ≡ Runs
   pub at_first : m.pc ≡ code_base
   pub pointer : slice_index m.registers 2 ≡ stack_base + stack_length
+  pub words : (register : ℕ) → slice_index m.registers register < 2 ^ 32
   pub code_within : length m.code ≤ 2 ^ 20
   pub statics_within : length m.statics ≤ 2 ^ 20
   pub stack_whole : length m.stack ≡ stack_length
@@ -46,6 +47,7 @@ begins_as m places lines ds first plain statics labels has =
       runs = first.runs;
       at_first = first.at_first;
       pointer = first.pointer;
+      words = first.words;
       small = first.small;
       unheld = first.unheld;
       has_pages = refl;

@@ -2,8 +2,9 @@
 use Rattle.std.specs.Prelude.{nat_lt, if◌then◌else◌}
 use Rattle.std.proofs.Common.{◌≡◌, ℕ, ◌+◌, ◌<◌, ⊎_elim, Bool, true, false, Option, Some, None, refl, sym, ap, ◌∙◌, subst, arith}
 use Rattle.std.proofs.lemmas.Bool.{ltb-true, eqb-true, ne_eqb, or_cases}
-use Rattle.std.proofs.lemmas.Option.{none-some}
-use Rattle.core_meaning.specs.Memory.{Region, Frame, Own, Born, Standing, Live, Dead, Spot, Part, Memory, same_region, with_standing}
+use Rattle.arena_laws.specs.declared.standing.Standing.{Standing as Tag}
+use Rattle.arena_laws.specs.declared.standing.Standing.TheVariants as tag
+use Rattle.core_meaning.specs.Memory.{Region, Frame, Own, Born, Standing, Live, Single, Dead, Spot, Part, Memory, same_region, with_standing}
 use Rattle.core_meaning.specs.Operations.{too_far, lies_at, reaches}
 use Rattle.core_frames.specs.Machines.{Store}
 use Rattle.core_frames.specs.Lies.{Maps, Known, TagOf}
@@ -19,6 +20,18 @@ born_other : (d : ℕ) (r : Region) → IsOfFrame r → same_region (Born d) r �
 born_other d (Frame k) i = refl
 born_other d (Own k) i = refl
 born_other d (Born e) i = absurd i
+
+-- a number never stands for a unique block
+pub not_single : (x : Tag) (now : Standing) → TagOf x now → now ≡ Single → ⊥
+not_single tag.Lexical now is e = absurd (cc (is, e))
+not_single tag.Opened now is e = absurd (cc (is, e))
+not_single tag.Closed now is e = absurd (cc (is, e))
+
+-- nor for what is dead
+pub not_dead : (x : Tag) (now : Standing) → TagOf x now → now ≡ Dead → ⊥
+not_dead tag.Lexical now is e = absurd (cc (is, e))
+not_dead tag.Opened now is e = absurd (cc (is, e))
+not_dead tag.Closed now is e = absurd (cc (is, e))
 
 -- a pointer that goes so far goes less than too far: so does what a part lies at
 pub reaches_near : (m : Maps) (mem : Memory) (st : Store) (s : Spot) (b : ℕ) → Known m mem st → reaches mem s b ≡ true → b < too_far
@@ -45,7 +58,8 @@ known_death m mem st r frame k = record {
   numbered = λ d h e alive. k.numbered d h e (λ dead. alive (born d ∙ dead));
   zero_is_heap = k.zero_is_heap;
   heap_is_zero = k.heap_is_zero;
-  based = k.based;
+  single = λ d o at is e. k.single d o at (sym (born d) ∙ is) e;
+  made = k.made;
   near = k.near;
   low = k.low;
   unmade = k.unmade;
@@ -71,8 +85,8 @@ pub no_parts : (m : Maps) (mem : Memory) (st : Store) (r : Region) → mem.objec
 no_parts m mem st r none k s j p same has =
     let is = region_same s.region r same in
     let zero_objects : mem.objects s.region ≡ 0 = ap (λ q. mem.objects q) is ∙ none in
-    let based = k.based s j p has in
-    none-some based.0 (sym (k.unmade s.region s.object (omega (arith, zero_objects))) ∙ based.1)
+    let made = k.made s j p has in
+    omega (arith, made, zero_objects)
 
 other_still : (mem : Memory) (q r : Region) → same_region q r ≡ false → (with_standing mem r Live).standing q ≡ mem.standing q
 other_still mem q r e = ap (λ c. if c then Live else mem.standing q) e
@@ -87,7 +101,8 @@ known_called m mem st k = record {
   numbered = k.numbered;
   zero_is_heap = k.zero_is_heap;
   heap_is_zero = k.heap_is_zero;
-  based = k.based;
+  single = k.single;
+  made = k.made;
   near = k.near;
   low = k.low;
   unmade = k.unmade;
@@ -108,7 +123,8 @@ known_block m mem st k = record {
   numbered = k.numbered;
   zero_is_heap = k.zero_is_heap;
   heap_is_zero = k.heap_is_zero;
-  based = k.based;
+  single = k.single;
+  made = k.made;
   near = k.near;
   low = k.low;
   unmade = k.unmade;

@@ -8,6 +8,8 @@ pub mod Whole
 pub mod Access
 pub mod Alike
 pub mod Fitting
+pub mod Homes
+pub mod Saving
 pub mod Frames
 pub mod Knowing
 pub mod Passing
@@ -17,8 +19,10 @@ pub mod Leaving
 pub mod Bodies
 pub mod Storing
 pub mod Growing
+pub mod Sparing
 pub mod Arrays
 pub mod Reframing
+pub mod Homed
 pub mod Zones
 pub mod Extending
 pub mod Placing
@@ -28,9 +32,14 @@ pub mod Forms
 pub mod Data
 mod DataParts
 pub mod Start
-pub mod Recursive
+pub mod HomeWords
+pub mod SavedFew
+mod HomeSamples
 pub mod Locals
 pub mod Nests
+pub mod HomeLocals
+pub mod Fine
+pub mod FineHomes
 pub mod Registers
 pub mod Values
 pub mod Raising
@@ -44,15 +53,22 @@ pub mod RegionsFreed
 pub mod Granting
 pub mod Products
 pub mod BlockBytes
+pub mod StoreCalls
 pub mod RegionCalls
 pub mod GrantCalls
 pub mod FreeCalls
+pub mod UniquesBorn
+pub mod UniquesFreed
+pub mod UniqueCalls
+pub mod KeysTurned
+pub mod KeyCalls
 pub mod RegionOperations
 pub mod Showing
 pub mod Requests
 pub mod Zero
 pub mod Streams
 pub mod Tests
+pub mod Relaxing
 pub mod Programs
 pub mod EachFunction
 pub mod Filling
@@ -69,6 +85,9 @@ pub mod EachStatement
 pub mod DoesAsCore
 mod NoLabels
 pub mod LabelsOnce
+mod NoTargets
+pub mod TargetsOnce
+pub mod Shortening
 pub mod DataBytes
 pub mod Unnamed
 pub mod Images

@@ -10,6 +10,7 @@ use Rattle.core_meaning.specs.Core.{
   If,
   While,
   Block,
+  Leave,
   Break,
   Continue,
   Call,
@@ -20,9 +21,11 @@ use Rattle.core_meaning.specs.Core.{
   MoreStatements,
   Function,
 }
-use Rattle.core_frames.specs.Selected.{rounded, bytes_of, offsets_from, end_from, greater, highest, highest_of, slots_of, own_end, frame_bytes, too_many}
+use Rattle.core_frames.specs.Selected.{rounded, bytes_of, offsets_from, end_from, greater, highest, highest_of, slots_of, own_end, placed_body, shrink, shrunk, first_of, rest_of, frame_bytes, too_many}
 use Rattle.core_frames.specs.Selectable.{AreLayouts}
+use Rattle.core_frames.specs.Layouts.{IsLayout}
 use Rattle.core_frames.specs.Bounds.{words_of, local_words, all_local_words, core_bound}
+use Rattle.core_frames.proofs.HomeWords.{homes_are_words}
 use Rattle.core_frames.proofs.Arrays.{object_fits}
 use Rattle.core_frames.proofs.Laying.{LaidOut}
 
@@ -30,6 +33,18 @@ pub offsets_lie : (low : ℕ) (ls : List Local) → AreLayouts ls → LaidOut ls
 offsets_lie low [] good = refl
 offsets_lie low (l ∷ ls) good =
     (omega arith, omega arith, object_fits l.layout l.count good.0, offsets_lie (rounded low + bytes_of l) ls good.1)
+
+pub shrunk_layouts : (ls : List Local) (hs : List ℕ) → AreLayouts ls → AreLayouts (shrunk ls hs)
+shrunk_layouts [] hs good = tt
+shrunk_layouts (l ∷ ls) hs good = (by (first_of hs), shrunk_layouts ls (rest_of hs) good.1)
+  where
+    by : (h : ℕ) → IsLayout (shrink h l).layout
+    by zero = good.0
+    by (suc h) = good.0
+
+pub as_many_shrunk : (ls : List Local) (hs : List ℕ) → length (shrunk ls hs) ≡ length ls
+as_many_shrunk [] hs = refl
+as_many_shrunk (l ∷ ls) hs = ap suc (as_many_shrunk ls (rest_of hs))
 
 pub as_many_offsets : (low : ℕ) (ls : List Local) → length (offsets_from low ls) ≡ length ls
 as_many_offsets low [] = refl
@@ -82,6 +97,7 @@ mutual
       let h = highest_of_above low test in let g = greater_left (highest_of low test) (highest_of low body) in omega (arith, h, g)
   highest_above low (Block locals body) =
       let h = highest_of_above (end_from low locals) body in let g = end_above low locals in omega (arith, h, g)
+  highest_above low (Leave body) = highest_of_above low body
   highest_above low Break = omega arith
   highest_above low Continue = omega arith
   highest_above low (Call results f arguments) = omega arith
@@ -117,6 +133,7 @@ mutual
       rounded_greater (highest_of low test) (highest_of low body) _ (omega (arith, h)) (omega (arith, g))
   highest_bounded low (Block locals body) =
       let h = highest_of_bounded (end_from low locals) body in let g = end_bounded low locals in omega (arith, h, g)
+  highest_bounded low (Leave body) = highest_of_bounded low body
   highest_bounded low Break = omega arith
   highest_bounded low Continue = omega arith
   highest_bounded low (Call results f arguments) = omega arith
@@ -131,13 +148,14 @@ mutual
 
 -- the highest offset that a function's objects reach
 abbrev pub top_of : Function → ℕ
-top_of f = highest_of (own_end f) f.body
+top_of f = highest_of (own_end f) (placed_body f)
 
 top_bounded : (f : Function) → top_of f + 124 ≤ core_bound f
 top_bounded f =
-    let h = highest_of_bounded (own_end f) f.body in
+    let h = highest_of_bounded (own_end f) (placed_body f) in
+    let fewer = homes_are_words f in
     let g = end_bounded (4 * slots_of f) f.own in
-    omega (arith, h, g)
+    omega (arith, h, g, fewer)
 
 -- with 64 bytes to spare
 pub frame_spares : (f : Function) → frame_bytes f + 64 ≤ core_bound f

@@ -11,15 +11,15 @@ use Rattle.core_meaning.specs.Core.{Clear, IsNull, SamePlace, Getchar, Putchar, 
 use Rattle.core_meaning.specs.Core.{KeyOpen, KeyClose, KeyFree}
 use Rattle.rv32_machine.specs.State.{data_base}
 use Rattle.core_frames.specs.declared.line.Line.{Line}
-use Rattle.core_frames.specs.declared.line.Line.TheVariants.{Plain, Label, Jump, JumpIfZero, CallTo}
+use Rattle.core_frames.specs.declared.line.Line.TheVariants.{Plain, Label, Jump, JumpIfZero, BranchIfZero, CallTo}
 use Rattle.core_frames.specs.Lines.{labels_placed}
 use Rattle.core_frames.specs.Frames.{is_short, word_code, load_code, save_code, slot_of, pass_code, result_code, call_code, environment_code, take_code}
-use Rattle.core_frames.specs.Frames.{test_code, move_code, prologue_code, values_code, leave_code, return_code}
-use Rattle.core_frames.specs.Selected.{Surroundings, local_offset, nth, from_temp, to_temp, constant_code, far_code, read_line, read_code}
+use Rattle.core_frames.specs.Frames.{test_code, move_code, prologue_code, saves_code, restores_code, values_code, leave_code, return_code, epilogue_code}
+use Rattle.core_frames.specs.Selected.{Surroundings, local_offset, local_home, nth, from_temp, to_temp, constant_code, far_code, read_line, read_code}
 use Rattle.core_frames.specs.Loops.{are_words, copy_loop, clear_loop}
-use Rattle.core_frames.specs.Choosing.{is_held, held_or_loaded, choice_code}
+use Rattle.core_frames.specs.Choosing.{jump_if_zero, is_held, held_or_loaded, choice_code}
 use Rattle.core_frames.specs.Selected.{write_line, write_code, binary_code, address_code, bytes_code, operation_code}
-use Rattle.core_frames.specs.Selected.{further_code, bytes_in}
+use Rattle.core_frames.specs.Selected.{further_code, bytes_in, get_code, put_code}
 
 pub labels_placed-append : (first second : List Line) → labels_placed (first ++ second) ≡ labels_placed first ++ labels_placed second
 labels_placed-append [] second = refl
@@ -27,6 +27,7 @@ labels_placed-append (Plain instr ∷ first) second = labels_placed-append first
 labels_placed-append (Label label ∷ first) second = ap (λ labels. label ∷ labels) (labels_placed-append first second)
 labels_placed-append (Jump label ∷ first) second = labels_placed-append first second
 labels_placed-append (JumpIfZero register label ∷ first) second = labels_placed-append first second
+labels_placed-append (BranchIfZero register label ∷ first) second = labels_placed-append first second
 labels_placed-append (CallTo label ∷ first) second = labels_placed-append first second
 
 none_append : (first second : List Line) → labels_placed first ≡ [] → labels_placed second ≡ [] → labels_placed (first ++ second) ≡ []
@@ -104,6 +105,15 @@ binary_none LessEqual = refl
 binary_none LessUnsigned = refl
 binary_none LessEqualUnsigned = refl
 
+get_none : (u : Surroundings) (h t width w : ℕ) → labels_placed (get_code u h t width w) ≡ []
+get_none u zero t width w = none_append (read_code width 2 w) (to_temp u 5 t) (read_none width 2 w) (to_none u 5 t)
+get_none u (suc h) t width w = to_none u (suc h) t
+
+put_none : (u : Surroundings) (h width w x : ℕ) → labels_placed (put_code u h width w x) ≡ []
+put_none u zero width w x = none_append (from_temp u 6 x) (write_code width 2 w) (from_none u 6 x) (write_none width 2 w)
+put_none u (suc h) width w x = choice_none (nat_eq width 1) _ _ (none_append (from_temp u 6 x) (Plain (instr.Andi (suc h) 6 (pos 255)) ∷ []) (from_none u 6 x) refl)
+    (from_none u (suc h) x)
+
 pub operation_none : (u : Surroundings) (o : Operation) → labels_placed (operation_code u o) ≡ []
 operation_none u (Constant t w) = none_append (constant_code (w % 2 ^ 32)) (to_temp u 5 t) (constant_none (w % 2 ^ 32)) (to_none u 5 t)
 operation_none u (NullPointer t) = to_none u 0 t
@@ -122,10 +132,8 @@ operation_none u (Element t p i cells bytes) =
     let factors = from_temp u 5 i ++ word_code 6 (bytes % 2 ^ 32) ++ (Plain (instr.Mul 5 5 6) ∷ []) in
     four factors (from_temp u 6 p) (Plain (instr.Add 5 5 6) ∷ []) (to_temp u 5 t)
     (three (from_temp u 5 i) (word_code 6 (bytes % 2 ^ 32)) (Plain (instr.Mul 5 5 6) ∷ []) (from_none u 5 i) refl refl) (from_none u 6 p) refl (to_none u 5 t)
-operation_none u (Get t out local width) =
-    none_append (read_code width 2 (local_offset u out local)) (to_temp u 5 t) (read_none width 2 (local_offset u out local)) (to_none u 5 t)
-operation_none u (Put out local width x) =
-    none_append (from_temp u 6 x) (write_code width 2 (local_offset u out local)) (from_none u 6 x) (write_none width 2 (local_offset u out local))
+operation_none u (Get t out local width) = get_none u (local_home u out local) t width (local_offset u out local)
+operation_none u (Put out local width x) = put_none u (local_home u out local) width (local_offset u out local) x
 operation_none u (Load t p d) =
     three (from_temp u 5 p) (read_code d.width 5 d.bytes) (to_temp u 5 t) (from_none u 5 p) (read_none d.width 5 d.bytes) (to_none u 5 t)
 operation_none u (Store p d x) =
@@ -149,17 +157,23 @@ operation_none u (RegionAlloc t h n layout) =
     three (from_temp u 10 h ++ from_temp u 5 n ++ bytes_code layout.bytes) (environment_code 5) (to_temp u 10 t)
     (three (from_temp u 10 h) (from_temp u 5 n) (bytes_code layout.bytes) (from_none u 10 h) (from_none u 5 n) refl) refl (to_none u 10 t)
 operation_none u (RegionFree h) = none_append (from_temp u 10 h) (environment_code 6) (from_none u 10 h) refl
-operation_none u (UniqueAlloc t layout) = refl
-operation_none u (UniqueFree p) = refl
-operation_none u (KeyNew t) = refl
-operation_none u (KeyOpen k) = refl
-operation_none u (KeyClose k) = refl
-operation_none u (KeyFree k) = refl
+operation_none u (UniqueAlloc t layout) =
+    none_append (word_code 10 (layout.bytes % 2 ^ 32) ++ environment_code 7) (to_temp u 10 t)
+    (none_append (word_code 10 (layout.bytes % 2 ^ 32)) (environment_code 7) refl refl) (to_none u 10 t)
+operation_none u (UniqueFree p) = none_append (from_temp u 10 p) (environment_code 8) (from_none u 10 p) refl
+operation_none u (KeyNew t) = none_append (environment_code 9) (to_temp u 10 t) refl (to_none u 10 t)
+operation_none u (KeyOpen k) = none_append (from_temp u 10 k) (environment_code 10) (from_none u 10 k) refl
+operation_none u (KeyClose k) = none_append (from_temp u 10 k) (environment_code 11) (from_none u 10 k) refl
+operation_none u (KeyFree k) = none_append (from_temp u 10 k) (environment_code 12) (from_none u 10 k) refl
 
-pub choice_code_none : (passed : ℕ) (held : Option ℕ) (t label : ℕ) → labels_placed (choice_code passed held t label) ≡ []
-choice_code_none passed held t label =
-    none_append (held_or_loaded passed held t) (JumpIfZero 5 label ∷ [])
-    (choice_none (is_held held t) [] (load_code 5 (slot_of passed t)) refl (load_none 5 (slot_of passed t))) refl
+pub choice_code_none : (wide : ℕ → Bool) (passed : ℕ) (held : Option ℕ) (t label : ℕ) → labels_placed (choice_code wide passed held t label) ≡ []
+choice_code_none wide passed held t label =
+    none_append (held_or_loaded passed held t) (jump_if_zero wide 5 label ∷ [])
+    (choice_none (is_held held t) [] (load_code 5 (slot_of passed t)) refl (load_none 5 (slot_of passed t))) (by (wide label))
+  where
+    by : (b : Bool) → labels_placed ((if b then JumpIfZero 5 label else BranchIfZero 5 label) ∷ []) ≡ []
+    by true = refl
+    by false = refl
 
 pass_none : (passed k : ℕ) (ts : List ℕ) → labels_placed (pass_code passed k ts) ≡ []
 pass_none passed k [] = refl
@@ -181,9 +195,20 @@ values_none passed r [] = refl
 values_none passed r (t ∷ ts) =
     none_append (load_code (suc r) (slot_of passed t)) (values_code passed (suc r) ts) (load_none (suc r) (slot_of passed t)) (values_none passed (suc r) ts)
 
-pub return_none : (bytes passed : ℕ) (ts : List ℕ) → labels_placed (return_code bytes passed ts) ≡ []
-return_none bytes passed ts =
-    none_append (values_code passed 9 ts) (leave_code bytes) (values_none passed 9 ts)
+restores_none : (k : ℕ) (rs : List ℕ) → labels_placed (restores_code k rs) ≡ []
+restores_none k [] = refl
+restores_none k (r ∷ rs) = none_append (load_code r k) (restores_code (suc k) rs) (load_none r k) (restores_none (suc k) rs)
+
+saves_none : (k : ℕ) (rs : List ℕ) → labels_placed (saves_code k rs) ≡ []
+saves_none k [] = refl
+saves_none k (r ∷ rs) = none_append (save_code r k) (saves_code (suc k) rs) (save_none r k) (saves_none (suc k) rs)
+
+pub return_none : (passed : ℕ) (ts : List ℕ) (exit : ℕ) → labels_placed (return_code passed ts exit) ≡ []
+return_none passed ts exit = none_append (values_code passed 9 ts) (Jump exit ∷ []) (values_none passed 9 ts) refl
+
+pub epilogue_none : (bytes first : ℕ) (saved : List ℕ) → labels_placed (epilogue_code bytes first saved) ≡ []
+epilogue_none bytes first saved =
+    none_append (restores_code first saved) (leave_code bytes) (restores_none first saved)
     (three (load_code 1 0) (word_code 7 bytes) (Plain (instr.Add 2 2 7) ∷ Plain (instr.Jalr 0 1 (pos 0)) ∷ []) (load_none 1 0) refl refl)
 
 take_none : (bytes passed k count : ℕ) → labels_placed (take_code bytes passed k count) ≡ []
@@ -192,7 +217,8 @@ take_none bytes passed k (suc more) =
     three (load_code 5 (bytes / 4 + 1 + k)) (save_code 5 (slot_of passed k)) (take_code bytes passed (k + 1) more) (load_none 5 (bytes / 4 + 1 + k))
     (save_none 5 (slot_of passed k)) (take_none bytes passed (k + 1) more)
 
-pub prologue_none : (bytes passed parameters : ℕ) → labels_placed (prologue_code bytes passed parameters) ≡ []
-prologue_none bytes passed parameters =
-    four (test_code bytes) (move_code bytes) (save_code 1 0) (take_code bytes passed 0 parameters) refl refl (save_none 1 0)
+pub prologue_none : (bytes passed first : ℕ) (saved : List ℕ) (parameters : ℕ) → labels_placed (prologue_code bytes passed first saved parameters) ≡ []
+prologue_none bytes passed first saved parameters =
+    none_append (test_code bytes ++ move_code bytes ++ save_code 1 0 ++ saves_code first saved) (take_code bytes passed 0 parameters)
+    (four (test_code bytes) (move_code bytes) (save_code 1 0) (saves_code first saved) refl refl (save_none 1 0) (saves_none first saved))
     (take_none bytes passed 0 parameters)

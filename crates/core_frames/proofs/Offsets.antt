@@ -1,5 +1,5 @@
 -- What the code of an offset does: x5 and so many bytes, into a register; and a pointer so many bytes on, which stays below the end of all addresses.
-use Rattle.std.specs.Prelude.{nat_eq, if◌then◌else◌}
+use Rattle.std.specs.Prelude.{if◌then◌else◌}
 use Rattle.std.proofs.Common.{◌≡◌, ℕ, suc, ◌+◌, ◌^◌, ◌<◌, Bool, true, false, List, [], ◌∷◌, ◌++◌, refl, ap, subst, ◌∙◌, arith}
 use Rattle.cyc_words.specs.Words.{word, sum_of}
 use Rattle.rv32_isa.specs.declared.instruction.Instr.TheVariants as instr
@@ -11,6 +11,7 @@ use Rattle.core_frames.specs.Lines.{code_length}
 use Rattle.core_frames.specs.Frames.{is_short, lower_of, word_code}
 use Rattle.core_frames.specs.Selected.{further_code}
 use Rattle.core_frames.specs.Lies.{Maps, Shows, Points}
+use Rattle.core_frames.specs.Homes.{stays}
 use Rattle.core_frames.proofs.Relations.{World, IsInOrder, Has, Waiting}
 use Rattle.core_frames.proofs.Moving.{Comes, comes_then, comes_as}
 use Rattle.core_frames.proofs.Words.{short_word}
@@ -32,7 +33,7 @@ module _ (w : World) (order : IsInOrder w) (x : Waiting) (outer : List Waiting) 
       (if short then Plain (instr.Addi to 5 (lower_of bytes)) ∷ [] else word_code 7 bytes ++ (Plain (instr.Add to 7 5) ∷ []))
 
   -- x5 and so many bytes, into a register
-  pub further_into : (r bytes place : ℕ) (P Q : Maps → (ℕ → ℕ) → Type 0) → nat_eq 2 (suc r) ≡ false → bytes < 2 ^ 32 → Has w place (further_code (suc r) bytes)
+  pub further_into : (r bytes place : ℕ) (P Q : Maps → (ℕ → ℕ) → Type 0) → stays (suc r) ≡ false → bytes < 2 ^ 32 → Has w place (further_code (suc r) bytes)
       → ((m : Maps) (new old : ℕ → ℕ) → new (suc r) ≡ sum_of (old 5) bytes → Kept (suc r) new old → P m old → Q m new)
       → Comes w (With w order x outer mem P place) (With w order x outer mem Q (place + code_length (further_code (suc r) bytes)))
   further_into r bytes place P Q other few has gets = by (is_short bytes) refl has

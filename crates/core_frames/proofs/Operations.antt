@@ -2,7 +2,7 @@
 use Rattle.rv32_machine.specs.Run.{Run}
 use Rattle.arena_laws.specs.Lawful.{Answer}
 use Rattle.core_frames.specs.Machines.{state_of}
-use Rattle.std.specs.Prelude.{nat_eq, bit_and, if◌then◌else◌}
+use Rattle.std.specs.Prelude.{bit_and, if◌then◌else◌}
 use Rattle.std.proofs.Common.{◌≡◌, ℕ, suc, pos, ◌+◌, ◌*◌, ◌%◌, ◌^◌, ◌<◌, Bool, true, false, nat_lt, List, [], ◌∷◌, ◌++◌, refl, sym, ap, subst, ◌∙◌, arith}
 use Rattle.std.proofs.lemmas.Nat.{and_mask}
 use Rattle.std.proofs.lemmas.Bool.{lt-ltb, le-ltb}
@@ -21,6 +21,7 @@ use Rattle.core_frames.specs.declared.line.Line.TheVariants.{Plain}
 use Rattle.core_frames.specs.Lines.{code_length}
 use Rattle.core_frames.specs.Frames.{is_short, lower_of, word_code, load_code, save_code, slot_of}
 use Rattle.core_frames.specs.Selected.{constant_code, binary_code}
+use Rattle.core_frames.specs.Homes.{stays}
 use Rattle.core_frames.proofs.Relations.{World, IsInOrder, Has, Waiting, At, back_of}
 use Rattle.core_frames.proofs.Moving.{Comes, comes_then, comes_as}
 use Rattle.core_frames.proofs.Words.{short_word}
@@ -63,7 +64,7 @@ module _ (w : World) (order : IsInOrder w) (x : Waiting) (outer : List Waiting) 
       (temp_lies w order x outer mem a.maps (back_of w outer) a.frame a.others a.sp t named a.shows a.stands.stacked)
 
   -- a temporary into a register
-  pub loads_into : (r t place : ℕ) → t < x.fn.temporaries → nat_eq 2 (suc r) ≡ false → Has w place (loading (suc r) t)
+  pub loads_into : (r t place : ℕ) → t < x.fn.temporaries → stays (suc r) ≡ false → Has w place (loading (suc r) t)
       → Comes w (Here place) (With (InRegister (suc r) (x.config.temps t)) (place + code_length (loading (suc r) t)))
   loads_into r t place named other has =
       comes_then w _ (With Free place) _ (comes_as w _ _ (at_with w order x outer mem place))
@@ -100,7 +101,7 @@ module _ (w : World) (order : IsInOrder w) (x : Waiting) (outer : List Waiting) 
   -- ---- constants
 
   -- a word into a register, where something stays
-  pub word_into : (r v place : ℕ) (P Q : Maps → (ℕ → ℕ) → Type 0) → nat_eq 2 (suc r) ≡ false → v < 2 ^ 32 → Has w place (word_code (suc r) v)
+  pub word_into : (r v place : ℕ) (P Q : Maps → (ℕ → ℕ) → Type 0) → stays (suc r) ≡ false → v < 2 ^ 32 → Has w place (word_code (suc r) v)
       → ((m : Maps) (new old : ℕ → ℕ) → new (suc r) ≡ v → Kept (suc r) new old → P m old → Q m new)
       → Comes w (With P place) (With Q (place + 8))
   word_into r v place P Q other small has gets = puts_into w order x outer mem r v place P Q small other has gets

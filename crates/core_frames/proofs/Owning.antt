@@ -38,6 +38,8 @@ use Rattle.core_meaning.specs.Meaning.{with_objects}
 use Rattle.core_meaning.specs.Operations.{too_far}
 use Rattle.core_frames.specs.Machines.{Store}
 use Rattle.core_frames.specs.Lies.{Maps, Extends, Activation, Name, Slot, Cell, Lies, Among, InFrame, InOwn, CellGround, Fits, Known, Zoned, Laid, Stacked}
+use Rattle.core_frames.proofs.Homes.{Spares, spares_standing, spares_then}
+use Rattle.core_frames.proofs.Sparing.{object_spares}
 use Rattle.core_frames.proofs.Fitting.{inside, below_end, extends_self, extends_on}
 use Rattle.core_frames.proofs.Growing.{placed, placed_extends, ObjectFits, grow_fits, grow_known}
 use Rattle.core_frames.proofs.Reframing.{reframed, counterpart, reframed_fits}
@@ -155,7 +157,7 @@ module _ (n : Areas) (few : n.statics ≤ 2 ^ 20) (m : Maps) (a : Activation) (f
 
   pub owned_known : Known maps (with_object mem (Own k) o) st
   owned_known = grow_known n m (after ∷ fs) mem b st st (Own k) o bytes (a.at + offset) raised_fits fresh fits at_even away new_ground (λ y at width g. g)
-      at_low bytes_few live refl refl refl known
+      st at_low bytes_few live refl refl refl (λ d at i. i) (λ d e. absurd (cc e)) known
 
   pub owned_stacked : Stacked sp (after ∷ fs)
   owned_stacked = (
@@ -176,7 +178,7 @@ module _ (n : Areas) (few : n.statics ≤ 2 ^ 20) (m : Maps) (a : Activation) (f
 -- ---- all of them
 
 -- what stands, with the unnamed values
-pub record IsOwned (n : Areas) (m : Maps) (a : Activation) (fs : List Activation) (mem : Memory) (b : ℕ → ℕ) (st : Store) (sp k high : ℕ) (os : List ℕ)
+pub record IsOwned (n : Areas) (m : Maps) (before : Memory) (a : Activation) (fs : List Activation) (mem : Memory) (b : ℕ → ℕ) (st : Store) (sp k high : ℕ) (os : List ℕ)
     (count : ℕ) : Type 0 where
   pub maps : Maps
   pub extends : Extends m maps
@@ -186,6 +188,7 @@ pub record IsOwned (n : Areas) (m : Maps) (a : Activation) (fs : List Activation
   pub known : Known maps mem st
   pub stacked : Stacked sp (record a { own_high = end } ∷ fs)
   pub based : (o x : ℕ) → slice_get os o ≡ Some x → maps.base (Own k) (count + o) ≡ Some (a.at + x)
+  pub spares : Spares m before maps mem
 
 module _ (n : Areas) (few : n.statics ≤ 2 ^ 20) (a : Activation) (fs : List Activation) (none : a.zones ≡ []) (b : ℕ → ℕ) (st : Store) (sp k high : ℕ)
     (is : a.own ≡ k) (room : high ≤ a.bytes) where
@@ -194,7 +197,7 @@ module _ (n : Areas) (few : n.statics ≤ 2 ^ 20) (a : Activation) (fs : List Ac
 
   pub owns : (ls : List Local) (os : List ℕ) (start count : ℕ) (m : Maps) (mem : Memory) → LaidOut ls os start high → mem.objects (Own k) ≡ count
       → is_live (mem.standing (Own k)) ≡ true → Stacked sp (with_high start ∷ fs) → Fits n m (with_high start ∷ fs) mem b st → Known m mem st
-      → IsOwned n m a fs (with_objects (Own k) ls mem) b st sp k high os count
+      → IsOwned n m mem a fs (with_objects (Own k) ls mem) b st sp k high os count
   owns [] [] start count m mem laid counts live stacked f known = record {
     maps = m;
     extends = extends_self m;
@@ -204,6 +207,7 @@ module _ (n : Areas) (few : n.statics ≤ 2 ^ 20) (a : Activation) (fs : List Ac
     known = known;
     stacked = stacked;
     based = λ o x e. absurd (none-some x e);
+    spares = spares_standing m mem mem refl refl;
   }
   owns [] (o ∷ os) start count m mem laid counts live stacked f known = absurd laid
   owns (l ∷ ls) [] start count m mem laid counts live stacked f known = absurd laid
@@ -233,6 +237,8 @@ module _ (n : Areas) (few : n.statics ≤ 2 ^ 20) (a : Activation) (fs : List Ac
         known = rest.known;
         stacked = rest.stacked;
         based = λ i x e. based i x e here rest.extends rest.based;
+        spares = spares_then m mem m1 mem1 rest.maps (with_objects (Own k) ls mem1) (extends_on m m1 rest.maps e1 rest.extends)
+            (object_spares m mem (Own k) object (a.at + o) e1) rest.spares;
       }
     where
       based : {m1 m2 : Maps} (i x : ℕ) → slice_get (o ∷ os) i ≡ Some x → m1.base (Own k) (count + 0) ≡ Some (a.at + o) → Extends m1 m2

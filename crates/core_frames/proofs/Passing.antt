@@ -44,11 +44,14 @@ use Rattle.core_frames.specs.declared.line.Line.TheVariants.{CallTo}
 use Rattle.core_frames.specs.Lines.{code_length, offset_to}
 use Rattle.core_frames.specs.Frames.{load_code, save_code, slot_of, pass_code}
 use Rattle.core_frames.specs.Lies.{Maps, Activation, SlotsLie, Stacked}
-use Rattle.core_frames.proofs.Relations.{Moves, World, IsInOrder, Has, Waiting, back_of, FrameShows, StackShows, Stands, Calling, Passed}
+use Rattle.core_frames.specs.Homes.{saved_slot}
+use Rattle.core_frames.proofs.Saving.{saved_on}
+use Rattle.core_frames.proofs.Relations.{Moves, World, IsInOrder, Has, Waiting, back_of, FrameShows, StackShows, Stands, Calling, Passed, kept_in}
 use Rattle.core_frames.proofs.Moving.{Reach, Comes, comes_then, comes_as, and_then}
 use Rattle.core_frames.proofs.Words.{offset_joined}
 use Rattle.core_frames.proofs.Steps.{state_at, goes_to, is_in_code}
 use Rattle.core_frames.proofs.Fitting.{with_slot, set_slot}
+use Rattle.core_frames.proofs.Homes.{set_stays}
 use Rattle.core_frames.proofs.Access.{length_of_both, first_lines, other_lines, written_out, loads, saves, stands_behind}
 
 pub has_first : (w : World) (place : ℕ) (first second : List Line) → Has w place (first ++ second) → Has w place first
@@ -74,12 +77,16 @@ frame_on w m x back a k v within f = record {
   own = f.own;
   own_high = f.own_high;
   own_based = f.own_based;
+  saved = saved_on (saved_slot x.fn) (kept_in x.phase x.fn) (set_slot (1 + k) v a.slots) a.slots a.callers
+      (λ j le. ap (λ c. if c then v else a.slots j) (ne_eqb j (1 + k) (λ e. omega (arith, e, le, within)))) f.saved;
+  changed = f.changed;
+  homes = f.homes;
 }
 
 -- and with a temporary set
-pub frame_set : (w : World) (m : Maps) (x : Waiting) (back : ℕ) (a : Activation) (t : ℕ) (v : Content) → FrameShows w m x back a
+pub frame_set : (w : World) (m : Maps) (x : Waiting) (back : ℕ) (a : Activation) (t : ℕ) (v : Content) → t < x.fn.temporaries → FrameShows w m x back a
     → FrameShows w m (record x { config = with_temp t v x.config }) back (with_slot (1 + x.fn.passed + t) v a)
-frame_set w m x back a t v f = record {
+frame_set w m x back a t v named f = record {
   function = f.function;
   bytes = f.bytes;
   size = f.size;
@@ -91,6 +98,10 @@ frame_set w m x back a t v f = record {
   own = f.own;
   own_high = f.own_high;
   own_based = f.own_based;
+  saved = saved_on (saved_slot x.fn) (kept_in x.phase x.fn) (set_slot (1 + x.fn.passed + t) v a.slots) a.slots a.callers
+      (λ j le. ap (λ c. if c then v else a.slots j) (ne_eqb j (1 + x.fn.passed + t) (λ e. omega (arith, e, le, named)))) f.saved;
+  changed = f.changed;
+  homes = f.homes;
 }
   where
     by : (u : ℕ) → u < x.fn.temporaries → (c : Bool) → nat_eq u t ≡ c → set_slot (1 + x.fn.passed + t) v a.slots (1 + x.fn.passed + u)
@@ -240,7 +251,8 @@ module _ (w : World) (order : IsInOrder w) (x : Waiting) (outer : List Waiting) 
           maps = r.maps;
           frames = r.frame ∷ r.others;
           sp = r.sp;
-          stands = stands_behind w order mem place r.maps (r.frame ∷ r.others) r.sp s r.stands to (set_register_one s) is_place.aligned refl;
+          stands = stands_behind w order mem place r.maps (r.frame ∷ r.others) r.sp s r.stands to (set_register_one s) is_place.aligned
+              (set_stays 0 (code_base + (place + 4)) s.registers refl);
           stack = (
             record {
               function = r.shows.function;
@@ -254,6 +266,9 @@ module _ (w : World) (order : IsInOrder w) (x : Waiting) (outer : List Waiting) 
               own = r.shows.own;
               own_high = r.shows.own_high;
               own_based = r.shows.own_based;
+              saved = r.shows.saved;
+              changed = r.shows.changed;
+              homes = r.shows.homes;
             },
             r.stack,
           );

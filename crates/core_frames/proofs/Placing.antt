@@ -151,7 +151,7 @@ module _ (n : Areas) (few : n.statics ≤ 2 ^ 20) (m : Maps) (a : Activation) (f
       })
       c.is
 
-  raised_fits : Fits n m (after ∷ fs) mem b st
+  pub raised_fits : Fits n m (after ∷ fs) mem b st
   raised_fits = reframed_fits n m a fs (raised z (offset + bytes) ∷ zs) a.own_high mem mem b st f (λ s j at width v h. h)
       (λ s j at width v h. parts_ground_on s.region at width (f.ground (Cell s j) at width v h))
 
@@ -240,7 +240,7 @@ module _ (n : Areas) (few : n.statics ≤ 2 ^ 20) (m : Maps) (a : Activation) (f
 
   pub laid_known : Known maps (with_object mem (Frame k) o) st
   laid_known = grow_known n m (after ∷ fs) mem b st st (Frame k) o bytes (a.at + offset) raised_fits fresh fits at_even away new_ground
-      (λ y at width g. g) at_low bytes_few live refl refl refl known
+      (λ y at width g. g) st at_low bytes_few live refl refl refl (λ d at i. i) (λ d e. absurd (cc e)) known
 
   pub laid_stacked : Stacked sp (after ∷ fs)
   laid_stacked = (

@@ -42,7 +42,8 @@ use Rattle.core_frames.specs.Lies.{Maps, Activation, Stacked}
 use Rattle.core_frames.proofs.Relations.{Moves, World, IsInOrder, Has, Waiting, StackShows, Stands, active_of}
 use Rattle.core_frames.proofs.Moving.{and_then, by_stop}
 use Rattle.core_frames.proofs.Steps.{state_at, goes_to, passes, gives_value, step_is, is_lawful, is_in_code}
-use Rattle.core_frames.proofs.Slots.{Puts, puts_word}
+use Rattle.core_frames.proofs.Homes.{SameHomes, other_home}
+use Rattle.core_frames.proofs.Slots.{Puts, set_there, puts_word}
 use Rattle.core_frames.proofs.Fitting.{below_end}
 use Rattle.core_frames.proofs.Access.{written_out}
 use Rattle.rv32_machine.specs.Implements.{frames}
@@ -168,6 +169,7 @@ module _ (w : World) (order : IsInOrder w) (f : ℕ) (fn : Function) (is : slice
       pub moves : Moves w.areas 6 s (state_at (place + 40) new s.bytes s.store)
       pub pointer : new 2 ≡ low
       pub kept_one : new 1 ≡ s.registers 1
+      pub same : SameHomes new s.registers
 
     pub moved : stack_base + size ≤ sp → sp ≤ stack_end → Has w (place + 28) (move_code size) → IsMoved
     moved fits high has_move =
@@ -189,4 +191,6 @@ module _ (w : World) (order : IsInOrder w) (f : ℕ) (fn : Function) (is : slice
               (and_then w.areas s s2 _ 3 3 (taken fits) (and_then w.areas s2 s3 _ 2 1 p.moves m3));
           pointer = omega (arith, x2, x7, fits, small, high);
           kept_one = p.kept 1 refl refl ∙ first.kept 1 refl refl;
+          same = λ q is. set_there 2 value q p.new (other_home 2 q refl is) ∙ p.kept q (other_home 7 q refl is) (other_home 7 q refl is)
+              ∙ first.kept q (other_home 7 q refl is) (other_home 6 q refl is);
         }

@@ -24,6 +24,7 @@ use Rattle.core_frames.proofs.Slots.{set_there}
 use Rattle.core_frames.proofs.Fitting.{allowed, IsWidth}
 use Rattle.core_frames.proofs.Access.{written_out}
 use Rattle.core_frames.proofs.Storing.{live_lasts}
+use Rattle.core_frames.proofs.Homes.{set_stays}
 use Rattle.core_frames.proofs.Registers.{AtWith, InRegister, puts, elsewhere}
 use Rattle.rv32_machine.specs.Step as machine
 
@@ -116,7 +117,7 @@ module _ (w : World) (order : IsInOrder w) (x : Waiting) (outer : List Waiting) 
               next = state_at (place + 4) (set_register 5 value s.registers) s.bytes s.store;
               moves = subst (λ (t : Machine). Moves w.areas 1 t (state_at (place + 4) (set_register 5 value s.registers) s.bytes s.store)) (sym here) moves;
               there = elsewhere w order x outer mem place (place + 4) P (InRegister 5 part.content) s a (set_register 5 value s.registers)
-                  (omega (arith, aligned)) refl (
+                  (omega (arith, aligned)) (set_stays 4 value s.registers refl) (
                     subst (λ v. Shows a.maps part.content v) (sym same) (fits.shows (Cell there j) at part.width part.content
                         (part_lies a.maps at found.1.0)),
                     below,

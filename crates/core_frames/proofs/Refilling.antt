@@ -2,17 +2,18 @@
 use Rattle.std.proofs.Common.{◌≡◌, ℕ, ◌+◌, ◌-◌, ◌*◌, ◌<◌, ◌≤◌, ◌⊎◌, ⊎_elim, inl, inr, true, ◌%◌, ◌∷◌, refl, Option, Some, List, sym, ap, subst, ◌∙◌, arith}
 use Rattle.std.proofs.lemmas.Bool.{cases_lt}
 use Rattle.std.proofs.Math.Nat.{mul-le-mul_right}
-use Rattle.std.proofs.lemmas.Option.{same_Some}
+use Rattle.std.proofs.lemmas.Option.{same_Some, none-some}
 use Rattle.rv32_machine.specs.State.{Areas}
 use Rattle.core_meaning.specs.Memory.{Spot, Content, Part, Layout, Memory, is_live}
 use Rattle.core_meaning.specs.Operations.{are_elements, too_far}
 use Rattle.core_meaning.proofs.Wholes.{IsAmong, elements_in}
 use Rattle.core_frames.specs.Machines.{Machine, Store}
-use Rattle.core_frames.specs.Lies.{Maps, Shows, read, Activation, Name, Slot, Cell, PartLies, Lies, Fits, Known}
+use Rattle.core_frames.specs.Lies.{local_at, Maps, Shows, read, Activation, Name, Slot, Cell, PartLies, Lies, Fits, Known}
 use Rattle.core_frames.specs.Layouts.{IsLayout, IsFull}
 use Rattle.core_frames.proofs.Relations.{World, IsInOrder, Waiting, At}
 use Rattle.core_frames.proofs.Steps.{state_at, IsKeptBelow}
-use Rattle.core_frames.proofs.Fitting.{IsWidth}
+use Rattle.core_frames.proofs.Fitting.{IsWidth, extends_self}
+use Rattle.core_frames.proofs.Homes.{Stays, homes_of, homes_on, homes_spared}
 use Rattle.core_frames.proofs.Filling.{Filled, read_filled, read_outside}
 use Rattle.core_frames.proofs.Covering.{IsOther, byte_apart}
 
@@ -30,7 +31,7 @@ pub record Renewed (m : Maps) (mem : Memory) (l : Layout) (count : ℕ) (s : Spo
   pub shows : Shows m p.content (read v (offset_among l count s u j among) p.width)
 
 -- any other part stays
-pub record Stays (mem : Memory) (l : Layout) (count : ℕ) (s u : Spot) (j : ℕ) (p : Part) : Type 0 where
+pub record Stays_part (mem : Memory) (l : Layout) (count : ℕ) (s u : Spot) (j : ℕ) (p : Part) : Type 0 where
   pub was : mem.parts u j ≡ Some p
   pub other : IsAmong l count s u j → ⊥
 
@@ -38,7 +39,7 @@ module _ (n : Areas) (m : Maps) (fs : List Activation) (mem : Memory) (bytes : �
     (s : Spot) (b base : ℕ) (known : m.base s.region s.object ≡ Some base) (live : is_live (mem.standing s.region) ≡ true)
     (l : Layout) (count : ℕ) (layout : IsLayout l) (full : IsFull l) (there : are_elements mem s b l count ≡ true)
     (b' : ℕ → ℕ) (v : ℕ → ℕ) (filled : Filled bytes b' (base + b) (count * l.bytes) v) (f : Spot → ℕ → Option Part)
-    (cases : (u : Spot) (j : ℕ) (p : Part) → f u j ≡ Some p → Stays mem l count s u j p ⊎ Renewed m mem l count s v u j p) where
+    (cases : (u : Spot) (j : ℕ) (p : Part) → f u j ≡ Some p → Stays_part mem l count s u j p ⊎ Renewed m mem l count s v u j p) where
   abbrev mem' : Memory
   mem' = record mem { parts = f }
 
@@ -46,7 +47,7 @@ module _ (n : Areas) (m : Maps) (fs : List Activation) (mem : Memory) (bytes : �
   abbrev Holding : ℕ → ℕ → Content → Part
   Holding offset width c = record { offset = offset; width = width; content = c }
 
-  stayed : (u : Spot) (j at width : ℕ) (c : Content) (h : PartLies m mem' u j at width c) → Stays mem l count s u j (Holding h.offset width c)
+  stayed : (u : Spot) (j at width : ℕ) (c : Content) (h : PartLies m mem' u j at width c) → Stays_part mem l count s u j (Holding h.offset width c)
       → PartLies m mem u j at width c
   stayed u j at width c h r = record { base = h.base; offset = h.offset; known = h.known; there = h.there; has = r.was; lasts = h.lasts }
 
@@ -64,7 +65,7 @@ module _ (n : Areas) (m : Maps) (fs : List Activation) (mem : Memory) (bytes : �
   back : (x : Name) (at width : ℕ) (c : Content) → Lies m fs mem' x at width c → (c' : Content) × Lies m fs mem x at width c'
   back (Slot g k) at width c h = (c, h)
   back (Cell u j) at width c h = ⊎_elim
-      (λ (r : Stays mem l count s u j (Holding h.offset width c)). (c, stayed u j at width c h r))
+      (λ (r : Stays_part mem l count s u j (Holding h.offset width c)). (c, stayed u j at width c h r))
       (λ (r : Renewed m mem l count s v u j (Holding h.offset width c)). (r.old.content, earlier u j at width c h r))
       (cases u j (Holding h.offset width c) h.has)
 
@@ -110,7 +111,7 @@ module _ (n : Areas) (m : Maps) (fs : List Activation) (mem : Memory) (bytes : �
   shows : (x : Name) (at width : ℕ) (c : Content) → Lies m fs mem' x at width c → Shows m c (read b' at width)
   shows (Slot g k) at width c h = subst (λ q. Shows m c q) (sym (kept (Slot g k) tt at width c h)) (fits.shows (Slot g k) at width c h)
   shows (Cell u j) at width c h = ⊎_elim
-      (λ (r : Stays mem l count s u j (Holding h.offset width c)).
+      (λ (r : Stays_part mem l count s u j (Holding h.offset width c)).
       let lies = stayed u j at width c h r in
       subst (λ q. Shows m c q) (sym (kept (Cell u j) r.other at width c lies)) (fits.shows (Cell u j) at width c lies))
       (λ (r : Renewed m mem l count s v u j (Holding h.offset width c)). renewed u j at width c h r)
@@ -137,9 +138,10 @@ module _ (n : Areas) (m : Maps) (fs : List Activation) (mem : Memory) (bytes : �
     numbered = k.numbered;
     zero_is_heap = k.zero_is_heap;
     heap_is_zero = k.heap_is_zero;
-    based = λ u j p e. ⊎_elim (λ (r : Stays mem l count s u j p). k.based u j p r.was)
-        (λ (r : Renewed m mem l count s v u j p). k.based u j r.old r.was) (cases u j p e);
-    near = λ u j p e. ⊎_elim (λ (r : Stays mem l count s u j p). k.near u j p r.was)
+    single = k.single;
+    made = λ u j p e. ⊎_elim (λ (r : Stays_part mem l count s u j p). k.made u j p r.was)
+        (λ (r : Renewed m mem l count s v u j p). k.made u j r.old r.was) (cases u j p e);
+    near = λ u j p e. ⊎_elim (λ (r : Stays_part mem l count s u j p). k.near u j p r.was)
         (λ (r : Renewed m mem l count s v u j p). subst (λ q. q < too_far) (sym r.same_offset) (k.near u j r.old r.was)) (cases u j p e);
     low = k.low;
     unmade = k.unmade;
@@ -155,10 +157,10 @@ module _ (w : World) (order : IsInOrder w) (x : Waiting) (outer : List Waiting) 
     (there : are_elements mem s b l count ≡ true) where
   pub refilled_at : (place place' : ℕ) (q : Machine) (a : At w x outer mem place q) (base : ℕ) → a.maps.base s.region s.object ≡ Some base
       → (new b' v : ℕ → ℕ) (f : Spot → ℕ → Option Part)
-      → ((u : Spot) (j : ℕ) (p : Part) → f u j ≡ Some p → Stays mem l count s u j p ⊎ Renewed a.maps mem l count s v u j p)
-      → place' % 4 ≡ 0 → new 2 ≡ a.sp → IsKeptBelow w.code b' → ((r : ℕ) → b' r < 256) → Filled q.bytes b' (base + b) (count * l.bytes) v
+      → ((u : Spot) (j : ℕ) (p : Part) → f u j ≡ Some p → Stays_part mem l count s u j p ⊎ Renewed a.maps mem l count s v u j p)
+      → place' % 4 ≡ 0 → Stays new q.registers → IsKeptBelow w.code b' → ((r : ℕ) → b' r < 256) → Filled q.bytes b' (base + b) (count * l.bytes) v
       → At w x outer (record mem { parts = f }) place' (state_at place' new b' q.store)
-  refilled_at place place' q a base known new b' v f cases aligned pointer kept small filled =
+  refilled_at place place' q a base known new b' v f cases aligned stay kept small filled =
       let fs = a.frame ∷ a.others in
       record {
         maps = a.maps;
@@ -169,11 +171,21 @@ module _ (w : World) (order : IsInOrder w) (x : Waiting) (outer : List Waiting) 
           runs = refl;
           there = refl;
           aligned = aligned;
-          pointer = pointer;
+          pointer = stay 2 refl ∙ a.stands.pointer;
           small = small;
           kept = kept;
           stacked = a.stands.stacked;
           fits = refilled w.areas a.maps fs mem q.bytes q.store a.stands.fits s b base known live l count layout full there b' v filled f cases;
+          homes = homes_on a.maps (record mem { parts = f }) fs new q.registers (homes_of new q.registers stay)
+              (homes_spared a.maps mem a.maps (record mem { parts = f }) fs q.registers (record {
+                extends = extends_self a.maps;
+                unbased = λ k o made none. none;
+                made = λ k. omega arith;
+                parts = λ k o made none p e. ⊎_elim (λ (r : Stays_part mem l count s (local_at k o) 0 p). r.was)
+                    (λ (r : Renewed a.maps mem l count s v (local_at k o) 0 p).
+                    absurd (none-some base (sym none ∙ ap (λ (u : Spot). a.maps.base u.region u.object) r.among.there ∙ known)))
+                    (cases (local_at k o) 0 p e);
+              }) a.stands.homes);
           known = still_known w.areas a.maps fs mem q.bytes q.store a.stands.fits s b base known live l count layout full there b' v filled f cases
               a.stands.known;
           holds_blocks = a.stands.holds_blocks;

@@ -33,8 +33,9 @@ use Rattle.core_frames.specs.Lies.{
   IsNamed,
   HoldsBlocks,
 }
+use Rattle.core_frames.proofs.Homes.{Changed}
 use Rattle.core_frames.proofs.Fitting.{if_split, shows_on}
-use Rattle.core_frames.proofs.Knowing.{no_parts}
+use Rattle.core_frames.proofs.Knowing.{no_parts, not_single}
 
 module _ (n : Areas) (m : Maps) (fs : List Activation) (mem : Memory) (b : ℕ → ℕ) (st : Store) (f : Fits n m fs mem b st) (k : Known m mem st)
     (holds_blocks : HoldsBlocks n st) (now : Standing) (tag : Tag) (stands : TagOf tag now) (h : ℕ) (low : 1 ≤ h) (free : st.holdings.standing h ≡ None) where
@@ -58,7 +59,7 @@ module _ (n : Areas) (m : Maps) (fs : List Activation) (mem : Memory) (b : ℕ �
   none_yet : m.number d ≡ None
   none_yet = (k.unborn d (omega arith)).2
 
-  pub numbered_extends : Extends m numbered_maps
+  numbered_extends : Extends m numbered_maps
   numbered_extends = record {
     base = λ r o x e. e;
     number = λ e q is. ap (λ c. if c then Some h else m.number e) (ne_eqb e d (λ same. none-some q (sym none_yet ∙ ap (λ c. m.number c) (sym same) ∙ is)))
@@ -133,7 +134,7 @@ module _ (n : Areas) (m : Maps) (fs : List Activation) (mem : Memory) (b : ℕ �
   ground_on (Slot g j) at width gr = gr
   ground_on (Cell s j) at width gr = region_on s.region at width gr
 
-  pub numbered_fits : Fits n numbered_maps fs mem' b numbering
+  numbered_fits : Fits n numbered_maps fs mem' b numbering
   numbered_fits = record {
     shows = λ x at width v l. shows_on m numbered_maps v _ numbered_extends (f.shows x at width v (back x at width v l));
     apart = λ x y at width at' width' v v' ne l l'. f.apart x y at width at' width' v v' ne (back x at width v l) (back y at' width' v' l');
@@ -141,11 +142,12 @@ module _ (n : Areas) (m : Maps) (fs : List Activation) (mem : Memory) (b : ℕ �
     aligned = λ x at width v l. f.aligned x at width v (back x at width v l);
   }
 
-  pub numbered_blocks : HoldsBlocks n numbering
+  numbered_blocks : HoldsBlocks n numbering
   numbered_blocks = record {
     pages = holds_blocks.pages;
     blocks = λ c among. let old = holds_blocks.blocks c among in record {
       within = old.within;
+      some = old.some;
       owned = old.owned;
       named = (named_on c.from c.who old.named).0;
     };
@@ -191,7 +193,7 @@ module _ (n : Areas) (m : Maps) (fs : List Activation) (mem : Memory) (b : ℕ �
       (k.numbered e q z.1 (λ dead. alive (still ∙ dead))))
       (if_split (nat_eq e d) (Some h) (m.number e) (Some q) is)
 
-  pub numbered_known : Known numbered_maps mem' numbering
+  numbered_known : Known numbered_maps mem' numbering
   numbered_known = record {
     births = ap (λ c. c + 1) k.births;
     heap = other_standing 0 (λ e. let count = k.births in omega (arith, e, count)) ∙ k.heap;
@@ -200,7 +202,11 @@ module _ (n : Areas) (m : Maps) (fs : List Activation) (mem : Memory) (b : ℕ �
     numbered = numbered_on;
     zero_is_heap = numbered_extends.number 0 0 k.zero_is_heap;
     heap_is_zero = other_birth 0 (λ e. omega (arith, e, low)) ∙ k.heap_is_zero;
-    based = k.based;
+    single = λ e o at is known.
+        let i = k.single e o at (sym (other_standing e (λ same. not_single tag now stands (sym its_standing ∙ ap (λ c. mem'.standing (Born c)) (sym same) ∙ is))) ∙ is)
+        known in
+        record { room = i.room; owned = i.owned; birth = i.birth };
+    made = k.made;
     near = k.near;
     low = k.low;
     unmade = k.unmade;
@@ -211,3 +217,20 @@ module _ (n : Areas) (m : Maps) (fs : List Activation) (mem : Memory) (b : ℕ �
     unentered = k.unentered;
     uncalled = k.uncalled;
   }
+
+  -- all of it
+  pub is_born : Changed n m numbered_maps fs mem mem' b numbering
+  is_born = record {
+    spares = record {
+      extends = numbered_extends;
+      unbased = λ q o made none. none;
+      made = λ q. omega arith;
+      parts = λ q o made none p e. e;
+    };
+    fits = numbered_fits;
+    known = numbered_known;
+    blocks = numbered_blocks;
+  }
+
+  pub its_number_is : numbered_maps.number d ≡ Some h
+  its_number_is = ap (λ c. if c then Some h else m.number d) (eq-eqb d d refl)

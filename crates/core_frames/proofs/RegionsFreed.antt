@@ -7,10 +7,11 @@ use Rattle.arena_laws.specs.declared.owner.Owner.{Owner}
 use Rattle.arena_laws.specs.declared.owner.Owner.TheVariants as owner
 use Rattle.arena_laws.specs.declared.standing.Standing.{Standing as Tag}
 use Rattle.arena_laws.specs.Blocks.{Block, those_not}
+use Rattle.arena_laws.specs.Counts.{Counts}
 use Rattle.arena_laws.specs.Holdings.{is_some}
 use Rattle.arena_laws.specs.Lawful.{is_of, without_number}
 use Rattle.rv32_machine.specs.State.{Areas}
-use Rattle.core_meaning.specs.Memory.{Region, Frame, Own, Born, Dead, Spot, Content, Memory, same_region, with_standing}
+use Rattle.core_meaning.specs.Memory.{Region, Frame, Own, Born, Standing, Single, Dead, Spot, Content, Memory, same_region, with_standing}
 use Rattle.core_frames.specs.Machines.{Store}
 use Rattle.core_frames.specs.Lies.{
   Maps,
@@ -31,6 +32,7 @@ use Rattle.core_frames.specs.Lies.{
   IsNamed,
   HoldsBlocks,
 }
+use Rattle.core_frames.proofs.Homes.{spares_standing, Changed}
 use Rattle.core_frames.proofs.Fitting.{if_split}
 use Rattle.core_frames.proofs.Frames.{other_region, death_back}
 
@@ -56,6 +58,95 @@ was_among test (j ∷ js) k i = by (test (Some j.who)) refl (λ among. let old =
     by false e old (inl same) = (inl same, ap (λ (y : Block). test (Some y.who)) same ∙ e)
     by false e old (inr i) = old i
 
+-- ---- the blocks of a birth are gone, whose region is dead
+
+-- the store without the blocks whose owner passes a test
+abbrev pub losing : (Option Owner → Bool) → (ℕ → Option Tag) → Counts → Store → Store
+losing test standing counts st = record {
+  holdings = record {
+    pages = st.holdings.pages;
+    standing = standing;
+    owner = λ q. if test (st.holdings.owner q) then None else st.holdings.owner q;
+    counts = counts;
+  };
+  ledger = record st.ledger { blocks = those_not test st.ledger.blocks };
+}
+
+module _ (n : Areas) (m : Maps) (fs : List Activation) (mem : Memory) (b : ℕ → ℕ) (st : Store) (f : Fits n m fs mem b st) (holds_blocks : HoldsBlocks n st)
+    (d : ℕ) (test : Option Owner → Bool) (standing : ℕ → Option Tag) (counts : Counts)
+    (other : (who : Owner) → (birth_in st.ledger who ≡ d → ⊥) → test (Some who) ≡ false)
+    (named : (from : ℕ) (who : Owner) → test (Some who) ≡ false → IsNamed st from who → IsNamed (losing test standing counts st) from who) where
+  abbrev lost : Memory
+  lost = with_standing mem (Born d) Dead
+
+  abbrev left : Store
+  left = losing test standing counts st
+
+  region_still : (s : Spot) (at width : ℕ) → same_region s.region (Born d) ≡ false → (r : Region) → s.region ≡ r → CellGround n fs st r at width
+      → CellGround n fs left r at width
+  region_still s at width differs (Frame q) e g = g
+  region_still s at width differs (Own q) e g = g
+  region_still s at width differs (Born q) e (inl g) = inl g
+  region_still s at width differs (Born q) e (inr g) =
+      let ne : q ≡ d → ⊥ = λ same. cc (differs, ap (λ r. same_region r (Born d)) e ∙ eq-eqb q d same) in
+      inr (record {
+        block = g.block;
+        among = still_among test st.ledger.blocks g.block (other g.block.who (λ o. ne (sym g.owner ∙ o))) g.among;
+        owner = g.owner;
+        low = g.low;
+        high = g.high;
+        bottom = g.bottom;
+        top = g.top;
+      })
+
+  still : (x : Name) (at width : ℕ) (v : Content) → Lies m fs lost x at width v → Ground n fs left x at width
+  still (Slot g j) at width v l = f.ground (Slot g j) at width v l
+  still (Cell s j) at width v l =
+      region_still s at width ((other_region m fs mem (Born d) s l.lasts).0) s.region refl
+      (f.ground (Cell s j) at width v (death_back m fs mem (Born d) (Cell s j) at width v l))
+
+  pub lost_fits : Fits n m fs lost b left
+  lost_fits = record {
+    shows = λ x at width v l. f.shows x at width v (death_back m fs mem (Born d) x at width v l);
+    apart = λ x y at width at' width' v v' ne l l'. f.apart x y at width at' width' v v' ne (death_back m fs mem (Born d) x at width v l)
+        (death_back m fs mem (Born d) y at' width' v' l');
+    ground = still;
+    aligned = λ x at width v l. f.aligned x at width v (death_back m fs mem (Born d) x at width v l);
+  }
+
+  pub lost_blocks : HoldsBlocks n left
+  lost_blocks = record {
+    pages = holds_blocks.pages;
+    blocks = λ c among.
+        let was = was_among test st.ledger.blocks c among in
+        let old = holds_blocks.blocks c was.0 in
+        record {
+          within = old.within;
+          some = old.some;
+          owned = λ q low high.
+              let its = old.owned q low high in
+              ap (λ t. if t then None else st.holdings.owner q) (ap test its ∙ was.1) ∙ its;
+          named = named c.from c.who was.1 old.named;
+        };
+  }
+
+  -- another region stands as it stood
+  pub other_standing : (e : ℕ) → (e ≡ d → ⊥) → lost.standing (Born e) ≡ mem.standing (Born e)
+  other_standing e ne = ap (λ c. if c then Dead else mem.standing (Born e)) (ne_eqb e d ne)
+
+  pub dead_still : (e : ℕ) → mem.standing (Born e) ≡ Dead → lost.standing (Born e) ≡ Dead
+  dead_still e dead = by (nat_eq e d)
+    where
+      by : (c : Bool) → (if c then Dead else mem.standing (Born e)) ≡ Dead
+      by true = refl
+      by false = dead
+
+  -- one that isn't dead is another, and stood so
+  pub still_stands : (e : ℕ) (now : Standing) → (now ≡ Dead → ⊥) → lost.standing (Born e) ≡ now → (e ≡ d → ⊥) × (mem.standing (Born e) ≡ now)
+  still_stands e now lasts is =
+      let ne : e ≡ d → ⊥ = λ same. lasts (sym is ∙ ap (λ c. if c then Dead else mem.standing (Born e)) (eq-eqb e d same)) in
+      (ne, sym (other_standing e ne) ∙ is)
+
 -- ---- a number is no one's any more, and its blocks are gone
 
 module _ (n : Areas) (m : Maps) (fs : List Activation) (mem : Memory) (b : ℕ → ℕ) (st : Store) (f : Fits n m fs mem b st) (k : Known m mem st)
@@ -69,46 +160,10 @@ module _ (n : Areas) (m : Maps) (fs : List Activation) (mem : Memory) (b : ℕ �
   abbrev freed : Memory
   freed = with_standing mem (Born d) Dead
 
-  -- ---- what fits
-
   -- a block of another birth stays
   other_owner : (who : Owner) → (birth_in st.ledger who ≡ d → ⊥) → is_of h (Some who) ≡ false
   other_owner (owner.Region r) ne = ne_eqb r h (λ same. ne (ap (λ c. st.ledger.birth_of c) same ∙ number.birth))
   other_owner (owner.Alone at room) ne = refl
-
-  region_still : (s : Spot) (at width : ℕ) → same_region s.region (Born d) ≡ false → (r : Region) → s.region ≡ r → CellGround n fs st r at width
-      → CellGround n fs freeing r at width
-  region_still s at width other (Frame q) e g = g
-  region_still s at width other (Own q) e g = g
-  region_still s at width other (Born q) e (inl g) = inl g
-  region_still s at width other (Born q) e (inr g) =
-      let ne : q ≡ d → ⊥ = λ same. cc (other, ap (λ r. same_region r (Born d)) e ∙ eq-eqb q d same) in
-      inr (record {
-        block = g.block;
-        among = still_among (is_of h) st.ledger.blocks g.block (other_owner g.block.who (λ o. ne (sym g.owner ∙ o))) g.among;
-        owner = g.owner;
-        low = g.low;
-        high = g.high;
-        bottom = g.bottom;
-        top = g.top;
-      })
-
-  still : (x : Name) (at width : ℕ) (v : Content) → Lies m fs freed x at width v → Ground n fs freeing x at width
-  still (Slot g j) at width v l = f.ground (Slot g j) at width v l
-  still (Cell s j) at width v l =
-      region_still s at width ((other_region m fs mem (Born d) s l.lasts).0) s.region refl
-      (f.ground (Cell s j) at width v (death_back m fs mem (Born d) (Cell s j) at width v l))
-
-  pub freed_fits : Fits n m fs freed b freeing
-  freed_fits = record {
-    shows = λ x at width v l. f.shows x at width v (death_back m fs mem (Born d) x at width v l);
-    apart = λ x y at width at' width' v v' ne l l'. f.apart x y at width at' width' v v' ne (death_back m fs mem (Born d) x at width v l)
-        (death_back m fs mem (Born d) y at' width' v' l');
-    ground = still;
-    aligned = λ x at width v l. f.aligned x at width v (death_back m fs mem (Born d) x at width v l);
-  }
-
-  -- ---- what the store holds
 
   other_number : (q : ℕ) → nat_eq q h ≡ false → freeing.holdings.standing q ≡ st.holdings.standing q
   other_number q ne = ap (λ c. if c then None else st.holdings.standing q) ne
@@ -118,35 +173,16 @@ module _ (n : Areas) (m : Maps) (fs : List Activation) (mem : Memory) (b : ℕ �
   named_on from (owner.Region r) other (inr live) = inr (ap is_some (other_number r other) ∙ live)
   named_on from (owner.Alone at room) other is = is
 
-  pub freed_blocks : HoldsBlocks n freeing
-  freed_blocks = record {
-    pages = holds_blocks.pages;
-    blocks = λ c among.
-        let was = was_among (is_of h) st.ledger.blocks c among in
-        let old = holds_blocks.blocks c was.0 in
-        record {
-          within = old.within;
-          owned = λ q low high.
-              let its = old.owned q low high in
-              ap (λ t. if t then None else st.holdings.owner q) (ap (is_of h) its ∙ was.1) ∙ its;
-          named = named_on c.from c.who was.1 old.named;
-        };
-  }
-
   -- ---- what is known
 
   its : m.number d ≡ Some h
   its = ap (λ e. m.number e) (sym number.birth) ∙ (k.held h number.tag number.held).known
 
-  other_standing : (e : ℕ) → (e ≡ d → ⊥) → freed.standing (Born e) ≡ mem.standing (Born e)
-  other_standing e ne = ap (λ c. if c then Dead else mem.standing (Born e)) (ne_eqb e d ne)
+  stands_on : (e : ℕ) → (e ≡ d → ⊥) → freed.standing (Born e) ≡ mem.standing (Born e)
+  stands_on = other_standing n m fs mem b st f holds_blocks d (is_of h) freeing.holdings.standing freeing.holdings.counts other_owner named_on
 
-  dead_still : (e : ℕ) → mem.standing (Born e) ≡ Dead → freed.standing (Born e) ≡ Dead
-  dead_still e dead = by (nat_eq e d)
-    where
-      by : (c : Bool) → (if c then Dead else mem.standing (Born e)) ≡ Dead
-      by true = refl
-      by false = dead
+  ends : (e : ℕ) → mem.standing (Born e) ≡ Dead → freed.standing (Born e) ≡ Dead
+  ends = dead_still n m fs mem b st f holds_blocks d (is_of h) freeing.holdings.standing freeing.holdings.counts other_owner named_on
 
   zero_still : freeing.holdings.standing 0 ≡ None
   zero_still = by (nat_eq 0 h)
@@ -163,7 +199,7 @@ module _ (n : Areas) (m : Maps) (fs : List Activation) (mem : Memory) (b : ℕ �
       let old = k.held q y z.1 in
       let ne : st.ledger.birth_of q ≡ d → ⊥ = λ same.
       eqb-false q h z.0 (same_Some q h (sym old.known ∙ ap (λ c. m.number c) same ∙ its)) in
-      record { known = old.known; stands = subst (λ t. TagOf y t) (sym (other_standing (st.ledger.birth_of q) ne)) old.stands })
+      record { known = old.known; stands = subst (λ t. TagOf y t) (sym (stands_on (st.ledger.birth_of q) ne)) old.stands })
       (if_split (nat_eq q h) None (st.holdings.standing q) (Some y) e)
 
   numbered_on : (e q : ℕ) → m.number e ≡ Some q → (freed.standing (Born e) ≡ Dead → ⊥) → (e ≡ 0) ⊎ IsNumber freeing e q
@@ -173,22 +209,38 @@ module _ (n : Areas) (m : Maps) (fs : List Activation) (mem : Memory) (b : ℕ �
       (λ (i : IsNumber st e q).
       let other : nat_eq q h ≡ false = ne_eqb q h (λ same. ne (sym i.birth ∙ ap (λ c. st.ledger.birth_of c) same ∙ number.birth)) in
       inr (record { tag = i.tag; held = other_number q other ∙ i.held; birth = i.birth }))
-      (k.numbered e q known (λ dead. alive (dead_still e dead)))
+      (k.numbered e q known (λ dead. alive (ends e dead)))
 
-  pub freed_known : Known m freed freeing
+  freed_known : Known m freed freeing
   freed_known = record {
     births = k.births;
-    heap = other_standing 0 (λ e. later (sym e)) ∙ k.heap;
+    heap = stands_on 0 (λ e. later (sym e)) ∙ k.heap;
     no_zero = zero_still;
     held = held_on;
     numbered = numbered_on;
     zero_is_heap = k.zero_is_heap;
     heap_is_zero = k.heap_is_zero;
-    based = k.based;
+    single = λ e o at is known.
+        let i = k.single e o at (still_stands n m fs mem b st f holds_blocks d (is_of h) freeing.holdings.standing freeing.holdings.counts other_owner named_on e Single (λ dead. cc dead) is).1 known in
+        record {
+          room = i.room;
+          owned = ap (λ w. if is_of h w then None else w) i.owned;
+          birth = i.birth;
+        };
+    made = k.made;
     near = k.near;
     low = k.low;
     unmade = k.unmade;
-    unborn = λ e le. let u = k.unborn e le in (dead_still e u.0, u.1, u.2);
+    unborn = λ e le. let u = k.unborn e le in (ends e u.0, u.1, u.2);
     unentered = k.unentered;
     uncalled = k.uncalled;
+  }
+
+  -- all of it
+  pub is_freed : Changed n m m fs mem freed b freeing
+  is_freed = record {
+    spares = spares_standing m mem freed refl refl;
+    fits = lost_fits n m fs mem b st f holds_blocks d (is_of h) freeing.holdings.standing freeing.holdings.counts other_owner named_on;
+    known = freed_known;
+    blocks = lost_blocks n m fs mem b st f holds_blocks d (is_of h) freeing.holdings.standing freeing.holdings.counts other_owner named_on;
   }

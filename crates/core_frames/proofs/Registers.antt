@@ -3,7 +3,7 @@ use Rattle.arena_laws.specs.Lawful.{Answer}
 use Rattle.rv32_machine.specs.Run.{Run}
 use Rattle.core_frames.specs.Machines.{state_of}
 use Rattle.std.specs.Prelude.{nat_eq}
-use Rattle.std.proofs.Common.{◌≡◌, ℕ, suc, ◌+◌, ◌/◌, ◌%◌, ◌^◌, ◌<◌, false, List, ◌∷◌, ◌++◌, Option, Some, None, refl, sym, subst, arith}
+use Rattle.std.proofs.Common.{◌≡◌, ℕ, suc, ◌+◌, ◌/◌, ◌%◌, ◌^◌, ◌<◌, false, List, ◌∷◌, ◌++◌, Option, Some, None, sym, subst, arith}
 use Rattle.rv32_isa.specs.declared.instruction.Instr.{Instr}
 use Rattle.core_meaning.specs.Memory.{Content, Memory}
 use Rattle.core_meaning.specs.Steps.{with_temp}
@@ -17,8 +17,10 @@ use Rattle.core_frames.specs.Frames.{word_code, load_code, save_code, slot_of}
 use Rattle.core_frames.specs.Lies.{Maps, Shows, Activation}
 use Rattle.core_frames.proofs.Relations.{Moves, World, IsInOrder, Has, Waiting, back_of, FrameShows, StackShows, Stands, At}
 use Rattle.core_frames.proofs.Moving.{Comes, comes_then, comes_as, bare}
+use Rattle.core_frames.specs.Homes.{stays}
+use Rattle.core_frames.proofs.Homes.{Stays, kept_stays, set_stays}
 use Rattle.core_frames.proofs.Steps.{state_at, gives_value}
-use Rattle.core_frames.proofs.Slots.{Kept, set_there, puts_word}
+use Rattle.core_frames.proofs.Slots.{Kept, puts_word}
 use Rattle.core_frames.proofs.Access.{length_of_both, written_out, loads, saves, stands_behind}
 use Rattle.core_frames.proofs.Passing.{frame_set, temp_lies}
 
@@ -80,20 +82,20 @@ module _ (w : World) (order : IsInOrder w) (x : Waiting) (outer : List Waiting) 
 
   -- elsewhere with other registers, and the same bytes
   pub elsewhere : (place place' : ℕ) (P Q : Maps → (ℕ → ℕ) → Type 0) (s : Machine) (a : AtWith w x outer mem place P s) (new : ℕ → ℕ) → place' % 4 ≡ 0
-      → new 2 ≡ s.registers 2 → Q a.maps new → AtWith w x outer mem place' Q (state_at place' new s.bytes s.store)
-  elsewhere place place' P Q s a new aligned two q = record {
+      → Stays new s.registers → Q a.maps new → AtWith w x outer mem place' Q (state_at place' new s.bytes s.store)
+  elsewhere place place' P Q s a new aligned stay q = record {
     maps = a.maps;
     frame = a.frame;
     others = a.others;
     sp = a.sp;
-    stands = stands_behind w order mem place a.maps (a.frame ∷ a.others) a.sp s a.stands place' new aligned two;
+    stands = stands_behind w order mem place a.maps (a.frame ∷ a.others) a.sp s a.stands place' new aligned stay;
     shows = a.shows;
     stack = a.stack;
     holds = q;
   }
 
   -- a temporary into a register, while others stay
-  pub loads_temp : (r t place : ℕ) (P : Maps → (ℕ → ℕ) → Type 0) → t < x.fn.temporaries → nat_eq 2 (suc r) ≡ false
+  pub loads_temp : (r t place : ℕ) (P : Maps → (ℕ → ℕ) → Type 0) → t < x.fn.temporaries → stays (suc r) ≡ false
       → ((m : Maps) (new old : ℕ → ℕ) → ((q : ℕ) → nat_eq q 7 ≡ false → nat_eq q (suc r) ≡ false → new q ≡ old q) → P m old → P m new)
       → Has w place (load_code (suc r) (slot_of x.fn.passed t))
       → Comes w (AtWith w x outer mem place P)
@@ -143,7 +145,7 @@ module _ (w : World) (order : IsInOrder w) (x : Waiting) (outer : List Waiting) 
             others = a.others;
             sp = a.sp;
             stands = l.stands_on;
-            shows = frame_set w a.maps x (back_of w outer) a.frame t v a.shows;
+            shows = frame_set w a.maps x (back_of w outer) a.frame t v named a.shows;
             stack = a.stack;
             holds = subst (λ n. Shows a.maps v n × (n < 2 ^ 32)) (sym (l.kept (suc r) not7 not7)) a.holds;
           };
@@ -164,7 +166,7 @@ module _ (w : World) (order : IsInOrder w) (x : Waiting) (outer : List Waiting) 
   }))
 
   -- an instruction that puts a value into a register
-  pub puts : (r place : ℕ) (P Q : Maps → (ℕ → ℕ) → Type 0) (instr : Instr) (value : (ℕ → ℕ) → ℕ) → nat_eq 2 (suc r) ≡ false → HasInstr w.areas w.code
+  pub puts : (r place : ℕ) (P Q : Maps → (ℕ → ℕ) → Type 0) (instr : Instr) (value : (ℕ → ℕ) → ℕ) → stays (suc r) ≡ false → HasInstr w.areas w.code
       (code_base + place) instr
       → ((registers bytes : ℕ → ℕ) (st : Store) (answer : Answer)
       → effect w.areas answer instr (state_of (state_at place registers bytes st)) ≡ gives (suc r) (value registers)
@@ -183,13 +185,13 @@ module _ (w : World) (order : IsInOrder w) (x : Waiting) (outer : List Waiting) 
               (sym (written_out w order mem place a.maps (a.frame ∷ a.others) a.sp s a.stands))
               (gives_value w.areas w.code order.code_within s.store place s.registers s.bytes a.stands.kept instr has (suc r) (value s.registers)
               (λ answer. e s.registers s.bytes s.store answer) (access (bare (state_at place s.registers s.bytes s.store))));
-          there = elsewhere place (place + 4) P Q s a new (omega (arith, aligned)) (set_there (suc r) (value s.registers) 2 s.registers other)
+          there = elsewhere place (place + 4) P Q s a new (omega (arith, aligned)) (set_stays r (value s.registers) s.registers other)
               (gets a.maps s.registers a.holds);
         };
   }
 
   -- a word into a register, where something stays
-  pub puts_into : (r v place : ℕ) (P Q : Maps → (ℕ → ℕ) → Type 0) → v < 2 ^ 32 → nat_eq 2 (suc r) ≡ false → Has w place (word_code (suc r) v)
+  pub puts_into : (r v place : ℕ) (P Q : Maps → (ℕ → ℕ) → Type 0) → v < 2 ^ 32 → stays (suc r) ≡ false → Has w place (word_code (suc r) v)
       → ((m : Maps) (new old : ℕ → ℕ) → new (suc r) ≡ v → Kept (suc r) new old → P m old → Q m new)
       → Comes w (AtWith w x outer mem place P) (AtWith w x outer mem (place + 8) Q)
   puts_into r v place P Q small other has gets = record {
@@ -201,7 +203,7 @@ module _ (w : World) (order : IsInOrder w) (x : Waiting) (outer : List Waiting) 
           next = state_at (place + 8) p.new s.bytes s.store;
           moves = subst (λ (t : Machine). Moves w.areas 2 t (state_at (place + 8) p.new s.bytes s.store))
               (sym (written_out w order mem place a.maps (a.frame ∷ a.others) a.sp s a.stands)) p.moves;
-          there = elsewhere place (place + 8) P Q s a p.new (omega (arith, aligned)) (p.kept 2 refl other)
+          there = elsewhere place (place + 8) P Q s a p.new (omega (arith, aligned)) (kept_stays (suc r) p.new s.registers other p.kept)
               (gets a.maps p.new s.registers p.holds p.kept a.holds);
         };
   }

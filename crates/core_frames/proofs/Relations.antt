@@ -1,6 +1,6 @@
 -- When Core and the machine stand at the same point, and when they do the same from there on.
 use Rattle.std.proofs.Common.{◌≡◌, ℕ, suc, ◌+◌, ◌*◌, ◌%◌, ◌≤◌, ◌<◌, ◌⊎◌, ◌^◌, List, [], ◌∷◌, Option, Some, None, refl}
-use Rattle.std.specs.Prelude.{slice_get}
+use Rattle.std.specs.Prelude.{Bool, zero, slice_get, length, true}
 use Rattle.cyc_words.specs.Events.{AreBytes, SourceEnding, SourceEvent, Request, visible}
 use Rattle.cyc_words.specs.Events as events
 use Rattle.arena_laws.specs.Lawful.{Answer}
@@ -14,8 +14,11 @@ use Rattle.core_meaning.specs.Core.{Function}
 use Rattle.core_meaning.specs.Steps.{Config, Step, Event, Invocation}
 use Rattle.core_frames.specs.declared.line.Line.{Line}
 use Rattle.core_frames.specs.Lines.{HasLines, IsPlace}
+use Rattle.core_frames.specs.Homes.{is_among, saved_slot, saved_by}
+use Rattle.core_frames.specs.Selected.{nth}
+use Rattle.core_frames.specs.Frames.{epilogue_code}
 use Rattle.core_frames.specs.Machines.{Machine, run_of, run_from}
-use Rattle.core_frames.specs.Lies.{Maps, Shows, Zone, Activation, Fits, Known, HoldsBlocks, Stacked}
+use Rattle.core_frames.specs.Lies.{Maps, Shows, Zone, Activation, HomesLie, Fits, Known, HoldsBlocks, Stacked}
 use Rattle.core_frames.specs.Running.{named, core_run}
 
 -- ---- runs
@@ -66,6 +69,9 @@ pub record World : Type 0 where
   pub names : ℕ → List ℕ
   pub frame_bytes : ℕ → ℕ
   pub bound : List ℕ → ℕ
+  -- the label where each ends, and the labels that a branch may not reach
+  pub exits : ℕ → ℕ
+  pub wide : ℕ → Bool
   -- where the first call returns to
   pub stub : ℕ
   -- the offset of each object of the data
@@ -105,17 +111,26 @@ invoke f arguments = record { function = f; arguments = arguments }
 
 -- ---- standing at a place
 
--- where a block's locals are: its zone, and the offset of each
+-- where a block's locals are: its zone, and the offset of each, or its register, where it isn't 0
 pub record Place : Type 0 where
   pub low : ℕ
   pub high : ℕ
   pub offsets : List ℕ
+  pub homes : List ℕ
+
+-- What a frame has of its caller's registers: some are saved, and the code saves more; all that the function changes are; or the code restores them, and these
+-- are left.
+pub data Phase : Type 0 where
+  Saving : List ℕ → Phase
+  Inside : Phase
+  Restoring : List ℕ → Phase
 
 -- an activation as Core has it, and where its code goes on when what it called returns; its blocks' locals' offsets from its frame on, as those of its unnamed
 -- values
 pub record Waiting : Type 0 where
   pub function : ℕ
   pub fn : Function
+  pub phase : Phase
   pub nest : List Place
   pub unnamed : List ℕ
   pub own_high : ℕ
@@ -123,18 +138,26 @@ pub record Waiting : Type 0 where
   pub behind : ℕ
 
 abbrev pub slots_in : Function → ℕ
-slots_in fn = 1 + fn.passed + fn.temporaries
+slots_in fn = saved_slot fn + length (saved_by fn)
 
 abbrev pub back_of : World → List Waiting → ℕ
 back_of w [] = w.stub
 back_of w (x ∷ xs) = x.behind
+
+-- the home of a local, where it has one
+abbrev pub as_home : ℕ → Option ℕ
+as_home zero = None
+as_home (suc r) = Some (suc r)
+
+abbrev pub home_of : List ℕ → ℕ → Option ℕ
+home_of homes o = as_home (nth homes o)
 
 -- each block's zone is where its place says, and its locals have their addresses
 abbrev pub BlocksLie : Maps → ℕ → List Place → List ℕ → List Zone → Type 0
 BlocksLie m at [] [] [] = Unit {0}
 BlocksLie m at (p ∷ ps) (k ∷ ks) (z ∷ zs) =
     (z ≡ record { region = k; low = p.low; high = p.high })
-    × ((o x : ℕ) → slice_get p.offsets o ≡ Some x → m.base (Frame k) o ≡ Some (at + x)) × BlocksLie m at ps ks zs
+    × ((o x : ℕ) → slice_get p.offsets o ≡ Some x → home_of p.homes o ≡ None → m.base (Frame k) o ≡ Some (at + x)) × BlocksLie m at ps ks zs
 BlocksLie m at [] [] (z ∷ zs) = ⊥
 BlocksLie m at [] (k ∷ ks) zs = ⊥
 BlocksLie m at (p ∷ ps) [] zs = ⊥
@@ -143,6 +166,40 @@ BlocksLie m at (p ∷ ps) (k ∷ ks) [] = ⊥
 pub no_zones : (m : Maps) (at : ℕ) (zs : List Zone) → BlocksLie m at [] [] zs → zs ≡ []
 no_zones m at [] lie = refl
 no_zones m at (z ∷ zs) lie = absurd lie
+
+-- ---- the caller's registers, and homes
+
+-- slots from one on have what the caller's registers were
+abbrev pub HaveSaved : ℕ → List ℕ → (ℕ → Content) → (ℕ → ℕ) → Type 0
+HaveSaved k [] slots callers = Unit {0}
+HaveSaved k (r ∷ rs) slots callers = (slots k ≡ Word (callers r)) × HaveSaved (suc k) rs slots callers
+
+abbrev pub kept_in : Phase → Function → List ℕ
+kept_in (Saving done) fn = done
+kept_in Inside fn = saved_by fn
+kept_in (Restoring rest) fn = saved_by fn
+
+-- the registers that may differ from the caller's
+abbrev pub changed_in : Phase → Function → List ℕ
+changed_in (Saving done) fn = []
+changed_in Inside fn = saved_by fn
+changed_in (Restoring rest) fn = rest
+
+-- locals of the blocks have the homes that their places say
+abbrev pub HaveHomes : List Place → List ℕ → (ℕ → ℕ → Option ℕ) → Type 0
+HaveHomes [] ks homes = Unit {0}
+HaveHomes (p ∷ ps) [] homes = Unit {0}
+HaveHomes (p ∷ ps) (k ∷ ks) homes = ((o r : ℕ) → home_of p.homes o ≡ Some r → homes k o ≡ Some r) × HaveHomes ps ks homes
+
+abbrev pub IsHomeIn : ℕ → List Place → Type 0
+IsHomeIn r [] = ⊥
+IsHomeIn r (p ∷ ps) = (is_among r p.homes ≡ true) ⊎ IsHomeIn r ps
+
+-- and no other register is a home, and none at all where the code saves or restores them
+abbrev pub AreHomes : Phase → List Place → List ℕ → (ℕ → ℕ → Option ℕ) → Type 0
+AreHomes (Saving done) nest blocks homes = (k o : ℕ) → homes k o ≡ None
+AreHomes Inside nest blocks homes = HaveHomes nest blocks homes × ((k o r : ℕ) → homes k o ≡ Some r → IsHomeIn r nest)
+AreHomes (Restoring rest) nest blocks homes = (k o : ℕ) → homes k o ≡ None
 
 -- a frame shows an activation
 pub record FrameShows (w : World) (m : Maps) (x : Waiting) (back : ℕ) (a : Activation) : Type 0 where
@@ -157,6 +214,9 @@ pub record FrameShows (w : World) (m : Maps) (x : Waiting) (back : ℕ) (a : Act
   pub own : a.own ≡ x.config.own
   pub own_high : a.own_high ≡ x.own_high
   pub own_based : (o y : ℕ) → slice_get x.unnamed o ≡ Some y → m.base (Own x.config.own) o ≡ Some (a.at + y)
+  pub saved : HaveSaved (saved_slot x.fn) (kept_in x.phase x.fn) a.slots a.callers
+  pub changed : (q : ℕ) → a.saves q ≡ is_among q (changed_in x.phase x.fn)
+  pub homes : AreHomes x.phase x.nest x.config.blocks a.homes
 
 abbrev pub StackShows : World → Maps → List Waiting → List Activation → Type 0
 StackShows w m [] [] = Unit {0}
@@ -174,6 +234,7 @@ pub record Stands (w : World) (mem : Memory) (place : ℕ) (m : Maps) (fs : List
   pub kept : (q : ℕ) → q < data_base → s.bytes q ≡ w.code q
   pub stacked : Stacked sp fs
   pub fits : Fits w.areas m fs mem s.bytes s.store
+  pub homes : HomesLie m mem fs s.registers
   pub known : Known m mem s.store
   pub holds_blocks : HoldsBlocks w.areas s.store
   pub data_based : (o y : ℕ) → slice_get w.data_offsets o ≡ Some y → m.base (Born 0) o ≡ Some (data_base + y)
@@ -193,7 +254,11 @@ abbrev pub InRegisters : Maps → ℕ → List Content → (ℕ → ℕ) → Typ
 InRegisters m r [] registers = Unit {0}
 InRegisters m r (v ∷ vs) registers = Shows m v (registers (suc r)) × (registers (suc r) < 2 ^ 32) × InRegisters m (suc r) vs registers
 
--- An activation returns: the machine is behind the call, and x2 is the caller's; what ends with the frame hasn't ended yet.
+-- one that has given its caller's registers back
+abbrev pub restored : Waiting → Waiting
+restored x = record x { phase = Restoring [] }
+
+-- An activation returns: the machine is behind the call, and x2 and the homes are the caller's; what ends with the frame hasn't ended yet.
 pub record Returning (w : World) (x : Waiting) (outer : List Waiting) (mem : Memory) (values : List Content) (s : Machine) : Type 0 where
   pub maps : Maps
   pub frame : Activation
@@ -202,7 +267,7 @@ pub record Returning (w : World) (x : Waiting) (outer : List Waiting) (mem : Mem
   pub pointer : ℕ
   pub above : pointer ≡ sp + w.frame_bytes x.function
   pub stands : Stands w mem (back_of w outer) maps (frame ∷ others) sp pointer s
-  pub shows : FrameShows w maps x (back_of w outer) frame
+  pub shows : FrameShows w maps (restored x) (back_of w outer) frame
   pub stack : StackShows w maps outer others
   pub results : InRegisters maps 9 values s.registers
 
@@ -238,6 +303,10 @@ active_of w (x ∷ xs) = w.names x.function ∷ active_of w xs
 
 abbrev pub Has : World → ℕ → List Line → Type 0
 Has w place lines = HasLines w.areas w.code w.places place lines
+
+-- a function ends at its label
+abbrev pub EndsThere : World → ℕ → Function → Type 0
+EndsThere w f fn = Has w (w.places (w.exits f)) (epilogue_code (w.frame_bytes f) (saved_slot fn) (saved_by fn))
 
 pub record IsInOrder (w : World) : Type 0 where
   pub code_within : w.areas.code ≤ 2 ^ 20

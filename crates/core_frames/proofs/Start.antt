@@ -1,7 +1,7 @@
 -- From the start to the end of a program: the machine calls `main`, and ends with what it returns.
 use Rattle.std.specs.Prelude.{slice_get, if◌then◌else◌}
-use Rattle.std.proofs.Common.{◌≡◌, ◌≢◌, ℕ, zero, suc, pos, ◌+◌, ◌%◌, ◌^◌, ◌<◌, ◌≤◌, ◌⊎◌, inl, false, List, [], ◌∷◌, Some, None, refl, sym, ap, ◌∙◌, subst, arith}
-use Rattle.std.proofs.lemmas.Bool.{ne_eqb}
+use Rattle.std.proofs.Common.{◌≡◌, ◌≢◌, ℕ, zero, suc, pos, ◌+◌, ◌%◌, ◌^◌, ◌<◌, ◌≤◌, ◌⊎◌, ⊎_elim, inl, true, false, length, List, [], ◌∷◌, Some, None, refl, sym, ap, ◌∙◌, subst, arith}
+use Rattle.std.proofs.lemmas.Bool.{ne_eqb, cases_lt}
 use Rattle.std.proofs.lemmas.Option.{none-some}
 use Rattle.cyc_words.specs.Words.{word, sum_of}
 use Rattle.cyc_words.specs.Events.{AreBytes, SourceEnding}
@@ -11,7 +11,7 @@ use Rattle.rv32_machine.specs.Run.{Run}
 use Rattle.rv32_machine.specs.Ledger.{Ledger, unborn}
 use Rattle.rv32_machine.specs.Implements.{Implements}
 use Rattle.step_trees.specs.Trees.{Stops}
-use Rattle.core_meaning.specs.Memory.{Region, Frame, Own, Born, Dead, Spot, Content, Blank, Word, Null, Pointer, Birth, Part, Memory}
+use Rattle.core_meaning.specs.Memory.{Region, Frame, Own, Born, Single, Dead, Spot, Content, Blank, Word, Null, Pointer, Birth, Part, Memory}
 use Rattle.core_meaning.specs.Core.{Function, Datum}
 use Rattle.core_meaning.specs.Meaning as core
 use Rattle.core_meaning.specs.Meaning.{first_memory, status_of, datum_parts}
@@ -19,10 +19,12 @@ use Rattle.core_meaning.specs.Steps.{Step}
 use Rattle.core_frames.specs.declared.line.Line.TheVariants.{Plain, CallTo}
 use Rattle.core_frames.specs.Lines.{offset_to}
 use Rattle.core_meaning.specs.Operations.{too_far}
+use Rattle.core_frames.specs.Homes.{is_home}
 use Rattle.core_frames.specs.Machines.{Machine, Store, state_of}
 use Rattle.core_frames.specs.Lies.{Shows, read, Name, Slot, Cell, same_name, Lies, Apart, Among, CellGround, Ground, Fits, Known, HoldsBlocks, stack_end}
 use Rattle.core_frames.specs.Selected.{datum_locals}
 use Rattle.core_frames.specs.Running.{named, core_run, in_data, first_base, first_maps, ShowsData}
+use Rattle.core_frames.proofs.Homes.{homes_of, set_stays}
 use Rattle.core_frames.proofs.Relations.{Moves, Has, World, IsInOrder, Goes, Calling, Back, invoke}
 use Rattle.core_frames.proofs.Moving.{Reach, Comes, goes_from, goes_stuck, and_then, by_stop}
 use Rattle.core_frames.proofs.Words.{offset_joined}
@@ -40,6 +42,7 @@ pub record IsStart (w : World) (main : ℕ) (ds : List Datum) (offsets : List �
   pub runs : s.mode ≡ Runs
   pub at_first : s.pc ≡ code_base
   pub pointer : s.registers 2 ≡ stack_end
+  pub words : (q : ℕ) → is_home q ≡ true → s.registers q < 2 ^ 32
   pub small : (q : ℕ) → s.bytes q < 256
   pub kept : (q : ℕ) → q < data_base → s.bytes q ≡ w.code q
   pub fresh : s.store.ledger ≡ unborn
@@ -101,7 +104,8 @@ module _ (w : World) (order : IsInOrder w) (four : w.stub ≡ 4) (main : ℕ)
     numbered = λ d h e alive. inl (zero_only d h e);
     zero_is_heap = refl;
     heap_is_zero = ap (λ (l : Ledger). l.birth_of 0) start.fresh;
-    based = λ t j p e. based t j p t.region e;
+    single = λ d o at is e. absurd (no_single d is);
+    made = λ t j p e. made t j p t.region e;
     near = λ t j p e. near t j p t.region e;
     low = λ r o x e. low r o x e;
     unmade = λ r o le. unmade r o le;
@@ -113,6 +117,10 @@ module _ (w : World) (order : IsInOrder w) (four : w.stub ≡ 4) (main : ℕ)
       zero_only : (d h : ℕ) → (first_maps offsets).number d ≡ Some h → d ≡ 0
       zero_only zero h e = refl
       zero_only (suc d) h e = absurd (none-some h (sym (ap (λ c. if c then Some 0 else None) (ne_eqb (suc d) 0 (λ q. omega (arith, q)))) ∙ e))
+
+      no_single : (d : ℕ) → memory.standing (Born d) ≡ Single → ⊥
+      no_single zero is = cc is
+      no_single (suc d) is = cc is
 
       later : (d : ℕ) → 1 ≤ d → (memory.standing (Born d) ≡ Dead) × (memory.objects (Born d) ≡ 0) × ((first_maps offsets).number d ≡ None)
       later zero le = absurd (omega (arith, le))
@@ -135,12 +143,16 @@ module _ (w : World) (order : IsInOrder w) (four : w.stub ≡ 4) (main : ℕ)
       unmade (Frame k) o le = refl
       unmade (Own k) o le = refl
 
-      based : (t : Spot) (j : ℕ) (p : Part) (r : Region) → memory.parts (record t { region = r }) j ≡ Some p → (x : ℕ) ×
-          (first_base offsets r t.object ≡ Some x)
-      based t j p (Born zero) e = let x = placed_at ds offsets 0 high t.object t.cell j p laid e in (data_base + x.0, ap in_data x.1)
-      based t j p (Born (suc d)) e = absurd (none-some p e)
-      based t j p (Frame k) e = absurd (none-some p e)
-      based t j p (Own k) e = absurd (none-some p e)
+      made : (t : Spot) (j : ℕ) (p : Part) (r : Region) → memory.parts (record t { region = r }) j ≡ Some p → t.object < memory.objects r
+      made t j p (Born zero) e = ⊎_elim
+          (λ (less : t.object < length ds). less)
+          (λ (behind : length ds ≤ t.object).
+          let x = placed_at ds offsets 0 high t.object t.cell j p laid e in
+          absurd (none-some x.0 (sym (none_behind ds offsets 0 high t.object laid behind) ∙ x.1)))
+          (cases_lt t.object (length ds))
+      made t j p (Born (suc d)) e = absurd (none-some p e)
+      made t j p (Frame k) e = absurd (none-some p e)
+      made t j p (Own k) e = absurd (none-some p e)
 
       near : (t : Spot) (j : ℕ) (p : Part) (r : Region) → memory.parts (record t { region = r }) j ≡ Some p → p.offset < too_far
       near t j p (Born zero) e =
@@ -201,6 +213,7 @@ module _ (w : World) (order : IsInOrder w) (four : w.stub ≡ 4) (main : ℕ)
               kept = start.kept;
               stacked = refl;
               fits = first_fits s.bytes s.store start.shows_data;
+              homes = λ q is. subst (λ v. v < 2 ^ 32) (sym (homes_of new s.registers (set_stays 0 (code_base + (0 + 4)) s.registers refl) q is)) (start.words q is);
               known = first_known s start;
               holds_blocks = first_blocks s start;
               data_based = λ o y e. ap in_data (ap (λ os. slice_get os o) (sym same) ∙ e);

@@ -23,12 +23,13 @@ known_part m mem st s j old v is k = record {
   numbered = k.numbered;
   zero_is_heap = k.zero_is_heap;
   heap_is_zero = k.heap_is_zero;
-  based = λ t i p e. ⊎_elim
+  single = k.single;
+  made = λ t i p e. ⊎_elim
       (λ (x : (_ ≡ true) × (Some (record old { content = v }) ≡ Some p)).
       let q = Rattle.std.proofs.lemmas.Bool.and_parts _ (nat_eq i j) x.0 in
       let same = Rattle.core_frames.proofs.Fitting.spot_same t s q.0 in
-      subst (λ (u : Spot). (y : ℕ) × (m.base u.region u.object ≡ Some y)) (sym same) (k.based s j old is))
-      (λ (x : (_ ≡ false) × (mem.parts t i ≡ Some p)). k.based t i p x.1)
+      subst (λ (u : Spot). u.object < mem.objects u.region) (sym same) (k.made s j old is))
+      (λ (x : (_ ≡ false) × (mem.parts t i ≡ Some p)). k.made t i p x.1)
       (if_split _ (Some (record old { content = v })) (mem.parts t i) (Some p) e);
   near = λ t i p e. ⊎_elim
       (λ (x : (_ ≡ true) × (Some (record old { content = v }) ≡ Some p)).

@@ -23,6 +23,7 @@ use Rattle.core_frames.proofs.Moving.{Comes, comes_then, comes_as, leads_from, l
 use Rattle.core_frames.proofs.Steps.{state_at, step_is, is_lawful, following_is}
 use Rattle.core_frames.proofs.Access.{written_out, length_of_both}
 use Rattle.core_frames.proofs.Passing.{has_first, has_second}
+use Rattle.core_frames.proofs.Homes.{set_stays}
 use Rattle.core_frames.proofs.Registers.{AtWith, InRegister, elsewhere, at_with, puts, saves_temp}
 use Rattle.core_frames.proofs.Operations.{having, loading, saving, loads_into}
 use Rattle.core_frames.proofs.Showing.{shown_first, Shows_then, leads_shown}
@@ -66,7 +67,7 @@ module _ (w : World) (order : IsInOrder w) (x : Waiting) (outer : List Waiting) 
         let aligned = a.stands.aligned in
         elsewhere w order x outer mem place (place + 4) (λ m registers. (registers 17 ≡ number) × P m registers) (InRegister 10 v) s a
         (set_register 10 value s.registers)
-        (omega (arith, aligned)) refl (shows, small)
+        (omega (arith, aligned)) (set_stays 9 value s.registers refl) (shows, small)
 
   -- a byte is written
   writes_byte : (place n : ℕ) (input : List ℕ) → Has w place (Plain Ecall ∷ []) → (s : Machine)

@@ -4,7 +4,7 @@ use Rattle.std.proofs.Common.{◌≡◌, ℕ, pos, ◌+◌, ◌<◌, ◌≤◌, 
 use Rattle.std.proofs.lemmas.Bool.{eqb-true, eq-eqb, ne_eqb}
 use Rattle.cyc_words.specs.Events.{SourceEnding}
 use Rattle.cyc_words.specs.Words.{word, sum_of}
-use Rattle.rv32_isa.specs.declared.instruction.Instr.TheVariants.{Jal, Bne}
+use Rattle.rv32_isa.specs.declared.instruction.Instr.TheVariants.{Jal, Beq, Bne}
 use Rattle.rv32_machine.specs.State.{code_base}
 use Rattle.rv32_machine.specs.Step.{branches}
 use Rattle.step_trees.specs.Trees.{Stops}
@@ -12,19 +12,19 @@ use Rattle.core_meaning.specs.Memory.{Content, Blank, Word, Null, Pointer, Birth
 use Rattle.core_meaning.specs.Meaning as core
 use Rattle.core_meaning.specs.Steps.{Step, stuck}
 use Rattle.core_frames.specs.declared.line.Line.{Line}
-use Rattle.core_frames.specs.declared.line.Line.TheVariants.{Jump, JumpIfZero}
+use Rattle.core_frames.specs.declared.line.Line.TheVariants.{Jump, JumpIfZero, BranchIfZero}
 use Rattle.core_frames.specs.Machines.{Machine, state_of}
 use Rattle.core_frames.specs.Lines.{HasInstr, code_length, offset_to}
 use Rattle.core_frames.specs.Lies.{Maps, Shows}
 use Rattle.core_frames.proofs.Relations.{Moves, World, IsInOrder, Has, Waiting, At}
-use Rattle.core_frames.proofs.Moving.{Comes, comes_then, comes_as}
+use Rattle.core_frames.proofs.Moving.{Reach, Comes, comes_then, comes_as}
 use Rattle.core_frames.proofs.Words.{offset_joined}
 use Rattle.core_frames.proofs.Steps.{state_at, is_in_code, goes_to, passes}
 use Rattle.core_frames.proofs.Access.{written_out, length_of_both}
 use Rattle.core_frames.proofs.Passing.{has_first, has_second}
 use Rattle.core_frames.proofs.Registers.{AtWith, AtHolding, InRegister, elsewhere, at_with, at_of, at_any}
 use Rattle.core_frames.specs.Frames.{load_code, slot_of}
-use Rattle.core_frames.specs.Choosing.{held_or_loaded, choice_code}
+use Rattle.core_frames.specs.Choosing.{jump_if_zero, held_or_loaded, choice_code}
 use Rattle.core_frames.proofs.Bodies.{with_config}
 use Rattle.core_frames.proofs.Forms.{Tested, Fails, Holds, Neither, Jumps}
 use Rattle.core_frames.proofs.Operations.{loads_into}
@@ -78,7 +78,7 @@ module _ (w : World) (order : IsInOrder w) (x : Waiting) (outer : List Waiting) 
               (goes_to w.areas w.code order.code_within s.store place s.registers s.bytes a.stands.kept (Jal 0 (offset_to to place)) has 0
               (sum_of (code_base + place) (word (offset_to to place))) to (offset_joined code_base to place (omega (arith, near)) (omega (arith, within)))
               is_place.aligned (λ answer. refl) tt);
-          there = at_of w order x outer mem to P next (elsewhere w order x outer mem place to P P s a s.registers is_place.aligned refl a.holds);
+          there = at_of w order x outer mem to P next (elsewhere w order x outer mem place to P P s a s.registers is_place.aligned (λ q h. refl) a.holds);
         };
   }
 
@@ -86,11 +86,15 @@ module _ (w : World) (order : IsInOrder w) (x : Waiting) (outer : List Waiting) 
   jumps_to label place has = comes_then w _ (AtWith w x outer mem place Free) _ (comes_as w _ _ (at_with w order x outer mem place))
       (jumps_with label place Free has.0.0)
 
-  -- a jump that is made where x5 is 0
-  module _ (label place : ℕ) (has : Has w place (JumpIfZero 5 label ∷ [])) (v : Content) where
-    at_zero : ((m : Maps) (registers : ℕ → ℕ) → InRegister 5 v m registers → registers 5 ≡ 0)
+  -- a jump that is made where x5 is 0, as a branch over a jump or as a branch
+  abbrev jump_line : Bool → ℕ → Line
+  jump_line far label = (if far then JumpIfZero 5 label else BranchIfZero 5 label)
+
+  module _ (label place : ℕ) (v : Content) where
+    at_zero : (far : Bool) → Has w place (jump_line far label ∷ [])
+        → ((m : Maps) (registers : ℕ → ℕ) → InRegister 5 v m registers → registers 5 ≡ 0)
         → Comes w (AtWith w x outer mem place (InRegister 5 v)) (At w x outer mem (w.places label))
-    at_zero zero_is =
+    at_zero true has zero_is =
         let e : code_base + place + 4 ≡ code_base + (place + 4) = omega arith in
         comes_then w _ (AtWith w x outer mem (place + 4) (InRegister 5 v)) _ (record {
           count = 1;
@@ -104,31 +108,68 @@ module _ (w : World) (order : IsInOrder w) (x : Waiting) (outer : List Waiting) 
                 moves = subst (λ (q : Machine). Moves w.areas 1 q next) (sym (written_out w order mem place a.maps (a.frame ∷ a.others) a.sp s a.stands))
                     (passes w.areas w.code order.code_within s.store place s.registers s.bytes a.stands.kept (Bne 5 0 (pos 8)) has.0.0
                     (λ answer. ap (λ b. branches (not b) (pos 8) (state_of now)) zero_here) tt);
-                there = elsewhere w order x outer mem place (place + 4) (InRegister 5 v) (InRegister 5 v) s a s.registers (omega (arith, aligned)) refl a.holds;
+                there = elsewhere w order x outer mem place (place + 4) (InRegister 5 v) (InRegister 5 v) s a s.registers (omega (arith, aligned)) (λ q h. refl)
+                    a.holds;
               };
         })
         (jumps_with label (place + 4) (InRegister 5 v) (subst (λ at. HasInstr w.areas w.code at (Jal 0 (offset_to (w.places label) (place + 4)))) e has.0.1.0))
-
-    abbrev past : ((m : Maps) (registers : ℕ → ℕ) → InRegister 5 v m registers → nat_eq (registers 5) 0 ≡ false)
-        → Comes w (AtWith w x outer mem place (InRegister 5 v)) (At w x outer mem (place + 8))
-    past other = record {
+    at_zero false has zero_is = record {
       count = 1;
       by = λ s a.
+          let to = w.places label in
+          let is_place = order.labels label in
+          let within = is_place.within in
+          let branch = Beq 5 0 (offset_to to place) in
+          let near = is_in_code w.areas w.code order.code_within s.store place branch has.0.0 in
           let now = state_at place s.registers s.bytes s.store in
-          let next = state_at (place + 8) s.registers s.bytes s.store in
-          let aligned = a.stands.aligned in
-          let near = is_in_code w.areas w.code order.code_within s.store place (Bne 5 0 (pos 8)) has.0.0 in
+          let next = state_at to s.registers s.bytes s.store in
+          let zero_here : nat_eq (s.registers 5) 0 ≡ true = eq-eqb (s.registers 5) 0 (zero_is a.maps s.registers a.holds) in
           record {
             next = next;
             moves = subst (λ (q : Machine). Moves w.areas 1 q next) (sym (written_out w order mem place a.maps (a.frame ∷ a.others) a.sp s a.stands))
-                (goes_to w.areas w.code order.code_within s.store place s.registers s.bytes a.stands.kept (Bne 5 0 (pos 8)) has.0.0 0
-                (sum_of (code_base + place) 8)
-                (place + 8) (omega (arith, near)) (omega (arith, aligned))
-                (λ answer. ap (λ b. branches (not b) (pos 8) (state_of now)) (other a.maps s.registers a.holds)) tt);
-            there = at_of w order x outer mem (place + 8) (InRegister 5 v) next
-                (elsewhere w order x outer mem place (place + 8) (InRegister 5 v) (InRegister 5 v) s a s.registers (omega (arith, aligned)) refl a.holds);
+                (goes_to w.areas w.code order.code_within s.store place s.registers s.bytes a.stands.kept branch has.0.0 0
+                (sum_of (code_base + place) (word (offset_to to place))) to (offset_joined code_base to place (omega (arith, near)) (omega (arith, within)))
+                is_place.aligned (λ answer. ap (λ b. branches b (offset_to to place) (state_of now)) zero_here) tt);
+            there = at_of w order x outer mem to (InRegister 5 v) next
+                (elsewhere w order x outer mem place to (InRegister 5 v) (InRegister 5 v) s a s.registers is_place.aligned (λ q h. refl) a.holds);
           };
     }
+
+    pub past_as : (far : Bool) → Has w place (jump_line far label ∷ []) → (s : Machine) (a : AtWith w x outer mem place (InRegister 5 v) s)
+        → nat_eq (s.registers 5) 0 ≡ false → Reach w.areas 1 (At w x outer mem (place + code_length (jump_line far label ∷ []))) s
+    past_as true has s a other =
+        let now = state_at place s.registers s.bytes s.store in
+        let next = state_at (place + 8) s.registers s.bytes s.store in
+        let aligned = a.stands.aligned in
+        let near = is_in_code w.areas w.code order.code_within s.store place (Bne 5 0 (pos 8)) has.0.0 in
+        record {
+          next = next;
+          moves = subst (λ (q : Machine). Moves w.areas 1 q next) (sym (written_out w order mem place a.maps (a.frame ∷ a.others) a.sp s a.stands))
+              (goes_to w.areas w.code order.code_within s.store place s.registers s.bytes a.stands.kept (Bne 5 0 (pos 8)) has.0.0 0
+              (sum_of (code_base + place) 8)
+              (place + 8) (omega (arith, near)) (omega (arith, aligned))
+              (λ answer. ap (λ b. branches (not b) (pos 8) (state_of now)) other) tt);
+          there = at_of w order x outer mem (place + 8) (InRegister 5 v) next
+              (elsewhere w order x outer mem place (place + 8) (InRegister 5 v) (InRegister 5 v) s a s.registers (omega (arith, aligned)) (λ q h. refl) a.holds);
+        }
+    past_as false has s a other =
+        let now = state_at place s.registers s.bytes s.store in
+        let next = state_at (place + 4) s.registers s.bytes s.store in
+        let aligned = a.stands.aligned in
+        let branch = Beq 5 0 (offset_to (w.places label) place) in
+        record {
+          next = next;
+          moves = subst (λ (q : Machine). Moves w.areas 1 q next) (sym (written_out w order mem place a.maps (a.frame ∷ a.others) a.sp s a.stands))
+              (passes w.areas w.code order.code_within s.store place s.registers s.bytes a.stands.kept branch has.0.0
+              (λ answer. ap (λ b. branches b (offset_to (w.places label) place) (state_of now)) other) tt);
+          there = at_of w order x outer mem (place + 4) (InRegister 5 v) next
+              (elsewhere w order x outer mem place (place + 4) (InRegister 5 v) (InRegister 5 v) s a s.registers (omega (arith, aligned)) (λ q h. refl) a.holds);
+        }
+
+    abbrev past : (far : Bool) → Has w place (jump_line far label ∷ [])
+        → ((m : Maps) (registers : ℕ → ℕ) → InRegister 5 v m registers → nat_eq (registers 5) 0 ≡ false)
+        → Comes w (AtWith w x outer mem place (InRegister 5 v)) (At w x outer mem (place + code_length (jump_line far label ∷ [])))
+    past far has other = record { count = 1; by = λ s a. past_as far has s a (other a.maps s.registers a.holds) }
 
   -- a temporary into x5, unless it is there
   pub held_into : (held : Option ℕ) (t place : ℕ) → t < x.fn.temporaries → Has w place (held_or_loaded x.fn.passed held t)
@@ -148,27 +189,27 @@ module _ (w : World) (order : IsInOrder w) (x : Waiting) (outer : List Waiting) 
           (loads_into w order x outer mem 4 t place named refl has)
 
   -- a test of a temporary
-  module _ (held : Option ℕ) (t label place : ℕ) (named : t < x.fn.temporaries) (has : Has w place (choice_code x.fn.passed held t label)) where
+  module _ (held : Option ℕ) (t label place : ℕ) (named : t < x.fn.temporaries) (has : Has w place (choice_code w.wide x.fn.passed held t label)) where
     abbrev first : List Line
     first = held_or_loaded x.fn.passed held t
 
     abbrev second : List Line
-    second = JumpIfZero 5 label ∷ []
+    second = jump_if_zero w.wide 5 label ∷ []
 
     pub fails : ((these those : Step) → core.branch (x.config.temps t) these those ≡ those) → Comes w
         (AtHolding w x outer mem place held) (At w x outer mem (w.places label))
     fails h =
         comes_then w _ _ _ (held_into held t place named (has_first w place first second has))
-        (at_zero label (place + code_length first) (has_second w place first second has) (x.config.temps t)
+        (at_zero label (place + code_length first) (x.config.temps t) (w.wide label) (has_second w place first second has)
         (λ m registers i. fails_zero m (x.config.temps t) (registers 5) i.0 h))
 
     abbrev pub holds : ((these those : Step) → core.branch (x.config.temps t) these those ≡ these)
         → Comes w (AtHolding w x outer mem place held) (At w x outer mem (place + code_length (first ++ second)))
     holds h =
-        let e : place + code_length first + 8 ≡ place + code_length (first ++ second) = omega (arith, length_of_both first second) in
+        let e : place + code_length first + code_length second ≡ place + code_length (first ++ second) = omega (arith, length_of_both first second) in
         comes_then w _ _ _ (held_into held t place named (has_first w place first second has))
         (comes_then w _ _ _
-        (past label (place + code_length first) (has_second w place first second has) (x.config.temps t)
+        (past label (place + code_length first) (x.config.temps t) (w.wide label) (has_second w place first second has)
         (λ m registers i. holds_other m (x.config.temps t) (registers 5) i.0 h))
         (comes_as w _ _ (λ s a. subst (λ p. At w x outer mem p s) e a)))
 
@@ -189,7 +230,7 @@ tested (Pointer s b) = Holds (Pointer s b) (λ these those. refl)
 tested Blank = Neither Blank (λ these those. refl)
 tested (Birth d) = Neither (Birth d) (λ these those. refl)
 
-pub tests_and_jumps : (w : World) (order : IsInOrder w) (x : Waiting) (outer : List Waiting) → Jumps w x outer (choice_code x.fn.passed)
+pub tests_and_jumps : (w : World) (order : IsInOrder w) (x : Waiting) (outer : List Waiting) → Jumps w x outer (choice_code w.wide x.fn.passed)
 tests_and_jumps w order x outer = record {
   jump = λ label place has c is. jumps_to w order (with_config x c) outer c.memory label place has;
   fails = λ held t label place named has c is h. fails w order (with_config x c) outer c.memory held t label place named has h;

@@ -1,10 +1,11 @@
 -- A function is entered: its unnamed values get their bytes behind its slots. No instruction is needed.
-use Rattle.std.proofs.Common.{◌≡◌, ℕ, ◌+◌, ◌≤◌, true, List, [], Some, sym, subst, arith}
+use Rattle.std.proofs.Common.{◌≡◌, ℕ, ◌+◌, ◌≤◌, true, List, [], ◌∷◌, Some, sym, subst, arith}
 use Rattle.rv32_machine.specs.State.{data_base}
 use Rattle.core_meaning.specs.Memory.{Own, Born, Memory, is_live}
 use Rattle.core_meaning.specs.Meaning.{with_objects}
 use Rattle.core_frames.specs.Machines.{Machine}
 use Rattle.core_frames.specs.Lies.{Activation}
+use Rattle.core_frames.proofs.Homes.{homes_spared}
 use Rattle.core_frames.proofs.Relations.{no_zones, World, IsInOrder, Waiting, BlocksLie, back_of, At}
 use Rattle.core_frames.proofs.Extending.{frame_extends, stack_extends}
 use Rattle.core_frames.proofs.Laying.{LaidOut}
@@ -44,6 +45,7 @@ owned_at w order x outer offsets high mem place s nest blocks laid room none liv
         kept = a.stands.kept;
         stacked = l.stacked;
         fits = l.fits;
+        homes = homes_spared a.maps mem l.maps (with_objects (Own k) x.fn.own mem) (after ∷ fs) s.registers l.spares a.stands.homes;
         known = l.known;
         holds_blocks = a.stands.holds_blocks;
         data_based = λ o y e. l.extends.base (Born 0) o (data_base + y) (a.stands.data_based o y e);
@@ -60,6 +62,9 @@ owned_at w order x outer offsets high mem place s nest blocks laid room none liv
         own = f.own;
         own_high = l.ends;
         own_based = λ o y e. let same : 0 + o ≡ o = omega arith in subst (λ q. l.maps.base (Own k) q ≡ Some (fr.at + y)) same (l.based o y e);
+        saved = f.saved;
+        changed = f.changed;
+        homes = f.homes;
       };
       stack = stack_extends w a.maps l.maps outer fs l.extends a.stack;
     }

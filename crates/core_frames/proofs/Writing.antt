@@ -18,6 +18,8 @@ use Rattle.core_frames.proofs.Steps.{state_at, IsKeptBelow, IsAllowed, stores_wo
 use Rattle.core_frames.proofs.Fitting.{Writes, writes_word, writes_byte, store_fits, part_change, IsWidth}
 use Rattle.core_frames.proofs.Access.{written_out}
 use Rattle.core_frames.proofs.Storing.{known_part, low_shows}
+use Rattle.core_frames.proofs.Homes.{homes_spared}
+use Rattle.core_frames.proofs.Sparing.{part_spares}
 use Rattle.core_frames.proofs.Registers.{AtWith, InRegister}
 use Rattle.core_frames.proofs.Reaching.{Reaches, write_access, part_lies, access, Based, far_base, near_reach, far_reach}
 
@@ -72,6 +74,8 @@ module _ (w : World) (order : IsInOrder w) (x : Waiting) (outer : List Waiting) 
                       (subst (λ q. Rattle.core_frames.proofs.Fitting.Change w.areas a.maps fs fs mem stored (Cell there j) q part.width (fitting part.width v))
                       (sym r.place)
                       (part_change w.areas a.maps fs mem there j r.base r.known part is (fitting part.width v))) writes shows;
+                  homes = homes_spared a.maps mem a.maps stored fs s.registers
+                      (part_spares a.maps mem there j part (fitting part.width v) r.base r.known is) a.stands.homes;
                   known = known_part a.maps mem s.store there j part (fitting part.width v) is a.stands.known;
                   holds_blocks = a.stands.holds_blocks;
                   data_based = a.stands.data_based;

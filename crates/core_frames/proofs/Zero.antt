@@ -83,11 +83,12 @@ module _ (w : World) (order : IsInOrder w) (x : Waiting) (outer : List Waiting) 
                   (a.at + 4 * k) 4 Null (a.slots k) 0
                   stands.fits (record { within = within; there = refl; wide = refl; value = refl }) (slot_change w.areas r.maps a fs mem k Null)
                   (subst (λ q. Writes s.bytes (set_word at 0 s.bytes) q 4 0) (sym here) writes) refl;
+              homes = stands.homes;
               known = stands.known;
               holds_blocks = stands.holds_blocks;
               data_based = stands.data_based;
             };
-            shows = frame_set w r.maps x (back_of w outer) a t Null r.shows;
+            shows = frame_set w r.maps x (back_of w outer) a t Null named r.shows;
             stack = r.stack;
           };
         };

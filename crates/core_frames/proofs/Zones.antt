@@ -1,11 +1,15 @@
 -- A block is left: its region ends, and its zone of the frame is free again.
-use Rattle.std.proofs.Common.{◌≡◌, ℕ, ◌+◌, ◌*◌, ◌≤◌, ⊎_elim, false, List, [], ◌∷◌, refl, sym, ap, ◌∙◌, subst, arith}
+use Rattle.std.proofs.Common.{◌≡◌, ℕ, suc, true, ◌+◌, ◌*◌, ◌≤◌, ⊎_elim, false, List, [], ◌∷◌, refl, sym, ap, ◌∙◌, subst, arith}
 use Rattle.std.proofs.lemmas.Bool.{eq-eqb}
 use Rattle.core_meaning.specs.Memory.{Region, Frame, Own, Born, Dead, Spot, Content, Memory, same_region, with_standing}
 use Rattle.core_frames.specs.Machines.{Store, Machine}
 use Rattle.rv32_machine.specs.State.{Areas}
-use Rattle.core_frames.specs.Lies.{Maps, Zone, Activation, Cell, PartLies, Among, InFrame, InBlockOf, InOwn, CellGround, Fits, Zoned, Laid}
-use Rattle.core_frames.proofs.Relations.{World, Waiting, Place, BlocksLie, back_of, FrameShows, Stands, At, Returning}
+use Rattle.core_frames.specs.Lies.{Maps, Zone, Activation, Cell, PartLies, Among, InFrame, InBlockOf, InOwn, CellGround, HomesLie, Fits, Zoned, Laid}
+use Rattle.core_frames.proofs.Relations.{World, Waiting, Place, BlocksLie, back_of, FrameShows, Stands, At, Returning, restored, IsHomeIn, AreHomes}
+use Rattle.core_frames.specs.Homes.{is_among}
+use Rattle.core_frames.proofs.Homes.{spares_standing, homes_spared}
+use Rattle.core_frames.proofs.Saving.{without, unless_some, homes_left}
+use Rattle.core_frames.proofs.Homed.{homed_fits, laid_homed}
 use Rattle.core_frames.proofs.Frames.{other_region, death_back}
 use Rattle.core_frames.proofs.Knowing.{known_death}
 use Rattle.core_frames.proofs.Reframing.{reframed, counterpart, reframed_fits}
@@ -99,6 +103,18 @@ unzoned at a z zs are l =
       zoned = zoned_more a.own_high z.low a.bytes zs (let h = q.0 in let h' = q.1 in omega (arith, h, h')) q.2;
     }
 
+-- ---- other homes
+
+homes_fewer : (m : Maps) (mem : Memory) (a : Activation) (fs : List Activation) (hs : List ℕ) (registers : ℕ → ℕ) → HomesLie m mem (a ∷ fs) registers
+    → HomesLie m mem (record a { homes = without hs a.homes } ∷ fs) registers
+homes_fewer m mem a fs hs registers h = (record {
+  small = h.0.small;
+  lie = λ k o r e. h.0.lie k o r (unless_some hs (a.homes k o) r e).0;
+  apart = λ k o k' o' r e e'. h.0.apart k o k' o' r (unless_some hs (a.homes k o) r e).0 (unless_some hs (a.homes k' o') r e').0;
+  saved = λ k o r e. h.0.saved k o r (unless_some hs (a.homes k o) r e).0;
+  others = h.0.others;
+}, (λ k o r e. h.1 k o r (unless_some hs (a.homes k o) r e).0), h.2)
+
 -- ---- an activation leaves a block, and goes on or returns
 
 record Left (w : World) (x : Waiting) (outer : List Waiting) (m : Maps) (p : Place) (ps : List Place) (k : ℕ) (ks : List ℕ) (mem : Memory) (place : ℕ)
@@ -111,9 +127,10 @@ record Left (w : World) (x : Waiting) (outer : List Waiting) (m : Maps) (p : Pla
 leaves : (w : World) (x : Waiting) (outer : List Waiting) (m : Maps) (p : Place) (ps : List Place) (k : ℕ) (ks : List ℕ) (mem : Memory) (place : ℕ)
     (frame : Activation)
     (others : List Activation) (sp x2 : ℕ) (s : Machine) → x.nest ≡ p ∷ ps → x.config.blocks ≡ k ∷ ks
+    → ((r : ℕ) → is_among (suc r) p.homes ≡ true → IsHomeIn (suc r) ps → ⊥)
     → Stands w mem place m (frame ∷ others) sp x2 s → FrameShows w m x (back_of w outer) frame
     → Left w x outer m p ps k ks mem place frame others sp x2 s
-leaves w x outer m p ps k ks mem place frame others sp x2 s nest blocks stands shows =
+leaves w x outer m p ps k ks mem place frame others sp x2 s nest blocks differ stands shows =
     by frame.zones refl (subst (λ bs. BlocksLie m frame.at (p ∷ ps) bs frame.zones) blocks
     (subst (λ qs. BlocksLie m frame.at qs x.config.blocks frame.zones) nest shows.blocks))
   where
@@ -123,7 +140,7 @@ leaves w x outer m p ps k ks mem place frame others sp x2 s nest blocks stands s
         let all : BlocksLie m frame.at (p ∷ ps) (k ∷ ks) (z ∷ zs) = subst (λ ys. BlocksLie m frame.at (p ∷ ps) (k ∷ ks) ys) are lie in
         let region : z.region ≡ k = ap (λ (y : Zone). y.region) all.0 in
         record {
-          frame' = record frame { zones = zs };
+          frame' = record frame { zones = zs; homes = without p.homes frame.homes };
           stands = record {
             runs = stands.runs;
             there = stands.there;
@@ -131,8 +148,15 @@ leaves w x outer m p ps k ks mem place frame others sp x2 s nest blocks stands s
             pointer = stands.pointer;
             small = stands.small;
             kept = stands.kept;
-            stacked = (unzoned sp frame z zs are stands.stacked.0, stands.stacked.1);
-            fits = unzoned_fits w.areas m frame others z zs are k region mem s.bytes s.store stands.fits;
+            stacked = (laid_homed sp (record frame { zones = zs }) (without p.homes frame.homes) frame.saves frame.callers
+                (unzoned sp frame z zs are stands.stacked.0), stands.stacked.1);
+            fits = homed_fits w.areas m (record frame { zones = zs }) others (without p.homes frame.homes) frame.saves frame.callers
+                (with_standing mem (Frame k) Dead) s.bytes s.store
+                (unzoned_fits w.areas m frame others z zs are k region mem s.bytes s.store stands.fits);
+            homes =
+                homes_fewer m (with_standing mem (Frame k) Dead) frame others p.homes s.registers
+                (homes_spared m mem m (with_standing mem (Frame k) Dead) (frame ∷ others) s.registers
+                (spares_standing m mem (with_standing mem (Frame k) Dead) refl refl) stands.homes);
             known = known_death m mem s.store (Frame k) tt stands.known;
             holds_blocks = stands.holds_blocks;
             data_based = stands.data_based;
@@ -149,22 +173,26 @@ leaves w x outer m p ps k ks mem place frame others sp x2 s nest blocks stands s
             own = shows.own;
             own_high = shows.own_high;
             own_based = shows.own_based;
+            saved = shows.saved;
+            changed = shows.changed;
+            homes = homes_left x.phase p ps k ks frame.homes differ
+                (subst (λ bs. AreHomes x.phase (p ∷ ps) bs frame.homes) blocks (subst (λ qs. AreHomes x.phase qs x.config.blocks frame.homes) nest shows.homes));
           };
         }
 
 pub leaves_block : (w : World) (x : Waiting) (outer : List Waiting) (p : Place) (ps : List Place) (k : ℕ) (ks : List ℕ) (mem : Memory) (place : ℕ) (s : Machine)
-    → x.nest ≡ p ∷ ps → x.config.blocks ≡ k ∷ ks → At w x outer mem place s
+    → x.nest ≡ p ∷ ps → x.config.blocks ≡ k ∷ ks → ((r : ℕ) → is_among (suc r) p.homes ≡ true → IsHomeIn (suc r) ps → ⊥) → At w x outer mem place s
     → At w (record x { nest = ps; config = record x.config { blocks = ks } }) outer (with_standing mem (Frame k) Dead) place s
-leaves_block w x outer p ps k ks mem place s nest blocks a =
-    let l = leaves w x outer a.maps p ps k ks mem place a.frame a.others a.sp a.sp s nest blocks a.stands a.shows in
+leaves_block w x outer p ps k ks mem place s nest blocks differ a =
+    let l = leaves w x outer a.maps p ps k ks mem place a.frame a.others a.sp a.sp s nest blocks differ a.stands a.shows in
     record { maps = a.maps; frame = l.frame'; others = a.others; sp = a.sp; stands = l.stands; shows = l.shows; stack = a.stack }
 
 pub leaves_block_returning : (w : World) (x : Waiting) (outer : List Waiting) (p : Place) (ps : List Place) (k : ℕ) (ks : List ℕ) (mem : Memory)
     (values : List Content) (s : Machine)
-    → x.nest ≡ p ∷ ps → x.config.blocks ≡ k ∷ ks → Returning w x outer mem values s
+    → x.nest ≡ p ∷ ps → x.config.blocks ≡ k ∷ ks → ((r : ℕ) → is_among (suc r) p.homes ≡ true → IsHomeIn (suc r) ps → ⊥) → Returning w x outer mem values s
     → Returning w (record x { nest = ps; config = record x.config { blocks = ks } }) outer (with_standing mem (Frame k) Dead) values s
-leaves_block_returning w x outer p ps k ks mem values s nest blocks r =
-    let l = leaves w x outer r.maps p ps k ks mem (back_of w outer) r.frame r.others r.sp r.pointer s nest blocks r.stands r.shows in
+leaves_block_returning w x outer p ps k ks mem values s nest blocks differ r =
+    let l = leaves w (restored x) outer r.maps p ps k ks mem (back_of w outer) r.frame r.others r.sp r.pointer s nest blocks differ r.stands r.shows in
     record {
       maps = r.maps;
       frame = l.frame';

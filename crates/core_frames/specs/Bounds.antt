@@ -7,6 +7,7 @@ use Rattle.core_meaning.specs.Core.{
   If,
   While,
   Block,
+  Leave,
   Break,
   Continue,
   Call,
@@ -30,6 +31,7 @@ abbrev mutual
   local_words (If t these those) = all_local_words these + all_local_words those
   local_words (While test t body) = all_local_words test + all_local_words body
   local_words (Block locals body) = words_of locals + all_local_words body
+  local_words (Leave body) = all_local_words body
   local_words Break = 0
   local_words Continue = 0
   local_words (Call results f arguments) = 0

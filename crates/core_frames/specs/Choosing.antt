@@ -37,6 +37,7 @@ use Rattle.core_meaning.specs.Core.{
   If,
   While,
   Block,
+  Leave,
   Break,
   Continue,
   Call,
@@ -47,7 +48,7 @@ use Rattle.core_meaning.specs.Core.{
   MoreStatements,
 }
 use Rattle.core_frames.specs.declared.line.Line.{Line}
-use Rattle.core_frames.specs.declared.line.Line.TheVariants.{JumpIfZero}
+use Rattle.core_frames.specs.declared.line.Line.TheVariants.{JumpIfZero, BranchIfZero}
 use Rattle.core_frames.specs.Frames.{load_code, slot_of}
 
 -- ---- which temporary x5 holds
@@ -65,7 +66,7 @@ held_behind_operation (OwnAddress t object) = Some t
 held_behind_operation (DataAddress t object) = Some t
 held_behind_operation (Offset t p cells bytes) = Some t
 held_behind_operation (Element t p i cells bytes) = Some t
-held_behind_operation (Get t out local width) = Some t
+held_behind_operation (Get t out local width) = None
 held_behind_operation (Put out local width x) = None
 held_behind_operation (Load t p d) = Some t
 held_behind_operation (Store p d x) = None
@@ -92,6 +93,7 @@ held_behind (Do operation) = held_behind_operation operation
 held_behind (If t these those) = None
 held_behind (While test t body) = None
 held_behind (Block locals body) = None
+held_behind (Leave body) = None
 held_behind Break = None
 held_behind Continue = None
 held_behind (Call results f arguments) = None
@@ -114,6 +116,10 @@ is_held (Some h) t = nat_eq h t
 abbrev pub held_or_loaded : (passed : ℕ) → Option ℕ → ℕ → List Line
 held_or_loaded passed held t = (if is_held held t then [] else load_code 5 (slot_of passed t))
 
+-- A jump to a label that is made where a register is 0: by a branch over a jump where the label is one of those that a branch may not reach.
+abbrev pub jump_if_zero : (ℕ → Bool) → (register label : ℕ) → Line
+jump_if_zero wide register label = (if wide label then JumpIfZero register label else BranchIfZero register label)
+
 -- Goes on where a temporary is neither 0 nor NULL, and at a label where it is.
-abbrev pub choice_code : (passed : ℕ) → Option ℕ → (t label : ℕ) → List Line
-choice_code passed held t label = held_or_loaded passed held t ++ (JumpIfZero 5 label ∷ [])
+abbrev pub choice_code : (ℕ → Bool) → (passed : ℕ) → Option ℕ → (t label : ℕ) → List Line
+choice_code wide passed held t label = held_or_loaded passed held t ++ (jump_if_zero wide 5 label ∷ [])

@@ -6,7 +6,7 @@ use Rattle.rv32_isa.specs.Numbers.{signed}
 use Rattle.rv32_isa.specs.declared.instruction.Instr.TheVariants.{Lui, Jalr, Bgeu, Lw, Sw, Addi, Add, Sub, Ecall}
 use Rattle.rv32_machine.specs.State.{stack_base}
 use Rattle.core_frames.specs.declared.line.Line.{Line}
-use Rattle.core_frames.specs.declared.line.Line.TheVariants.{Plain, CallTo}
+use Rattle.core_frames.specs.declared.line.Line.TheVariants.{Plain, Jump, CallTo}
 
 -- ---- words and slots
 
@@ -82,8 +82,18 @@ take_code bytes passed k zero = []
 take_code bytes passed k (suc more) =
     load_code 5 (bytes / 4 + 1 + k) ++ save_code 5 (slot_of passed k) ++ take_code bytes passed (k + 1) more
 
-abbrev pub prologue_code : ℕ → ℕ → ℕ → List Line
-prologue_code bytes passed parameters = test_code bytes ++ move_code bytes ++ save_code 1 0 ++ take_code bytes passed 0 parameters
+-- registers into slots from one on, and back
+abbrev pub saves_code : ℕ → List ℕ → List Line
+saves_code k [] = []
+saves_code k (r ∷ rs) = save_code r k ++ saves_code (suc k) rs
+
+abbrev pub restores_code : ℕ → List ℕ → List Line
+restores_code k [] = []
+restores_code k (r ∷ rs) = load_code r k ++ restores_code (suc k) rs
+
+abbrev pub prologue_code : ℕ → ℕ → ℕ → List ℕ → ℕ → List Line
+prologue_code bytes passed first saved parameters =
+    test_code bytes ++ move_code bytes ++ save_code 1 0 ++ saves_code first saved ++ take_code bytes passed 0 parameters
 
 abbrev pub values_code : ℕ → ℕ → List ℕ → List Line
 values_code passed r [] = []
@@ -92,5 +102,10 @@ values_code passed r (t ∷ ts) = load_code (suc r) (slot_of passed t) ++ values
 abbrev pub leave_code : ℕ → List Line
 leave_code bytes = load_code 1 0 ++ word_code 7 bytes ++ (Plain (Add 2 2 7) ∷ Plain (Jalr 0 1 (pos 0)) ∷ [])
 
-abbrev pub return_code : ℕ → ℕ → List ℕ → List Line
-return_code bytes passed values = values_code passed 9 values ++ leave_code bytes
+-- a return's values, and on to where the function ends
+abbrev pub return_code : ℕ → List ℕ → ℕ → List Line
+return_code passed values exit = values_code passed 9 values ++ (Jump exit ∷ [])
+
+-- where the function ends: the registers that it saved come back, and the frame is given back
+abbrev pub epilogue_code : ℕ → ℕ → List ℕ → List Line
+epilogue_code bytes first saved = restores_code first saved ++ leave_code bytes

@@ -1,9 +1,11 @@
 pub mod Lines
+pub mod Relaxed
 pub mod Frames
 pub mod Loops
 pub mod Choosing
 pub mod Selected
 pub mod Machines
+pub mod Homes
 pub mod Lies
 pub mod Layouts
 pub mod Statics

@@ -16,6 +16,7 @@ use Rattle.core_meaning.specs.Memory.{
   Standing,
   Live,
   Opened,
+  Single,
   Closed,
   Dead,
   Spot,
@@ -31,6 +32,7 @@ use Rattle.core_meaning.specs.Memory.{
 }
 use Rattle.core_meaning.specs.Operations.{too_far}
 use Rattle.core_frames.specs.Machines.{Store}
+use Rattle.core_frames.specs.Homes.{is_home}
 
 -- where the stack ends: it is 2^20 bytes long
 abbrev pub stack_end : ℕ
@@ -75,7 +77,8 @@ pub record Zone : Type 0 where
   pub high : ℕ
 
 -- An activation's frame: its function, where its bytes are, what its slots hold, where its unnamed values end, the zones of the blocks that it is in, the
--- innermost first, and its number. The slots come first, then the unnamed values, then the zones, each behind that of the block around it.
+-- innermost first, and its number. The slots come first, then the unnamed values, then the zones, each behind that of the block around it. Of its locals some are
+-- in registers: `homes` has them by block and number. Of its caller's registers it has saved some, and `callers` is what they were when it was called.
 pub record Activation : Type 0 where
   pub function : ℕ
   pub at : ℕ
@@ -85,6 +88,9 @@ pub record Activation : Type 0 where
   pub own_high : ℕ
   pub zones : List Zone
   pub own : ℕ
+  pub homes : ℕ → ℕ → Option ℕ
+  pub saves : ℕ → Bool
+  pub callers : ℕ → ℕ
 
 -- ---- names: all that holds something
 
@@ -197,6 +203,40 @@ pub record Fits (n : Areas) (m : Maps) (fs : List Activation) (mem : Memory) (by
   pub ground : (x : Name) (at width : ℕ) (v : Content) → Lies m fs mem x at width v → Ground n fs st x at width
   pub aligned : (x : Name) (at width : ℕ) (v : Content) → Lies m fs mem x at width v → ((width ≡ 1) ⊎ (width ≡ 4)) × (at % width ≡ 0)
 
+-- ---- homes
+
+-- where a local of the block's activation k begins
+abbrev pub local_at : ℕ → ℕ → Spot
+local_at k o = record { region = Frame k; object = o; cell = 0 }
+
+-- A local that is in a register has no address, so no pointer leads to it; the register shows what it holds.
+pub record HomeLies (m : Maps) (mem : Memory) (k o value : ℕ) : Type 0 where
+  pub unbased : m.base (Frame k) o ≡ None
+  pub made : o < mem.objects (Frame k)
+  pub shows : (p : Part) → mem.parts (local_at k o) 0 ≡ Some p → Shows m p.content value
+
+-- The locals of an activation that are in registers, where these are the registers as it has them, and as its caller had them. No two share one; each of
+-- their registers is saved, and what isn't saved is still the caller's.
+pub record HomesShow (m : Maps) (mem : Memory) (homes : ℕ → ℕ → Option ℕ) (saves : ℕ → Bool) (callers registers : ℕ → ℕ) : Type 0 where
+  pub small : (q : ℕ) → is_home q ≡ true → registers q < 2 ^ 32
+  pub lie : (k o r : ℕ) → homes k o ≡ Some r → HomeLies m mem k o (registers r)
+  pub apart : (k o k' o' r : ℕ) → homes k o ≡ Some r → homes k' o' ≡ Some r → (k ≡ k') × (o ≡ o')
+  pub saved : (k o r : ℕ) → homes k o ≡ Some r → (is_home r ≡ true) × (saves r ≡ true)
+  pub others : (q : ℕ) → is_home q ≡ true → saves q ≡ false → registers q ≡ callers q
+
+-- no local of the block's activation k has a home in these frames
+abbrev pub HasNone : ℕ → List Activation → Type 0
+HasNone k [] = Unit {0}
+HasNone k (a ∷ fs) = ((o r : ℕ) → a.homes k o ≡ Some r → ⊥) × HasNone k fs
+
+abbrev pub AreAlone : (ℕ → ℕ → Option ℕ) → List Activation → Type 0
+AreAlone homes fs = (k o r : ℕ) → homes k o ≡ Some r → HasNone k fs
+
+-- those of all activations, the innermost first: each finds the registers as the one that it called had them at its beginning
+abbrev pub HomesLie : Maps → Memory → List Activation → (ℕ → ℕ) → Type 0
+HomesLie m mem [] registers = (q : ℕ) → is_home q ≡ true → registers q < 2 ^ 32
+HomesLie m mem (a ∷ fs) registers = HomesShow m mem a.homes a.saves a.callers registers × AreAlone a.homes fs × HomesLie m mem fs a.callers
+
 -- ---- what is known of what was born
 
 -- a number's standing in the store, and the region's in the memory
@@ -216,6 +256,12 @@ pub record IsNumber (st : Store) (d h : ℕ) : Type 0 where
   pub held : st.holdings.standing h ≡ Some tag
   pub birth : st.ledger.birth_of h ≡ d
 
+-- a unique block begins at an address, and is the birth's
+pub record IsBlock (st : Store) (d at : ℕ) : Type 0 where
+  pub room : ℕ
+  pub owned : st.holdings.owner at ≡ Some (owner.Alone at room)
+  pub birth : st.ledger.alone_birth at ≡ d
+
 pub record Known (m : Maps) (mem : Memory) (st : Store) : Type 0 where
   pub births : st.ledger.births + 1 ≡ mem.births
   pub heap : mem.standing (Born 0) ≡ Live
@@ -225,8 +271,10 @@ pub record Known (m : Maps) (mem : Memory) (st : Store) : Type 0 where
   pub numbered : (d h : ℕ) → m.number d ≡ Some h → (mem.standing (Born d) ≡ Dead → ⊥) → (d ≡ 0) ⊎ IsNumber st d h
   pub zero_is_heap : m.number 0 ≡ Some 0
   pub heap_is_zero : st.ledger.birth_of 0 ≡ 0
-  -- each object's parts have an address
-  pub based : (s : Spot) (j : ℕ) (p : Part) → mem.parts s j ≡ Some p → (x : ℕ) × (m.base s.region s.object ≡ Some x)
+  -- what lies in a unique block's region begins where the block does
+  pub single : (d o at : ℕ) → mem.standing (Born d) ≡ Single → m.base (Born d) o ≡ Some at → IsBlock st d at
+  -- parts are those of objects that were made
+  pub made : (s : Spot) (j : ℕ) (p : Part) → mem.parts s j ≡ Some p → s.object < mem.objects s.region
   -- and none of them lies too far on, whatever its region's standing is
   pub near : (s : Spot) (j : ℕ) (p : Part) → mem.parts s j ≡ Some p → p.offset < too_far
   -- no object begins in the upper half of all addresses
@@ -247,6 +295,7 @@ IsNamed st from (owner.Alone at room) = at ≡ from
 -- the store holds a live block: its room has the bytes asked for, and each address of the room is its owner's
 pub record HoldsBlock (st : Store) (b : Block) : Type 0 where
   pub within : b.bytes ≤ b.room
+  pub some : 1 ≤ b.room
   pub owned : (q : ℕ) → b.from ≤ q → q < b.from + b.room → st.holdings.owner q ≡ Some b.who
   pub named : IsNamed st b.from b.who
 

@@ -4,10 +4,10 @@ use Rattle.std.specs.Prelude.{false, nat_eq}
 use Rattle.std.specs.List.{All}
 use Rattle.rv32_isa.specs.Table.{decoded}
 use Rattle.rv32_isa.specs.declared.instruction.Instr.{Instr}
-use Rattle.rv32_isa.specs.declared.instruction.Instr.TheVariants.{Jal, Bne}
+use Rattle.rv32_isa.specs.declared.instruction.Instr.TheVariants.{Jal, Beq, Bne}
 use Rattle.rv32_machine.specs.State.{Areas, code_base, is_within, word_at}
 use Rattle.core_frames.specs.declared.line.Line.{Line}
-use Rattle.core_frames.specs.declared.line.Line.TheVariants.{Plain, Label, Jump, JumpIfZero, CallTo}
+use Rattle.core_frames.specs.declared.line.Line.TheVariants.{Plain, Label, Jump, JumpIfZero, BranchIfZero, CallTo}
 
 -- how many bytes a line takes
 abbrev pub size_of : Line → ℕ
@@ -15,6 +15,7 @@ size_of (Plain instr) = 4
 size_of (Label label) = 0
 size_of (Jump label) = 4
 size_of (JumpIfZero register label) = 8
+size_of (BranchIfZero register label) = 4
 size_of (CallTo label) = 4
 
 abbrev pub code_length : List Line → ℕ
@@ -32,6 +33,7 @@ instructions_of places at (Plain instr) = instr ∷ []
 instructions_of places at (Label label) = []
 instructions_of places at (Jump label) = Jal 0 (offset_to (places label) at) ∷ []
 instructions_of places at (JumpIfZero register label) = Bne register 0 (pos 8) ∷ Jal 0 (offset_to (places label) (at + 4)) ∷ []
+instructions_of places at (BranchIfZero register label) = Beq register 0 (offset_to (places label) at) ∷ []
 instructions_of places at (CallTo label) = Jal 1 (offset_to (places label) at) ∷ []
 
 -- the word at an address of the code is the instruction's
@@ -50,6 +52,7 @@ StandsAt places at (Plain instr) = Unit {0}
 StandsAt places at (Label label) = places label ≡ at
 StandsAt places at (Jump label) = Unit {0}
 StandsAt places at (JumpIfZero register label) = Unit {0}
+StandsAt places at (BranchIfZero register label) = Unit {0}
 StandsAt places at (CallTo label) = Unit {0}
 
 -- The code has the lines from a place on, in bytes behind its first address, where `places` says where labels stand.
@@ -70,6 +73,7 @@ labels_placed (Plain instr ∷ lines) = labels_placed lines
 labels_placed (Label label ∷ lines) = label ∷ labels_placed lines
 labels_placed (Jump label ∷ lines) = labels_placed lines
 labels_placed (JumpIfZero register label ∷ lines) = labels_placed lines
+labels_placed (BranchIfZero register label ∷ lines) = labels_placed lines
 labels_placed (CallTo label ∷ lines) = labels_placed lines
 
 -- no label stands twice

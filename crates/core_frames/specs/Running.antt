@@ -70,6 +70,7 @@ pub record Begins (n : Areas) (places : ℕ → ℕ) (lines : List Line) (ds : L
   pub runs : s.mode ≡ Runs
   pub at_first : s.pc ≡ code_base
   pub pointer : s.registers 2 ≡ stack_end
+  pub words : (register : ℕ) → s.registers register < 2 ^ 32
   pub small : (at : ℕ) → s.bytes at < 256
   pub unheld : (number : ℕ) → s.holdings.standing number ≡ None
   pub has_pages : s.holdings.pages ≡ n.pages

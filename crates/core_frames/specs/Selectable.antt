@@ -38,6 +38,7 @@ use Rattle.core_meaning.specs.Core.{
   If,
   While,
   Block,
+  Leave,
   Break,
   Continue,
   Call,
@@ -108,12 +109,12 @@ HasCode u (HeapHandle t) = t < u.temporaries
 HasCode u (RegionNew t) = t < u.temporaries
 HasCode u (RegionAlloc t h n layout) = (t < u.temporaries) × (h < u.temporaries) × (n < u.temporaries) × IsLayout layout
 HasCode u (RegionFree h) = h < u.temporaries
-HasCode u (UniqueAlloc t layout) = ⊥
-HasCode u (UniqueFree p) = ⊥
-HasCode u (KeyNew t) = ⊥
-HasCode u (KeyOpen k) = ⊥
-HasCode u (KeyClose k) = ⊥
-HasCode u (KeyFree k) = ⊥
+HasCode u (UniqueAlloc t layout) = (t < u.temporaries) × IsLayout layout × (layout.bytes < 2 ^ 32)
+HasCode u (UniqueFree p) = p < u.temporaries
+HasCode u (KeyNew t) = t < u.temporaries
+HasCode u (KeyOpen k) = k < u.temporaries
+HasCode u (KeyClose k) = k < u.temporaries
+HasCode u (KeyFree k) = k < u.temporaries
 
 -- within a block with these locals
 abbrev pub scope_within : List Local → Scope → Scope
@@ -125,6 +126,7 @@ abbrev mutual
   HasLinesIn u (If t these those) = (t < u.temporaries) × HaveLinesIn u these × HaveLinesIn u those
   HasLinesIn u (While test t body) = (t < u.temporaries) × HaveLinesIn u test × HaveLinesIn u body
   HasLinesIn u (Block locals body) = AreLayouts locals × HaveLinesIn (scope_within locals u) body
+  HasLinesIn u (Leave body) = HaveLinesIn u body
   HasLinesIn u Break = Unit {0}
   HasLinesIn u Continue = Unit {0}
   HasLinesIn u (Call results f arguments) = AreBelow u.temporaries results × AreBelow u.temporaries arguments × (length arguments ≤ u.passed)

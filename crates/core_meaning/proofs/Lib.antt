@@ -1,3 +1,4 @@
 pub mod Spots
 pub mod Results
 pub mod Wholes
+mod LeaveSamples

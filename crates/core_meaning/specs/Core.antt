@@ -84,6 +84,8 @@ mutual
     While : (test : Statements) (t : ℕ) (body : Statements) → Statement
     -- a block's activation has a region with its locals, blank at first, which ends whichever way the block is left
     Block : (locals : List Local) (body : Statements) → Statement
+    -- a `Break` in the body ends it, and takes no unit; a `Continue` is that of the loop around
+    Leave : (body : Statements) → Statement
     Break : Statement
     Continue : Statement
     -- takes a unit
@@ -95,12 +97,14 @@ mutual
     NoStatements : Statements
     MoreStatements : (first : Statement) (others : Statements) → Statements
 
--- A function: how many temporaries it has, the parameters the first; the most words that it passes to a call; its unnamed values.
+-- A function: how many temporaries it has, the parameters the first; the most words that it passes to a call; its unnamed values; and its locals in the order of
+-- the text, each by how many locals stand before it where those of a block stand together, before those of the blocks within it.
 pub record Function : Type 0 where
   pub parameters : ℕ
   pub temporaries : ℕ
   pub passed : ℕ
   pub own : List Local
+  pub order : List ℕ
   pub body : Statements
 
 -- a global or a string: its cells, how many elements, and what their parts hold first

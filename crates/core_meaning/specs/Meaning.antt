@@ -30,6 +30,7 @@ use Rattle.core_meaning.specs.Core.{
   If,
   While,
   Block,
+  Leave,
   Break,
   Continue,
   Call,
@@ -105,6 +106,13 @@ in_block ls c = record c {
 abbrev pub out_of_block : ℕ → List ℕ → Config → Config
 out_of_block k outer c = record c { blocks = outer; memory = with_standing c.memory (Frame k) Dead }
 
+-- a statement that ends where a `Break` leaves its body
+abbrev pub left_by : Exit → (Exit → Config → Step) → Config → Step
+left_by Falls next c = next Falls c
+left_by Breaks next c = next Falls c
+left_by Continues next c = next Continues c
+left_by (Returns vs) next c = next (Returns vs) c
+
 abbrev mutual
   pub statement : Statement → (Exit → Config → Step) → Config → Step
   statement (Do operation) next c = does operation (next Falls) c
@@ -114,6 +122,7 @@ abbrev mutual
       statements test (λ exit. falls_to exit (λ tested. branch (tested.temps t) (Turns (record { test = test; flag = t; body = body }) next tested) (next Falls tested)) next) c
   statement (Block ls body) next c =
       statements body (λ exit left. next exit (out_of_block c.memory.activations c.blocks left)) (in_block ls c)
+  statement (Leave body) next c = statements body (λ exit. left_by exit next) c
   statement Break next c = next Breaks c
   statement Continue next c = next Continues c
   statement (Call results f arguments) next c =

@@ -226,6 +226,13 @@ byte_word (Some byte) = byte
 abbrev pub says : events.Event → Step → Step
 says e next = Says (Visible e) next
 
+-- a unique block is freed with its region
+abbrev pub alone_freed : Region → (Config → Step) → Config → Step
+alone_freed (Frame k) next c = stuck
+alone_freed (Own k) next c = stuck
+alone_freed (Born d) next c =
+    checked (is_single (c.memory.standing (Born d))) (says (events.UniqueFree d) (next (with_memory (with_standing c.memory (Born d) Dead) c)))
+
 -- ---- operations; the heap is the first region that was born, and is never freed
 
 abbrev pub does : Operation → (Config → Step) → Config → Step
@@ -277,14 +284,7 @@ does (UniqueAlloc t l) next c =
     let d = c.memory.births in
     says (events.UniqueAlloc d l.bytes)
     (next (with_temp t (Pointer (record { region = Born d; object = 0; cell = 0 }) 0) (with_memory (with_object (born Single c.memory) (Born d) (blanks l 1)) c)))
-does (UniqueFree p) next c =
-    pointer_of (c.temps p) (λ s b. freed s.region)
-  where
-    freed : Region → Step
-    freed (Frame k) = stuck
-    freed (Own k) = stuck
-    freed (Born d) = checked (is_single (c.memory.standing (Born d)))
-        (says (events.UniqueFree d) (next (with_memory (with_standing c.memory (Born d) Dead) c)))
+does (UniqueFree p) next c = pointer_of (c.temps p) (λ s b. checked (nat_eq b 0) (alone_freed s.region next c))
 does (KeyNew t) next c =
     let d = c.memory.births in says (events.KeyNew d) (next (with_temp t (Birth d) (with_memory (born Closed c.memory) c)))
 does (KeyOpen k) next c =

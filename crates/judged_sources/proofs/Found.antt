@@ -11,7 +11,8 @@ use Rattle.source_meaning.specs.Shapes.{Shape, settled, written}
 use Rattle.source_meaning.specs.Steps.{Entity, Variable}
 use Rattle.source_safety.specs.Programs.{GlobalsJudged}
 use Rattle.source_typing.specs.Declarations.{what_of}
-use Rattle.source_typing.specs.Functions.{Head, function_faults, head_of}
+use Rattle.source_typing.specs.Functions.{Head, body_scope, function_faults, head_of}
+use Rattle.source_typing.specs.Left.{body_flow, flow_from}
 use Rattle.source_typing.specs.Globals.{count_of, global_entry, global_faults}
 use Rattle.source_typing.specs.Programs.{Judged, entries_with, items_from, named}
 use Rattle.source_typing.specs.Regions.{TheHeap}
@@ -53,24 +54,25 @@ AllKnown g h i (j ∷ js) [] = ⊥
 module _ (bodies : BodiesJudged) where
   pub all_known : (g h : Tables) (i : ℕ) (js : List Judged) (is : List Item) → AllGood 0 g → AreAligned g h → AreHeaded h i js is
       → only_taken safe_forms is ≡ is
-      → HasOperands is → items_from false g i is ≡ []
+      → HasOperands is → items_from false g i is ≡ [] → flow_from g i is ≡ []
       → AllKnown g h i js is
-  all_known g h i [] [] a s k t o p = tt
-  all_known g h i [] (x ∷ is) a s k t o p = absurd k
-  all_known g h i (j ∷ js) [] a s k t o p = absurd k
-  all_known g h i (j ∷ js) (tree.StructItem x ∷ is) a s k t o p =
-      let b : only_taken safe_forms is ≡ is = cc in (k.0, all_known g h (suc i) js is a s k.1 b o.1 p)
-  all_known g h i (j ∷ js) (tree.UnionItem x ∷ is) a s k t o p = absurd k.0
-  all_known g h i (j ∷ js) (tree.GlobalItem x ∷ is) a s k t o p =
+  all_known g h i [] [] a s k t o p flow = tt
+  all_known g h i [] (x ∷ is) a s k t o p flow = absurd k
+  all_known g h i (j ∷ js) [] a s k t o p flow = absurd k
+  all_known g h i (j ∷ js) (tree.StructItem x ∷ is) a s k t o p flow =
+      let b : only_taken safe_forms is ≡ is = cc in (k.0, all_known g h (suc i) js is a s k.1 b o.1 p flow)
+  all_known g h i (j ∷ js) (tree.UnionItem x ∷ is) a s k t o p flow = absurd k.0
+  all_known g h i (j ∷ js) (tree.GlobalItem x ∷ is) a s k t o p flow =
       let b : only_taken safe_forms is ≡ is = cc in
       let d = none_of_both (global_faults (at_item false g i) x) (items_from false g (suc i) is) p in
-      (k.0, all_known g h (suc i) js is a s k.1 b o.1 d.1)
-  all_known g h i (j ∷ js) (tree.FunctionItem f ∷ is) a s k t o p =
+      (k.0, all_known g h (suc i) js is a s k.1 b o.1 d.1 flow)
+  all_known g h i (j ∷ js) (tree.FunctionItem f ∷ is) a s k t o p flow =
       let c : function_taken safe_forms f ≡ f = cc in
       let b : only_taken safe_forms is ≡ is = cc in
-      let d = none_of_both (function_faults false g i f) (items_from false g (suc i) is) p in (
-        record { is = k.0.0; same = head_same false g h f (same_tags g h s); good = function_good bodies g i f a c o.0 d.0 },
-        all_known g h (suc i) js is a s k.1 b o.1 d.1,
+      let d = none_of_both (function_faults false g i f) (items_from false g (suc i) is) p in
+      let l = none_of_both (body_flow (body_scope false g i f (head_of false g f)) f) (flow_from g (suc i) is) flow in (
+        record { is = k.0.0; same = head_same false g h f (same_tags g h s); good = function_good bodies g i f a c o.0 d.0 l.0 },
+        all_known g h (suc i) js is a s k.1 b o.1 d.1 l.1,
       )
 
 -- ---- globals in their order

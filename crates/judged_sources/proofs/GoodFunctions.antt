@@ -15,6 +15,7 @@ use Rattle.source_safety.specs.Named.{AllBelow, BoundsBelow, TypeBelow, TypesBel
 use Rattle.source_safety.specs.Programs.{FunctionJudged, name_alone, with_all}
 use Rattle.source_typing.specs.Faults.{name_rule, own_after, test, type_rule}
 use Rattle.source_typing.specs.Functions.{Head, body_scope, end_reached, function_faults, function_scope, head_of, needs_return, with_parameters}
+use Rattle.source_typing.specs.Left.{body_flow}
 use Rattle.source_typing.specs.Regions.{TheHeap, entry_regions}
 use Rattle.source_typing.specs.Scope.{Env, at_item, is_second, with_local}
 use Rattle.source_typing.specs.Statements.{items_faults}
@@ -120,12 +121,13 @@ pub record FunctionGood (g : Tables) (i : ℕ) (f : tree.Function) : Type 0 wher
   pub body : ItemsJudged (with_all (map part_of f.parameters) head.signature.types (function_scope false g i (head_of false g f))) f.body
   pub end : end_reached f (head_of false g f) ≡ false
   pub faults : items_faults (with_all (map part_of f.parameters) head.signature.types (function_scope false g i (head_of false g f))) true f.body ≡ []
+  pub flow : body_flow (with_all (map part_of f.parameters) head.signature.types (function_scope false g i (head_of false g f))) f ≡ []
 
 module _ (bodies : BodiesJudged) where
   pub function_good : (g : Tables) (i : ℕ) (f : tree.Function) → AllGood 0 g → function_taken safe_forms f ≡ f → ItemsHaveOperands f.body
-      → function_faults false g i f ≡ []
+      → function_faults false g i f ≡ [] → body_flow (body_scope false g i f (head_of false g f)) f ≡ []
       → FunctionGood g i f
-  function_good g i f a t o p =
+  function_good g i f a t o p flow =
       let h : Head = head_of false g f in
       let s : Env = body_scope false g i f h in
       let q : (h.faults ≡ []) × (own_after (test (not (end_reached f h)) type_rule f.end) (items_faults s true f.body) ≡ []) =
@@ -148,6 +150,7 @@ module _ (bodies : BodiesJudged) where
             k.signature.plain (ap (λ (z : tree.Function). z.body) t) o (subst (λ (z : Env). items_faults z true f.body ≡ []) same b.1);
         end = not-true (end_reached f h) (test_is (not (end_reached f h)) type_rule f.end b.0);
         faults = subst (λ (z : Env). items_faults z true f.body ≡ []) same b.1;
+        flow = subst (λ (z : Env). body_flow z f ≡ []) same flow;
       }
 
 -- ---- what its name means
@@ -230,5 +233,6 @@ function_judged world g i x s f n k =
       no_loop = refl;
       no_switch = refl;
       body = k.body;
+      flow = k.flow;
       ends = ends g i f k;
     }

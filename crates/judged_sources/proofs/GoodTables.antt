@@ -38,6 +38,13 @@ no_typing_faults k p e =
     let b : rule_faults p ≡ [] = subst (λ z. rule_faults z ≡ []) (program_is_taken k p e) a.1 in
     (none_of_both (typing_faults false p) (flow_faults p) b).0
 
+pub no_flow_faults : (k : Taken) (p : Program) → program_faults k p ≡ [] → flow_faults p ≡ []
+no_flow_faults k p e =
+    let a : (constant_forms k p ≡ []) × (rule_faults (only_taken k p) ≡ []) =
+    none_of_both (constant_forms k p) (rule_faults (only_taken k p)) e in
+    let b : rule_faults p ≡ [] = subst (λ z. rule_faults z ≡ []) (program_is_taken k p e) a.1 in
+    (none_of_both (typing_faults false p) (flow_faults p) b).1
+
 -- what is at fault nowhere: its tags, its names, its items, `main`, and its sizes
 pub record IsClean (k : Taken) (p : Program) : Type 0 where
   pub taken : only_taken k p ≡ p
@@ -47,6 +54,7 @@ pub record IsClean (k : Taken) (p : Program) : Type 0 where
   pub items : items_from false (tables_of false p) 0 p ≡ []
   pub main : main_found p ≡ []
   pub sizes : size_faults false (tables_of false p) p ≡ []
+  pub flow : flow_faults p ≡ []
 
 pub is_clean_program : (k : Taken) (p : Program) → program_faults k p ≡ [] → IsClean k p
 is_clean_program k p e =
@@ -65,6 +73,7 @@ is_clean_program k p e =
       items = d.1;
       main = c.1;
       sizes = b.1;
+      flow = no_flow_faults k p e;
     }
 
 -- ---- heads and globals, where tags alone are known

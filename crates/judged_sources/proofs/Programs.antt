@@ -113,7 +113,7 @@ module _ (bodies : BodiesJudged) (p : Program) (e : program_faults safe_forms p 
   good = tables_good heads (judged_tags p) p tags headed
 
   pub known : AllKnown tables heads 0 (judged_tags p) p
-  known = all_known bodies tables heads 0 (judged_tags p) p good same headed clean.taken (taken_has_operands safe_forms p clean.taken) clean.items
+  known = all_known bodies tables heads 0 (judged_tags p) p good same headed clean.taken (taken_has_operands safe_forms p clean.taken) clean.items clean.flow
 
   -- ---- names
 

@@ -212,7 +212,7 @@ read_same w fs n shape width m c t byte s k plain agree leads go =
         → Same w fs n (value_held x (λ v. s (v ∷ [])) m) k
     held here live source.Blank is = stuck_same w fs n k
     held here live source.Gone is = stuck_same w fs n k
-    held here live source.Lent is = stuck_same w fs n k
+    held here live (source.Lent x) is = stuck_same w fs n k
     held here live (Holds v) is =
         let shown = agree.cells t shape v is in
         let word = plain.one m c v shown.contents shown.shown in
@@ -272,7 +272,7 @@ write_same w fs n shape width m c t byte v x s k plain agree leads shown go = by
 
     lent : OneCell m c t byte shape width → is_live m t.region ≡ true → (y : source.Content)
         → Same w fs n (check (not (is_lent y)) (λ u. check (is_of shape v) (λ u. put_content t (Holds v) s)) m) k
-    lent here live source.Lent = stuck_same w fs n k
+    lent here live (source.Lent x) = stuck_same w fs n k
     lent here live source.Blank = of_type here live (is_of shape v) refl
     lent here live source.Gone = of_type here live (is_of shape v) refl
     lent here live (Holds u) = of_type here live (is_of shape v) refl

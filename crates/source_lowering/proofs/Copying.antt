@@ -96,7 +96,7 @@ read_all w fs n (x ∷ xs) m t s k cells go = by (is_live m t.region) refl
         → Same w fs n (value_held y after m) k
     held live source.Blank is next = stuck_same w fs n k
     held live source.Gone is next = stuck_same w fs n k
-    held live source.Lent is next = stuck_same w fs n k
+    held live (source.Lent x) is next = stuck_same w fs n k
     held live (Holds v) is next = next v live is
 
     by : (b : Bool) → is_live m t.region ≡ b
@@ -204,7 +204,7 @@ write_all w fs n b (x ∷ xs) (v ∷ vs) m c t s k live a cells shown go =
 
     lent : (y : source.Content) → Same w fs n (rest tt (m_written m t x v)) k
         → Same w fs n (check (not (is_lent y)) (λ u. check (is_of x v) (λ u. put_content t (Holds v) rest)) m) k
-    lent source.Lent more = stuck_same w fs n k
+    lent (source.Lent x) more = stuck_same w fs n k
     lent source.Blank more = of_type (is_of x v) refl more
     lent source.Gone more = of_type (is_of x v) refl more
     lent (Holds u) more = of_type (is_of x v) refl more

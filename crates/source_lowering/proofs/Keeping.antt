@@ -55,7 +55,7 @@ abbrev pub value_in : Scalar → source.Content → Scalar
 value_in v (Holds u) = u
 value_in v source.Blank = v
 value_in v source.Gone = v
-value_in v source.Lent = v
+value_in v (source.Lent x) = v
 
 abbrev pub cell : Shape → source.Content → Cell
 cell shape content = record { shape = shape; content = content }

@@ -121,7 +121,7 @@ all_hold Q m t (x ∷ xs) (u ∷ vs) all others s shape v e =
     value_in (Holds y) = y
     value_in source.Blank = u
     value_in source.Gone = u
-    value_in source.Lent = u
+    value_in (source.Lent x) = u
 
     scalar_in : Option Cell → Scalar
     scalar_in None = u
@@ -171,7 +171,7 @@ writes_all w fs n (x ∷ xs) (v ∷ vs) m t s k count live cells go =
 
     lent : (y : source.Content) → Same w fs n (rest tt (m_written m t x v)) k
         → Same w fs n (check (not (is_lent y)) (λ u. check (is_of x v) (λ u. put_content t (Holds v) rest)) m) k
-    lent source.Lent more = stuck_same w fs n k
+    lent (source.Lent x) more = stuck_same w fs n k
     lent source.Blank more = of_type (is_of x v) refl more
     lent source.Gone more = of_type (is_of x v) refl more
     lent (Holds u) more = of_type (is_of x v) refl more

@@ -198,7 +198,7 @@ cell_reads w fs n shape m c t byte s k one agree leads go =
         → Same w fs n (value_held x (λ v. s (v ∷ [])) m) k
     held here live source.Blank is = stuck_same w fs n k
     held here live source.Gone is = stuck_same w fs n k
-    held here live source.Lent is = stuck_same w fs n k
+    held here live (source.Lent x) is = stuck_same w fs n k
     held here live (Holds v) is =
         let shown = agree.cells t shape v is in
         let fit = one.fit m c v shown.contents shown.shown in
@@ -254,7 +254,7 @@ cell_writes w fs n shape m c t byte v xs s k one agree leads shown go = by (cell
 
     lent : CellAt m c t byte shape → is_live m t.region ≡ true → (y : source.Content)
         → Same w fs n (check (not (is_lent y)) (λ u. check (is_of shape v) (λ u. put_content t (Holds v) s)) m) k
-    lent here live source.Lent = stuck_same w fs n k
+    lent here live (source.Lent x) = stuck_same w fs n k
     lent here live source.Blank = of_type here live (is_of shape v) refl
     lent here live source.Gone = of_type here live (is_of shape v) refl
     lent here live (Holds u) = of_type here live (is_of shape v) refl

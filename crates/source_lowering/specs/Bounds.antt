@@ -32,7 +32,7 @@ use Rattle.source_lowering.specs.Layouts.{extent_of}
 use Rattle.source_lowering.specs.Members.{all_words}
 use Rattle.source_lowering.specs.Pieces.{call_shape}
 use Rattle.source_lowering.specs.Programs.{RegionsAround, no_regions, in_loop, regions_with, local_shape, function_code, routine_values}
-use Rattle.core_meaning.specs.Core.{Local, Do, If, While, Block, Break, Continue, Call, Return, Raise, Statements, NoStatements, MoreStatements, Function}
+use Rattle.core_meaning.specs.Core.{Local, Do, If, While, Block, Leave, Break, Continue, Call, Return, Raise, Statements, NoStatements, MoreStatements, Function}
 
 -- ---- Core: words of a frame
 
@@ -51,6 +51,7 @@ abbrev mutual
   statement_words (If t these those) = block_words these + block_words those
   statement_words (While test t body) = block_words test + block_words body
   statement_words (Block locals body) = local_words locals + block_words body
+  statement_words (Leave body) = block_words body
   statement_words Break = 0
   statement_words Continue = 0
   statement_words (Call results function arguments) = 0
@@ -84,6 +85,7 @@ abbrev mutual
   statement_operations (If t these those) = 1 + (branch_count these (operations_of these) + branch_count those (operations_of those))
   statement_operations (While test t body) = 1 + (operations_of test + operations_of body)
   statement_operations (Block locals body) = 1 + operations_of body
+  statement_operations (Leave body) = operations_of body
   statement_operations Break = 1
   statement_operations Continue = 1
   statement_operations (Call results function arguments) = 1 + (length results + length arguments)

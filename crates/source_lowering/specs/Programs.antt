@@ -254,6 +254,7 @@ function_code w f = record {
   temporaries = max (all_words (part_shapes f.parameters)) (temporaries_of (body_code w f));
   passed = passed_by (body_code w f);
   own = locals_of w (routine_values w f);
+  order = [];
   body = body_code w f;
 }
 

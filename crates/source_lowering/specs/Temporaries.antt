@@ -7,6 +7,7 @@ use Rattle.core_meaning.specs.Core.{
   If,
   While,
   Block,
+  Leave,
   Break,
   Continue,
   Call,
@@ -78,6 +79,7 @@ abbrev mutual
   statement_temporaries (If t these those) = max (suc t) (max (temporaries_of these) (temporaries_of those))
   statement_temporaries (While test t body) = max (suc t) (max (temporaries_of test) (temporaries_of body))
   statement_temporaries (Block locals body) = temporaries_of body
+  statement_temporaries (Leave body) = temporaries_of body
   statement_temporaries Break = 0
   statement_temporaries Continue = 0
   statement_temporaries (Call results function arguments) = max (last_of results) (last_of arguments)
@@ -94,6 +96,7 @@ abbrev mutual
   statement_passes (If t these those) = max (passed_by these) (passed_by those)
   statement_passes (While test t body) = max (passed_by test) (passed_by body)
   statement_passes (Block locals body) = passed_by body
+  statement_passes (Leave body) = passed_by body
   statement_passes Break = 0
   statement_passes Continue = 0
   statement_passes (Call results function arguments) = length arguments

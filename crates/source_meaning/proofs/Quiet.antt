@@ -78,7 +78,7 @@ held_quiet : (c : Content) → Quiet (value_held c)
 held_quiet (Holds v) = give_quiet v
 held_quiet Blank = stuck_quiet
 held_quiet Gone = stuck_quiet
-held_quiet Lent = stuck_quiet
+held_quiet (Lent v) = stuck_quiet
 
 read_cell_quiet : (s : Spot) → Quiet (read_cell s)
 read_cell_quiet s = record { go = λ next m h. (need_quiet (cell_at m s)).go _ m (λ c m1. (held_quiet c.content).go next m1 h) }
@@ -468,7 +468,7 @@ operand_of_quiet None = stuck_quiet
 
 lending_quiet : (at : Spot) (v : Scalar) (act : Act Flow) → Quiet act → Quiet (lending at v act)
 lending_quiet at v act x = record {
-  go = λ next m h. (put_quiet at Lent).go _ m (λ a m1. (finally_quiet act (put_content at (Holds v)) x (put_quiet at (Holds v))).go next m1 h);
+  go = λ next m h. (put_quiet at (Lent v)).go _ m (λ a m1. (finally_quiet act (put_content at (Holds v)) x (put_quiet at (Holds v))).go next m1 h);
 }
 
 born_quiet : Quiet region_born

@@ -48,8 +48,8 @@ pub data Content : Type 0 where
   Blank : Content
   -- the value was moved away
   Gone : Content
-  -- the value is lent to the end of a block
-  Lent : Content
+  -- the value is lent to the end of a block, where the cell holds it again
+  Lent : Scalar → Content
 
 -- a typed cell
 pub record Cell : Type 0 where

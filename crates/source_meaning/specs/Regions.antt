@@ -57,7 +57,7 @@ operand scope name = operand_of (entity_of scope name)
 
 -- a local is lent while the rest of the block runs, and has its value again when the block is left
 abbrev pub lending : Spot → Scalar → Act Flow → Act Flow
-lending at v act = put_content at Lent >> finally act (put_content at (Holds v))
+lending at v act = put_content at (Lent v) >> finally act (put_content at (Holds v))
 
 -- ---- lexical regions
 

@@ -9,7 +9,7 @@ abbrev pub value_held : Content → Act Scalar
 value_held (Holds v) = give v
 value_held Blank = stuck
 value_held Gone = stuck
-value_held Lent = stuck
+value_held (Lent v) = stuck
 
 -- a read through a region that isn't live is stuck
 abbrev pub read_cell : Spot → Act Scalar
@@ -26,7 +26,7 @@ put_content s c = memory >>= λ m. need (cell_at m s) >>= λ old. set_memory (wi
 
 -- whether a cell is lent
 abbrev pub is_lent : Content → Bool
-is_lent Lent = true
+is_lent (Lent v) = true
 is_lent c = false
 
 -- a cell that is Lent isn't written, and what is written is of the cell's type

@@ -17,7 +17,7 @@ use Rattle.source_safety.proofs.Moves.{Class, inv_cells}
 use Rattle.source_safety.proofs.Cells.{cell}
 use Rattle.source_safety.proofs.Rows.{map_repeated, array_cells}
 use Rattle.source_safety.proofs.Layouts.{AllBegin}
-use Rattle.source_safety.proofs.Objects.{inv_object, grows_object, filled, inv_filled, grows_filled, untyped}
+use Rattle.source_safety.proofs.Objects.{New, old_cells, inv_object, grows_object, filled, inv_filled, grows_filled, untyped}
 
 itself : Class (λ o. o)
 itself = record { state = λ o k s h. h; steady = λ o h. h; nobody = λ o h. h; free = refl }
@@ -117,7 +117,7 @@ cells_typed d k b w m s (t ∷ ts) i there a h =
 -- a new object whose cells hold their first values
 pub runs_begun : {B : Type 0} (d : Tables) (n k b : ℕ) (w : Ghost) (m : Memory) (r : Region) (o : Object) (ts : List RunType) (rest : Spot → Act B)
     (Q : B → Memory → Type 0) → Inv d w m → m.state r ≡ Live → AllBegin ts → ((j : ℕ) → o j ≡ slice_get (map first_cell (map shape_of ts)) j)
-    → ((at : Spot) (w' : Ghost) (m' : Memory) → Inv d w' m' → Grows k b w m w' m' → at.region ≡ r → Laid w' at ts → Runs n (rest at) m' Q)
+    → ((at : Spot) (w' : Ghost) (m' : Memory) → Inv d w' m' → Grows k b w m w' m' → New m m' r at → ((y : Spot) (q : Kept) → w.types y ≡ Some q → m'.cells y ≡ m.cells y) → Laid w' at ts → Runs n (rest at) m' Q)
     → Runs n (make_object r o >>= rest) m Q
 runs_begun d n k b w m r o ts rest Q i l begins first go =
     let m1 : Memory = with_object m r o in
@@ -129,7 +129,7 @@ runs_begun d n k b w m r o ts rest Q i l begins first go =
     (begun_slice w m1 at ts (λ j. untyped d w m (beyond at j) i (omega arith) (w.types (beyond at j)) refl) (λ j.
     ap (λ (c : Bool). if c && nat_eq (m.objects r) (m.objects r) then o (0 + j) else m.cells (beyond at j)) (region_itself r)
     ∙ (ap (λ (c : Bool). if c then o (0 + j) else m.cells (beyond at j)) (eq-eqb (m.objects r) (m.objects r) refl) ∙ (ap o (omega arith) ∙ first j)))) in
-    let done = go at z.ghost m1 z.inv (z.grows w m (omega arith) (grows_object d k b w m r o i)) refl z.laid in
+    let done = go at z.ghost m1 z.inv (z.grows w m (omega arith) (grows_object d k b w m r o i)) (record { region = refl; object = refl; counted = there }) (λ y q e. old_cells m r o y (i.counted y q e)) z.laid in
     record { by = λ next q. (runs_check n (is_live m r) (λ next2 m2. rest at next2 m1) m Q (ap state_is_live l) (record { by = λ next2 q2. done.by next2 q2 })).by next q }
 
 -- the cells of an array that begins, in a row

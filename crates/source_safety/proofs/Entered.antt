@@ -1,21 +1,25 @@
 -- A function is called: its body runs in a block of its own, and what it gives is typed for the caller. With more fuel there are more calls and turns.
-use Rattle.std.proofs.Common.{◌≡◌, ℕ, zero, suc, ◌<◌, ◌≤◌, Bool, true, false, ◌⊎◌, inl, inr, List, [], ◌∷◌, refl, sym, ◌∙◌, ap, subst, arith}
+use Rattle.std.proofs.Common.{◌≡◌, ℕ, zero, suc, ◌<◌, ◌≤◌, Bool, true, false, Some, None, ◌⊎◌, inl, inr, List, [], ◌∷◌, refl, sym, ◌∙◌, ap, subst, arith}
 use Rattle.std.specs.Prelude.{map, ◌||◌, if◌then◌else◌}
 use Rattle.cyc_words.specs.Events.{Called}
 use Rattle.cyc_words.specs.Events as events
 use Rattle.source_meaning.specs.Shapes.{Shape}
 use Rattle.source_meaning.specs.Memory.{Region, Frame, Born, Scalar, Integer, AsInt, Live, Memory}
-use Rattle.source_meaning.specs.Steps.{World, Scope, Flow, Falls, Breaks, Continues, Returns, Step, Act, give, ◌>>=◌, ◌>>◌, say}
+use Rattle.source_meaning.specs.Steps.{World, take_turn, Scope, Flow, Falls, Breaks, Continues, Returns, Step, Act, give, ◌>>=◌, ◌>>◌, say}
 use Rattle.source_meaning.specs.Regions.{in_block}
-use Rattle.source_meaning.specs.Statements.{block_items, after_turn, loop}
+use Rattle.source_meaning.specs.Statements.{block_items, loop, statement}
 use Rattle.source_meaning.specs.Programs.{entered, with_arguments, result_of, result_at_end, is_main}
-use Rattle.cyc_tree.specs.Tree.{Statement}
-use Rattle.source_typing.specs.Scope.{Env, block_entered}
+use Rattle.source_typing.specs.Scope.{Env, Local, block_entered}
 use Rattle.source_typing.specs.Statements.{in_a_loop}
 use Rattle.source_typing.specs.Tables as typing
 use Rattle.source_typing.specs.Tables.{Signature}
 use Rattle.source_typing.specs.Types.{StaticType, Int, Void, renamed, shape_of}
-use Rattle.source_typing.specs.Ways.{ways, ways_of, ways_of_items}
+use Rattle.source_typing.specs.Flow.{use_of}
+use Rattle.source_typing.specs.Left.{left_by, left_by_items, states_at}
+use Rattle.source_typing.specs.States.{States}
+use Rattle.source_typing.specs.Ways.{ways_of_items}
+use Rattle.source_meaning.specs.Calls.{truth}
+use Rattle.source_meaning.specs.Expressions.{sense}
 use Rattle.source_safety.specs.Flat.{Tables, flat}
 use Rattle.source_safety.specs.Named.{TypesBelow}
 use Rattle.source_safety.proofs.Facts.{at_region, same_here}
@@ -32,19 +36,45 @@ use Rattle.source_safety.proofs.Layouts.{agrees}
 use Rattle.source_safety.proofs.Names.{NameOf}
 use Rattle.source_safety.proofs.Scenes.{Alike, Globals, Scene, scene_later}
 use Rattle.source_safety.proofs.Entries.{Function, Enters, Invokes}
-use Rattle.source_safety.proofs.Surroundings.{surrounds_loop, scene_loop}
-use Rattle.source_safety.proofs.Flows.{FlowOk, ReturnOk, Turning, flow_as}
+use Rattle.source_safety.proofs.Surroundings.{surrounds_loop}
+use Rattle.source_safety.proofs.Flows.{WaysStand, ReturnOk, Turning}
+use Rattle.source_safety.proofs.Ways.{head_leaves, turn_goes}
+use Rattle.source_safety.proofs.Unreached.{items_fall_nowhere}
+use Rattle.source_safety.proofs.Standing as standing
+use Rattle.source_safety.proofs.Standing.{Standing}
+use Rattle.source_safety.proofs.Statements.{condition_tells}
+use Rattle.passed_locals.specs.Statements.{exits_of}
+use Rattle.passed_locals.proofs.Statements.{exits_told}
 use Rattle.source_safety.proofs.Blocks.{items_leave, statement_leaves}
-use Rattle.source_safety.proofs.Parameters.{landing, inv_landed, grows_landed, flown_moved, with_all, all_shaped, types_alike, types_up, AllBound, all_bound}
+use Rattle.source_safety.proofs.Parameters.{landing, inv_landed, grows_landed, flown_moved, with_all, beginning, all_shaped, types_alike, types_up, AllBound, all_bound}
 use Rattle.source_safety.proofs.Functions.{FunctionJudged, Sources, entry_scope, entry_names, count_is, variables_alike, surrounds_entry, scene_entry}
 
 module _ (n : ℕ) (d : Tables) (world : World) (tables : typing.Tables) (sources : Sources d world tables) (invokes : Invokes n d world tables)
     (turns : Turning n d world tables) (x : List ℕ) (s : Signature) (F : Function world x s) (judged : FunctionJudged world tables x s F)
     (h : NameOf → Region)
   where
+    -- the scope of the parameters
+    abbrev inner : Env
+    inner = with_all F.routine.parameters F.types (block_entered judged.outside)
+
     -- what the body is left with
     abbrev Left : Flow → Ghost → Type 0
-    Left flow w = FlowOk d (renamed h F.gives) (block_entered judged.outside) (ways_of_items F.routine.body) flow w
+    Left Falls w = (ways_of_items F.routine.body).falls ≡ true
+    Left Breaks w = (judged.outside.in_loop || judged.outside.in_switch ≡ true)
+    Left Continues w = judged.outside.in_loop ≡ true
+    Left (Returns vs) w = ReturnOk d (renamed h F.gives) vs w
+
+    -- by the way on which it is left
+    left_with : (scope : Scope) (f : NameOf → Region) (s : States) → inner.in_loop ≡ judged.outside.in_loop → inner.in_switch ≡ judged.outside.in_switch → (flow : Flow) (w : Ghost) (m : Memory)
+        → WaysStand d (renamed h F.gives) inner scope f (left_by_items inner F.routine.body s) flow w m → Left flow w
+    left_with scope f s a c Falls w m y = by (ways_of_items F.routine.body).falls refl
+      where
+        by : (t : Bool) → (ways_of_items F.routine.body).falls ≡ t → t ≡ true
+        by true e = refl
+        by false e = absurd (let z : None ≡ Some y.0 = sym (items_fall_nowhere F.routine.body inner s e) ∙ y.1 in cc)
+    left_with scope f s a c Breaks w m y = subst (λ z. z || judged.outside.in_switch ≡ true) a (subst (λ z. inner.in_loop || z ≡ true) c y.1)
+    left_with scope f s a c Continues w m y = subst (λ z. z ≡ true) a y.1
+    left_with scope f s a c (Returns vs) w m y = y
 
     pub runs_entered : (k b : ℕ) (w : Ghost) (m : Memory) (vss : List (List Scalar)) → b ≤ m.activations → Inv d w m → Globals d tables world w
         → Enters s h k w m → Flown d w k vss (map (renamed h) F.types)
@@ -95,6 +125,9 @@ module _ (n : ℕ) (d : Tables) (world : World) (tables : typing.Tables) (source
         body_at j = with_arguments F.routine.parameters vss (block_items F.routine.body)
             (record { world = world; locals = []; frame = j; result = F.routine.result })
 
+        no_locals : judged.outside.locals ≡ [] → (w2 : Ghost) (m2 : Memory) → Standing d g0 start f0 (beginning inner judged.outside.locals) w2 m2
+        no_locals e w2 m2 = subst (λ (ls : List Local). standing.AllStand judged.outside.tables d f0 ls [] (beginning inner ls) w2 m2) (sym e) tt
+
         inside : Inv d w1 m1 → Runs n (body_at a0) m1 (λ flow. After d k a0 w1 m1 (λ w' m'. Left flow w'))
         inside i1 = runs_arguments n d world (λ t u. Reached u) k a0 a0 F.routine.parameters (map (renamed f0) F.types) vss w1 m1 start
             (block_items F.routine.body)
@@ -103,22 +136,22 @@ module _ (n : ℕ) (d : Tables) (world : World) (tables : typing.Tables) (source
             (same_here (Frame a0) Live (m.state (Frame a0))) (flown_moved d k w w1 vss (map (renamed f0) F.types) carry
             (subst (λ (ts : List RunType). Flown d w k vss ts) (sym (types_alike s.regions h f0 F.types alike judged.takes_below)) flown))
             (λ ss w2 m2 i2 g2 st cells landed.
-            let all : AllBound d world tables f0 (renamed h F.gives) a0 g0 (with_all F.routine.parameters F.types g0) start
+            let all : AllBound d world tables f0 (renamed h F.gives) a0 inner g0 (with_all F.routine.parameters F.types g0) start
             (bound_all start F.routine.parameters ss) w2 m2 =
-            all_bound d world tables f0 (renamed h F.gives) a0 F.routine.parameters F.types ss vss g0 start w2 m2
-            (surrounds_entry d world tables sources x s F judged h enters.heap_is a0) refl F.objects takes_below F.shapes landed in
-            let scene : Scene d g0 start f0 a0 k w2 m2 =
-            scene_later d g0 start f0 a0 k w1 m1 w2 m2 i2 g2 (scene_entry d world tables sources x s F judged h k w m i globals enters) in
+            all_bound d world tables f0 (renamed h F.gives) a0 inner (m1.objects (Frame a0)) F.routine.parameters F.types ss vss g0 start w2 m2
+            (surrounds_entry d world tables sources x s F judged h enters.heap_is a0) refl F.objects takes_below F.shapes tt landed in
+            let first : Scene d g0 start f0 a0 (beginning inner judged.outside.locals) k w1 m1 = scene_entry d world tables sources x s F judged h k w m i globals enters inner in
+            let scene : Scene d g0 start f0 a0 (beginning inner judged.outside.locals) k w2 m2 =
+            scene_later d g0 start f0 a0 (beginning inner judged.outside.locals) (beginning inner judged.outside.locals) k w1 m1 w2 m2 i2 g2 (no_locals judged.locals w2 m2) first in
             record {
               by = λ next q.
                   (items_leave n d world tables invokes turns a0 (renamed h F.gives) F.routine.body (with_all F.routine.parameters F.types g0)
-                  (bound_all start F.routine.parameters ss) f0 all.surrounds judged.body k w2 m2 i2 (all.scene a0 k scene)).by next
+                  (bound_all start F.routine.parameters ss) f0 all.surrounds judged.body (states_at inner) judged.flow k w2 m2 i2 (all.scene a0 k scene)).by next
                   (λ flow m3 y. q flow m3 (record {
                     ghost = y.ghost;
                     inv = y.inv;
                     grows = grows_trans g2 y.grows;
-                    holds = flow_as d (renamed h F.gives) g0 (with_all F.routine.parameters F.types g0)
-                        (ways_of_items F.routine.body) flow y.ghost all.in_loop all.in_switch y.holds;
+                    holds = left_with (bound_all start F.routine.parameters ss) f0 (states_at inner) all.in_loop all.in_switch flow y.ghost m3 y.holds;
                   }));
             })
 
@@ -165,7 +198,7 @@ module _ (n : ℕ) (d : Tables) (world : World) (tables : typing.Tables) (source
             ended (λ us m3. (say (events.Returned F.routine.name) >> give us) next m3) m2 y.ghost (judged.ends y.holds)
             (λ us typed. out next q m2 y.ghost y.inv y.grows us typed)
         leaves next q Breaks m2 y = absurd (
-            let z : (judged.outside.in_loop || judged.outside.in_switch) ≡ true = y.holds.1 in
+            let z : (judged.outside.in_loop || judged.outside.in_switch) ≡ true = y.holds in
             let u : judged.outside.in_loop ≡ false = judged.no_loop in
             let v : judged.outside.in_switch ≡ false = judged.no_switch in
             not_both u v z)
@@ -186,40 +219,19 @@ module _ (d : Tables) (world : World) (tables : typing.Tables) (sources : Source
   }
 
   next_turns : (n : ℕ) → Invokes n d world tables → Turning n d world tables → Turning (suc n) d world tables
-  next_turns n invokes turns gives g scope f b condition body h c j k w m i z = record {
-    by = λ next q.
-        (statement_leaves n d world tables invokes turns b gives body (in_a_loop g) scope f (surrounds_loop d world tables g scope f gives h) j k w m i
-        (scene_loop d g scope f b k w m z)).by
-        (λ flow. after_turn flow (loop condition body scope) next) (λ flow m1 y. by next q flow m1 y);
+  next_turns n invokes turns gives g scope f b condition body h c j = λ st head k w m i x. record {
+    by = λ next q. (turn_goes n d gives g scope f b (use_of g condition).look (left_by (in_a_loop g) body) (exits_of (in_a_loop g) body) (statement body scope) (loop condition body scope)
+        (statement_leaves n d world tables invokes turns b gives body (in_a_loop g) scope f (surrounds_loop d world tables g scope f gives h) j) (exits_told body (in_a_loop g)) st head
+        (head_leaves n d gives g scope f b (use_of g condition).look (left_by (in_a_loop g) body) (exits_of (in_a_loop g) body) (truth (sense condition scope)) (take_turn condition body scope)
+        (condition_tells n d world tables invokes b gives g scope f condition h c) (exits_told body (in_a_loop g)) (turns gives g scope f b condition body h c j) st head) k w m i x).by next
+        (λ flow m2 z. safe_less n (next flow m2) (q flow m2 z));
   }
-    where
-      again : (next : Flow → Memory → Step)
-          → ((flow : Flow) (m' : Memory) → After d k b w m (λ w' m2. FlowOk d gives g (ways true false) flow w') m' → Safe (suc n) (next flow m'))
-          → (m1 : Memory) (w1 : Ghost) → Inv d w1 m1 → Grows k b w m w1 m1 → Safe n (loop condition body scope next m1)
-      again next q m1 w1 i1 g1 =
-          (statement_leaves n d world tables invokes turns b gives (Statement.While 0 condition body) g scope f h (c, j) k w1 m1 i1
-          (scene_later d g scope f b k w m w1 m1 i1 g1 z)).by next
-          (λ flow m2 y. safe_less n (next flow m2) (q flow m2 (record { ghost = y.ghost; inv = y.inv; grows = grows_trans g1 y.grows; holds = y.holds })))
-
-      by : (next : Flow → Memory → Step)
-          → ((flow : Flow) (m' : Memory) → After d k b w m (λ w' m2. FlowOk d gives g (ways true false) flow w') m' → Safe (suc n) (next flow m'))
-          → (flow : Flow) (m1 : Memory) → After d k b w m (λ w' m2. FlowOk d gives (in_a_loop g) (ways_of body) flow w') m1
-          → Safe n (after_turn flow (loop condition body scope) next m1)
-      by next q Falls m1 y = again next q m1 y.ghost y.inv y.grows
-      by next q Continues m1 y = again next q m1 y.ghost y.inv y.grows
-      by next q Breaks m1 y = safe_less n (next Falls m1) (q Falls m1 (record { ghost = y.ghost; inv = y.inv; grows = y.grows; holds = refl }))
-      by next q (Returns vs) m1 y = safe_less n (next (Returns vs) m1) (q (Returns vs) m1 (record {
-        ghost = y.ghost;
-        inv = y.inv;
-        grows = y.grows;
-        holds = y.holds;
-      }))
 
   -- Every call and every turn of a loop runs safely, with any fuel.
   pub all_fuel : (n : ℕ) → Invokes n d world tables × Turning n d world tables
   all_fuel zero = (
     λ x s F there h k b w m vss below i globals enters flown. record { by = λ next q. tt },
-    λ gives g scope f b condition body h c j k w m i z. record { by = λ next q. tt },
+    λ gives g scope f b condition body h c j st head k w m i z. record { by = λ next q. tt },
   )
   all_fuel (suc n) =
       let h : Invokes n d world tables × Turning n d world tables = all_fuel n in (next_invokes n h.0 h.1, next_turns n h.0 h.1)

@@ -1,5 +1,5 @@
 -- What the names of a program mean, and how its functions are called.
-use Rattle.std.proofs.Common.{◌≡◌, ℕ, ◌≤◌, Bool, true, false, Some, List, [], ◌∷◌, refl, sym, subst}
+use Rattle.std.proofs.Common.{◌≡◌, ℕ, ◌≤◌, arith, Bool, true, false, Some, List, [], ◌∷◌, refl, sym, subst}
 use Rattle.std.specs.Prelude.{map, ◌||◌}
 use Rattle.std.proofs.lemmas.Bool.{and_parts}
 use Rattle.source_meaning.specs.Shapes.{part_shapes}
@@ -13,19 +13,21 @@ use Rattle.source_typing.specs.Scope.{Env, meant, is_live, outlives}
 use Rattle.source_typing.specs.Tables as typing
 use Rattle.source_typing.specs.Tables.{Entry, OfFunction, Signature, find, argument}
 use Rattle.source_typing.specs.Types.{StaticType, Int, Unsigned, Char, Void, Null, Thin, Fat, Unique, Handle, Key, Struct, Union, renamed}
+use Rattle.source_typing.specs.Moves.{Use}
+use Rattle.source_typing.specs.States.{States}
 use Rattle.source_safety.specs.Flat.{Tables, flat}
 pub use Rattle.source_safety.specs.Entries.{IsObjectType, IsPlain, AreObjects, Function, Structure, Builtin, PlainEntry, PlainTables}
 use Rattle.source_safety.proofs.Invariant.{RunType, heap, Ghost, HaveTypes, Known, Inv}
 use Rattle.source_safety.proofs.Growth.{grows_trans}
 use Rattle.source_safety.proofs.Runs.{Runs}
-use Rattle.source_safety.proofs.After.{After, flying}
+use Rattle.source_safety.proofs.After.{After, flying, grows_base}
 use Rattle.source_safety.proofs.Arguments.{Flown}
 use Rattle.source_safety.proofs.Names.{NameOf, AllBelow, NamesOk, AllStand, AllOrdered}
-use Rattle.source_safety.proofs.Scenes.{Globals, Scene, scene_later}
-use Rattle.source_safety.proofs.Sound.{Gives}
+use Rattle.source_safety.proofs.Scenes.{Globals, Scene, scene_later, stands_kept}
+use Rattle.source_safety.proofs.Sound.{GivesBy}
 use Rattle.source_safety.proofs.Words.{object_twice, plain_twice}
 use Rattle.source_safety.proofs.Fixed.{argument_below}
-use Rattle.source_safety.proofs.Calling.{AllPass, all_passed}
+use Rattle.source_safety.proofs.Calling.{AllPass, all_values, all_passed}
 
 -- ---- types
 
@@ -109,24 +111,28 @@ module _ (d : Tables) (g : Env) (f : NameOf → Region) (k : ℕ) (w : Ghost) (m
 
 module _ (n : ℕ) (d : Tables) (g : Env) (scope : Scope) (f : NameOf → Region) (b : ℕ) where
   -- a call of one of the program's functions, whose region variables stand for these
-  pub gives_called : (x : List ℕ) (s : Signature) (F : Function scope.world x s) (es : List Sense) (rs : List NameOf) → Invokes n d scope.world g.tables
+  pub gives_called : (x : List ℕ) (s : Signature) (F : Function scope.world x s) (us : List Use) (es : List Sense) (rs : List NameOf) → Invokes n d scope.world g.tables
       → find g.tables x ≡ Some (OfFunction s) → g.lenient ≡ false → AllBelow g.regions.count rs → all_live g rs s.effect ≡ true
       → all_ordered g rs s.bounds ≡ true
-      → AllPass n d g scope f b (part_shapes F.routine.parameters) (map (renamed (argument rs)) F.types) es
-      → Gives n d g scope f b (renamed (argument rs) F.gives)
+      → AllPass n d g scope f b (part_shapes F.routine.parameters) (map (renamed (argument rs)) F.types) us es
+      → GivesBy n d g scope f b (all_values us) (renamed (argument rs) F.gives)
       (converted_all scope.world (part_shapes F.routine.parameters) es >>= λ vss. invoke F.routine scope.world vss)
-  gives_called x s F es rs invokes there strict below live ordered h = λ k w m i z. record {
-    by = λ next q. (all_passed n d g scope f b (part_shapes F.routine.parameters) (map (renamed (argument rs)) F.types) es h k w m i z).by
+  gives_called x s F us es rs invokes there strict below live ordered h = λ st e k w m i z. record {
+    by = λ next q. (all_passed n d g scope f b (part_shapes F.routine.parameters) (map (renamed (argument rs)) F.types) us es h st e k w m i z).by
         (λ vss. invoke F.routine scope.world vss next)
         (λ vss m1 y.
-        let z1 : Scene d g scope f b k y.ghost m1 = scene_later d g scope f b k w m y.ghost m1 y.inv y.grows z in
+        let s2 : States = (all_values us st).states in
+        let z1 : Scene d g scope f b s2 k y.ghost m1 = scene_later d g scope f b st s2 k w m y.ghost m1 y.inv y.grows y.holds.1 z in
         let flown : Flown d y.ghost k vss (map (renamed (λ a. f (argument rs a))) F.types) =
-        subst (λ (ts : List RunType). Flown d y.ghost k vss ts) (objects_twice f (argument rs) F.types F.objects) y.holds in
-        (invokes x s F there (λ a. f (argument rs a)) k b y.ghost m1 vss z1.base y.inv z1.globals
-        (enters d g f k y.ghost m1 z1.names strict rs s below live ordered) flown).by next (λ us m2 u. q us m2 (record {
+        subst (λ (ts : List RunType). Flown d y.ghost k vss ts) (objects_twice f (argument rs) F.types F.objects) y.holds.0 in
+        (invokes x s F there (λ a. f (argument rs a)) k m1.activations y.ghost m1 vss (omega arith) y.inv z1.globals
+        (enters d g f k y.ghost m1 z1.names strict rs s below live ordered) flown).by next (λ vs m2 u. q vs m2 (record {
           ghost = u.ghost;
           inv = u.inv;
-          grows = grows_trans y.grows u.grows;
-          holds = subst (λ (t : RunType). HaveTypes d u.ghost (flying k 0) us (flat heap d t)) (sym (plain_twice f (argument rs) F.gives F.plain)) u.holds;
+          grows = grows_trans y.grows (grows_base z1.base u.grows);
+          holds = (
+            subst (λ (t : RunType). HaveTypes d u.ghost (flying k 0) vs (flat heap d t)) (sym (plain_twice f (argument rs) F.gives F.plain)) u.holds,
+            stands_kept d g scope f b s2 k y.ghost m1 u.ghost m2 z1 u.grows,
+          );
         })));
   }

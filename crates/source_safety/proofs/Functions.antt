@@ -1,13 +1,16 @@
 -- A function that is in order runs safely, whoever calls it.
 use Rattle.std.proofs.Common.{◌≡◌, ℕ, ◌+◌, Bool, true, Option, Some, List, [], refl, sym, ◌∙◌, ap, subst, arith}
-use Rattle.std.specs.Prelude.{if◌then◌else◌}
+use Rattle.std.specs.Prelude.{map, if◌then◌else◌}
 use Rattle.std.proofs.lemmas.Bool.{eq-eqb}
 use Rattle.std.proofs.lemmas.Option.{same_Some}
 use Rattle.source_meaning.specs.Memory.{Region, Frame, Memory}
 use Rattle.source_meaning.specs.Steps.{Entity, World, Scope}
 use Rattle.source_meaning.specs.Places.{bound_to}
 use Rattle.source_typing.specs.Regions.{Regions, TheHeap, Level, with_scope}
-use Rattle.source_typing.specs.Scope.{with_locals, meant, block_entered}
+use Rattle.source_typing.specs.Left.{begins_as}
+use Rattle.source_typing.specs.Scope.{Env, Local, with_locals, meant, block_entered}
+use Rattle.source_safety.proofs.Standing as standing
+use Rattle.source_safety.proofs.Standing.{Alongside, LocalsBelow}
 use Rattle.source_typing.specs.Tables as typing
 use Rattle.source_typing.specs.Tables.{What, OfValue, OfFunction, Stored, Arrayed, Counter, Unknown, Signature, find}
 use Rattle.source_typing.specs.Types.{StaticType, renamed}
@@ -100,17 +103,25 @@ module _ (d : Tables) (world : World) (tables : typing.Tables) (sources : Source
 -- the scene where the body begins
 pub scene_entry : (d : Tables) (world : World) (tables : typing.Tables) (sources : Sources d world tables) (x : List ℕ) (s : Signature) (F : Function world x s)
     (judged : FunctionJudged world tables x s F) (h : NameOf → Region) (k : ℕ) (w : Ghost) (m : Memory) → Inv d w m → Globals d tables world w → (e : Enters s h k w m)
-    → Scene d (block_entered judged.outside) (entry_scope d world tables sources x s F judged h e.heap_is m.activations)
-    (entry_names d world tables sources x s F judged h e.heap_is m.activations) m.activations k (block_ghost w m) (block_memory m)
-scene_entry d world tables sources x s F judged h k w m i globals enters = record {
+    → (top : Env) → Scene d (block_entered judged.outside) (entry_scope d world tables sources x s F judged h e.heap_is m.activations)
+    (entry_names d world tables sources x s F judged h e.heap_is m.activations) m.activations (map (λ l. begins_as top l.what) judged.outside.locals) k (block_ghost w m) (block_memory m)
+scene_entry d world tables sources x s F judged h k w m i globals enters top = record {
   names = names_scope d judged.outside.regions h k w m (m.activations + 1) m.births (Frame m.activations) i (frame_births d w m i)
       (subst (λ (r : Regions). NamesOk r h k w m) (sym judged.regions)
       (names_entered d h k w m i enters.heap_is enters.known s.regions s.effect s.bounds judged.effect_below judged.bounds_below enters.effect enters.bounds));
   base = omega arith;
-  variables = λ y u e.
+  variables = λ y u e o.
       let there : find tables y ≡ Some (OfValue u) = sym (means d world tables sources x s F judged h enters.heap_is m.activations y) ∙ e in
       laid_as_later 0 d (λ c. heap) (naming h judged.outside.regions.count (Frame m.activations)) w (block_ghost w m) (bound_to world.globals y) u
       (heap_alike d world tables sources x s F judged h enters.heap_is m.activations) (sources.globals y u there) (λ p t l. l) (globals y u there);
+  alongside = subst (λ (ls : List Local). Alongside ls []) (sym judged.locals) tt;
+  rooms = tt;
+  inside = tt;
+  counted = tt;
+  own = omega arith;
+  below = subst (λ (ls : List Local). LocalsBelow (judged.outside.regions.count + 1) ls) (sym judged.locals) tt;
+  stands = subst (λ (ls : List Local). standing.AllStand judged.outside.tables d (naming h judged.outside.regions.count (Frame m.activations)) ls [] (map (λ l. begins_as top l.what) ls) (block_ghost w m) (block_memory m))
+      (sym judged.locals) tt;
   globals = λ y u e. laid_as_kept d (λ c. heap) w (block_ghost w m) (bound_to world.globals y) u (λ p t l. l)
       (globals y u (subst (λ (t : typing.Tables). find t y ≡ Some (OfValue u)) judged.tables_are e));
 }

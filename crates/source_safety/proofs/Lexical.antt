@@ -10,13 +10,14 @@ use Rattle.source_typing.specs.Regions.{Level, same_id, with_scope}
 use Rattle.source_typing.specs.Scope.{Env, next_region}
 use Rattle.source_typing.specs.Tables as typing
 use Rattle.source_typing.specs.Written.{RegionNamed, find_region}
+use Rattle.source_typing.specs.States.{States}
 use Rattle.source_safety.specs.Flat.{Tables}
 use Rattle.source_safety.proofs.Facts.{if_cases}
 use Rattle.source_safety.proofs.Invariant.{RunType, heap, Ghost, Inv}
 use Rattle.source_safety.proofs.Scopes.{region_ghost, region_memory, born_births}
 use Rattle.source_safety.proofs.Names.{NameOf, below_up, naming, names_scope}
 use Rattle.source_safety.proofs.Scenes.{renamed_alike, bound_as_alike, lives_more, laid_as_later, laid_as_kept, Scene}
-use Rattle.source_safety.proofs.Surroundings.{ResultIs, Surrounds, type_up, naming_alike, lives_in_scope}
+use Rattle.source_safety.proofs.Surroundings.{ResultIs, Surrounds, type_up, locals_up, stands_in, naming_alike, lives_in_scope}
 
 -- a scope with one more region, and these names
 abbrev pub lexical : Env → List RegionNamed → Env
@@ -61,13 +62,20 @@ surrounds_region d world tables g scope f gives names a h = record {
   frame_below = below_up g.regions.count g.frame h.frame_below;
 }
 
-pub scene_region : (d : Tables) (world : World) (tables : typing.Tables) (g : Env) (scope : Scope) (f : NameOf → Region) (gives : RunType) (names : List RegionNamed) (b k : ℕ) (w : Ghost) (m : Memory)
-    → Surrounds d world tables g scope f gives → Inv d w m → Scene d g scope f b k w m
-    → Scene d (lexical g names) scope (naming f g.regions.count (Born m.births)) b k (region_ghost w m) (region_memory m)
-scene_region d world tables g scope f gives names b k w m h i z = record {
+pub scene_region : (d : Tables) (world : World) (tables : typing.Tables) (g : Env) (scope : Scope) (f : NameOf → Region) (gives : RunType) (names : List RegionNamed) (b : ℕ) (s : States) (k : ℕ) (w : Ghost) (m : Memory)
+    → Surrounds d world tables g scope f gives → Inv d w m → Scene d g scope f b s k w m
+    → Scene d (lexical g names) scope (naming f g.regions.count (Born m.births)) b s k (region_ghost w m) (region_memory m)
+scene_region d world tables g scope f gives names b s k w m h i z = record {
   names = names_scope d g.regions f k w m m.activations (m.births + 1) (Born m.births) i (born_births d w m i) z.names;
   base = z.base;
-  variables = λ y u e. laid_as_later g.regions.count d f (naming f g.regions.count (Born m.births)) w (region_ghost w m) (entity_of scope y) u
-      (naming_alike f g.regions.count (Born m.births)) (h.binds.variables y u e) (λ p t l. l) (z.variables y u e);
+  variables = λ y u e o. laid_as_later g.regions.count d f (naming f g.regions.count (Born m.births)) w (region_ghost w m) (entity_of scope y) u
+      (naming_alike f g.regions.count (Born m.births)) (h.binds.variables y u e) (λ p t l. l) (z.variables y u e o);
   globals = λ y u e. laid_as_kept d (λ a. heap) w (region_ghost w m) (bound_to scope.world.globals y) u (λ p t l. l) (z.globals y u e);
+  alongside = z.alongside;
+  rooms = z.rooms;
+  inside = z.inside;
+  counted = z.counted;
+  own = z.own;
+  below = locals_up g.regions.count g.locals z.below;
+  stands = stands_in d g scope f s (Born m.births) w m (region_ghost w m) (region_memory m) z.below (λ y q e. e) (λ y. refl) z.stands;
 }

@@ -15,6 +15,7 @@ use Rattle.source_typing.specs.Tables as typing
 use Rattle.source_typing.specs.Tables.{Entry, OfValue, OfTag, OfFunction, OfBuiltin, OfOther, find, as_tag, parts_of_tag, parts_in, part_in, argument, or_heap}
 use Rattle.source_typing.specs.Types.{StaticType, Int, Unsigned, Char, Void, Null, Thin, Fat, Unique, Handle, Key, Struct, Union, renamed, shape_of}
 use Rattle.source_safety.specs.Entries.{IsObjectType, AreObjects, Structure}
+use Rattle.source_typing.specs.States.{States}
 use Rattle.source_safety.specs.Flat.{Declared, Tables, or_region, filled, flat, flat_all}
 use Rattle.source_safety.specs.Structs.{AreMemberTypes, AreMembers}
 use Rattle.source_safety.proofs.Facts.{further, not_further}
@@ -161,20 +162,20 @@ struct_there d world tables tag x part h e = by (find tables tag) refl e
 
 module _ (n : ℕ) (d : Tables) (g : Env) (scope : Scope) (f : NameOf → Region) (b : ℕ) (h : Structs d scope.world g.tables) where
   -- a member of a struct that is a place is a place in the same region
-  pub finds_member : (tag : List ℕ) (rs : List NameOf) (x : List ℕ) (part : typing.Part) (u : StaticType) (r : NameOf) (place : Act Spot) → part_in (parts_in g.tables tag) x ≡ Some part
-      → part.type ≡ Some u → Finds n d g scope f b (Struct tag rs) r place
-      → Finds n d g scope f b (renamed (argument rs) u) r
+  pub finds_member : (s0 s2 : States) (tag : List ℕ) (rs : List NameOf) (x : List ℕ) (part : typing.Part) (u : StaticType) (r : NameOf) (place : Act Spot) → part_in (parts_in g.tables tag) x ≡ Some part
+      → part.type ≡ Some u → Finds n d g scope f b s0 s2 (Struct tag rs) r place
+      → Finds n d g scope f b s0 s2 (renamed (argument rs) u) r
       (place >>= λ s. give (beyond s (cells_before (cells_of scope.world) (parts_of scope.world.structs tag) x)))
-  finds_member tag rs x part u r place e z finds = λ k w m i q. record {
+  finds_member s0 s2 tag rs x part u r place e z finds = λ k w m i q. record {
     by = λ next p. (finds k w m i q).by (λ s. next (beyond s (cells_before (cells_of scope.world) (parts_of scope.world.structs tag) x)))
         (λ s m1 y.
-        let at : PlaceOk d f (Struct tag rs) r s y.ghost m1 = y.holds in
-        let q1 : Scene d g scope f b k y.ghost m1 = scene_later d g scope f b k w m y.ghost m1 y.inv y.grows q in
+        let at : PlaceOk d f (Struct tag rs) r s y.ghost m1 = y.holds.0 in
+        let q1 : Scene d g scope f b s2 k y.ghost m1 = scene_later d g scope f b s0 s2 k w m y.ghost m1 y.inv y.grows y.holds.1 q in
         p (beyond s (cells_before (cells_of scope.world) (parts_of scope.world.structs tag) x)) m1 (record {
           ghost = y.ghost;
           inv = y.inv;
           grows = y.grows;
-          holds = (record { typed = laid q1.names.heap_is s y.ghost at.0.typed; above = at.0.above }, at.1);
+          holds = ((record { typed = laid q1.names.heap_is s y.ghost at.0.typed; above = at.0.above }, at.1), q1.stands);
         }));
   }
     where
@@ -215,22 +216,22 @@ module _ (n : ℕ) (d : Tables) (g : Env) (scope : Scope) (f : NameOf → Region
   flown_joined qs w k [] (t ∷ ts) o p to = absurd p
   flown_joined qs w k (vs ∷ vss) [] o p to = absurd p
 
-  pub gives_made : (tag : List ℕ) (rs : List NameOf) (act : Act (List (List Scalar)))
-      → Passes n d g scope f b (map (renamed (argument rs)) (member_types d.structs tag)) act
-      → Gives n d g scope f b (Struct tag rs) (act >>= λ vss. give (calls.flat vss))
-  gives_made tag rs act passes = λ k w m i q. record {
+  pub gives_made : (s0 s2 : States) (tag : List ℕ) (rs : List NameOf) (act : Act (List (List Scalar)))
+      → Passes n d g scope f b s0 s2 (map (renamed (argument rs)) (member_types d.structs tag)) act
+      → Gives n d g scope f b s0 s2 (Struct tag rs) (act >>= λ vss. give (calls.flat vss))
+  gives_made s0 s2 tag rs act passes = λ k w m i q. record {
     by = λ next p. (passes k w m i q).by (λ vss. next (calls.flat vss)) (λ vss m1 y.
-        let q1 : Scene d g scope f b k y.ghost m1 = scene_later d g scope f b k w m y.ghost m1 y.inv y.grows q in
+        let q1 : Scene d g scope f b s2 k y.ghost m1 = scene_later d g scope f b s0 s2 k w m y.ghost m1 y.inv y.grows y.holds.1 q in
         let flown : Flown d y.ghost k vss (map (renamed (filled heap (map f rs))) (member_types d.structs tag)) =
         subst (λ (ts : List RunType). Flown d y.ghost k vss ts)
-        (all_member_run f rs d.structs (member_types d.structs tag) q1.names.heap_is (members_typed d.structs tag h.in_order)) y.holds in
+        (all_member_run f rs d.structs (member_types d.structs tag) q1.names.heap_is (members_typed d.structs tag h.in_order)) y.holds.0 in
         p (calls.flat vss) m1 (record {
           ghost = y.ghost;
           inv = y.inv;
           grows = y.grows;
-          holds = subst (λ (ts : List RunType). HaveTypes d y.ghost (flying k 0) (calls.flat vss) ts) (sym (struct_is d.structs tag (map f rs) h.in_order))
+          holds = (subst (λ (ts : List RunType). HaveTypes d y.ghost (flying k 0) (calls.flat vss) ts) (sym (struct_is d.structs tag (map f rs) h.in_order))
               (flown_joined (map f rs) y.ghost k vss (member_types d.structs tag)
-              (members_objects d.structs (member_types d.structs tag) (members_typed d.structs tag h.in_order)) flown (flying k 0));
+              (members_objects d.structs (member_types d.structs tag) (members_typed d.structs tag h.in_order)) flown (flying k 0)), q1.stands);
         }));
   }
 

@@ -195,8 +195,8 @@ into_apart s k c i j n = elim (eqb_tells i k) [
   | inr e ↦ ap (λ (q : Bool). if q && nat_eq j c then InCell s else Flying i j) e.0
 ]
 
-pub runs_fill : {B : Type 0} (d : Tables) (n k b c : ℕ) (K : RunType → Kept) (w0 w : Ghost) (m0 m : Memory) (s : Spot) (ts : List RunType) (vs : List Scalar) (g : Act B) (Q : B → Memory → Type 0) → ((t : RunType) → type_of (K t) ≡ t) → Inv d w m → m.state s.region ≡ Live → m0.objects s.region ≤ s.object → s.object < m.objects s.region → BlankAt w m s ts → HaveTypes d w (flying k c) vs ts → Grows k b w0 m0 w m → ((w' : Ghost) (m' : Memory) → Inv d w' m' → Grows k b w0 m0 w' m' → FullAt K w' m' s ts vs → m'.state ≡ m.state → ((y : Spot) → y.cell < s.cell → m'.cells y ≡ m.cells y) → ((y : Spot) (q : Kept) → w.types y ≡ Some q → w'.types y ≡ Some q) → Settles k w m w' m' → Runs n g m' Q) → Runs n (write_cells s vs >> g) m Q
-runs_fill d n k b c K w0 w m0 m s [] [] g Q same i l new there h hv g0 r = record { by = λ next q. (r w m i g0 tt refl (λ y p. refl) (λ y q e. e) (record { flights = λ x a e n2 z. z; keyed = λ x. refl; cells = λ y q e. refl })).by next q }
+pub runs_fill : {B : Type 0} (d : Tables) (n k b c : ℕ) (K : RunType → Kept) (w0 w : Ghost) (m0 m : Memory) (s : Spot) (ts : List RunType) (vs : List Scalar) (g : Act B) (Q : B → Memory → Type 0) → ((t : RunType) → type_of (K t) ≡ t) → Inv d w m → m.state s.region ≡ Live → m0.objects s.region ≤ s.object → s.object < m.objects s.region → BlankAt w m s ts → HaveTypes d w (flying k c) vs ts → Grows k b w0 m0 w m → ((w' : Ghost) (m' : Memory) → Inv d w' m' → Grows k b w0 m0 w' m' → FullAt K w' m' s ts vs → m'.state ≡ m.state → m'.objects ≡ m.objects → ((y : Spot) → y.cell < s.cell → m'.cells y ≡ m.cells y) → ((y : Spot) (q : Kept) → w.types y ≡ Some q → w'.types y ≡ Some q) → Settles k w m w' m' → Runs n g m' Q) → Runs n (write_cells s vs >> g) m Q
+runs_fill d n k b c K w0 w m0 m s [] [] g Q same i l new there h hv g0 r = record { by = λ next q. (r w m i g0 tt refl refl (λ y p. refl) (λ y q e. e) (record { flights = λ x a e n2 z. z; keyed = λ x. refl; cells = λ y q e. refl })).by next q }
 runs_fill d n k b c K w0 w m0 m s (t ∷ ts) (v ∷ vs) g Q same i l new there h hv g0 r =
     let first : HasType d w (Flying k c) v t = subst (λ (q : ℕ). HasType d w (Flying k q) v t) (omega arith) hv.0 in
     let w1 : Ghost = filled s (K t) k c w in
@@ -210,8 +210,8 @@ runs_fill d n k b c K w0 w m0 m s (t ∷ ts) (v ∷ vs) g Q same i l new there h
       owner = λ q u. ap (into s k c) u ∙ later s (c + suc j) (λ e. omega arith) ∙ ap (Flying k) (omega arith);
     }) hv.1 in
     let tail = runs_fill d n k b (suc c) K w0 w1 m0 m1 (beyond s 1) ts vs g Q same i1 l new there (blank_later w m s (beyond s 1) (K t) k c (cell t (Holds v)) ts (omega arith) h.2) rest g1
-    (λ w' m' i' g' full st older types settled. r w' m' i' g'
-    (types s (K t) (same_at s (Some (K t)) (w.types s)), older s (omega arith) ∙ same_at s (Some (cell t (Holds v))) (m.cells s), full) st
+    (λ w' m' i' g' full st os older types settled. r w' m' i' g'
+    (types s (K t) (same_at s (Some (K t)) (w.types s)), older s (omega arith) ∙ same_at s (Some (cell t (Holds v))) (m.cells s), full) st os
     (λ y p. older y (omega (arith, p)) ∙ at_spot m.cells s (Some (cell t (Holds v))) y (λ z. z ≡ m.cells y) (λ z. absurd (let a = ap (λ (q : Spot). q.cell) z in omega (arith, p))) (λ z. refl))
     (λ y q e. types y q (still w s (K t) h.0 y q e))
     (record {
@@ -249,14 +249,20 @@ blank_from d w m r o j (t ∷ ts) i h = (
   blank_from d w m r o (j + 1) ts i (λ k. ap o (omega arith) ∙ h (suc k)),
 )
 
-pub runs_made : {B : Type 0} (d : Tables) (n k b : ℕ) (K : RunType → Kept) (w : Ghost) (m : Memory) (r : Region) (ts : List RunType) (vs : List Scalar) (rest : Spot → Act B) (Q : B → Memory → Type 0) → ((t : RunType) → type_of (K t) ≡ t) → Inv d w m → m.state r ≡ Live → HaveTypes d w (flying k 0) vs ts → ((at : Spot) (w' : Ghost) (m' : Memory) → Inv d w' m' → Grows k b w m w' m' → at.region ≡ r → FullAt K w' m' at ts vs → m'.state ≡ m.state → Settles k w m w' m' → Runs n (rest at) m' Q) → Runs n (make_object r (blank_object (map shape_of ts)) >>= λ at. write_cells at vs >> rest at) m Q
+-- where a new object lies: after all that there were
+pub record New (m m' : Memory) (r : Region) (at : Spot) : Type 0 where
+  pub region : at.region ≡ r
+  pub object : at.object ≡ m.objects r
+  pub counted : at.object < m'.objects r
+
+pub runs_made : {B : Type 0} (d : Tables) (n k b : ℕ) (K : RunType → Kept) (w : Ghost) (m : Memory) (r : Region) (ts : List RunType) (vs : List Scalar) (rest : Spot → Act B) (Q : B → Memory → Type 0) → ((t : RunType) → type_of (K t) ≡ t) → Inv d w m → m.state r ≡ Live → HaveTypes d w (flying k 0) vs ts → ((at : Spot) (w' : Ghost) (m' : Memory) → Inv d w' m' → Grows k b w m w' m' → New m m' r at → FullAt K w' m' at ts vs → m'.state ≡ m.state → Settles k w m w' m' → Runs n (rest at) m' Q) → Runs n (make_object r (blank_object (map shape_of ts)) >>= λ at. write_cells at vs >> rest at) m Q
 runs_made d n k b K w m r ts vs rest Q same i l hv go =
     let o : Object = blank_object (map shape_of ts) in
     let m1 : Memory = with_object m r o in
     let at : Spot = next_spot m r in
     let i1 : Inv d w m1 = inv_object d w m r o i l in
     let there : at.object < m1.objects at.region = at_region m.objects r (m.objects r + 1) r (λ x. m.objects r < x) (λ e. omega arith) (λ e. absurd (e refl)) in
-    let fill = runs_fill d n k b 0 K w w m m1 at ts vs (rest at) Q same i1 l (omega arith) there (blank_from d w m r o 0 ts i (λ j. ap o (omega arith))) hv (grows_object d k b w m r o i) (λ w' m' i' g' full st older types z. go at w' m' i' g' refl full st (record { flights = z.flights; keyed = z.keyed; cells = λ y q e. z.cells y q e ∙ old_cells m r o y (i.counted y q e) })) in
+    let fill = runs_fill d n k b 0 K w w m m1 at ts vs (rest at) Q same i1 l (omega arith) there (blank_from d w m r o 0 ts i (λ j. ap o (omega arith))) hv (grows_object d k b w m r o i) (λ w' m' i' g' full st os older types z. go at w' m' i' g' (record { region = refl; object = refl; counted = subst (λ (c : Region → ℕ). m.objects r < c r) (sym os) there }) full st (record { flights = z.flights; keyed = z.keyed; cells = λ y q e. z.cells y q e ∙ old_cells m r o y (i.counted y q e) })) in
     record { by = λ next q. (runs_check n (is_live m r) (λ next2 m2. (write_cells at vs >> rest at) next2 m1) m Q (ap state_is_live l) (record { by = λ next2 q2. fill.by next2 q2 })).by next q }
 
 -- cells that hold a value are there

@@ -1,13 +1,17 @@
 -- A result lands with its caller, and a function's parameters are in scope.
-use Rattle.std.proofs.Common.{◌≡◌, ℕ, suc, ◌+◌, Bool, List, [], ◌∷◌, refl, sym, ◌∙◌, ap, subst}
+use Rattle.std.proofs.Common.{◌≡◌, ℕ, suc, ◌+◌, ◌<◌, ◌≤◌, Bool, List, [], ◌∷◌, refl, sym, ◌∙◌, ap, subst, arith}
 use Rattle.std.specs.Prelude.{map}
 use Rattle.source_meaning.specs.Shapes.{Shape, Part, part_shapes}
 use Rattle.source_meaning.specs.Memory.{Region, Frame, Spot, Scalar, State, Memory}
-use Rattle.source_meaning.specs.Steps.{Variable, World, Scope}
+use Rattle.source_meaning.specs.Steps.{Entity, Binding, Variable, Fixed, World, Scope}
 use Rattle.source_meaning.specs.Places.{with_binding}
-use Rattle.source_typing.specs.Scope.{Env}
+use Rattle.source_typing.specs.Scope.{Env, Local}
 use Rattle.source_typing.specs.Tables as typing
 use Rattle.source_typing.specs.Types.{StaticType, renamed, shape_of}
+use Rattle.source_typing.specs.Left.{begins_as}
+use Rattle.source_typing.specs.States.{States}
+use Rattle.source_typing.specs.Tables.{Stored}
+use Rattle.source_safety.proofs.Standing.{ApartFrom, EntityApart}
 use Rattle.source_safety.specs.Flat.{Tables, flat}
 use Rattle.source_safety.specs.Named.{TypesBelow}
 use Rattle.source_safety.specs.Judged.{extended}
@@ -98,39 +102,71 @@ pub types_up : (n : ℕ) (ts : List StaticType) → TypesBelow n ts → TypesBel
 types_up n [] l = tt
 types_up n (t ∷ ts) l = (type_up n t l.0, types_up n ts l.1)
 
-module _ (d : Tables) (world : World) (tables : typing.Tables) (f : NameOf → Region) (gives : RunType) (a : ℕ) where
+-- the states in which locals begin
+abbrev pub beginning : Env → List Local → States
+beginning top ls = map (λ l. begins_as top l.what) ls
+
+-- the parameters so far are the first objects of their block
+abbrev EntityUnder : ℕ → Entity → Type 0
+EntityUnder o (Variable sh at) = at.object < o
+EntityUnder o (Fixed sh v) = Unit {0}
+
+abbrev pub AllUnder : ℕ → List Binding → Type 0
+AllUnder o [] = Unit {0}
+AllUnder o (y ∷ bs) = EntityUnder o y.entity × AllUnder o bs
+
+under_more : (o c : ℕ) (bs : List Binding) → o ≤ c → AllUnder o bs → AllUnder c bs
+under_more o c [] l h = tt
+under_more o c (y ∷ bs) l h = (one y.entity h.0, under_more o c bs l h.1)
+  where
+    one : (e : Entity) → EntityUnder o e → EntityUnder c e
+    one (Variable sh at) q = omega (arith, l, q)
+    one (Fixed sh v) q = tt
+
+under_apart : (o : ℕ) (at : Spot) (bs : List Binding) → o ≤ at.object → AllUnder o bs → ApartFrom at bs
+under_apart o at [] l h = tt
+under_apart o at (y ∷ bs) l h = (one y.entity h.0, under_apart o at bs l h.1)
+  where
+    one : (e : Entity) → EntityUnder o e → EntityApart at e
+    one (Variable sh s) q = λ u v. omega (arith, l, q, v)
+    one (Fixed sh v) q = tt
+
+module _ (d : Tables) (world : World) (tables : typing.Tables) (f : NameOf → Region) (gives : RunType) (a : ℕ) (top : Env) where
   -- what is known once all parameters are in scope
   pub record AllBound (g g' : Env) (scope scope' : Scope) (w : Ghost) (m : Memory) : Type 0 where
     pub surrounds : Surrounds d world tables g' scope' f gives
-    pub scene : (b k : ℕ) → Scene d g scope f b k w m → Scene d g' scope' f b k w m
+    pub scene : (b k : ℕ) → Scene d g scope f b (beginning top g.locals) k w m → Scene d g' scope' f b (beginning top g'.locals) k w m
     pub in_loop : g'.in_loop ≡ g.in_loop
     pub in_switch : g'.in_switch ≡ g.in_switch
     pub result : g'.result ≡ g.result
 
-  pub all_bound : (ps : List Part) (ts : List StaticType) (ss : List Spot) (vss : List (List Scalar)) (g : Env) (scope : Scope) (w : Ghost) (m : Memory)
-      → Surrounds d world tables g scope f gives → scope.frame ≡ a → AreObjects ts → TypesBelow g.regions.count ts → part_shapes ps ≡ map shape_of ts
-      → Landed d (λ t u. Reached u) a w m ss (map (renamed f) ts) vss → AllBound g (with_all ps ts g) scope (bound_all scope ps ss) w m
-  all_bound [] [] [] [] g scope w m h at_frame i q e l = record { surrounds = h; scene = λ b k z. z; in_loop = refl; in_switch = refl; result = refl }
-  all_bound (p ∷ ps) (t ∷ ts) (s ∷ ss) (vs ∷ vss) g scope w m h at_frame i q e l =
+  pub all_bound : (o : ℕ) (ps : List Part) (ts : List StaticType) (ss : List Spot) (vss : List (List Scalar)) (g : Env) (scope : Scope) (w : Ghost) (m : Memory)
+      → Surrounds d world tables g scope f gives → scope.frame ≡ a → AreObjects ts → TypesBelow g.regions.count ts → part_shapes ps ≡ map shape_of ts → AllUnder o scope.locals
+      → Landed d (λ t u. Reached u) a o w m ss (map (renamed f) ts) vss → AllBound g (with_all ps ts g) scope (bound_all scope ps ss) w m
+  all_bound o [] [] [] [] g scope w m h at_frame i q e under l = record { surrounds = h; scene = λ b k z. z; in_loop = refl; in_switch = refl; result = refl }
+  all_bound o (p ∷ ps) (t ∷ ts) (s ∷ ss) (vs ∷ vss) g scope w m h at_frame i q e under l =
       let shape : shape_of t ≡ p.shape = cc in
       let others : part_shapes ps ≡ map shape_of ts = cc in
       let there : s.region ≡ Frame scope.frame = l.0 ∙ ap (λ (j : ℕ). Frame j) (sym at_frame) in
       let laid : Laid w s (flat heap d (renamed f t)) = full_laid w m s (flat heap d (renamed f t)) vs l.1 in
+      let counted : s.object < m.objects s.region = subst (λ (r : Region). s.object < m.objects r) (sym l.0) l.4 in
       let h1 = surrounds_local d world tables g scope f (name_alone p.name) t s gives h i.0 q.0 there in
+      let more : AllUnder (suc s.object) scope.locals = under_more o (suc s.object) scope.locals (let z : o ≤ s.object = l.3 in omega (arith, z)) under in
       let r : AllBound (extended g (name_alone p.name) t) (with_all ps ts (extended g (name_alone p.name) t)) (with_binding scope p.name (Variable (shape_of t) s))
       (bound_all (with_binding scope p.name (Variable (shape_of t) s)) ps ss) w m =
-      all_bound ps ts ss vss (extended g (name_alone p.name) t) (with_binding scope p.name (Variable (shape_of t) s)) w m h1 at_frame i.1 q.1 others l.2 in
+      all_bound (suc s.object) ps ts ss vss (extended g (name_alone p.name) t) (with_binding scope p.name (Variable (shape_of t) s)) w m h1 at_frame i.1 q.1 others (omega arith, more) l.2 in
       subst (λ (y : Shape). AllBound g (with_all ps ts (extended g (name_alone p.name) t)) scope (bound_all (with_binding scope p.name (Variable y s)) ps ss) w m) shape
       (record {
         surrounds = r.surrounds;
-        scene = λ b k z. r.scene b k (scene_local d world tables g scope f (name_alone p.name) t s gives h i.0 q.0 there b k w m z laid);
+        scene = λ b k z. r.scene b k (scene_local d world tables g scope f (name_alone p.name) t s gives h i.0 q.0 there b (begins_as top (Stored t g.frame)) (beginning top g.locals) k w m z laid
+            (under_apart o s scope.locals l.3 under) counted);
         in_loop = r.in_loop;
         in_switch = r.in_switch;
         result = r.result;
       })
-  all_bound [] (t ∷ ts) ss vss g scope w m h at_frame i q e l = absurd cc
-  all_bound (p ∷ ps) [] ss vss g scope w m h at_frame i q e l = absurd cc
-  all_bound [] [] (s ∷ ss) vss g scope w m h at_frame i q e l = absurd l
-  all_bound [] [] [] (vs ∷ vss) g scope w m h at_frame i q e l = absurd l
-  all_bound (p ∷ ps) (t ∷ ts) [] vss g scope w m h at_frame i q e l = absurd l
-  all_bound (p ∷ ps) (t ∷ ts) (s ∷ ss) [] g scope w m h at_frame i q e l = absurd l
+  all_bound o [] (t ∷ ts) ss vss g scope w m h at_frame i q e under l = absurd cc
+  all_bound o (p ∷ ps) [] ss vss g scope w m h at_frame i q e under l = absurd cc
+  all_bound o [] [] (s ∷ ss) vss g scope w m h at_frame i q e under l = absurd l
+  all_bound o [] [] [] (vs ∷ vss) g scope w m h at_frame i q e under l = absurd l
+  all_bound o (p ∷ ps) (t ∷ ts) [] vss g scope w m h at_frame i q e under l = absurd l
+  all_bound o (p ∷ ps) (t ∷ ts) (s ∷ ss) [] g scope w m h at_frame i q e under l = absurd l

@@ -14,6 +14,7 @@ use Rattle.source_meaning.specs.Conversions.{one, accessed}
 use Rattle.source_typing.specs.Operators.{is_equality}
 use Rattle.source_typing.specs.Types.{StaticType, Int, Unsigned, Char, Void, Null, Thin, Fat, Unique, Handle, Key, Struct, Union, renamed, shape_of}
 use Rattle.source_typing.specs.Scope.{Env}
+use Rattle.source_typing.specs.States.{States}
 use Rattle.source_safety.specs.Flat.{Tables}
 use Rattle.source_safety.proofs.Invariant.{RunType, Owner, Ghost, HasType, HaveTypes, Inv, Grows}
 use Rattle.source_safety.proofs.Values.{copied_kept}
@@ -21,6 +22,7 @@ use Rattle.source_safety.proofs.Growth.{grows_trans}
 use Rattle.source_safety.proofs.Runs.{Safe, Runs, safe_raised}
 use Rattle.source_safety.proofs.After.{After, flying}
 use Rattle.source_safety.proofs.Names.{NameOf}
+use Rattle.source_safety.proofs.Standing.{Standing}
 use Rattle.source_safety.proofs.Scenes.{Scene, scene_later}
 use Rattle.source_safety.proofs.Sound.{cells_type, PlaceOk, Gives, Shows, Finds}
 use Rattle.source_safety.proofs.Integers.{truth_typed}
@@ -164,44 +166,46 @@ live_pointer d w m by v c r t i l (inr h) = (Some h.at, h.is, i.closed r h.at.re
 
 module _ (n : ℕ) (d : Tables) (g : Env) (scope : Scope) (f : NameOf → Region) (b : ℕ) where
   -- what a value that is looked at is, and what goes on with it
-  pub runs_value : {B : Type 0} (t : StaticType) (act : Act (List Scalar)) (h : Scalar → Act B) (k : ℕ) (w : Ghost) (m : Memory) (Q : B → Memory → Type 0)
-      → IsValue t → Shows n d g scope f b t act → Inv d w m → Scene d g scope f b k w m
-      → ((by : Owner) (v : Scalar) (w' : Ghost) (m' : Memory) → HasType d w' by v (renamed f t) → Inv d w' m' → Grows k b w m w' m' → Runs n (h v) m' Q)
+  pub runs_value : {B : Type 0} (s s2 : States) (t : StaticType) (act : Act (List Scalar)) (h : Scalar → Act B) (k : ℕ) (w : Ghost) (m : Memory) (Q : B → Memory → Type 0)
+      → IsValue t → Shows n d g scope f b s s2 t act → Inv d w m → Scene d g scope f b s k w m
+      → ((by : Owner) (v : Scalar) (w' : Ghost) (m' : Memory) → HasType d w' by v (renamed f t) → Inv d w' m' → Grows k b w m w' m' → Scene d g scope f b s2 k w' m'
+      → Runs n (h v) m' Q)
       → Runs n (act >>= one >>= h) m Q
-  runs_value t act h k w m Q e shows i x go = record {
+  runs_value s s2 t act h k w m Q e shows i x go = record {
     by = λ next q. (shows k w m i x).by (λ vs. one vs (λ a. h a next)) (λ vs m' y.
-        let z : OneValue d y.ghost (y.holds.by 0) vs (renamed f t) =
-        one_value d y.ghost y.holds.by vs (renamed f t) (subst (λ (ts : List RunType). HaveTypes d y.ghost y.holds.by vs ts) (value_cell d f t e) y.holds.typed) in
-        subst (λ (us : List Scalar). Safe n (one us (λ a. h a next) m')) (sym z.is) ((go (y.holds.by 0) z.value y.ghost m' z.typed y.inv y.grows).by next q));
+        let z : OneValue d y.ghost (y.holds.0.by 0) vs (renamed f t) =
+        one_value d y.ghost y.holds.0.by vs (renamed f t) (subst (λ (ts : List RunType). HaveTypes d y.ghost y.holds.0.by vs ts) (value_cell d f t e) y.holds.0.typed) in
+        subst (λ (us : List Scalar). Safe n (one us (λ a. h a next) m')) (sym z.is) ((go (y.holds.0.by 0) z.value y.ghost m' z.typed y.inv y.grows
+        (scene_later d g scope f b s s2 k w m y.ghost m' y.inv y.grows y.holds.1 x)).by next q));
   }
 
   -- what two values have to be like so that they are compared
   abbrev pub Compares : StaticType → StaticType → Type 0
-  Compares s t = (k : ℕ) (w : Ghost) (m : Memory) (one_by two_by : Owner) (v u : Scalar) → Inv d w m → Scene d g scope f b k w m
+  Compares s t = (a : States) (k : ℕ) (w : Ghost) (m : Memory) (one_by two_by : Owner) (v u : Scalar) → Inv d w m → Scene d g scope f b a k w m
       → HasType d w one_by v (renamed f s) → HasType d w two_by u (renamed f t) → Comparable m v u
 
   pub compares_thins : (c e : Bool) (r q : NameOf) (t : StaticType) → g.regions.live r ≡ true → g.regions.live q ≡ true → Compares (Thin c r t) (Thin e q t)
-  compares_thins c e r q t lr lq = λ k w m one_by two_by v u i x hv hu.
+  compares_thins c e r q t lr lq = λ a k w m one_by two_by v u i x hv hu.
       let p : (p : Option Spot) × (v ≡ memory.Thin p) × LiveAt m p = live_pointer d w m one_by v c (f r) (renamed f t) i (x.names.live r lr) hv in
       let s : (p : Option Spot) × (u ≡ memory.Thin p) × LiveAt m p = live_pointer d w m two_by u e (f q) (renamed f t) i (x.names.live q lq) hu in
       let z : (b : Bool) × (same_thin m p.0 s.0 ≡ Some b) = both_live m p.0 s.0 p.2 s.2 in
       thins_comparable m v u p.0 s.0 z.0 p.1 s.1 z.1
 
   pub compares_with_null : (c : Bool) (r : NameOf) (t : StaticType) → Compares (Thin c r t) Null
-  compares_with_null c r t = λ k w m one_by two_by v u i x hv hu.
+  compares_with_null c r t = λ a k w m one_by two_by v u i x hv hu.
       let p : (p : Option Spot) × (v ≡ memory.Thin p) = pointer_of d w one_by v c (f r) (renamed f t) hv in
       let z : (b : Bool) × (same_thin m p.0 None ≡ Some b) = none_right m p.0 in
       thins_comparable m v u p.0 None z.0 p.1 hu z.1
 
   pub compares_null_with : (c : Bool) (r : NameOf) (t : StaticType) → Compares Null (Thin c r t)
-  compares_null_with c r t = λ k w m one_by two_by v u i x hv hu.
+  compares_null_with c r t = λ a k w m one_by two_by v u i x hv hu.
       let p : (p : Option Spot) × (u ≡ memory.Thin p) = pointer_of d w two_by u c (f r) (renamed f t) hu in
       let z : (b : Bool) × (same_thin m None p.0 ≡ Some b) = none_left m p.0 in
       thins_comparable m v u None p.0 z.0 hv p.1 z.1
 
   -- a fat pointer is compared with `NULL` alone
   pub compares_fat_with_null : (r : NameOf) (t : StaticType) → Compares (Fat r t) Null
-  compares_fat_with_null r t = λ k w m one_by two_by v u i x hv hu.
+  compares_fat_with_null r t = λ a k w m one_by two_by v u i x hv hu.
       let p : (p : Option Span) × (v ≡ memory.Wide p) = span_of d w one_by v (f r) (renamed f t) hv in
       record {
         result = not (is_some p.0);
@@ -209,7 +213,7 @@ module _ (n : ℕ) (d : Tables) (g : Env) (scope : Scope) (f : NameOf → Region
       }
 
   pub compares_null_with_fat : (r : NameOf) (t : StaticType) → Compares Null (Fat r t)
-  compares_null_with_fat r t = λ k w m one_by two_by v u i x hv hu.
+  compares_null_with_fat r t = λ a k w m one_by two_by v u i x hv hu.
       let p : (p : Option Span) × (u ≡ memory.Wide p) = span_of d w two_by u (f r) (renamed f t) hu in
       record {
         result = not (is_some p.0);
@@ -217,45 +221,43 @@ module _ (n : ℕ) (d : Tables) (g : Env) (scope : Scope) (f : NameOf → Region
       }
 
   -- two pointers are compared: the first one is as it was once the second one was evaluated
-  pub gives_compared : (o : Operator) (s t : StaticType) (a c : Act (List Scalar)) → is_equality o ≡ true → IsValue s → IsValue t → Compares s t
-      → Shows n d g scope f b s a → Shows n d g scope f b t c
-      → Gives n d g scope f b Int (a >>= one >>= λ x. c >>= one >>= λ y. steps.memory >>= λ m. need (operated m o x y) >>= λ r. give (r ∷ []))
-  gives_compared o s t a c e is it compares ha hc = λ k w m i x.
-      runs_value s a (λ x. c >>= one >>= λ y. steps.memory >>= λ m. need (operated m o x y) >>= λ r. give (r ∷ [])) k w m (post k w m) is ha i x
-      (λ by v w1 m1 hv i1 g1.
-      runs_value t c (λ y. steps.memory >>= λ m. need (operated m o v y) >>= λ r. give (r ∷ [])) k w1 m1 (post k w m) it hc i1
-      (scene_later d g scope f b k w m w1 m1 i1 g1 x)
-      (λ by2 u w2 m2 hu i2 g2.
-      let x2 : Scene d g scope f b k w2 m2 = scene_later d g scope f b k w m w2 m2 i2 (grows_trans g1 g2) x in
+  pub gives_compared : (s0 s1 s2 : States) (o : Operator) (s t : StaticType) (a c : Act (List Scalar)) → is_equality o ≡ true → IsValue s → IsValue t → Compares s t
+      → Shows n d g scope f b s0 s1 s a → Shows n d g scope f b s1 s2 t c
+      → Gives n d g scope f b s0 s2 Int (a >>= one >>= λ x. c >>= one >>= λ y. steps.memory >>= λ m. need (operated m o x y) >>= λ r. give (r ∷ []))
+  gives_compared s0 s1 s2 o s t a c e is it compares ha hc = λ k w m i x.
+      runs_value s0 s1 s a (λ x. c >>= one >>= λ y. steps.memory >>= λ m. need (operated m o x y) >>= λ r. give (r ∷ [])) k w m (post k w m) is ha i x
+      (λ by v w1 m1 hv i1 g1 x1.
+      runs_value s1 s2 t c (λ y. steps.memory >>= λ m. need (operated m o v y) >>= λ r. give (r ∷ [])) k w1 m1 (post k w m) it hc i1 x1
+      (λ by2 u w2 m2 hu i2 g2 x2.
       let kept : HasType d w2 by v (renamed f s) = copied_kept d w1 w2 by by v (renamed f s) (grows_grown g2) (value_copied f s is) hv in
-      let z : (c : Bool) × (operated m2 o v u ≡ Some (truth_value c)) = compared_gives m2 o v u e (compares k w2 m2 by by2 v u i2 x2 kept hu) in
+      let z : (c : Bool) × (operated m2 o v u ≡ Some (truth_value c)) = compared_gives m2 o v u e (compares s2 k w2 m2 by by2 v u i2 x2 kept hu) in
       record {
         by = λ next q. subst (λ (y : Option Scalar). Safe n ((need y >>= λ r. give (r ∷ [])) next m2)) (sym z.1) (q (truth_value z.0 ∷ []) m2 (record {
           ghost = w2;
           inv = i2;
           grows = grows_trans g1 g2;
-          holds = truth_typed d f w2 (flying k 0) z.0;
+          holds = (truth_typed d f w2 (flying k 0) z.0, x2.stands);
         }));
       }))
     where
       post : ℕ → Ghost → Memory → List Scalar → Memory → Type 0
-      post k w m = λ vs. After d k b w m (λ w' m'. HaveTypes d w' (flying k 0) vs (cells_type d f Int))
+      post k w m = λ vs. After d k b w m (λ w' m'. HaveTypes d w' (flying k 0) vs (cells_type d f Int) × Standing d g scope f s2 w' m')
 
   -- ---- `*e` and `&e`
 
   -- NULL raises, and else the cell is there, in a region that is live
-  pub finds_contents : (c : Bool) (r : NameOf) (t : StaticType) (cells : ℕ) (act : Act (List Scalar)) → IsObjectType t → g.regions.live r ≡ true
-      → Shows n d g scope f b (Thin c r t) act → Finds n d g scope f b t r (act >>= one >>= λ p. accessed cells p)
-  finds_contents c r t cells act e live shows = λ k w m i x. record {
-    by = λ next q. (runs_value (Thin c r t) act (λ p. accessed cells p) k w m (post k w m) e shows i x
-        (λ by v w1 m1 hv i1 g1. reached k w m by v w1 m1 hv i1 g1 (scene_later d g scope f b k w m w1 m1 i1 g1 x))).by next q;
+  pub finds_contents : (s s2 : States) (c : Bool) (r : NameOf) (t : StaticType) (cells : ℕ) (act : Act (List Scalar)) → IsObjectType t → g.regions.live r ≡ true
+      → Shows n d g scope f b s s2 (Thin c r t) act → Finds n d g scope f b s s2 t r (act >>= one >>= λ p. accessed cells p)
+  finds_contents s s2 c r t cells act e live shows = λ k w m i x. record {
+    by = λ next q. (runs_value s s2 (Thin c r t) act (λ p. accessed cells p) k w m (post k w m) e shows i x
+        (λ by v w1 m1 hv i1 g1 x1. reached k w m by v w1 m1 hv i1 g1 x1)).by next q;
   }
     where
       post : ℕ → Ghost → Memory → Spot → Memory → Type 0
-      post k w m = λ at. After d k b w m (PlaceOk d f t r at)
+      post k w m = λ at. After d k b w m (λ w' m'. PlaceOk d f t r at w' m' × Standing d g scope f s2 w' m')
 
       reached : (k : ℕ) (w : Ghost) (m : Memory) (by : Owner) (v : Scalar) (w1 : Ghost) (m1 : Memory) → HasType d w1 by v (renamed f (Thin c r t)) → Inv d w1 m1
-          → Grows k b w m w1 m1 → Scene d g scope f b k w1 m1 → Runs n (accessed cells v) m1 (post k w m)
+          → Grows k b w m w1 m1 → Scene d g scope f b s2 k w1 m1 → Runs n (accessed cells v) m1 (post k w m)
       reached k w m by v w1 m1 (inl h) i1 g1 x1 = subst (λ (y : Scalar). Runs n (accessed cells y) m1 (post k w m)) (sym h.is)
           (record { by = λ next q. safe_raised n NullException })
       reached k w m by v w1 m1 (inr h) i1 g1 x1 = subst (λ (y : Scalar). Runs n (accessed cells y) m1 (post k w m)) (sym h.is) (record {
@@ -263,18 +265,18 @@ module _ (n : ℕ) (d : Tables) (g : Env) (scope : Scope) (f : NameOf → Region
           ghost = w1;
           inv = i1;
           grows = g1;
-          holds = (h.reaches, i1.closed (f r) h.at.region (x1.names.live r live) h.reaches.above);
+          holds = ((h.reaches, i1.closed (f r) h.at.region (x1.names.live r live) h.reaches.above), x1.stands);
         });
       })
 
   -- a pointer to a place is never NULL
-  pub gives_address : (r : NameOf) (t : StaticType) (place : Act Spot) → Finds n d g scope f b t r place
-      → Gives n d g scope f b (Thin false r t) (place >>= λ s. give (memory.Thin (Some s) ∷ []))
-  gives_address r t place finds = λ k w m i x. record {
-    by = λ next q. (finds k w m i x).by (λ s. next (memory.Thin (Some s) ∷ [])) (λ s m1 y. q (memory.Thin (Some s) ∷ []) m1 (record {
+  pub gives_address : (s s2 : States) (r : NameOf) (t : StaticType) (place : Act Spot) → Finds n d g scope f b s s2 t r place
+      → Gives n d g scope f b s s2 (Thin false r t) (place >>= λ s. give (memory.Thin (Some s) ∷ []))
+  gives_address s s2 r t place finds = λ k w m i x. record {
+    by = λ next q. (finds k w m i x).by (λ a. next (memory.Thin (Some a) ∷ [])) (λ a m1 y. q (memory.Thin (Some a) ∷ []) m1 (record {
       ghost = y.ghost;
       inv = y.inv;
       grows = y.grows;
-      holds = (let z : PlaceOk d f t r s y.ghost m1 = y.holds in (inr (record { at = s; is = refl; reaches = z.0 }), tt));
+      holds = (let z : PlaceOk d f t r a y.ghost m1 = y.holds.0 in ((inr (record { at = a; is = refl; reaches = z.0 }), tt), y.holds.1));
     }));
   }

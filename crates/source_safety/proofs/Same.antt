@@ -4,6 +4,7 @@ use Rattle.std.specs.Prelude.{map}
 use Rattle.std.proofs.lemmas.Option.{same_Some}
 use Rattle.source_meaning.specs.Steps.{Routine, World}
 use Rattle.source_meaning.specs.Programs.{is_main}
+use Rattle.source_typing.specs.Left.{left_by_items, states_at}
 use Rattle.source_typing.specs.Scope.{block_entered}
 use Rattle.source_typing.specs.Tables as typing
 use Rattle.source_typing.specs.Tables.{Signature}
@@ -43,6 +44,9 @@ judged_same world tables x s F H j =
       no_switch = j.no_switch;
       body = subst (λ (r : Routine). ItemsJudged (with_all r.parameters H.types (block_entered j.outside)) r.body) routine
           (subst (λ (ts : List StaticType). ItemsJudged (with_all F.routine.parameters ts (block_entered j.outside)) F.routine.body) types j.body);
+      flow = subst (λ (r : Routine). (left_by_items (with_all r.parameters H.types (block_entered j.outside)) r.body (states_at (with_all r.parameters H.types (block_entered j.outside)))).faults ≡ []) routine
+          (subst (λ (ts : List StaticType). (left_by_items (with_all F.routine.parameters ts (block_entered j.outside)) F.routine.body
+          (states_at (with_all F.routine.parameters ts (block_entered j.outside)))).faults ≡ []) types j.flow);
       ends = λ e.
           subst (λ (t : StaticType). (t ≡ Void) ⊎ ((is_main H.routine.name ≡ true) × (t ≡ Int))) gives
           (subst (λ (r : Routine). (F.gives ≡ Void) ⊎ ((is_main r.name ≡ true) × (F.gives ≡ Int))) routine

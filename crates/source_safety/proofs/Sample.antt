@@ -86,6 +86,7 @@ main_judged = record {
     },
     tt,
   );
+  flow = refl;
   ends = λ e. absurd (false≢true e);
 }
 

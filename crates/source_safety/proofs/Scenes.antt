@@ -1,45 +1,21 @@
 -- What stands for the names in scope: each variable has its cells, in a region that is live.
-use Rattle.std.proofs.Common.{◌≡◌, ℕ, suc, ◌≤◌, Bool, true, Option, Some, List, [], ◌∷◌, refl, sym, ◌∙◌, ap, subst}
-use Rattle.std.specs.Prelude.{map}
+use Rattle.std.proofs.Common.{◌≡◌, ℕ, suc, ◌≤◌, Bool, true, false, arith, Option, Some, List, sym, ◌∙◌, subst}
 use Rattle.source_meaning.specs.Shapes.{Shape, ArrayShape}
 use Rattle.source_meaning.specs.Memory.{Region, Spot, Memory}
 use Rattle.source_meaning.specs.Steps.{Entity, Variable, World, Scope}
 use Rattle.source_meaning.specs.Places.{bound_to, entity_of}
-use Rattle.source_typing.specs.Scope.{Env, meant}
+use Rattle.source_typing.specs.Scope.{Env, find_local, meant}
+use Rattle.source_typing.specs.States.{States}
 use Rattle.source_typing.specs.Tables as typing
 use Rattle.source_typing.specs.Tables.{What, OfValue, Stored, Arrayed, Counter, Unknown, find}
-use Rattle.source_typing.specs.Types.{Int, Unsigned, Char, Void, Null, Thin, Fat, Unique, Handle, Key, Struct, Union, StaticType, renamed, shape_of}
+use Rattle.source_typing.specs.Types.{StaticType, renamed, shape_of}
 use Rattle.source_safety.specs.Flat.{Tables, flat}
-pub use Rattle.source_safety.specs.Named.{AllBelow, TypeBelow}
+pub use Rattle.source_safety.proofs.Alikes.{AllBelow, TypeBelow, Alike, renamed_alike}
+use Rattle.source_safety.proofs.Standing.{Alongside, Rooms, AllWithin, AllCounted, counted_more, LocalsBelow, Standing, is_own, all_more, all_kept}
 use Rattle.source_safety.proofs.Invariant.{RunType, heap, Reached, Ghost, Laid, AllLaid, Inv, Grows}
 use Rattle.source_safety.proofs.Values.{laid_kept, all_laid_kept}
 use Rattle.source_safety.proofs.Names.{NameOf, Below, NamesOk, names_later, names_more}
 use Rattle.source_safety.proofs.After.{base_later}
-
--- ---- types speak of names that were declared
-
--- names that were declared stand for the same in both
-abbrev pub Alike : ℕ → (NameOf → Region) → (NameOf → Region) → Type 0
-Alike n f h = (a : NameOf) → Below n a → h a ≡ f a
-
-all_alike : (n : ℕ) (f h : NameOf → Region) (rs : List NameOf) → Alike n f h → AllBelow n rs → map h rs ≡ map f rs
-all_alike n f h [] e l = refl
-all_alike n f h (r ∷ rs) e l = let a = e r l.0 in let b = all_alike n f h rs e l.1 in cc
-
--- and so a type of such names is the same type of a run
-pub renamed_alike : (n : ℕ) (f h : NameOf → Region) (t : StaticType) → Alike n f h → TypeBelow n t → renamed h t ≡ renamed f t
-renamed_alike n f h Int e l = refl
-renamed_alike n f h Unsigned e l = refl
-renamed_alike n f h Char e l = refl
-renamed_alike n f h Void e l = refl
-renamed_alike n f h Null e l = refl
-renamed_alike n f h (Thin b r t) e l = let a = e r l.0 in let c = renamed_alike n f h t e l.1 in cc
-renamed_alike n f h (Fat r t) e l = let a = e r l.0 in let c = renamed_alike n f h t e l.1 in cc
-renamed_alike n f h (Unique b t) e l = ap (Unique b) (renamed_alike n f h t e l)
-renamed_alike n f h (Handle r) e l = ap (λ (q : Region). Handle q) (e r l)
-renamed_alike n f h (Key r) e l = ap (λ (q : Region). Key q) (e r l)
-renamed_alike n f h (Struct tag rs) e l = ap (λ (qs : List Region). Struct tag qs) (all_alike n f h rs e l)
-renamed_alike n f h (Union tag rs) e l = ap (λ (qs : List Region). Union tag qs) (all_alike n f h rs e l)
 
 -- ---- variables and arrays
 
@@ -120,35 +96,63 @@ pub record Binds (g : Env) (scope : Scope) (f : NameOf → Region) : Type 0 wher
 abbrev pub Globals : Tables → typing.Tables → World → Ghost → Type 0
 Globals d tables world w = (x : List ℕ) (v : What) → find tables x ≡ Some (OfValue v) → LaidAs d (λ a. heap) w (bound_to world.globals x) v
 
--- What holds of a scope at a point of its function, while k values are on their way: its region names stand for regions, and its variables have their cells.
-pub record Scene (d : Tables) (g : Env) (scope : Scope) (f : NameOf → Region) (b k : ℕ) (w : Ghost) (m : Memory) : Type 0 where
+-- What holds of a scope at a point of its function, while k values are on their way: its region names stand for regions; its variables have their cells,
+-- which pointers may reach where they can be copied; and those that can't be copied stand in these states.
+pub record Scene (d : Tables) (g : Env) (scope : Scope) (f : NameOf → Region) (b : ℕ) (s : States) (k : ℕ) (w : Ghost) (m : Memory) : Type 0 where
   pub names : NamesOk g.regions f k w m
   -- the function's blocks are the activations from b on
   pub base : b ≤ m.activations
-  pub variables : (x : List ℕ) (v : What) → meant g x ≡ Some (OfValue v) → LaidAs d f w (entity_of scope x) v
+  pub variables : (x : List ℕ) (v : What) → meant g x ≡ Some (OfValue v) → is_own g.tables (find_local g.locals x) ≡ false → LaidAs d f w (entity_of scope x) v
   pub globals : Globals d g.tables scope.world w
+  -- the locals, by what is bound to their names, each in a place of its own
+  pub alongside : Alongside g.locals scope.locals
+  pub rooms : Rooms b scope.locals
+  pub inside : AllWithin m.activations scope.locals
+  pub counted : AllCounted m scope.locals
+  pub own : b ≤ scope.frame
+  pub below : LocalsBelow g.regions.count g.locals
+  pub stands : Standing d g scope f s w m
 
 pub globals_later : (d : Tables) (tables : typing.Tables) (world : World) (k b : ℕ) (w : Ghost) (m : Memory) (w' : Ghost) (m' : Memory) → Grows k b w m w' m'
     → Globals d tables world w → Globals d tables world w'
 globals_later d tables world k b w m w' m' x h =
     λ y v e. laid_as_kept d (λ a. heap) w w' (bound_to world.globals y) v (λ s u z. x.types s (Reached u) z) (h y v e)
 
--- later memories
-pub scene_later : (d : Tables) (g : Env) (scope : Scope) (f : NameOf → Region) (b k : ℕ) (w : Ghost) (m : Memory) (w' : Ghost) (m' : Memory) → Inv d w' m'
-    → Grows k b w m w' m' → Scene d g scope f b k w m → Scene d g scope f b k w' m'
-scene_later d g scope f b k w m w' m' i x h = record {
+-- later memories, in which the locals stand in other states
+pub scene_later : (d : Tables) (g : Env) (scope : Scope) (f : NameOf → Region) (b : ℕ) (s s' : States) (k : ℕ) (w : Ghost) (m : Memory) (w' : Ghost) (m' : Memory)
+    → Inv d w' m' → Grows k b w m w' m' → Standing d g scope f s' w' m' → Scene d g scope f b s k w m → Scene d g scope f b s' k w' m'
+scene_later d g scope f b s s' k w m w' m' i x st h = record {
   names = names_later d g.regions f k b w m w' m' i x h.names;
   base = base_later k b b w m w' m' h.base x;
-  variables = λ y v e. laid_as_kept d f w w' (entity_of scope y) v (λ s u z. x.types s (Reached u) z) (h.variables y v e);
+  variables = λ y v e o. laid_as_kept d f w w' (entity_of scope y) v (λ s u z. x.types s (Reached u) z) (h.variables y v e o);
   globals = globals_later d g.tables scope.world k b w m w' m' x h.globals;
+  alongside = h.alongside;
+  rooms = h.rooms;
+  inside = all_more m.activations m'.activations scope.locals (base_later k b m.activations w m w' m' (omega arith) x) h.inside;
+  counted = counted_more m m' scope.locals x.objects h.counted;
+  own = h.own;
+  below = h.below;
+  stands = st;
 }
 
 -- more may be on its way
-pub scene_more : (d : Tables) (g : Env) (scope : Scope) (f : NameOf → Region) (b k : ℕ) (w : Ghost) (m : Memory) → Scene d g scope f b k w m
-    → Scene d g scope f b (suc k) w m
-scene_more d g scope f b k w m h = record {
+pub scene_more : (d : Tables) (g : Env) (scope : Scope) (f : NameOf → Region) (b : ℕ) (s : States) (k : ℕ) (w : Ghost) (m : Memory) → Scene d g scope f b s k w m
+    → Scene d g scope f b s (suc k) w m
+scene_more d g scope f b s k w m h = record {
   names = names_more g.regions f k w m h.names;
   base = h.base;
   variables = h.variables;
   globals = h.globals;
+  alongside = h.alongside;
+  rooms = h.rooms;
+  inside = h.inside;
+  counted = h.counted;
+  own = h.own;
+  below = h.below;
+  stands = h.stands;
 }
+
+-- What leaves the private cells of all activations so far alone leaves the locals as they stood.
+pub stands_kept : (d : Tables) (g : Env) (scope : Scope) (f : NameOf → Region) (b : ℕ) (s : States) (k : ℕ) (w : Ghost) (m : Memory) (w' : Ghost) (m' : Memory)
+    → Scene d g scope f b s k w m → Grows k m.activations w m w' m' → Standing d g scope f s w' m'
+stands_kept d g scope f b s k w m w' m' h x = all_kept g.tables d f k b m.activations g.locals scope.locals s w m w' m' h.rooms h.inside x h.stands

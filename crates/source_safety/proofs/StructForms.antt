@@ -1,13 +1,13 @@
 -- What members of structs and makings of structs denote, from what their parts do.
 use Rattle.std.proofs.Common.{◌≡◌, ℕ, Bool, true, false, Some, List, refl, sym, ◌∙◌, ap, subst}
-use Rattle.std.specs.Prelude.{map, bytes_eq, codes, length, nat_eq, if◌then◌else◌}
+use Rattle.std.specs.Prelude.{map, ◌++◌, bytes_eq, codes, length, nat_eq, if◌then◌else◌}
 use Rattle.std.proofs.lemmas.Bool.{eqb-true}
 use Rattle.cyc_tree.specs.Tree as tree
 use Rattle.source_meaning.specs.Shapes as shapes
 use Rattle.source_meaning.specs.Shapes.{Shape, IntShape, StructShape, has_tag, parts_of, part_shape, part_shapes}
 use Rattle.source_meaning.specs.Sizes.{cells_before}
-use Rattle.source_meaning.specs.Memory.{Region, beyond}
-use Rattle.source_meaning.specs.Steps.{Scope, give, ◌>>=◌}
+use Rattle.source_meaning.specs.Memory.{Region, Spot, beyond}
+use Rattle.source_meaning.specs.Steps.{Scope, Act, give, ◌>>=◌}
 use Rattle.source_meaning.specs.Conversions.{cells_of}
 use Rattle.source_meaning.specs.Places.{Sense, value_sense, place_sense, struct_parts, contents, member}
 use Rattle.source_meaning.specs.Calls.{call_sense, converted_all, struct_made, called, function_of, read_byte, write_byte}
@@ -16,24 +16,30 @@ use Rattle.source_typing.specs.Calls.{ToStruct, arguments_fit, part_types}
 use Rattle.source_typing.specs.Calls as rules_of_calls
 use Rattle.source_typing.specs.Fixing.{all_fits, fixed_from}
 use Rattle.source_typing.specs.Places as places
-use Rattle.source_typing.specs.Scope.{Env, Enclosing, Value, Seat, Nowhere, In, InBlock, is_live, value}
+use Rattle.source_typing.specs.Scope.{Env, Enclosing, Value, Seat, Nowhere, In, InBlock, is_live, is_place, value}
 use Rattle.source_typing.specs.Tables.{Entry, OfTag, Part, Tag, find, as_tag, parts_of_tag, parts_in, argument}
 use Rattle.source_typing.specs.Types.{StaticType, Int, Unsigned, Char, Void, Null, Thin, Fat, Unique, Handle, Key, Struct, Union, renamed, shape_of}
 use Rattle.source_typing.proofs.Inversion.{after_is}
 use Rattle.source_typing.proofs.PlacesFit.{HasPart, MemberOf, ArrowTo, member_is, arrow_is}
 use Rattle.source_typing.proofs.CallsFit.{AllConvert, Arguments, arguments_are}
 use Rattle.source_safety.specs.Entries.{IsObjectType, Structure}
-use Rattle.source_safety.specs.Flat.{Tables}
+use Rattle.source_typing.specs.Moves.{Use, value_use, place_use, member_use, copy_if}
+use Rattle.source_typing.specs.States.{then_passed}
+use Rattle.source_safety.specs.Flat.{Tables, filled, flat, flat_all}
 use Rattle.source_safety.specs.Named.{Below, AllBelow, TypeBelow}
 use Rattle.source_safety.specs.Structs.{AreMembers}
 use Rattle.source_safety.proofs.Names.{NameOf}
-use Rattle.source_safety.proofs.Sound.{shape_renamed, Finds}
+use Rattle.source_safety.proofs.Sound.{shape_renamed, cells_type, FindsBy, FindsAny}
 use Rattle.source_safety.proofs.Places.{sound_placed}
-use Rattle.source_safety.proofs.Layouts.{member_types, members_typed, members_at, Structs, agrees}
+use Rattle.source_safety.proofs.Owned.{finds_own_part, sound_part}
+use Rattle.source_safety.proofs.Parts as parts_of_cells
+use Rattle.source_safety.proofs.Parts.{member_cells}
+use Rattle.source_safety.proofs.Invariant.{RunType, heap}
+use Rattle.source_safety.proofs.Layouts.{member_types, members_typed, members_at, struct_is, Structs, agrees}
 use Rattle.source_safety.proofs.Words.{IsSimple, object_simple, object_renamed, object_copied}
 use Rattle.source_safety.proofs.Fixed.{EnclosingBelow, object_below, within, fixed_within}
-use Rattle.source_safety.proofs.Calling.{AllPass, all_passed}
-use Rattle.source_safety.proofs.Members.{Found, member_found, struct_there, members_objects, members_known, members_shaped, finds_member, gives_made}
+use Rattle.source_safety.proofs.Calling.{AllPass, all_values, all_passed}
+use Rattle.source_safety.proofs.Members.{Found, member_found, member_run, struct_there, members_objects, members_known, members_shaped, finds_member, gives_made}
 use Rattle.source_safety.proofs.WordRules.{Valued, value_of, IsPointer, IsThin, IsFat, pointer_contents}
 use Rattle.source_safety.proofs.Forms.{Denotes, denotes_value, denotes_contents, AllDenote, values_below, all_pass}
 
@@ -115,22 +121,19 @@ module _ (n : ℕ) (d : Tables) (g : Env) (scope : Scope) (f : NameOf → Region
   -- ---- members
 
   -- a member of a struct in a region
-  denotes_part : (i : Enclosing) (tag : List ℕ) (rs : List NameOf) (x : List ℕ) (r : NameOf) (a v : Value) (e : Sense) → Denotes n d g scope f b a e → a.type ≡ Struct tag rs
-      → a.seat ≡ In r → HasPart (within i g) tag rs x (In r) v → Denotes n d g scope f b v (member scope.world e x)
-  denotes_part i tag rs x r a v e h t s p = record {
+  denotes_part : (i : Enclosing) (tag : List ℕ) (rs : List NameOf) (x : List ℕ) (r : NameOf) (place : ℕ) (moves po : Bool) (a v : Value) (u : Use) (e : Sense) → (u.own ≡ true → po ≡ true) → Denotes n d g scope f b a u e → a.type ≡ Struct tag rs
+      → a.seat ≡ In r → HasPart (within i g) tag rs x (In r) v → Denotes n d g scope f b v (place_use place moves po u.look) (member scope.world e x)
+  denotes_part i tag rs x r place moves po a v u e mine h t s p = record {
     simple = object_simple v.type object;
     below = subst (λ (y : StaticType). TypeBelow g.regions.count y) (sym type) (object_below g.regions.count rs p.type found.object below);
     outside = λ z. let y : v.seat ≡ In r = p.is.1 in cc;
     place = λ q z. (object, subst (λ (y : NameOf). Below g.regions.count y) (same r q (sym p.is.1 ∙ z)) (h.place r s).1);
-    sound = subst (λ (ps : List shapes.Part). Sound ps) (sym parts)
-        (sound_placed n d g scope f b (agrees d scope.world g.tables structs) v (part_shape (parts_of scope.world.structs tag) x) r _
-        (found.shape ∙ (sym (shape_renamed (argument rs) p.type) ∙ ap shape_of (sym type))) p.is.1 (object_copied d f v.type structs.in_order object)
-        (subst (λ (y : StaticType). Finds n d g scope f b y r (e.place >>= λ s. give (beyond s (cells_before (cells_of scope.world) (parts_of scope.world.structs tag) x))))
-        (sym type) (finds_member n d g scope f b structs tag rs x p.part p.type r e.place p.found p.typed place)));
+    own = h.own;
+    sound = subst (λ (ps : List shapes.Part). Sound h.own ps) (sym parts) (by h.own h.sound.owned (h.sound.place (ap is_place s)));
   }
     where
-      Sound : List shapes.Part → Type 0
-      Sound ps = Rattle.source_safety.proofs.Sound.Sound n d g scope f b v
+      Sound : Bool → List shapes.Part → Type 0
+      Sound own ps = Rattle.source_safety.proofs.Sound.Sound n d g scope f b v (place_use place moves po u.look) own
           (place_sense scope.world (part_shape ps x) (e.place >>= λ s. give (beyond s (cells_before (cells_of scope.world) ps x))))
 
       same : (q u : NameOf) → In q ≡ In u → q ≡ u
@@ -158,62 +161,87 @@ module _ (n : ℕ) (d : Tables) (g : Env) (scope : Scope) (f : NameOf → Region
       object : IsObjectType v.type
       object = subst IsObjectType (sym type) (object_renamed (argument rs) p.type found.object)
 
-      place : Finds n d g scope f b (Struct tag rs) r e.place
-      place = subst (λ (y : StaticType). Finds n d g scope f b y r e.place) t (h.sound.place r s)
+      shaped : part_shape (parts_of scope.world.structs tag) x ≡ shape_of v.type
+      shaped = found.shape ∙ (sym (shape_renamed (argument rs) p.type) ∙ ap shape_of (sym type))
 
-  pub denotes_member : (i : Enclosing) (x : tree.Name) (a v : Value) (e : Sense) → Denotes n d g scope f b a e → places.member (within i g) x a ≡ Of v
-      → Denotes n d g scope f b v (member scope.world e x.text)
-  denotes_member i x a v e h j =
+      act : Act Spot
+      act = e.place >>= λ s. give (beyond s (cells_before (cells_of scope.world) (parts_of scope.world.structs tag) x))
+
+      -- where it is a part of a local, so is the member
+      by : (own : Bool) → (own ≡ true → u.own ≡ true) → FindsAny n d g scope f b u.look own a.seat a.type e.place → Sound own (parts_of scope.world.structs tag)
+      by false is z =
+          let finds : FindsBy n d g scope f b u.look (Struct tag rs) r e.place =
+          subst (λ (y : StaticType). FindsBy n d g scope f b u.look y r e.place) t
+          (subst (λ (q : Seat). FindsAny n d g scope f b u.look false q a.type e.place) s z) in
+          sound_placed n d g scope f b (agrees d scope.world g.tables structs) v place moves po u.look (part_shape (parts_of scope.world.structs tag) x) _
+          shaped (λ q. object_copied d f v.type structs.in_order object)
+          (subst (λ (q : Seat). FindsAny n d g scope f b u.look false q v.type act) (sym p.is.1)
+          (subst (λ (y : StaticType). FindsBy n d g scope f b u.look y r act)
+          (sym type) (λ st q. finds_member n d g scope f b structs st (u.look st).states tag rs x p.part p.type r e.place p.found p.typed (finds st q))))
+      by true is z =
+          let k : parts_of_cells.Part d (filled heap (map f rs)) (flat_all (flat heap d) (map (renamed (filled heap (map f rs))) (member_types d.structs tag))) (cells_before (cells_of scope.world) (parts_of scope.world.structs tag) x) p.type =
+          member_cells d scope.world (filled heap (map f rs)) (agrees d scope.world g.tables structs) (parts_in g.tables tag) (parts_of scope.world.structs tag) (member_types d.structs tag) x p.part p.type there p.found p.typed in
+          sound_part n d g scope f b (agrees d scope.world g.tables structs) v place moves po (mine (is refl)) u.look (part_shape (parts_of scope.world.structs tag) x) act
+          shaped (λ q. object_copied d f v.type structs.in_order object)
+          (finds_own_part n d g scope f b (agrees d scope.world g.tables structs) u.look v.seat a.type v.type e.place
+          (cells_before (cells_of scope.world) (parts_of scope.world.structs tag) x) k.first k.others
+          (λ here. ap (cells_type d f) t ∙ (struct_is d.structs tag (map f rs) structs.in_order ∙ (k.cells ∙ ap (λ (q : RunType). k.first ++ (flat heap d q ++ k.others))
+          (sym (member_run f rs p.type here found.object) ∙ ap (renamed f) (sym type))))) k.count z)
+
+  pub denotes_member : (i : Enclosing) (x : tree.Name) (place : ℕ) (moves : Bool) (a v : Value) (u : Use) (e : Sense) → Denotes n d g scope f b a u e
+      → places.member (within i g) x a ≡ Of v → Denotes n d g scope f b v (member_use place moves u) (member scope.world e x.text)
+  denotes_member i x place moves a v u e h j =
       let z : OfStruct (within i g) x.text a.type a.seat v = of_struct (within i g) x.text a.type a.seat v (member_is (within i g) x a.at a.type a.seat v j).1 in
       by a.seat refl z j
     where
       by : (s : Seat) → a.seat ≡ s → OfStruct (within i g) x.text a.type s v → places.member_of (within i g) x a.at a.type s ≡ Of v
-          → Denotes n d g scope f b v (member scope.world e x.text)
+          → Denotes n d g scope f b v (member_use place moves u) (member scope.world e x.text)
       by Nowhere q z k = absurd cc
       by InBlock q z k = absurd (h.outside q)
-      by (In r) q z k = denotes_part i z.tag z.regions x.text r a v e h z.is q z.part
+      by (In r) q z k = denotes_part i z.tag z.regions x.text r place moves u.own a v u e (λ c. c) h z.is q z.part
 
-  pub denotes_arrow : (i : Enclosing) → g.lenient ≡ false → (x : tree.Name) (a v : Value) (e : Sense) → Denotes n d g scope f b a e → places.arrow (within i g) x a ≡ Of v
-      → Denotes n d g scope f b v (member scope.world (contents scope.world e) x.text)
-  denotes_arrow i strict x a v e h j =
+  pub denotes_arrow : (i : Enclosing) → g.lenient ≡ false → (x : tree.Name) (place : ℕ) (moves through : Bool) (a v : Value) (u : Use) (e : Sense) → Denotes n d g scope f b a u e
+      → places.arrow (within i g) x a ≡ Of v
+      → Denotes n d g scope f b v (place_use place moves false (λ s. then_passed (u.look s) (copy_if through place))) (member scope.world (contents scope.world e) x.text)
+  denotes_arrow i strict x place moves through a v u e h j =
       let z : ToMember (within i g) x.text a.type v = to_member (within i g) x.text a.type v h.simple (arrow_is (within i g) x a.at a.type v j) in
       let at : Value = record { at = a.at; type = Struct z.tag z.regions; seat = In z.region } in
       let found : places.contents (within i g) a.at a ≡ Of at =
       pointer_contents (within i g) a.at a.type (Struct z.tag z.regions) z.region z.is z.live in
-      denotes_part i z.tag z.regions x.text z.region at v (contents scope.world e)
-      (denotes_contents n d g scope f b i strict (agrees d scope.world g.tables structs) structs.in_order a.at a at e h found) refl refl z.part
+      denotes_part i z.tag z.regions x.text z.region place moves false at v (place_use place moves false (λ s. then_passed (u.look s) (copy_if through place))) (contents scope.world e) (λ c. absurd cc)
+      (denotes_contents n d g scope f b i strict (agrees d scope.world g.tables structs) structs.in_order a.at place moves through a at u e h found) refl refl z.part
 
   -- ---- makings
 
-  pub called_struct : (i : Enclosing) → EnclosingBelow g.regions.count i → (at : ℕ) (x : List ℕ) (t : Tag) (vs : List Value) (es : List Sense) (v : Value) → Structure scope.world x t
-      → find g.tables x ≡ Some (OfTag t) → AllDenote n d g scope f b vs es → rules_of_calls.called (within i g) at (ToStruct t) vs ≡ Of v
-      → Denotes n d g scope f b v (call_sense scope.world x es)
-  called_struct i inside at x t vs es v k there h e =
+  pub called_struct : (i : Enclosing) → EnclosingBelow g.regions.count i → (at : ℕ) (x : List ℕ) (t : Tag) (vs : List Value) (us : List Use) (es : List Sense) (v : Value) → Structure scope.world x t
+      → find g.tables x ≡ Some (OfTag t) → AllDenote n d g scope f b vs us es → rules_of_calls.called (within i g) at (ToStruct t) vs ≡ Of v
+      → Denotes n d g scope f b v (value_use (all_values us)) (call_sense scope.world x es)
+  called_struct i inside at x t vs us es v k there h e =
       let z : (rs : List NameOf) × (arguments_fit (within i g) at t.regions (part_types t.parts) vs ≡ Of rs) × (value at (Struct t.text rs) ≡ Of v) =
       after_is (arguments_fit (within i g) at t.regions (part_types t.parts) vs) (λ rs. value at (Struct t.text rs)) v e in
       let a : Arguments (within i g) (part_types t.parts) vs (fixed_from i at (all_fits (part_types t.parts) vs) 0 t.regions) z.0 =
       arguments_are (within i g) at t.regions (part_types t.parts) vs z.0 z.1 in
       let below : AllBelow g.regions.count z.0 =
       fixed_within g.regions.count at t.regions i types vs z.0 inside (members_objects d.structs types (members_typed d.structs x structs.in_order))
-      (values_below n d g scope f b vs es h)
+      (values_below n d g scope f b vs us es h)
       (subst (λ (ps : List (Rattle.std.specs.Prelude.Option StaticType)). fixed_from i at (all_fits ps vs) 0 t.regions ≡ Of z.0) known a.found) in
       let valued : Valued v (Struct x z.0) = subst (λ (y : List ℕ). Valued v (Struct y z.0)) k.named (value_of at (Struct t.text z.0) v z.2) in
-      let pass : AllPass n d g scope f b (map shape_of types) (map (renamed (argument z.0)) types) es =
-      all_pass n d g scope f b (agrees d scope.world g.tables structs) z.0 types vs es
+      let pass : AllPass n d g scope f b (map shape_of types) (map (renamed (argument z.0)) types) us es =
+      all_pass n d g scope f b (agrees d scope.world g.tables structs) z.0 types vs us es
       (members_objects d.structs types (members_typed d.structs x structs.in_order))
       (eqb-true _ _ (subst (λ (ps : List (Rattle.std.specs.Prelude.Option StaticType)). nat_eq (length ps) (length vs) ≡ true) known a.count))
       (subst (λ (ps : List (Rattle.std.specs.Prelude.Option StaticType)). AllConvert (within i g) z.0 ps vs) known a.convert) h in
-      let made : Denotes n d g scope f b v (struct_made scope.world x es) =
-      denotes_value n d g scope f b v (Struct x z.0) (StructShape x) _ tt below valued refl
-      (gives_made n d g scope f b structs x z.0 (converted_all scope.world (part_shapes (parts_of scope.world.structs x)) es)
-      (all_passed n d g scope f b (part_shapes (parts_of scope.world.structs x)) (map (renamed (argument z.0)) types) es
-      (subst (λ (ss : List Shape). AllPass n d g scope f b ss (map (renamed (argument z.0)) types) es) (sym shaped) pass))) in
-      subst (λ (c : Bool). Denotes n d g scope f b v (if c then value_sense IntShape (read_byte es)
+      let made : Denotes n d g scope f b v (value_use (all_values us)) (struct_made scope.world x es) =
+      denotes_value n d g scope f b v (all_values us) (Struct x z.0) (StructShape x) _ tt below valued refl
+      (λ s q. gives_made n d g scope f b structs s (all_values us s).states x z.0 (converted_all scope.world (part_shapes (parts_of scope.world.structs x)) es)
+      (all_passed n d g scope f b (part_shapes (parts_of scope.world.structs x)) (map (renamed (argument z.0)) types) us es
+      (subst (λ (ss : List Shape). AllPass n d g scope f b ss (map (renamed (argument z.0)) types) us es) (sym shaped) pass) s q)) in
+      subst (λ (c : Bool). Denotes n d g scope f b v (value_use (all_values us)) (if c then value_sense IntShape (read_byte es)
       else (if bytes_eq x (codes "putchar") then value_sense IntShape (write_byte scope.world es)
       else (if has_tag scope.world.structs x then struct_made scope.world x es else called scope.world (function_of scope.world.functions x) es)))) (sym k.not_read)
-      (subst (λ (c : Bool). Denotes n d g scope f b v (if c then value_sense IntShape (write_byte scope.world es)
+      (subst (λ (c : Bool). Denotes n d g scope f b v (value_use (all_values us)) (if c then value_sense IntShape (write_byte scope.world es)
       else (if has_tag scope.world.structs x then struct_made scope.world x es else called scope.world (function_of scope.world.functions x) es))) (sym k.not_written)
-      (subst (λ (c : Bool). Denotes n d g scope f b v (if c then struct_made scope.world x es else called scope.world (function_of scope.world.functions x) es))
+      (subst (λ (c : Bool). Denotes n d g scope f b v (value_use (all_values us)) (if c then struct_made scope.world x es else called scope.world (function_of scope.world.functions x) es))
       (sym k.there) made))
     where
       types : List StaticType

@@ -1,23 +1,24 @@
 -- What surrounds a statement: the program's names and the locals, and how blocks and declarations change them.
-use Rattle.std.proofs.Common.{◌≡◌, ℕ, ◌+◌, ◌≤◌, Bool, true, false, inl, inr, Some, List, [], ◌∷◌, refl, sym, ◌∙◌, ap, subst, arith}
+use Rattle.std.proofs.Common.{◌≡◌, ℕ, ◌+◌, ◌<◌, ◌≤◌, Bool, true, false, inl, inr, Some, List, [], ◌∷◌, refl, sym, ◌∙◌, ap, subst, arith}
 use Rattle.std.specs.Prelude.{bytes_eq, if◌then◌else◌}
-use Rattle.std.proofs.lemmas.Bool.{eq-eqb}
+use Rattle.std.proofs.lemmas.Bool.{eq-eqb, false≢true}
 use Rattle.std.proofs.lemmas.Bool.Decides.{eqb_tells}
 use Rattle.cyc_tree.specs.Tree as tree
 use Rattle.source_meaning.specs.Shapes.{Shape, ArrayShape}
 use Rattle.source_meaning.specs.Memory.{Region, Frame, Spot, Memory}
-use Rattle.source_meaning.specs.Steps.{Entity, Variable, World, Scope}
+use Rattle.source_meaning.specs.Steps.{Binding, Entity, Variable, World, Scope}
 use Rattle.source_meaning.specs.Places.{bound_to, or_else, entity_of, with_binding}
 use Rattle.source_typing.specs.Regions.{Regions, TheHeap, Level, same_id, with_scope}
-use Rattle.source_typing.specs.Scope.{Env, InRegion, meant, block_entered}
+use Rattle.source_typing.specs.Scope.{Env, InRegion, Local, find_local, meant, block_entered}
+use Rattle.source_typing.specs.States.{State, States}
 use Rattle.source_typing.specs.Statements.{in_a_loop}
 use Rattle.source_typing.specs.Tables as typing
-use Rattle.source_typing.specs.Tables.{What, Entry, OfValue, OfFunction, Stored, Arrayed, Signature, find}
+use Rattle.source_typing.specs.Tables.{What, is_copyable, Counter, Unknown, Entry, OfValue, OfFunction, Stored, Arrayed, Signature, find}
 use Rattle.source_typing.specs.Types.{Int, Unsigned, Char, Void, Null, Thin, Fat, Unique, Handle, Key, Struct, Union, StaticType, renamed, shape_of}
 use Rattle.source_safety.specs.Flat.{Tables, flat}
 use Rattle.source_safety.specs.Judged.{named, extended, arrayed}
 use Rattle.source_safety.proofs.Facts.{if_cases}
-use Rattle.source_safety.proofs.Invariant.{RunType, heap, Ghost, Laid, AllLaid, Inv}
+use Rattle.source_safety.proofs.Invariant.{RunType, heap, Kept, Known, Ghost, Laid, AllLaid, Inv}
 use Rattle.source_safety.proofs.Arguments.{Agrees}
 use Rattle.source_safety.proofs.Layouts.{Structs, agrees}
 use Rattle.source_safety.proofs.Scopes.{block_ghost, block_memory, frame_births}
@@ -38,6 +39,9 @@ use Rattle.source_safety.proofs.Scenes.{
   Binds,
   Scene,
 }
+use Rattle.source_safety.proofs.Copyable.{object_copyable}
+use Rattle.source_safety.proofs.Standing.{owns, is_own, InRoom, Room, ApartFrom, EntityWithin, EntityCounted, WhatBelow, LocalsBelow, LocalStands, SameAll, Standing, all_same, all_more}
+use Rattle.source_safety.proofs.Standing as standing
 use Rattle.source_safety.proofs.Entries.{IsObjectType, PlainEntry, MeansPlain}
 
 -- a function's result: its shape, and its type in this run
@@ -87,9 +91,21 @@ surrounds_loop d world tables g scope f gives h = record {
   frame_below = h.frame_below;
 }
 
-pub scene_loop : (d : Tables) (g : Env) (scope : Scope) (f : NameOf → Region) (b k : ℕ) (w : Ghost) (m : Memory) → Scene d g scope f b k w m
-    → Scene d (in_a_loop g) scope f b k w m
-scene_loop d g scope f b k w m h = record { names = h.names; base = h.base; variables = h.variables; globals = h.globals }
+pub scene_loop : (d : Tables) (g : Env) (scope : Scope) (f : NameOf → Region) (b : ℕ) (s : States) (k : ℕ) (w : Ghost) (m : Memory) → Scene d g scope f b s k w m
+    → Scene d (in_a_loop g) scope f b s k w m
+scene_loop d g scope f b s k w m h = record {
+  names = h.names;
+  base = h.base;
+  variables = h.variables;
+  globals = h.globals;
+  alongside = h.alongside;
+  rooms = h.rooms;
+  inside = h.inside;
+  counted = h.counted;
+  own = h.own;
+  below = h.below;
+  stands = h.stands;
+}
 
 -- ---- a local is declared
 
@@ -135,19 +151,29 @@ module _ (d : Tables) (world : World) (tables : typing.Tables) (g : Env) (scope 
       frame_below = h.frame_below;
     }
 
-    name_laid : (b k : ℕ) (w : Ghost) (m : Memory) → Scene d g scope f b k w m → LaidAs d f w (Some e) v → (y : List ℕ) (u : What) (c : Bool)
+    name_laid : (b : ℕ) (s : States) (k : ℕ) (w : Ghost) (m : Memory) → Scene d g scope f b s k w m → (owns g.tables v ≡ false → LaidAs d f w (Some e) v) → (y : List ℕ) (u : What) (c : Bool)
         → (if c then Some (OfValue v) else meant g y) ≡ Some (OfValue u)
+        → is_own g.tables (if c then Some (record { name = x.text; what = v; block = g.block }) else find_local g.locals y) ≡ false
         → LaidAs d f w (or_else (if c then Some e else bound_to scope.locals y) (bound_to scope.world.globals y)) u
-    name_laid b k w m z laid y u true q = let a : v ≡ u = cc in subst (λ (p : What). LaidAs d f w (Some e) p) a laid
-    name_laid b k w m z laid y u false q = z.variables y u q
+    name_laid b s k w m z laid y u true q o = let a : v ≡ u = cc in subst (λ (p : What). LaidAs d f w (Some e) p) a (laid o)
+    name_laid b s k w m z laid y u false q o = z.variables y u q o
 
-    pub scene_named : (b k : ℕ) (w : Ghost) (m : Memory) → Scene d g scope f b k w m → LaidAs d f w (Some e) v
-        → Scene d (named g x v) (with_binding scope x.text e) f b k w m
-    scene_named b k w m z laid = record {
+    -- the new local has a place of its own, and stands in some state
+    pub scene_named : (b : ℕ) (a : State) (s : States) (k : ℕ) (w : Ghost) (m : Memory) → Scene d g scope f b s k w m → (owns g.tables v ≡ false → LaidAs d f w (Some e) v)
+        → InRoom b e scope.locals → EntityWithin m.activations e → EntityCounted m e → WhatBelow g.regions.count v → LocalStands g.tables d f v e a w m
+        → Scene d (named g x v) (with_binding scope x.text e) f b (a ∷ s) k w m
+    scene_named b a s k w m z laid room inside counted below stands = record {
       names = z.names;
       base = z.base;
-      variables = λ y u q. name_laid b k w m z laid y u (bytes_eq x.text y) q;
+      variables = λ y u q o. name_laid b s k w m z laid y u (bytes_eq x.text y) q o;
       globals = z.globals;
+      alongside = (refl, z.alongside);
+      rooms = (room, z.rooms);
+      inside = (inside, z.inside);
+      counted = (counted, z.counted);
+      own = z.own;
+      below = (below, z.below);
+      stands = (stands, z.stands);
     }
 
 -- a variable, or an array, of a type in the innermost block
@@ -178,17 +204,32 @@ module _ (d : Tables) (world : World) (tables : typing.Tables) (g : Env) (scope 
         let e : n ≡ c = cc in
         subst (λ (p : Spot). AllLaid w p c (flat heap d (renamed f t))) a (subst (λ (k : ℕ). AllLaid w at k (flat heap d (renamed f t))) e laid)
 
-    pub scene_local : (b k : ℕ) (w : Ghost) (m : Memory) → Scene d g scope f b k w m → Laid w at (flat heap d (renamed f t))
-        → Scene d (extended g x t) (with_binding scope x.text (Variable (shape_of t) at)) f b k w m
-    scene_local b k w m z laid =
-        scene_named d world tables g scope f x (Stored t g.frame) (Variable (shape_of t) at) gives h (λ y. object) (new_bound (shape_of t)) h.frame_lives
-        b k w m z (local_laid w laid)
+    -- it lies in the innermost block, in a new object
+    new_room : (b : ℕ) (s : States) (k : ℕ) (w : Ghost) (m : Memory) → Scene d g scope f b s k w m → ApartFrom at scope.locals → Room b at scope.locals
+    new_room b s k w m z apart = record { frame = scope.frame; region = there; own = z.own; apart = apart }
 
-    pub scene_array : (n b k : ℕ) (w : Ghost) (m : Memory) → Scene d g scope f b k w m → AllLaid w at n (flat heap d (renamed f t))
-        → Scene d (arrayed g x t) (with_binding scope x.text (Variable (ArrayShape n (shape_of t)) at)) f b k w m
-    scene_array n b k w m z laid =
+    new_within : (b : ℕ) (s : States) (k : ℕ) (w : Ghost) (m : Memory) → Scene d g scope f b s k w m → (i : ℕ) → at.region ≡ Frame i → i < m.activations
+    new_within b s k w m z i e =
+        let known : scope.frame < m.activations = subst (λ (r : Region). Known m r) h.frame (z.names.known g.frame h.frame_below) in
+        subst (λ (r : Region). Known m r) (sym there ∙ e) known
+
+    -- what can be copied has no part in the states
+    no_part : (a : State) (sh : Shape) (w : Ghost) (m : Memory) → LocalStands g.tables d f (Stored t g.frame) (Variable sh at) a w m
+    no_part a sh w m = λ c. absurd (false≢true (sym c ∙ subst (λ (y : typing.Tables). is_copyable y t ≡ true) (sym h.tables_are) (object_copyable d world tables h.structs t object)))
+
+    pub scene_local : (b : ℕ) (a : State) (s : States) (k : ℕ) (w : Ghost) (m : Memory) → Scene d g scope f b s k w m → Laid w at (flat heap d (renamed f t))
+        → ApartFrom at scope.locals → at.object < m.objects at.region
+        → Scene d (extended g x t) (with_binding scope x.text (Variable (shape_of t) at)) f b (a ∷ s) k w m
+    scene_local b a s k w m z laid apart counted =
+        scene_named d world tables g scope f x (Stored t g.frame) (Variable (shape_of t) at) gives h (λ y. object) (new_bound (shape_of t)) h.frame_lives
+        b a s k w m z (λ o. local_laid w laid) (new_room b s k w m z apart) (new_within b s k w m z) counted below (no_part a (shape_of t) w m)
+
+    pub scene_array : (n b : ℕ) (a : State) (s : States) (k : ℕ) (w : Ghost) (m : Memory) → Scene d g scope f b s k w m → AllLaid w at n (flat heap d (renamed f t))
+        → ApartFrom at scope.locals → at.object < m.objects at.region
+        → Scene d (arrayed g x t) (with_binding scope x.text (Variable (ArrayShape n (shape_of t)) at)) f b (a ∷ s) k w m
+    scene_array n b a s k w m z laid apart counted =
         scene_named d world tables g scope f x (Arrayed t g.frame) (Variable (ArrayShape n (shape_of t)) at) gives h (λ y. object)
-        (n, new_bound (ArrayShape n (shape_of t))) h.frame_lives b k w m z (array_laid w n laid)
+        (n, new_bound (ArrayShape n (shape_of t))) h.frame_lives b a s k w m z (λ o. array_laid w n laid) (new_room b s k w m z apart) (new_within b s k w m z) counted tt tt
 
 -- ---- a block is entered
 
@@ -276,14 +317,53 @@ module _ (d : Tables) (world : World) (tables : typing.Tables) (g : Env) (scope 
     frame_below = omega arith;
   }
 
-pub scene_block : (d : Tables) (world : World) (tables : typing.Tables) (g : Env) (scope : Scope) (f : NameOf → Region) (gives : RunType) (b k : ℕ) (w : Ghost)
+what_up : (n : ℕ) (v : What) → WhatBelow n v → WhatBelow (n + 1) v
+what_up n (Stored t r) h = type_up n t h
+what_up n (Arrayed t r) h = tt
+what_up n Counter h = tt
+what_up n Unknown h = tt
+
+pub locals_up : (n : ℕ) (ls : List Local) → LocalsBelow n ls → LocalsBelow (n + 1) ls
+locals_up n [] h = tt
+locals_up n (l ∷ ls) h = (what_up n l.what h.0, locals_up n ls h.1)
+
+-- cells that are all as they were
+pub same_all : (tables : typing.Tables) (d : Tables) (f : NameOf → Region) (w : Ghost) (m : Memory) (w' : Ghost) (m' : Memory) (bs : List Binding)
+    → ((y : Spot) (q : Kept) → w.types y ≡ Some q → w'.types y ≡ Some q) → ((y : Spot) → m'.cells y ≡ m.cells y) → SameAll tables d f w m w' m' bs
+same_all tables d f w m w' m' [] t c = tt
+same_all tables d f w m w' m' (y ∷ bs) t c =
+    (λ sh s e. record { types = t; cells = λ p u a b q. c p }, same_all tables d f w m w' m' bs t c)
+
+-- the locals stand in a block as they did, and once it is left
+pub stands_in : (d : Tables) (g : Env) (scope : Scope) (f : NameOf → Region) (s : States) (r : Region) (w : Ghost) (m : Memory) (w' : Ghost) (m' : Memory)
+    → LocalsBelow g.regions.count g.locals → ((y : Spot) (q : Kept) → w.types y ≡ Some q → w'.types y ≡ Some q) → ((y : Spot) → m'.cells y ≡ m.cells y)
+    → Standing d g scope f s w m → Standing d g scope (naming f g.regions.count r) s w' m'
+stands_in d g scope f s r w m w' m' below t c st =
+    standing.all_alike g.tables d f (naming f g.regions.count r) g.regions.count g.locals scope.locals s w' m' (naming_alike f g.regions.count r) below
+    (all_same g.tables d f w m w' m' g.locals scope.locals s (same_all g.tables d f w m w' m' scope.locals t c) st)
+
+pub stands_out : (d : Tables) (g : Env) (scope : Scope) (f : NameOf → Region) (s : States) (r : Region) (w : Ghost) (m m' : Memory)
+    → LocalsBelow g.regions.count g.locals → ((y : Spot) → m'.cells y ≡ m.cells y)
+    → Standing d g scope (naming f g.regions.count r) s w m → Standing d g scope f s w m'
+stands_out d g scope f s r w m m' below c st =
+    all_same g.tables d f w m w m' g.locals scope.locals s (same_all g.tables d f w m w m' scope.locals (λ y q e. e) c)
+    (standing.all_alike g.tables d (naming f g.regions.count r) f g.regions.count g.locals scope.locals s w m (λ a l. sym (naming_alike f g.regions.count r a l)) below st)
+
+pub scene_block : (d : Tables) (world : World) (tables : typing.Tables) (g : Env) (scope : Scope) (f : NameOf → Region) (gives : RunType) (b : ℕ) (s : States) (k : ℕ) (w : Ghost)
     (m : Memory)
-    → Surrounds d world tables g scope f gives → Inv d w m → Scene d g scope f b k w m
-    → Scene d (block_entered g) (record scope { frame = m.activations }) (naming f g.regions.count (Frame m.activations)) b k (block_ghost w m) (block_memory m)
-scene_block d world tables g scope f gives b k w m h i z = record {
+    → Surrounds d world tables g scope f gives → Inv d w m → Scene d g scope f b s k w m
+    → Scene d (block_entered g) (record scope { frame = m.activations }) (naming f g.regions.count (Frame m.activations)) b s k (block_ghost w m) (block_memory m)
+scene_block d world tables g scope f gives b s k w m h i z = record {
   names = names_scope d g.regions f k w m (m.activations + 1) m.births (Frame m.activations) i (frame_births d w m i) z.names;
   base = let l : b ≤ m.activations = z.base in omega (arith, l);
-  variables = λ y u e. laid_as_later g.regions.count d f (naming f g.regions.count (Frame m.activations)) w (block_ghost w m) (entity_of scope y) u
-      (naming_alike f g.regions.count (Frame m.activations)) (h.binds.variables y u e) (λ p t l. l) (z.variables y u e);
+  variables = λ y u e o. laid_as_later g.regions.count d f (naming f g.regions.count (Frame m.activations)) w (block_ghost w m) (entity_of scope y) u
+      (naming_alike f g.regions.count (Frame m.activations)) (h.binds.variables y u e) (λ p t l. l) (z.variables y u e o);
   globals = λ y u e. laid_as_kept d (λ a. heap) w (block_ghost w m) (bound_to scope.world.globals y) u (λ p t l. l) (z.globals y u e);
+  alongside = z.alongside;
+  rooms = z.rooms;
+  inside = all_more m.activations (m.activations + 1) scope.locals (omega arith) z.inside;
+  counted = z.counted;
+  own = z.base;
+  below = locals_up g.regions.count g.locals z.below;
+  stands = stands_in d g scope f s (Frame m.activations) w m (block_ghost w m) (block_memory m) z.below (λ y q e. e) (λ y. refl) z.stands;
 }

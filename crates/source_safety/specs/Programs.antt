@@ -8,6 +8,7 @@ use Rattle.source_meaning.specs.Memory.{Integer, IntegerType, Scalar}
 use Rattle.source_meaning.specs.Steps.{Variable, World, give}
 use Rattle.source_meaning.specs.Places.{bound_to}
 use Rattle.source_meaning.specs.Programs.{heap_spot, is_main, constant_value, world_of, source}
+use Rattle.source_typing.specs.Left.{left_by_items, states_at}
 use Rattle.source_typing.specs.Regions.{Region, TheHeap, entry_regions}
 use Rattle.source_typing.specs.Scope.{Env, InRegion, block_entered}
 use Rattle.source_typing.specs.Tables as typing
@@ -48,6 +49,8 @@ pub record FunctionJudged (world : World) (tables : typing.Tables) (x : List ℕ
   pub no_loop : outside.in_loop ≡ false
   pub no_switch : outside.in_switch ≡ false
   pub body : ItemsJudged (with_all F.routine.parameters F.types (block_entered outside)) F.routine.body
+  -- no fault of flow, where the parameters that can't be copied are held
+  pub flow : (left_by_items (with_all F.routine.parameters F.types (block_entered outside)) F.routine.body (states_at (with_all F.routine.parameters F.types (block_entered outside)))).faults ≡ []
   pub ends : (ways_of_items F.routine.body).falls ≡ true → (F.gives ≡ Void) ⊎ ((is_main F.routine.name ≡ true) × (F.gives ≡ Int))
 
 -- ---- globals

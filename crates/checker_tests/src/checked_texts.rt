@@ -1,14 +1,14 @@
 // What the checker answers on a text.
 
+use check_faults::{Fault, Taken};
+use check_programs::program_fault;
 use cyc_lexer::{LexFault, place_of, tokens};
 use cyc_parser::{ParseFault, parse};
 use cyc_tree::Program;
-use judged_flow::flow_fault;
-use program_types::program_fault;
+use flow_check::flow_fault;
 use std::alloc::{AllocError, Global};
 use std::process::Abort;
 use std::test::Fail;
-use type_verdicts::{Fault, Taken};
 
 /// The rules that are looked at.
 #[derive(Clone, Copy, Debug)]

@@ -1,7 +1,7 @@
 //! Tests of the checker on whole programs of the whole language: which have a fault, which one is answered, and where.
 //!
-//! The tables say what the rules of the language say of each program, worked out by hand. They are asked of `program_types` and
-//! `judged_flow` with all forms taken, so they hold whatever the compiler takes.
+//! The tables say what the rules of the language say of each program, worked out by hand. They are asked of `check_programs` and
+//! `flow_check` with all forms taken, so they hold whatever the compiler takes.
 #![tactic(auto)]
 
 #[cfg(test)]

@@ -1,7 +1,7 @@
 // The code of lines with labels, and the bytes of globals, by words worked out by hand.
 
 use crate::selected_lines::fat;
-use core_frames::Line;
+use core_lines::Line;
 use cyc_core::{Cell, CellLayout, Datum, Layout, Program};
 use rv32_isa::{Instr, Register, Signed12};
 use rv32_layout::{Code, PlaceFault, data, place};

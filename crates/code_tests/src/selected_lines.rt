@@ -1,6 +1,6 @@
 // The lines of elements, of values of three words, and of arrays, by instructions worked out by hand.
 
-use core_frames::Line;
+use core_lines::Line;
 use cyc_core::{
     Cell, CellLayout, Function, Layout, Local, Operation, Program, Statement, Temporary, Variable,
     Words,

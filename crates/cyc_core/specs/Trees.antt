@@ -186,6 +186,7 @@ function_tree f = record {
   parameters = f.parameters;
   temporaries = f.temporaries;
   passed = f.passed;
+  order = [];
   own = map local_tree f.own.items;
   body = body_tree f.body.items;
 }

@@ -8,7 +8,7 @@ ghost use Rattle.cyc_host.specs.Hosted.{IsHosted, Written};
 
 use crate::ending::Ending;
 use crate::transfer::{Gathered, read};
-use cyc_arena::BlockStore;
+use rv32_machine::BlockStore;
 use cyc_words::{Input, Output};
 use rv32_machine::{Event, Machine};
 

@@ -3,13 +3,13 @@ use Rattle.std.proofs.Common.{◌≡◌, ℕ, List, ⊎_elim}
 use Rattle.cyc_words.specs.Events.{AreBytes, SourceEnding}
 use Rattle.cyc_tree.specs.Tree.{Program}
 use Rattle.core_meaning.specs.Meaning.{core}
-use Rattle.judged_sources.proofs.Joined.{never_stuck}
+use Rattle.lower_checks.proofs.Joined.{never_stuck}
 use Rattle.source_lowering.proofs.Programs.{programs_same}
 use Rattle.source_lowering.specs.Agreeing.{SameOutcome}
 use Rattle.source_lowering.specs.Programs.{program_code}
 use Rattle.source_meaning.specs.Programs.{source, world_of}
-use Rattle.unique_flow.proofs.Accepted.{no_faults}
-use Rattle.unique_flow.specs.Accepted.{IsAccepted}
+use Rattle.accepted_programs.proofs.Accepted.{no_faults}
+use Rattle.accepted_programs.specs.Accepted.{IsAccepted}
 use Rattle.lower_checks.proofs.Lowerable.{is_lowerable}
 
 pub is_never_stuck : (p : Program) → IsAccepted p → (input : List ℕ) (n : ℕ) → (source p input n).ending ≡ SourceEnding.Stuck → ⊥

@@ -4,7 +4,7 @@ ghost use Rattle.std.specs.Prelude.{◌≢◌, ℕ, List};
 ghost use Rattle.cyc_words.specs.Events.{SourceEnding};
 ghost use Rattle.source_meaning.specs.Programs.{source};
 
-use unique_flow::Checked;
+use accepted_programs::Checked;
 
 /// No run of a checked program is out of order, on any input and with any amount of fuel. The call does nothing.
 pub fn never_stuck(checked: &Checked)

@@ -3,7 +3,7 @@
 //! `eval` does what `source` of `source_meaning` says, with so many units of fuel, between a reader and a writer. It lowers the
 //! program, by `lower_checks`, and runs its Core, by `core_eval`; that Core shows what the source shows is proved of lowering,
 //! so the clauses speak of the source alone. `never_stuck` is the law that no checked program is out of order, by the rules
-//! of its types (`judged_sources`). Stands on these and on `unique_flow`, whose programs it runs.
+//! of its types (`accepted_proof`). Stands on these and on `accepted_programs`, whose programs it runs.
 #![tactic(auto)]
 
 mod laws;
@@ -11,4 +11,5 @@ mod running;
 
 pub use core_eval::EvalEnding;
 pub use laws::never_stuck;
+pub use lower_checks::lower;
 pub use running::eval;

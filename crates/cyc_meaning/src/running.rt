@@ -4,11 +4,11 @@ ghost use Rattle.std.specs.Prelude.{◌≡◌, ◌≢◌};
 ghost use Rattle.core_eval.specs.Evaluated.{reads_failed, writes_failed};
 ghost use Rattle.cyc_meaning.specs.Evaluated.{IsEvaluated};
 
+use accepted_programs::Checked;
 use core_eval::{EvalEnding, evaluate_core};
 use cyc_words::{Input, Output};
 use lower_checks::lower;
 use std::alloc::Global;
-use unique_flow::Checked;
 
 /// Runs a checked program by the meaning of its source, with so many units of fuel.
 ///

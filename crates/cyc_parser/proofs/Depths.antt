@@ -6,7 +6,7 @@ use Rattle.cyc_parser.specs.declared.fault.ParseFault.{ParseFault}
 use Rattle.cyc_parser.specs.declared.fault.ParseFault.TheVariants.{Parse, TooDeep}
 use Rattle.cyc_parser.specs.Reading.{next_place}
 use native.Mathlib.Numerals.{unary_clauses}
-use Rattle.cyc_parser.specs.Phrases.{Tokens}
+use Rattle.source_grammar.specs.Phrases.{Tokens}
 use Rattle.cyc_parser.specs.Tests.{begins_statement}
 use Rattle.cyc_parser.specs.Reader.{Outcome, Fails, next_is, too_deep, refuse}
 use Rattle.cyc_parser.specs.ReadExpressions.{expression_at}

@@ -7,8 +7,8 @@ use Rattle.cyc_lexer.specs.declared.token.TokenKind.TheVariants as kind
 use Rattle.cyc_tree.specs.Tree.{Expression, Expressions, NoExpressions, MoreExpressions}
 use Rattle.cyc_tree.specs.View.{expressions_of}
 use Rattle.cyc_tree.proofs.PartNesting.{argument_nesting, expression_nesting}
-use Rattle.cyc_parser.specs.Phrases.{Tokens, SignAt, IsSign}
-use Rattle.cyc_parser.specs.ExpressionGrammar.{AreArguments}
+use Rattle.source_grammar.specs.Phrases.{Tokens, SignAt, IsSign}
+use Rattle.source_grammar.specs.ExpressionGrammar.{AreArguments}
 use Rattle.cyc_parser.specs.Tests.{continues, is_sign, begins_unary}
 use Rattle.cyc_parser.specs.Reader.{Outcome, done, read, many, behind, listed, sign, next_is}
 use Rattle.cyc_parser.specs.ReadExpressions.{arguments_by}

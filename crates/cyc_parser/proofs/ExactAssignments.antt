@@ -6,8 +6,8 @@ use Rattle.cyc_lexer.specs.declared.token.TokenKind.{TokenKind}
 use Rattle.cyc_lexer.specs.declared.token.TokenKind.TheVariants as kind
 use Rattle.cyc_tree.specs.Tree.{Expression, Chain, Assign, NoLinks, MoreLinks}
 use Rattle.cyc_tree.proofs.PartNesting.{inner_nesting, expression_nesting}
-use Rattle.cyc_parser.specs.Phrases.{Tokens, SignAt}
-use Rattle.cyc_parser.specs.ExpressionGrammar.{IsExpression, binds, unary_level}
+use Rattle.source_grammar.specs.Phrases.{Tokens, SignAt}
+use Rattle.source_grammar.specs.ExpressionGrammar.{IsExpression, binds, unary_level}
 use Rattle.cyc_parser.specs.Tests.{continues, is_sign}
 use Rattle.cyc_parser.specs.Reader.{Outcome, done, read, choose, sign, next_is}
 use Rattle.cyc_parser.specs.ReadExpressions.{any_of_by, assigned_by, assignment_by}

@@ -7,8 +7,8 @@ use Rattle.cyc_lexer.specs.declared.token.Sign.TheVariants as sign_of
 use Rattle.cyc_lexer.specs.declared.token.TokenKind.{TokenKind}
 use Rattle.cyc_lexer.specs.declared.token.TokenKind.TheVariants as kind
 use Rattle.cyc_tree.specs.Tree.{RegionName, Base, Int, Unsigned, Char, Void, Struct, Union, Handle, Key}
-use Rattle.cyc_parser.specs.Phrases.{Tokens, KeywordAt, IsKeyword, IsName}
-use Rattle.cyc_parser.specs.TypeGrammar.{AreRegions, IsOneRegion, IsBase}
+use Rattle.source_grammar.specs.Phrases.{Tokens, KeywordAt, IsKeyword, IsName}
+use Rattle.source_grammar.specs.TypeGrammar.{AreRegions, IsOneRegion, IsBase}
 use Rattle.cyc_parser.specs.Tests.{is_sign, is_keyword, begins_type}
 use Rattle.cyc_parser.specs.Reader.{done, read, token}
 use Rattle.cyc_parser.specs.ReadTypes.{region_list, base_behind, base}

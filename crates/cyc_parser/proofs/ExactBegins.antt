@@ -14,8 +14,8 @@ use Rattle.cyc_tree.specs.Tree.{Expression, Number, Character, Text, Null, HeapR
 use Rattle.cyc_tree.specs.Tree.{Suffixed, Prefixed, New, NewIn, Chain, AllOf, AnyOf, Assign, NoExpressions, MoreExpressions, NoLinks, MoreLinks}
 use Rattle.cyc_tree.specs.Tree.{NoSuffixes, Index, Dot, Arrow, One}
 use Rattle.cyc_tree.proofs.PartNesting.{inner_nesting}
-use Rattle.cyc_parser.specs.Phrases.{Tokens, InParentheses}
-use Rattle.cyc_parser.specs.ExpressionGrammar.{IsExpression, binds, unary_level, prefix_sign}
+use Rattle.source_grammar.specs.Phrases.{Tokens, InParentheses}
+use Rattle.source_grammar.specs.ExpressionGrammar.{IsExpression, binds, unary_level, prefix_sign}
 use Rattle.cyc_parser.specs.Tests.{begins_unary}
 use Rattle.cyc_parser.specs.Reader.{next_is}
 use Rattle.cyc_parser.specs.Exact.{nowhere, Phrase, PhraseFrom}

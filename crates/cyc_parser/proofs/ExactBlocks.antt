@@ -8,8 +8,8 @@ use Rattle.cyc_tree.specs.Tree as tree
 use Rattle.cyc_tree.specs.Tree.{Expression, Statement, Block, BlockItems, NoItems}
 use Rattle.cyc_tree.specs.View.{OneItem, items_of}
 use Rattle.cyc_tree.proofs.PartNesting.{items_nesting}
-use Rattle.cyc_parser.specs.Phrases.{Tokens, SignAt}
-use Rattle.cyc_parser.specs.StatementGrammar.{AreItems, ends_open}
+use Rattle.source_grammar.specs.Phrases.{Tokens, SignAt}
+use Rattle.source_grammar.specs.StatementGrammar.{AreItems, ends_open}
 use Rattle.cyc_parser.specs.Tests.{is_keyword, begins_declaration, begins_statement, begins_item, continues}
 use Rattle.cyc_parser.specs.Reader.{next_is}
 use Rattle.cyc_parser.specs.ReadExpressions.{Reads}

@@ -12,8 +12,8 @@ use Rattle.cyc_tree.specs.declared.expression.Operator.TheVariants as operator
 use Rattle.cyc_tree.specs.Tree.{Expression, Chain, AllOf, AnyOf, Assign, Links, NoLinks, MoreLinks}
 use Rattle.cyc_tree.specs.View.{links_of}
 use Rattle.cyc_tree.proofs.PartNesting.{inner_nesting, link_nesting}
-use Rattle.cyc_parser.specs.Phrases.{Tokens, IsSign}
-use Rattle.cyc_parser.specs.ExpressionGrammar.{IsExpression, AreLinks, binds, level_of, operator_sign, unary_level}
+use Rattle.source_grammar.specs.Phrases.{Tokens, IsSign}
+use Rattle.source_grammar.specs.ExpressionGrammar.{IsExpression, AreLinks, binds, level_of, operator_sign, unary_level}
 use Rattle.cyc_parser.specs.Parts.{chained}
 use Rattle.cyc_parser.specs.Tests.{continues, strength, sign_strength, is_operator}
 use Rattle.cyc_parser.specs.Reader.{Outcome, done, read, token, many, next_is}

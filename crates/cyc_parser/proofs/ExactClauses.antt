@@ -9,8 +9,8 @@ use Rattle.cyc_lexer.specs.declared.token.TokenKind.{TokenKind}
 use Rattle.cyc_tree.specs.Tree.{Expression, Statement, Switch, Pattern, Case, Default, BlockItems, Clauses, NoClauses, MoreClauses}
 use Rattle.cyc_tree.specs.View.{OneItem, OneClause, items_of, clauses_of}
 use Rattle.cyc_tree.proofs.PartNesting.{expression_nesting, items_nesting, clauses_nesting}
-use Rattle.cyc_parser.specs.Phrases.{Tokens, KeywordAt, IsKeyword, IsSign, IsName}
-use Rattle.cyc_parser.specs.StatementGrammar.{IsPattern, AreItems, AreClauses, ends_open}
+use Rattle.source_grammar.specs.Phrases.{Tokens, KeywordAt, IsKeyword, IsSign, IsName}
+use Rattle.source_grammar.specs.StatementGrammar.{IsPattern, AreItems, AreClauses, ends_open}
 use Rattle.cyc_parser.specs.Tests.{is_keyword, begins_clause, continues}
 use Rattle.cyc_parser.specs.Reading.{next_place}
 use Rattle.cyc_parser.specs.Reader.{next_is}

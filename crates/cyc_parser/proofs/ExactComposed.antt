@@ -2,7 +2,7 @@
 use Rattle.std.proofs.Common.{◌≡◌, Bool, true, false, [], ◌∷◌, refl, sym, ap, subst, ◌∙◌, true≢false}
 use Rattle.cyc_lexer.specs.Lexing.{Token}
 use Rattle.cyc_lexer.specs.declared.token.TokenKind.{TokenKind}
-use Rattle.cyc_parser.specs.Phrases.{Tokens}
+use Rattle.source_grammar.specs.Phrases.{Tokens}
 use Rattle.cyc_parser.specs.Reader.{Outcome, done, read, choose, next_is}
 use Rattle.cyc_parser.specs.Exact.{Stops, Exact, Anything, ends, always, IsDone, Then, Either}
 pub use Rattle.cyc_parser.proofs.ExactParts.{stops_never, stops_wider, begins_stops}

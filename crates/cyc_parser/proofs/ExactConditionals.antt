@@ -6,8 +6,8 @@ use Rattle.cyc_tree.specs.Tree.{Expression, Statement, If, IfElse, While}
 use Rattle.cyc_tree.proofs.PartNesting.{expression_nesting, statement_nesting}
 use Rattle.cyc_parser.specs.declared.fault.ParseFault.{ParseFault}
 use Rattle.cyc_parser.specs.declared.fault.ParseFault.TheVariants.{Parse, TooDeep, Memory}
-use Rattle.cyc_parser.specs.Phrases.{Tokens, KeywordAt}
-use Rattle.cyc_parser.specs.StatementGrammar.{IsStatement, ends_open}
+use Rattle.source_grammar.specs.Phrases.{Tokens, KeywordAt}
+use Rattle.source_grammar.specs.StatementGrammar.{IsStatement, ends_open}
 use Rattle.cyc_parser.specs.Tests.{is_keyword}
 use Rattle.cyc_parser.specs.Reader.{Outcome, done, read, next_is, keyword}
 use Rattle.cyc_parser.specs.ReadExpressions.{Reads, parenthesized_by}

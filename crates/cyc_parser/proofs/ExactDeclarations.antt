@@ -8,9 +8,9 @@ use Rattle.cyc_lexer.specs.declared.token.TokenKind.TheVariants as kind
 use Rattle.cyc_tree.specs.Tree as tree
 use Rattle.cyc_tree.specs.Tree.{Name, RegionName, TypeName, Base, Int, Unsigned, Char, Void, Struct, Union, Handle, Key, Expression, Declaration, Local, Open, Alias, NewKey}
 use Rattle.cyc_tree.proofs.PartNesting.{initializer_nesting}
-use Rattle.cyc_parser.specs.Phrases.{Tokens, KeywordAt, IsName}
-use Rattle.cyc_parser.specs.TypeGrammar.{IsOneRegion, IsBase, IsType}
-use Rattle.cyc_parser.specs.StatementGrammar.{IsCount, IsInitializer, IsNameInParentheses, IsDeclaration}
+use Rattle.source_grammar.specs.Phrases.{Tokens, KeywordAt, IsName}
+use Rattle.source_grammar.specs.TypeGrammar.{IsOneRegion, IsBase, IsType}
+use Rattle.source_grammar.specs.StatementGrammar.{IsCount, IsInitializer, IsNameInParentheses, IsDeclaration}
 use Rattle.cyc_parser.specs.Tests.{is_sign, is_keyword, keyword_number, is_type_word, begins_type, begins_declaration, continues}
 use Rattle.cyc_parser.specs.Reader.{next_is}
 use Rattle.cyc_parser.specs.ReadExpressions.{Reads}

@@ -4,8 +4,8 @@ use Rattle.cyc_lexer.specs.declared.token.Sign.TheVariants as sign_of
 use Rattle.cyc_lexer.specs.declared.token.TokenKind.{TokenKind}
 use Rattle.cyc_lexer.specs.declared.token.TokenKind.TheVariants as kind
 use Rattle.cyc_tree.specs.Tree.{RegionName, Bound}
-use Rattle.cyc_parser.specs.Phrases.{Tokens, SignAt, IsSign, IsRegion, Listed}
-use Rattle.cyc_parser.specs.Grammar.{MayBeListed, IsEffect, IsBound, AreBounds}
+use Rattle.source_grammar.specs.Phrases.{Tokens, SignAt, IsSign, IsRegion, Listed}
+use Rattle.source_grammar.specs.Grammar.{MayBeListed, IsEffect, IsBound, AreBounds}
 use Rattle.cyc_parser.specs.Tests.{is_sign, is_region}
 use Rattle.cyc_parser.specs.Reader.{done, choose, listed}
 use Rattle.cyc_parser.specs.ReadTypes.{regions}

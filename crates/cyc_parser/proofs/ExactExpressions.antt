@@ -1,7 +1,7 @@
 -- The readers of expressions are exact.
 use Rattle.std.proofs.Common.{◌≡◌, ℕ, zero, suc, true, false, arith}
 use Rattle.cyc_lexer.specs.Lexing.{Token}
-use Rattle.cyc_parser.specs.ExpressionGrammar.{unary_level}
+use Rattle.source_grammar.specs.ExpressionGrammar.{unary_level}
 use Rattle.cyc_parser.specs.Tests.{begins_unary, continues}
 use Rattle.cyc_parser.specs.ReadExpressions.{parenthesized_by, expression_at, unary_at}
 use Rattle.cyc_parser.specs.Exact.{Exact, PhraseFrom, Anything, ends, always}

@@ -8,8 +8,8 @@ use Rattle.cyc_tree.specs.Tree.{Name, Expression, Number, Character, Text, Null,
 use Rattle.cyc_tree.specs.Tree.{Grouped, Chain, NoLinks, MoreLinks}
 use Rattle.cyc_tree.specs.View.{expressions_of}
 use Rattle.cyc_tree.proofs.PartNesting.{inner_nesting, argument_nesting, expression_nesting}
-use Rattle.cyc_parser.specs.Phrases.{Tokens, SignAt, IsSign, IsName}
-use Rattle.cyc_parser.specs.ExpressionGrammar.{primary_level}
+use Rattle.source_grammar.specs.Phrases.{Tokens, SignAt, IsSign, IsName}
+use Rattle.source_grammar.specs.ExpressionGrammar.{primary_level}
 use Rattle.cyc_parser.specs.Tests.{continues, is_sign, is_identifier, is_literal}
 use Rattle.cyc_parser.specs.Reader.{Outcome, done, read, choose, sign, next_is}
 use Rattle.cyc_parser.specs.ReadTypes.{name}

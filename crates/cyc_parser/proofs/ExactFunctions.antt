@@ -7,9 +7,9 @@ use Rattle.cyc_tree.proofs.PartNesting.{items_nesting}
 use Rattle.cyc_tree.specs.Tree as tree
 use Rattle.cyc_tree.specs.Tree.{Name, RegionName, TypeName, Member, Bound, Function, BlockItems, NoItems}
 use Rattle.cyc_tree.specs.View.{OneItem, items_of}
-use Rattle.cyc_parser.specs.Phrases.{Tokens, SignAt}
-use Rattle.cyc_parser.specs.StatementGrammar.{AreItems}
-use Rattle.cyc_parser.specs.Grammar.{AreParameters, IsEffect, AreBounds, IsFunctionRest}
+use Rattle.source_grammar.specs.Phrases.{Tokens, SignAt}
+use Rattle.source_grammar.specs.StatementGrammar.{AreItems}
+use Rattle.source_grammar.specs.Grammar.{AreParameters, IsEffect, AreBounds, IsFunctionRest}
 use Rattle.cyc_parser.specs.Tests.{is_sign}
 use Rattle.cyc_parser.specs.ReadPrograms.{function_of}
 use Rattle.cyc_parser.specs.Exact.{Exact, Anything, ends, Stops, IsDone, Then, Whole, Within}

@@ -8,8 +8,8 @@ use Rattle.cyc_lexer.specs.declared.token.TokenKind.TheVariants as kind
 use Rattle.cyc_tree.specs.Tree.{Expression, Chain, AllOf, AnyOf, Assign, NoLinks, MoreLinks, Expressions, NoExpressions, MoreExpressions}
 use Rattle.cyc_tree.specs.View.{expressions_of}
 use Rattle.cyc_tree.proofs.PartNesting.{inner_nesting, operand_nesting}
-use Rattle.cyc_parser.specs.Phrases.{Tokens}
-use Rattle.cyc_parser.specs.ExpressionGrammar.{IsExpression, AreOperands, binds, unary_level}
+use Rattle.source_grammar.specs.Phrases.{Tokens}
+use Rattle.source_grammar.specs.ExpressionGrammar.{IsExpression, AreOperands, binds, unary_level}
 use Rattle.cyc_parser.specs.Tests.{continues, is_sign}
 use Rattle.cyc_parser.specs.Reader.{Outcome, done, read, many, behind}
 use Rattle.cyc_parser.specs.ReadExpressions.{chain_by, all_of, any_of, all_of_by, any_of_by}

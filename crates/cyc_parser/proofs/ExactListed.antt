@@ -3,7 +3,7 @@ use Rattle.std.proofs.Common.{◌≡◌, Bool, true, false, ◌||◌, List, [], 
 use Rattle.cyc_lexer.specs.declared.token.Sign.{Sign}
 use Rattle.cyc_lexer.specs.declared.token.Sign.TheVariants as sign_of
 use Rattle.cyc_lexer.specs.declared.token.TokenKind.{TokenKind}
-use Rattle.cyc_parser.specs.Phrases.{Tokens, SignAt, IsSign, Each, Behind, Listed}
+use Rattle.source_grammar.specs.Phrases.{Tokens, SignAt, IsSign, Each, Behind, Listed}
 use Rattle.cyc_parser.specs.Tests.{is_sign}
 use Rattle.cyc_parser.specs.Reader.{Outcome, many, sign, behind, listed, next_is}
 use Rattle.cyc_parser.specs.Exact.{Exact, Anything, ends, always, Then, Rows, Whole}

@@ -5,7 +5,7 @@ use Rattle.std.proofs.lemmas.Bool.{cases_Bool, or_left, or_right}
 use Rattle.cyc_lexer.specs.declared.token.TokenKind.{TokenKind}
 use Rattle.cyc_parser.specs.declared.fault.ParseFault.{ParseFault}
 use Rattle.cyc_parser.specs.declared.fault.ParseFault.TheVariants.{Parse, TooDeep, Memory}
-use Rattle.cyc_parser.specs.Phrases.{Tokens}
+use Rattle.source_grammar.specs.Phrases.{Tokens}
 use Rattle.cyc_parser.specs.Reader.{Outcome, ◌>>=◌, many, one_more, next_is}
 use Rattle.cyc_parser.specs.Exact.{Found, Refused, Deepened, Stops, Passes, Exact, Anything, always, Rows}
 use Rattle.cyc_parser.proofs.ExactParts.{bind_ok, bind_err, reads, ok_is, no_fault, next_same, stops_wider, begins_stops}

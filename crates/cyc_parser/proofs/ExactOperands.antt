@@ -6,8 +6,8 @@ use Rattle.cyc_lexer.specs.declared.token.TokenKind.{TokenKind}
 use Rattle.cyc_tree.specs.Tree.{Expression, Expressions, NoExpressions, MoreExpressions}
 use Rattle.cyc_tree.specs.View.{expressions_of}
 use Rattle.cyc_tree.proofs.PartNesting.{inner_nesting, expression_nesting}
-use Rattle.cyc_parser.specs.Phrases.{Tokens, InParentheses, SignAt}
-use Rattle.cyc_parser.specs.ExpressionGrammar.{IsExpression, AreOperands, binds}
+use Rattle.source_grammar.specs.Phrases.{Tokens, InParentheses, SignAt}
+use Rattle.source_grammar.specs.ExpressionGrammar.{IsExpression, AreOperands, binds}
 use Rattle.cyc_parser.specs.Tests.{continues, strength, is_sign, sign_number}
 use Rattle.cyc_parser.specs.Reader.{Outcome, done, read, many, behind, sign, next_is}
 use Rattle.cyc_parser.specs.Exact.{Exact, Anything, Stops, Within, Whole, Then, Rows, ends, always}

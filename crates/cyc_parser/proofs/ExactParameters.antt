@@ -6,9 +6,9 @@ use Rattle.cyc_lexer.specs.declared.token.Sign.TheVariants as sign_of
 use Rattle.cyc_lexer.specs.declared.token.TokenKind.{TokenKind}
 use Rattle.cyc_lexer.specs.declared.token.TokenKind.TheVariants as kind
 use Rattle.cyc_tree.specs.Tree.{Base, Int, Unsigned, Char, Void, Struct, Union, Handle, Key, Pointer, Member}
-use Rattle.cyc_parser.specs.Phrases.{Tokens, KeywordAt, IsKeyword, IsName, Each, Behind}
-use Rattle.cyc_parser.specs.TypeGrammar.{IsBase, IsPointer, IsTyped}
-use Rattle.cyc_parser.specs.Grammar.{AreParameters}
+use Rattle.source_grammar.specs.Phrases.{Tokens, KeywordAt, IsKeyword, IsName, Each, Behind}
+use Rattle.source_grammar.specs.TypeGrammar.{IsBase, IsPointer, IsTyped}
+use Rattle.source_grammar.specs.Grammar.{AreParameters}
 use Rattle.cyc_parser.specs.Reading.{next_place}
 use Rattle.cyc_parser.specs.Tests.{is_sign, is_keyword, begins_type, begins_pointer, begins_declarator, ends_parameters}
 use Rattle.cyc_parser.specs.Reader.{done, read, choose, many, behind, next_is}

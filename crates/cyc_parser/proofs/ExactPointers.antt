@@ -8,8 +8,8 @@ use Rattle.cyc_lexer.specs.declared.token.TokenKind.TheVariants as kind
 use Rattle.cyc_tree.specs.declared.name.Sign.{Sign as PointerSign}
 use Rattle.cyc_tree.specs.declared.name.Sign.TheVariants as pointer_sign
 use Rattle.cyc_tree.specs.Tree.{RegionName, Pointer}
-use Rattle.cyc_parser.specs.Phrases.{Tokens, SignAt, IsRegion, Each}
-use Rattle.cyc_parser.specs.TypeGrammar.{IsPointerSign, MayBeRegion, IsPointer}
+use Rattle.source_grammar.specs.Phrases.{Tokens, SignAt, IsRegion, Each}
+use Rattle.source_grammar.specs.TypeGrammar.{IsPointerSign, MayBeRegion, IsPointer}
 use Rattle.cyc_parser.specs.Tests.{is_sign, is_region, is_identifier, begins_pointer}
 use Rattle.cyc_parser.specs.Reader.{done, read, token, sign, next_is}
 use Rattle.cyc_parser.specs.ReadTypes.{qualified, pointer_sign_behind, pointer_sign_read, pointer, pointers}

@@ -9,8 +9,8 @@ use Rattle.cyc_tree.specs.Tree.{Name, Expression, Variable, Call, MakeUnion, Suf
 use Rattle.cyc_tree.specs.Tree.{Arrow}
 use Rattle.cyc_tree.specs.View.{OneSuffix, suffixes_of, expressions_of}
 use Rattle.cyc_tree.proofs.PartNesting.{inner_nesting, suffix_nesting}
-use Rattle.cyc_parser.specs.Phrases.{Tokens}
-use Rattle.cyc_parser.specs.ExpressionGrammar.{IsExpression, AreSuffixes, binds, unary_level, primary_level}
+use Rattle.source_grammar.specs.Phrases.{Tokens}
+use Rattle.source_grammar.specs.ExpressionGrammar.{IsExpression, AreSuffixes, binds, unary_level, primary_level}
 use Rattle.cyc_parser.specs.Tests.{continues, is_sign, is_identifier}
 use Rattle.cyc_parser.specs.Reader.{Outcome, ◌>>=◌, done, read, choose, sign, next_is}
 use Rattle.cyc_parser.specs.ReadTypes.{name}

@@ -8,7 +8,7 @@ use Rattle.cyc_lexer.specs.declared.token.Sign.TheVariants as sign_of
 use Rattle.cyc_lexer.specs.declared.token.TokenKind.{TokenKind}
 use Rattle.cyc_lexer.specs.declared.token.TokenKind.TheVariants as kind
 use Rattle.cyc_tree.specs.Tree.{Expression, Number, Character, Text, Null, HeapRegion, UniqueRegion, NumElts, Grouped}
-use Rattle.cyc_parser.specs.Phrases.{Tokens, IsOne, IsString, KeywordAt, SignAt}
+use Rattle.source_grammar.specs.Phrases.{Tokens, IsOne, IsString, KeywordAt, SignAt}
 use Rattle.cyc_parser.specs.Tests.{continues, is_sign, is_keyword, is_literal}
 use Rattle.cyc_parser.specs.Reader.{Outcome, done, read, token, sign, keyword, next_is}
 use Rattle.cyc_parser.specs.ReadExpressions.{literal, literal_of, parenthesized_by, grouped_by, primary_by}

@@ -6,9 +6,9 @@ use Rattle.cyc_lexer.specs.declared.token.Sign.TheVariants as sign_of
 use Rattle.cyc_lexer.specs.declared.token.TokenKind.{TokenKind}
 use Rattle.cyc_lexer.specs.declared.token.TokenKind.TheVariants as kind
 use Rattle.cyc_tree.specs.Tree.{Name, RegionName, Base, Int, Unsigned, Char, Void, Struct, Union, Handle, Key, TypeName, Initial, Item, StructItem, UnionItem, GlobalItem, FunctionItem}
-use Rattle.cyc_parser.specs.Phrases.{Tokens, KeywordAt, IsKeyword, IsName, Each}
-use Rattle.cyc_parser.specs.TypeGrammar.{AreRegions, IsBase, IsPointer, IsType}
-use Rattle.cyc_parser.specs.Grammar.{AreMembers}
+use Rattle.source_grammar.specs.Phrases.{Tokens, KeywordAt, IsKeyword, IsName, Each}
+use Rattle.source_grammar.specs.TypeGrammar.{AreRegions, IsBase, IsPointer, IsType}
+use Rattle.source_grammar.specs.Grammar.{AreMembers}
 use Rattle.cyc_parser.specs.Reading.{next_place}
 use Rattle.cyc_parser.specs.Tests.{is_sign, is_keyword, begins_type, begins_pointer}
 use Rattle.cyc_parser.specs.Reader.{choose, read, next_is}

@@ -3,8 +3,8 @@ use Rattle.std.proofs.Common.{◌≡◌, ◌≤◌, ℕ, zero, suc, max, Bool, t
 use Rattle.cyc_tree.specs.Tree.{Item, StructItem, UnionItem, GlobalItem, FunctionItem}
 use Rattle.cyc_tree.proofs.PartNesting.{item_nesting, program_nesting}
 use Rattle.cyc_parser.specs.declared.fault.ParseFault.TheVariants.{Memory}
-use Rattle.cyc_parser.specs.Phrases.{Tokens, Each}
-use Rattle.cyc_parser.specs.Grammar.{IsItem}
+use Rattle.source_grammar.specs.Phrases.{Tokens, Each}
+use Rattle.source_grammar.specs.Grammar.{IsItem}
 use Rattle.cyc_parser.specs.Tests.{is_any}
 use Rattle.cyc_parser.specs.Reader.{Outcome, ◌>>=◌, next_is, one_more, many_in, many}
 use Rattle.cyc_parser.specs.ReadPrograms.{item, program}

@@ -2,8 +2,8 @@
 use Rattle.std.proofs.Common.{◌≡◌, ◌⊎◌, Bool, true, List, [], ◌∷◌, refl, inl, inr}
 use Rattle.cyc_lexer.specs.declared.token.Sign.TheVariants as sign_of
 use Rattle.cyc_tree.specs.Tree.{RegionName, Heap, Unique, Named}
-use Rattle.cyc_parser.specs.Phrases.{Tokens, SignAt, IsSign, IsRegion, Listed}
-use Rattle.cyc_parser.specs.TypeGrammar.{AreRegions, IsOneRegion}
+use Rattle.source_grammar.specs.Phrases.{Tokens, SignAt, IsSign, IsRegion, Listed}
+use Rattle.source_grammar.specs.TypeGrammar.{AreRegions, IsOneRegion}
 use Rattle.cyc_parser.specs.Tests.{is_sign, is_region}
 use Rattle.cyc_parser.specs.Reader.{next_is}
 use Rattle.cyc_parser.specs.ReadTypes.{one_region, regions, region_list}

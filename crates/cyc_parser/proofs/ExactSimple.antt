@@ -4,8 +4,8 @@ use Rattle.cyc_lexer.specs.declared.token.Keyword.{Keyword}
 use Rattle.cyc_lexer.specs.declared.token.Keyword.TheVariants as word
 use Rattle.cyc_lexer.specs.declared.token.Sign.TheVariants as sign_of
 use Rattle.cyc_tree.specs.Tree.{Name, Expression, Statement, Empty, Run, Exchange, Break, Continue, Return, FreeUnique, FreeKey}
-use Rattle.cyc_parser.specs.Phrases.{Tokens, KeywordAt, SignAt, IsSign}
-use Rattle.cyc_parser.specs.StatementGrammar.{IsNameInParentheses, ends_open}
+use Rattle.source_grammar.specs.Phrases.{Tokens, KeywordAt, SignAt, IsSign}
+use Rattle.source_grammar.specs.StatementGrammar.{IsNameInParentheses, ends_open}
 use Rattle.cyc_parser.specs.Tests.{is_sign, is_keyword, begins_unary, continues}
 use Rattle.cyc_parser.specs.Reader.{next_is}
 use Rattle.cyc_parser.specs.ReadExpressions.{Reads}

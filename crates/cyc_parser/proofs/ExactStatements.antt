@@ -6,8 +6,8 @@ use Rattle.cyc_lexer.specs.declared.token.Sign.TheVariants as sign_of
 use Rattle.cyc_lexer.specs.declared.token.TokenKind.{TokenKind}
 use Rattle.cyc_tree.specs.Tree.{Expression, Statement, Empty, Block, Run, Exchange, If, IfElse, While, Switch, Break, Continue, Return, FreeUnique, FreeKey}
 use Rattle.cyc_tree.proofs.PartNesting.{expression_nesting}
-use Rattle.cyc_parser.specs.Phrases.{Tokens}
-use Rattle.cyc_parser.specs.StatementGrammar.{IsStatement}
+use Rattle.source_grammar.specs.Phrases.{Tokens}
+use Rattle.source_grammar.specs.StatementGrammar.{IsStatement}
 use Rattle.cyc_parser.specs.Tests.{is_sign, is_keyword, begins_statement, continues}
 use Rattle.cyc_parser.specs.Reader.{Outcome, choose, next_is}
 use Rattle.cyc_parser.specs.ReadExpressions.{Reads, parenthesized_by, expression_at}

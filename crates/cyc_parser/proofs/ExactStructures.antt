@@ -5,10 +5,10 @@ use Rattle.cyc_lexer.specs.declared.token.Sign.TheVariants as sign_of
 use Rattle.cyc_lexer.specs.declared.token.TokenKind.{TokenKind}
 use Rattle.cyc_lexer.specs.declared.token.TokenKind.TheVariants as kind
 use Rattle.cyc_tree.specs.Tree.{Member, Structure, Initial, Given}
-use Rattle.cyc_parser.specs.Phrases.{Tokens, KeywordAt, SignAt, IsKeyword, IsName, Each}
-use Rattle.cyc_parser.specs.TypeGrammar.{AreRegions, IsTyped}
-use Rattle.cyc_parser.specs.StatementGrammar.{IsCount}
-use Rattle.cyc_parser.specs.Grammar.{IsMember, AreMembers, IsStructure, IsConstant, IsInitial}
+use Rattle.source_grammar.specs.Phrases.{Tokens, KeywordAt, SignAt, IsKeyword, IsName, Each}
+use Rattle.source_grammar.specs.TypeGrammar.{AreRegions, IsTyped}
+use Rattle.source_grammar.specs.StatementGrammar.{IsCount}
+use Rattle.source_grammar.specs.Grammar.{IsMember, AreMembers, IsStructure, IsConstant, IsInitial}
 use Rattle.cyc_parser.specs.Tests.{is_sign, begins_type}
 use Rattle.cyc_parser.specs.Reader.{next_is}
 use Rattle.cyc_parser.specs.ReadPrograms.{member, members, tagged_union, initial}

@@ -9,8 +9,8 @@ use Rattle.cyc_lexer.specs.declared.token.TokenKind.TheVariants as kind
 use Rattle.cyc_tree.specs.Tree.{Name, Expression, Suffixes, NoSuffixes, Index, Dot, Arrow}
 use Rattle.cyc_tree.specs.View.{OneSuffix, suffixes_of}
 use Rattle.cyc_tree.proofs.PartNesting.{expression_nesting, suffix_nesting}
-use Rattle.cyc_parser.specs.Phrases.{Tokens, SignAt, IsSign, IsName}
-use Rattle.cyc_parser.specs.ExpressionGrammar.{AreSuffixes, unary_level}
+use Rattle.source_grammar.specs.Phrases.{Tokens, SignAt, IsSign, IsName}
+use Rattle.source_grammar.specs.ExpressionGrammar.{AreSuffixes, unary_level}
 use Rattle.cyc_parser.specs.Tests.{continues, is_sign, begins_suffix}
 use Rattle.cyc_parser.specs.Reader.{Outcome, done, read, many, sign, next_is}
 use Rattle.cyc_parser.specs.ReadTypes.{name}

@@ -9,7 +9,7 @@ use Rattle.cyc_lexer.specs.declared.token.Sign.{Sign}
 use Rattle.cyc_lexer.specs.declared.token.TokenKind.{TokenKind}
 use Rattle.cyc_lexer.specs.declared.token.TokenKind.TheVariants as kind
 use Rattle.cyc_tree.specs.Tree.{Name, RegionName, Heap, Unique, Named}
-use Rattle.cyc_parser.specs.Phrases.{Tokens, IsOne, KeywordAt, SignAt, IsName, IsRegion, after_backquote}
+use Rattle.source_grammar.specs.Phrases.{Tokens, IsOne, KeywordAt, SignAt, IsName, IsRegion, after_backquote}
 use Rattle.cyc_parser.specs.Tests.{is_sign, is_keyword, is_identifier, is_region, is_number}
 use Rattle.cyc_parser.specs.Reader.{done, read, token, sign, keyword}
 use Rattle.cyc_parser.specs.ReadTypes.{name_of, name, region_of, region, value_of, number}

@@ -5,9 +5,9 @@ use Rattle.cyc_lexer.specs.declared.token.TokenKind.{TokenKind}
 use Rattle.cyc_lexer.specs.declared.token.TokenKind.TheVariants as kind
 use Rattle.cyc_tree.proofs.PartNesting.{item_nesting, items_nesting}
 use Rattle.cyc_tree.specs.Tree.{Name, Pointer, TypeName, Initial, Given, Item, StructItem, UnionItem, GlobalItem, FunctionItem}
-use Rattle.cyc_parser.specs.Phrases.{Tokens, SignAt, IsSign, IsName, Each}
-use Rattle.cyc_parser.specs.TypeGrammar.{IsPointer, IsType}
-use Rattle.cyc_parser.specs.Grammar.{IsInitial, IsFunctionRest, IsItem}
+use Rattle.source_grammar.specs.Phrases.{Tokens, SignAt, IsSign, IsName, Each}
+use Rattle.source_grammar.specs.TypeGrammar.{IsPointer, IsType}
+use Rattle.source_grammar.specs.Grammar.{IsInitial, IsFunctionRest, IsItem}
 use Rattle.cyc_parser.specs.Tests.{is_sign, begins_pointer}
 use Rattle.cyc_parser.specs.Reader.{next_is}
 use Rattle.cyc_parser.specs.ReadPrograms.{function_of, typed}

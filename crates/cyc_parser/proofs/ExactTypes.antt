@@ -8,10 +8,10 @@ use Rattle.cyc_lexer.specs.declared.token.TokenKind.{TokenKind}
 use Rattle.cyc_lexer.specs.declared.token.TokenKind.TheVariants as kind
 use Rattle.cyc_tree.specs.Tree as tree
 use Rattle.cyc_tree.specs.Tree.{Base, Pointer, TypeName}
-use Rattle.cyc_parser.specs.Phrases.{Tokens, SignAt, IsName, StartsAt, Each}
-use Rattle.cyc_parser.specs.TypeGrammar.{IsBase, IsPointer, IsType, IsTyped}
-use Rattle.cyc_parser.specs.StatementGrammar.{IsCount}
-use Rattle.cyc_parser.specs.Grammar.{IsConstant}
+use Rattle.source_grammar.specs.Phrases.{Tokens, SignAt, IsName, StartsAt, Each}
+use Rattle.source_grammar.specs.TypeGrammar.{IsBase, IsPointer, IsType, IsTyped}
+use Rattle.source_grammar.specs.StatementGrammar.{IsCount}
+use Rattle.source_grammar.specs.Grammar.{IsConstant}
 use Rattle.cyc_parser.specs.Reading.{next_place}
 use Rattle.cyc_parser.specs.Tests.{begins_type, begins_pointer, begins_constant}
 use Rattle.cyc_parser.specs.Reader.{token, placed}

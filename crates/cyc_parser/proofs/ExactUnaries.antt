@@ -14,8 +14,8 @@ use Rattle.cyc_tree.specs.Tree.{Name, Expression, Number, Character, Text, Null,
 use Rattle.cyc_tree.specs.Tree.{Grouped, Suffixed, Prefixed, New, NewIn, Chain, NoLinks, MoreLinks, NoSuffixes, Index, Dot, Arrow, One, Array}
 use Rattle.cyc_tree.specs.Tree as tree
 use Rattle.cyc_tree.proofs.PartNesting.{inner_nesting, made_nesting, expression_nesting}
-use Rattle.cyc_parser.specs.Phrases.{Tokens, KeywordAt, SignAt, IsName}
-use Rattle.cyc_parser.specs.ExpressionGrammar.{IsExpression, IsMade, binds, unary_level, prefix_sign}
+use Rattle.source_grammar.specs.Phrases.{Tokens, KeywordAt, SignAt, IsName}
+use Rattle.source_grammar.specs.ExpressionGrammar.{IsExpression, IsMade, binds, unary_level, prefix_sign}
 use Rattle.cyc_parser.specs.Tests.{continues, is_sign, is_keyword, is_prefix, begins_unary, begins_primary}
 use Rattle.cyc_parser.specs.Reader.{Outcome, done, read, token, sign, keyword, next_is}
 use Rattle.cyc_parser.specs.ReadTypes.{name}

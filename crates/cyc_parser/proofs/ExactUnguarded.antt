@@ -3,7 +3,7 @@ use Rattle.std.proofs.Common.{◌≡◌, Bool, true, false, refl}
 use Rattle.cyc_lexer.specs.declared.token.Keyword.{Keyword}
 use Rattle.cyc_lexer.specs.declared.token.Sign.{Sign}
 use Rattle.cyc_lexer.specs.declared.token.TokenKind.{TokenKind}
-use Rattle.cyc_parser.specs.Phrases.{Tokens, IsSign, IsKeyword, SignAt, KeywordAt}
+use Rattle.source_grammar.specs.Phrases.{Tokens, IsSign, IsKeyword, SignAt, KeywordAt}
 use Rattle.cyc_parser.specs.Reader.{Outcome, done, read, choose, next_is, sign, keyword}
 use Rattle.cyc_parser.specs.Exact.{Exact, Stops, Anything, ends, Whole, Then, Either}
 use Rattle.cyc_parser.proofs.Exact.{made_exact, exact_as}

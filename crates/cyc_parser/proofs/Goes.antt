@@ -5,7 +5,7 @@ use Rattle.std.specs.Prelude.{nat_le}
 use Rattle.cyc_lexer.specs.declared.token.TokenKind.{TokenKind}
 use Rattle.cyc_tree.specs.Depths.{Start, start, first_deeper}
 use Rattle.cyc_parser.specs.declared.fault.ParseFault.TheVariants.{TooDeep}
-use Rattle.cyc_parser.specs.Phrases.{Tokens}
+use Rattle.source_grammar.specs.Phrases.{Tokens}
 use Rattle.cyc_parser.specs.Reader.{Outcome, read, many, choose, next_is}
 use Rattle.cyc_parser.specs.Exact.{Stops, Exact, Anything, Rows}
 use Rattle.cyc_parser.proofs.ExactChoice.{choose_first, choose_second}

@@ -8,8 +8,8 @@ use Rattle.cyc_tree.specs.Tree.{Expression}
 use Rattle.cyc_tree.specs.View.{expressions_of}
 use Rattle.cyc_tree.proofs.PartNesting.{argument_nesting, expression_nesting}
 use Rattle.cyc_tree.specs.Depths.{first_deeper, expression_starts, argument_starts}
-use Rattle.cyc_parser.specs.Phrases.{Tokens, IsSign, InParentheses}
-use Rattle.cyc_parser.specs.ExpressionGrammar.{IsExpression}
+use Rattle.source_grammar.specs.Phrases.{Tokens, IsSign, InParentheses}
+use Rattle.source_grammar.specs.ExpressionGrammar.{IsExpression}
 use Rattle.cyc_parser.specs.Tests.{continues, is_sign}
 use Rattle.cyc_parser.specs.Reader.{Outcome, done, read, choose, many, behind, listed, sign, next_is}
 use Rattle.cyc_parser.specs.ReadExpressions.{parenthesized_by, arguments_by, expression_at}

@@ -5,8 +5,8 @@ use Rattle.std.specs.Prelude.{nat_le, if◌then◌else◌}
 use Rattle.cyc_lexer.specs.declared.token.Sign.TheVariants as sign_of
 use Rattle.cyc_tree.specs.Tree.{Expression, Assign}
 use Rattle.cyc_tree.specs.Depths.{inner_starts, expression_starts, first_deeper}
-use Rattle.cyc_parser.specs.Phrases.{Tokens, SignAt}
-use Rattle.cyc_parser.specs.ExpressionGrammar.{IsExpression, binds, unary_level}
+use Rattle.source_grammar.specs.Phrases.{Tokens, SignAt}
+use Rattle.source_grammar.specs.ExpressionGrammar.{IsExpression, binds, unary_level}
 use Rattle.cyc_parser.specs.Tests.{continues, is_sign}
 use Rattle.cyc_parser.specs.Reader.{Outcome, done, read, choose, sign, next_is}
 use Rattle.cyc_parser.specs.ReadExpressions.{any_of_by, assigned_by, assignment_by, expression_at, unary_at}

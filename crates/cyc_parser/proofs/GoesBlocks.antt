@@ -5,9 +5,9 @@ use Rattle.cyc_lexer.specs.declared.token.Sign.TheVariants as sign_of
 use Rattle.cyc_tree.specs.Tree.{Expression, Statement, Block, BlockItems}
 use Rattle.cyc_tree.specs.View.{OneItem, items_of}
 use Rattle.cyc_tree.specs.Depths.{first_deeper, expression_starts, declaration_starts, statement_starts, items_starts}
-use Rattle.cyc_parser.specs.Phrases.{Tokens}
-use Rattle.cyc_parser.specs.ExpressionGrammar.{IsExpression}
-use Rattle.cyc_parser.specs.StatementGrammar.{IsStatement, AreItems}
+use Rattle.source_grammar.specs.Phrases.{Tokens}
+use Rattle.source_grammar.specs.ExpressionGrammar.{IsExpression}
+use Rattle.source_grammar.specs.StatementGrammar.{IsStatement, AreItems}
 use Rattle.cyc_parser.specs.Tests.{is_keyword, begins_declaration, begins_statement, begins_item, continues}
 use Rattle.cyc_parser.specs.Reader.{Outcome, done, read, many, sign}
 use Rattle.cyc_parser.specs.ReadExpressions.{expression_at}

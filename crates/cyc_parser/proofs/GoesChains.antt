@@ -6,8 +6,8 @@ use Rattle.cyc_tree.specs.declared.expression.Operator.{Operator}
 use Rattle.cyc_tree.specs.Tree.{Expression}
 use Rattle.cyc_tree.specs.View.{links_of}
 use Rattle.cyc_tree.specs.Depths.{inner_starts, link_starts, first_deeper}
-use Rattle.cyc_parser.specs.Phrases.{Tokens}
-use Rattle.cyc_parser.specs.ExpressionGrammar.{IsExpression, binds, unary_level}
+use Rattle.source_grammar.specs.Phrases.{Tokens}
+use Rattle.source_grammar.specs.ExpressionGrammar.{IsExpression, binds, unary_level}
 use Rattle.cyc_parser.specs.Parts.{chained}
 use Rattle.cyc_parser.specs.Tests.{continues, is_operator}
 use Rattle.cyc_parser.specs.Reader.{Outcome, done, read, token}

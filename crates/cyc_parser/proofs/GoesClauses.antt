@@ -5,9 +5,9 @@ use Rattle.cyc_lexer.specs.declared.token.Sign.TheVariants as sign_of
 use Rattle.cyc_tree.specs.Tree.{Expression, Statement, Switch, Pattern, BlockItems, Clauses, NoClauses, MoreClauses}
 use Rattle.cyc_tree.specs.View.{OneItem, OneClause, items_of, clauses_of}
 use Rattle.cyc_tree.specs.Depths.{first_deeper, expression_starts, statement_starts, items_starts, clauses_starts}
-use Rattle.cyc_parser.specs.Phrases.{Tokens}
-use Rattle.cyc_parser.specs.ExpressionGrammar.{IsExpression}
-use Rattle.cyc_parser.specs.StatementGrammar.{IsPattern, IsStatement, AreClauses}
+use Rattle.source_grammar.specs.Phrases.{Tokens}
+use Rattle.source_grammar.specs.ExpressionGrammar.{IsExpression}
+use Rattle.source_grammar.specs.StatementGrammar.{IsPattern, IsStatement, AreClauses}
 use Rattle.cyc_parser.specs.Tests.{begins_clause, continues}
 use Rattle.cyc_parser.specs.Reading.{next_place}
 use Rattle.cyc_parser.specs.Reader.{Outcome, done, read, placed, many, sign}

@@ -3,9 +3,9 @@ use Rattle.std.proofs.Common.{◌≡◌, ℕ, suc, ◌+◌, false, List, ◌∷�
 use Rattle.cyc_lexer.specs.declared.token.Keyword.TheVariants as word
 use Rattle.cyc_tree.specs.Tree.{Expression, Statement, If, IfElse, While}
 use Rattle.cyc_tree.specs.Depths.{Start, start, expression_starts, statement_starts, first_deeper}
-use Rattle.cyc_parser.specs.Phrases.{Tokens, IsKeyword}
-use Rattle.cyc_parser.specs.ExpressionGrammar.{IsExpression}
-use Rattle.cyc_parser.specs.StatementGrammar.{IsStatement}
+use Rattle.source_grammar.specs.Phrases.{Tokens, IsKeyword}
+use Rattle.source_grammar.specs.ExpressionGrammar.{IsExpression}
+use Rattle.source_grammar.specs.StatementGrammar.{IsStatement}
 use Rattle.cyc_parser.specs.Tests.{is_keyword, continues}
 use Rattle.cyc_parser.specs.Reader.{done, read, keyword, next_is}
 use Rattle.cyc_parser.specs.ReadExpressions.{Reads, parenthesized_by, expression_at}

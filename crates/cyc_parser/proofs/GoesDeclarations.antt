@@ -6,9 +6,9 @@ use Rattle.cyc_tree.specs.Tree as tree
 use Rattle.cyc_tree.specs.Tree.{Name, TypeName, Expression, Declaration, Local, Open, Alias, NewKey}
 use Rattle.cyc_tree.proofs.PartNesting.{declaration_nesting}
 use Rattle.cyc_tree.specs.Depths.{first_deeper, expression_starts, declaration_starts}
-use Rattle.cyc_parser.specs.Phrases.{Tokens, IsSign}
-use Rattle.cyc_parser.specs.ExpressionGrammar.{IsExpression}
-use Rattle.cyc_parser.specs.StatementGrammar.{IsDeclaration}
+use Rattle.source_grammar.specs.Phrases.{Tokens, IsSign}
+use Rattle.source_grammar.specs.ExpressionGrammar.{IsExpression}
+use Rattle.source_grammar.specs.StatementGrammar.{IsDeclaration}
 use Rattle.cyc_parser.specs.Tests.{is_keyword, begins_type, continues}
 use Rattle.cyc_parser.specs.Reader.{done, choose, next_is}
 use Rattle.cyc_parser.specs.ReadTypes.{name, type_name}

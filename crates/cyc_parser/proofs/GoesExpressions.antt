@@ -4,8 +4,8 @@ use Rattle.cyc_tree.specs.Tree.{Expression}
 use Rattle.cyc_tree.specs.Places.{expression_place}
 use Rattle.cyc_tree.specs.Depths.{inner_starts, expression_starts, first_deeper}
 use Rattle.cyc_parser.specs.declared.fault.ParseFault.TheVariants.{TooDeep}
-use Rattle.cyc_parser.specs.Phrases.{Tokens}
-use Rattle.cyc_parser.specs.ExpressionGrammar.{IsExpression, unary_level}
+use Rattle.source_grammar.specs.Phrases.{Tokens}
+use Rattle.source_grammar.specs.ExpressionGrammar.{IsExpression, unary_level}
 use Rattle.cyc_parser.specs.Tests.{continues, begins_unary}
 use Rattle.cyc_parser.specs.Reader.{refuse}
 use Rattle.cyc_parser.specs.ReadExpressions.{expression_at, unary_at}

@@ -5,8 +5,8 @@ use Rattle.cyc_lexer.specs.declared.token.Sign.TheVariants as sign_of
 use Rattle.cyc_tree.specs.Depths.{items_starts, item_starts, first_deeper}
 use Rattle.cyc_tree.specs.Tree.{Name, TypeName, Function, BlockItems, Item, StructItem, UnionItem, GlobalItem, FunctionItem}
 use Rattle.cyc_tree.specs.View.{items_of}
-use Rattle.cyc_parser.specs.Phrases.{Tokens, SignAt}
-use Rattle.cyc_parser.specs.StatementGrammar.{AreItems}
+use Rattle.source_grammar.specs.Phrases.{Tokens, SignAt}
+use Rattle.source_grammar.specs.StatementGrammar.{AreItems}
 use Rattle.cyc_parser.specs.Tests.{is_sign}
 use Rattle.cyc_parser.specs.Reader.{done, sign}
 use Rattle.cyc_parser.specs.ReadExpressions.{expression_at}

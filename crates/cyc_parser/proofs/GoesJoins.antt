@@ -8,8 +8,8 @@ use Rattle.cyc_tree.specs.Tree.{Expression}
 use Rattle.cyc_tree.specs.View.{expressions_of}
 use Rattle.cyc_tree.proofs.PartNesting.{inner_nesting, operand_nesting}
 use Rattle.cyc_tree.specs.Depths.{inner_starts, operand_starts, first_deeper}
-use Rattle.cyc_parser.specs.Phrases.{Tokens}
-use Rattle.cyc_parser.specs.ExpressionGrammar.{IsExpression, binds, unary_level}
+use Rattle.source_grammar.specs.Phrases.{Tokens}
+use Rattle.source_grammar.specs.ExpressionGrammar.{IsExpression, binds, unary_level}
 use Rattle.cyc_parser.specs.Tests.{continues, is_sign}
 use Rattle.cyc_parser.specs.Reader.{Outcome, done, read, many, behind, sign, next_is}
 use Rattle.cyc_parser.specs.ReadExpressions.{chain_by, all_of, any_of, all_of_by, any_of_by}

@@ -6,9 +6,9 @@ use Rattle.cyc_tree.specs.Tree.{Suffixed, Prefixed, New, NewIn, Chain, AllOf, An
 use Rattle.cyc_tree.specs.Tree.{NoSuffixes, Index, Dot, Arrow}
 use Rattle.cyc_tree.specs.Places.{expression_place}
 use Rattle.cyc_tree.specs.Depths.{Start, start, inner_starts, suffix_starts, link_starts, operand_starts, expression_starts}
-use Rattle.cyc_parser.specs.Phrases.{Tokens}
+use Rattle.source_grammar.specs.Phrases.{Tokens}
 use Rattle.cyc_parser.specs.Reading.{next_place}
-use Rattle.cyc_parser.specs.ExpressionGrammar.{IsExpression}
+use Rattle.source_grammar.specs.ExpressionGrammar.{IsExpression}
 
 place_at : (from : Tokens) (t : Token) (rest : Tokens) → from ≡ t ∷ rest → next_place from ≡ t.at
 place_at from t rest same = ap next_place same

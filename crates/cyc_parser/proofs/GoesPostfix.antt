@@ -4,8 +4,8 @@ use Rattle.cyc_lexer.specs.declared.token.Sign.TheVariants as sign_of
 use Rattle.cyc_tree.specs.Tree.{Name, Expression, Suffixes, NoSuffixes, Index, Dot, Arrow}
 use Rattle.cyc_tree.specs.View.{OneSuffix, suffixes_of}
 use Rattle.cyc_tree.specs.Depths.{first_deeper, expression_starts, inner_starts, suffix_starts}
-use Rattle.cyc_parser.specs.Phrases.{Tokens}
-use Rattle.cyc_parser.specs.ExpressionGrammar.{IsExpression, binds, unary_level}
+use Rattle.source_grammar.specs.Phrases.{Tokens}
+use Rattle.source_grammar.specs.ExpressionGrammar.{IsExpression, binds, unary_level}
 use Rattle.cyc_parser.specs.Tests.{continues, is_sign, begins_suffix}
 use Rattle.cyc_parser.specs.Reader.{Outcome, done, read, choose, many, sign}
 use Rattle.cyc_parser.specs.ReadTypes.{name}

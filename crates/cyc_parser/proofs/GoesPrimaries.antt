@@ -8,8 +8,8 @@ use Rattle.cyc_tree.specs.Tree.{Grouped, Expressions, Chain, NoLinks, MoreLinks}
 use Rattle.cyc_tree.specs.View.{expressions_of}
 use Rattle.cyc_tree.specs.Places.{expression_place}
 use Rattle.cyc_tree.specs.Depths.{start, first_deeper, expression_starts, inner_starts, argument_starts}
-use Rattle.cyc_parser.specs.Phrases.{Tokens, SignAt, KeywordAt, IsSign, IsName, InParentheses}
-use Rattle.cyc_parser.specs.ExpressionGrammar.{IsExpression, AreArguments, binds, primary_level}
+use Rattle.source_grammar.specs.Phrases.{Tokens, SignAt, KeywordAt, IsSign, IsName, InParentheses}
+use Rattle.source_grammar.specs.ExpressionGrammar.{IsExpression, AreArguments, binds, primary_level}
 use Rattle.cyc_parser.specs.Tests.{continues, is_sign, is_keyword, is_identifier, is_literal}
 use Rattle.cyc_parser.specs.Reader.{Outcome, done, read, choose, sign, keyword, next_is}
 use Rattle.cyc_parser.specs.ReadTypes.{name}

@@ -4,8 +4,8 @@ use Rattle.cyc_lexer.specs.declared.token.Keyword.TheVariants as word
 use Rattle.cyc_lexer.specs.declared.token.Sign.TheVariants as sign_of
 use Rattle.cyc_tree.specs.Depths.{items_starts, item_starts, program_starts, first_deeper}
 use Rattle.cyc_tree.specs.Tree.{Struct, TypeName, Function, Item, StructItem, UnionItem, GlobalItem, FunctionItem, Program}
-use Rattle.cyc_parser.specs.Phrases.{Tokens, Each}
-use Rattle.cyc_parser.specs.Grammar.{IsItem, IsProgram}
+use Rattle.source_grammar.specs.Phrases.{Tokens, Each}
+use Rattle.source_grammar.specs.Grammar.{IsItem, IsProgram}
 use Rattle.cyc_parser.specs.Tests.{is_any, is_sign, is_keyword}
 use Rattle.cyc_parser.specs.Reader.{read, done, many, keyword}
 use Rattle.cyc_parser.specs.ReadTypes.{name, region_list, pointers, type_name}

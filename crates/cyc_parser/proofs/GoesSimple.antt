@@ -5,9 +5,9 @@ use Rattle.cyc_lexer.specs.declared.token.Sign.TheVariants as sign_of
 use Rattle.cyc_tree.specs.Tree.{Expression, Statement, Empty, Run, Exchange, Break, Continue, Return, FreeUnique, FreeKey}
 use Rattle.cyc_tree.specs.Depths.{start, first_deeper, expression_starts, statement_starts}
 use Rattle.cyc_tree.specs.Places.{expression_place}
-use Rattle.cyc_parser.specs.Phrases.{Tokens}
-use Rattle.cyc_parser.specs.ExpressionGrammar.{IsExpression}
-use Rattle.cyc_parser.specs.StatementGrammar.{IsStatement}
+use Rattle.source_grammar.specs.Phrases.{Tokens}
+use Rattle.source_grammar.specs.ExpressionGrammar.{IsExpression}
+use Rattle.source_grammar.specs.StatementGrammar.{IsStatement}
 use Rattle.cyc_parser.specs.Tests.{is_sign, is_keyword, begins_unary, continues}
 use Rattle.cyc_parser.specs.Reader.{Outcome, done, read, choose, sign}
 use Rattle.cyc_parser.specs.ReadExpressions.{expression_at}

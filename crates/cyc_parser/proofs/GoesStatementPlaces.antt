@@ -4,8 +4,8 @@ use Rattle.cyc_tree.specs.Tree.{Statement, Empty, Block, Run, Exchange, If, IfEl
 use Rattle.cyc_tree.specs.Tree.{FreeUnique, FreeKey, NoClauses, MoreClauses}
 use Rattle.cyc_tree.specs.Places.{statement_place}
 use Rattle.cyc_tree.specs.Depths.{Start, start, statement_starts}
-use Rattle.cyc_parser.specs.Phrases.{Tokens}
-use Rattle.cyc_parser.specs.StatementGrammar.{IsStatement}
+use Rattle.source_grammar.specs.Phrases.{Tokens}
+use Rattle.source_grammar.specs.StatementGrammar.{IsStatement}
 use Rattle.cyc_parser.specs.Reading.{next_place}
 use Rattle.cyc_parser.proofs.GoesPlaces.{place_of_first}
 

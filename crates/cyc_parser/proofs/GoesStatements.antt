@@ -7,9 +7,9 @@ use Rattle.cyc_tree.specs.Tree.{FreeUnique, FreeKey, NoClauses, MoreClauses}
 use Rattle.cyc_tree.specs.Places.{statement_place}
 use Rattle.cyc_tree.specs.Depths.{expression_starts, statement_starts, first_deeper}
 use Rattle.cyc_parser.specs.declared.fault.ParseFault.TheVariants.{TooDeep}
-use Rattle.cyc_parser.specs.Phrases.{Tokens, KeywordAt}
-use Rattle.cyc_parser.specs.ExpressionGrammar.{IsExpression}
-use Rattle.cyc_parser.specs.StatementGrammar.{IsStatement}
+use Rattle.source_grammar.specs.Phrases.{Tokens, KeywordAt}
+use Rattle.source_grammar.specs.ExpressionGrammar.{IsExpression}
+use Rattle.source_grammar.specs.StatementGrammar.{IsStatement}
 use Rattle.cyc_parser.specs.Tests.{is_sign, is_keyword, begins_statement, continues}
 use Rattle.cyc_parser.specs.Reader.{choose, refuse}
 use Rattle.cyc_parser.specs.ReadExpressions.{Reads, expression_at}

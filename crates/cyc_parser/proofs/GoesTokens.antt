@@ -3,7 +3,7 @@ use Rattle.std.proofs.Common.{ℕ, Option}
 use Rattle.cyc_lexer.specs.declared.token.Keyword.{Keyword}
 use Rattle.cyc_lexer.specs.declared.token.Sign.{Sign}
 use Rattle.cyc_tree.specs.Tree.{Name}
-use Rattle.cyc_parser.specs.Phrases.{Tokens, SignAt, KeywordAt, IsName}
+use Rattle.source_grammar.specs.Phrases.{Tokens, SignAt, KeywordAt, IsName}
 use Rattle.cyc_parser.specs.Reader.{Outcome, read, sign, keyword}
 use Rattle.cyc_parser.specs.ReadTypes.{name}
 use Rattle.cyc_parser.proofs.ExactTypes.{sign_exact, keyword_exact, name_exact}

@@ -10,8 +10,8 @@ use Rattle.cyc_tree.specs.Tree.{Name, Expression, Prefixed, New, NewIn, Chain, A
 use Rattle.cyc_tree.specs.Tree as tree
 use Rattle.cyc_tree.specs.Places.{expression_place}
 use Rattle.cyc_tree.specs.Depths.{start, first_deeper, expression_starts, inner_starts, made_starts}
-use Rattle.cyc_parser.specs.Phrases.{Tokens, KeywordAt, SignAt, InParentheses}
-use Rattle.cyc_parser.specs.ExpressionGrammar.{IsExpression, IsMade, binds, unary_level, prefix_sign}
+use Rattle.source_grammar.specs.Phrases.{Tokens, KeywordAt, SignAt, InParentheses}
+use Rattle.source_grammar.specs.ExpressionGrammar.{IsExpression, IsMade, binds, unary_level, prefix_sign}
 use Rattle.cyc_parser.specs.Tests.{continues, is_sign, is_keyword, is_prefix, begins_unary, begins_primary}
 use Rattle.cyc_parser.specs.Reader.{Outcome, done, read, choose, token, sign, keyword, next_is}
 use Rattle.cyc_parser.specs.ReadTypes.{name}

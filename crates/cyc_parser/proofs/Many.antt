@@ -3,7 +3,7 @@ use Rattle.std.proofs.Common.{◌≡◌, ℕ, zero, suc, ◌<◌, ◌≤◌, Boo
 use Rattle.std.proofs.lemmas.Bool.{le-leb, leb-true}
 use Rattle.std.specs.Prelude.{nat_le}
 use Rattle.cyc_lexer.specs.declared.token.TokenKind.{TokenKind}
-use Rattle.cyc_parser.specs.Phrases.{Tokens}
+use Rattle.source_grammar.specs.Phrases.{Tokens}
 use Rattle.cyc_parser.specs.Reader.{Outcome, ◌>>=◌, next_is, one_more, many_in, many}
 use Rattle.cyc_parser.proofs.ExactParts.{bind_same}
 

@@ -2,8 +2,8 @@
 use Rattle.std.proofs.Common.{◌≡◌, ◌<◌, ◌^◌, ℕ, [], ◌∷◌, ◌++◌, Some, sym, ap, subst, ◌∙◌, append_assoc, arith, inl, inr}
 use Rattle.cyc_lexer.specs.Lexing.{Token}
 use Rattle.cyc_tree.specs.Depths.{too_deep_at}
-use Rattle.cyc_parser.specs.Phrases.{Tokens}
-use Rattle.cyc_parser.specs.Grammar.{IsProgram}
+use Rattle.source_grammar.specs.Phrases.{Tokens}
+use Rattle.source_grammar.specs.Grammar.{IsProgram}
 use Rattle.cyc_parser.specs.Refusals.{BeginAProgram, GoNoFurther, StandsIn, IsUnexpectedAt, AreWithin, IsUnexpectedFirst, IsTooDeepAt}
 use Rattle.cyc_parser.specs.Exact.{nowhere, AreMadeUp}
 use Rattle.cyc_parser.proofs.OnePlace.{Longer, cut, no_longer}

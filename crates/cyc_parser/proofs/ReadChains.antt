@@ -8,7 +8,7 @@ use Rattle.cyc_tree.specs.View.{links_of}
 use Rattle.cyc_parser.specs.declared.fault.ParseFault.{ParseFault}
 use Rattle.cyc_parser.specs.declared.operator.Level.{Level}
 use Rattle.cyc_parser.specs.declared.operator.Level.TheVariants.{BitOr, BitXor, BitAnd, Equality, Relation, Shift, Sum, Term}
-use Rattle.cyc_parser.specs.Phrases.{Tokens}
+use Rattle.source_grammar.specs.Phrases.{Tokens}
 use Rattle.cyc_parser.specs.Parts.{chained}
 use Rattle.cyc_parser.specs.Tests.{is_any, is_operator, begins_unary}
 use Rattle.cyc_parser.specs.Levels.{levels_from, number_of, operator_next}

@@ -2,7 +2,7 @@
 use Rattle.std.proofs.Common.{◌≡◌, ◌<◌, ℕ, List, [], ◌∷◌, ◌++◌, length, map, true, Ok, sym, ap, subst, ◌∙◌}
 use Rattle.cyc_lexer.specs.declared.token.Sign.TheVariants as sign_of
 use Rattle.cyc_parser.specs.declared.fault.ParseFault.{ParseFault}
-use Rattle.cyc_parser.specs.Phrases.{Tokens}
+use Rattle.source_grammar.specs.Phrases.{Tokens}
 use Rattle.cyc_parser.specs.Tests.{is_sign}
 use Rattle.cyc_parser.specs.Reader.{◌>>=◌, Outcome, Fails, many, next_is, sign, behind}
 use Rattle.cyc_parser.proofs.ReadLoops.{with_front, pushed, fails_so}

@@ -4,7 +4,7 @@ use Rattle.std.proofs.lemmas.List.{append-nil, map_push}
 use Rattle.cyc_lexer.specs.declared.token.TokenKind.{TokenKind}
 use Rattle.cyc_parser.specs.declared.fault.ParseFault.{ParseFault}
 use Rattle.cyc_parser.specs.declared.fault.ParseFault.TheVariants.{Parse, TooDeep, Memory}
-use Rattle.cyc_parser.specs.Phrases.{Tokens}
+use Rattle.source_grammar.specs.Phrases.{Tokens}
 use Rattle.cyc_parser.specs.Reader.{Outcome, ◌>>=◌, Fails, Gives, next_is, many}
 use Rattle.cyc_parser.proofs.Many.{many_more, many_end, many_next}
 

@@ -5,7 +5,7 @@ use Rattle.cyc_tree.specs.declared.item.Member as code_member
 use Rattle.cyc_tree.specs.Tree.{Member}
 use Rattle.cyc_tree.specs.View.{member_tree}
 use Rattle.cyc_parser.specs.declared.fault.ParseFault.{ParseFault}
-use Rattle.cyc_parser.specs.Phrases.{Tokens}
+use Rattle.source_grammar.specs.Phrases.{Tokens}
 use Rattle.cyc_parser.specs.Tests.{begins_type}
 use Rattle.cyc_parser.specs.Reader.{◌>>=◌, Outcome, Fails, next_is, many, read, sign, done}
 use Rattle.cyc_parser.specs.ReadPrograms.{member, members}

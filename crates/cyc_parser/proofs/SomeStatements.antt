@@ -8,9 +8,9 @@ use Rattle.cyc_lexer.specs.declared.token.TokenKind.{TokenKind}
 use Rattle.cyc_lexer.specs.declared.token.TokenKind.TheVariants as kind
 use Rattle.cyc_tree.specs.Tree.{Name, Expression, Number, Statement, Empty, Block, Run, Exchange, If, IfElse, While, Switch, Break, Continue, Return, FreeUnique, FreeKey, NoItems, Default, NoClauses, MoreClauses}
 use Rattle.cyc_tree.proofs.PartNesting.{statement_nesting}
-use Rattle.cyc_parser.specs.Phrases.{Tokens, IsSign, InParentheses}
-use Rattle.cyc_parser.specs.ExpressionGrammar.{IsExpression}
-use Rattle.cyc_parser.specs.StatementGrammar.{IsNameInParentheses, IsStatement}
+use Rattle.source_grammar.specs.Phrases.{Tokens, IsSign, InParentheses}
+use Rattle.source_grammar.specs.ExpressionGrammar.{IsExpression}
+use Rattle.source_grammar.specs.StatementGrammar.{IsNameInParentheses, IsStatement}
 use Rattle.cyc_parser.specs.Tests.{begins_unary, begins_statement}
 use Rattle.cyc_parser.specs.Exact.{nowhere, AreMadeUp, Phrase, PhraseFrom}
 use Rattle.cyc_parser.proofs.ExactParts.{made_up_both}

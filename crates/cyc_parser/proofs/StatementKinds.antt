@@ -9,8 +9,8 @@ use Rattle.cyc_lexer.specs.declared.token.Sign.TheVariants as sign_of
 use Rattle.cyc_lexer.specs.declared.token.TokenKind.{TokenKind}
 use Rattle.cyc_lexer.specs.declared.token.TokenKind.TheVariants as kind
 use Rattle.cyc_tree.specs.Tree.{Declaration, Statement, Empty, Block, Run, Exchange, If, IfElse, While, Switch, Break, Continue, Return, FreeUnique, FreeKey, NoClauses, MoreClauses}
-use Rattle.cyc_parser.specs.Phrases.{Tokens}
-use Rattle.cyc_parser.specs.StatementGrammar.{IsDeclaration, IsStatement}
+use Rattle.source_grammar.specs.Phrases.{Tokens}
+use Rattle.source_grammar.specs.StatementGrammar.{IsDeclaration, IsStatement}
 use Rattle.cyc_parser.specs.Tests.{is_sign, is_keyword, begins_declaration, begins_unary, begins_control, begins_statement, begins_item, begins_clause}
 use Rattle.cyc_parser.specs.Reader.{next_is}
 use Rattle.cyc_parser.proofs.StatementsWithin.{goes_on_in_block}

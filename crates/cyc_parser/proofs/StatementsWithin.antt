@@ -5,8 +5,8 @@ use Rattle.cyc_lexer.specs.declared.token.TokenKind.{TokenKind}
 use Rattle.cyc_tree.specs.Tree.{Declaration, Statement}
 use Rattle.cyc_tree.specs.View.{OneItem, items_of}
 use Rattle.cyc_tree.proofs.PartNesting.{declaration_nesting, statement_nesting, items_nesting}
-use Rattle.cyc_parser.specs.Phrases.{Tokens}
-use Rattle.cyc_parser.specs.StatementGrammar.{IsDeclaration, IsStatement, AreItems, ends_open}
+use Rattle.source_grammar.specs.Phrases.{Tokens}
+use Rattle.source_grammar.specs.StatementGrammar.{IsDeclaration, IsStatement, AreItems, ends_open}
 use Rattle.cyc_parser.specs.Tests.{is_keyword, begins_item}
 use Rattle.cyc_parser.specs.Exact.{Within}
 

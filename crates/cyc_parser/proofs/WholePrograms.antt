@@ -8,8 +8,8 @@ use Rattle.cyc_tree.proofs.PartNesting.{program_nesting}
 use Rattle.cyc_tree.proofs.PartDepths.{nesting_is}
 use Rattle.cyc_parser.specs.declared.fault.ParseFault.{ParseFault}
 use Rattle.cyc_parser.specs.declared.fault.ParseFault.TheVariants.{Parse, TooDeep, Memory}
-use Rattle.cyc_parser.specs.Phrases.{Tokens}
-use Rattle.cyc_parser.specs.Grammar.{IsProgram}
+use Rattle.source_grammar.specs.Phrases.{Tokens}
+use Rattle.source_grammar.specs.Grammar.{IsProgram}
 use Rattle.cyc_parser.specs.Reader.{Outcome, Fails}
 use Rattle.cyc_parser.specs.ReadPrograms.{program}
 use Rattle.cyc_parser.specs.Refusals.{BeginAProgram, GoNoFurther, StandsIn, AreWithin, IsUnexpectedAt, IsTooDeepAt, IsRefusedFor, IsRefusedProgram}

@@ -5,7 +5,7 @@ use Rattle.std.specs.Prelude.{◌≡◌, ◌⊎◌, ◌≤◌, ℕ, ◌^◌, Lis
 use Rattle.cyc_lexer.specs.Lexing.{Token}
 use Rattle.cyc_lexer.specs.declared.token.TokenKind.{TokenKind}
 use Rattle.cyc_parser.specs.declared.fault.ParseFault.TheVariants.{Parse, TooDeep, Memory}
-use Rattle.cyc_parser.specs.Phrases.{Tokens}
+use Rattle.source_grammar.specs.Phrases.{Tokens}
 use Rattle.cyc_parser.specs.Reading.{next_place}
 use Rattle.cyc_parser.specs.Reader.{Outcome, next_is}
 

@@ -4,8 +4,8 @@ use Rattle.cyc_lexer.specs.declared.token.Sign.{Sign}
 use Rattle.cyc_tree.specs.declared.expression.Operator.{Operator}
 use Rattle.cyc_tree.specs.declared.expression.Operator.TheVariants as operator
 use Rattle.cyc_parser.specs.declared.operator.Level.{Level}
-use Rattle.cyc_parser.specs.ExpressionGrammar.{unary_level}
-use Rattle.cyc_parser.specs.Phrases.{Tokens}
+use Rattle.source_grammar.specs.ExpressionGrammar.{unary_level}
+use Rattle.source_grammar.specs.Phrases.{Tokens}
 use Rattle.cyc_parser.specs.Reader.{next_is}
 use Rattle.cyc_parser.specs.ReadExpressions.{operator_of, operator_of_sign}
 use Rattle.cyc_parser.specs.Tests.{sign_strength, is_operator}

@@ -1,10 +1,5 @@
-pub mod Phrases
-pub mod TypeGrammar
-pub mod ExpressionGrammar
 pub mod Levels
-pub mod StatementGrammar
 pub mod Parts
-pub mod Grammar
 pub mod Reading
 pub mod Tests
 pub mod Reader

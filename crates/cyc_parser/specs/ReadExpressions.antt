@@ -13,8 +13,8 @@ use Rattle.cyc_tree.specs.declared.expression.Prefix.{Prefix}
 use Rattle.cyc_tree.specs.declared.expression.Prefix.TheVariants as prefix
 use Rattle.cyc_tree.specs.Tree.{Name, Expression, Number, Character, Text, Null, HeapRegion, UniqueRegion, Variable, Call, MakeUnion, NumElts, Grouped, Suffixed, Prefixed, New, NewIn, AllOf, AnyOf, Assign, Suffixes, NoSuffixes, Made, One, Array}
 use Rattle.cyc_tree.specs.View.{OneSuffix, expressions_of, links_of, suffixes_of}
-use Rattle.cyc_parser.specs.Phrases.{Tokens}
-use Rattle.cyc_parser.specs.ExpressionGrammar.{binds, unary_level}
+use Rattle.source_grammar.specs.Phrases.{Tokens}
+use Rattle.source_grammar.specs.ExpressionGrammar.{binds, unary_level}
 use Rattle.cyc_parser.specs.Parts.{chained}
 use Rattle.cyc_parser.specs.Tests.{is_sign, is_keyword, is_identifier, is_prefix, is_literal, is_operator, begins_suffix, begins_unary}
 use Rattle.cyc_parser.specs.Reader.{Outcome, done, read, token, choose, refuse, many, sign, keyword, behind, listed}

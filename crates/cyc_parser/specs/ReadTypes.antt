@@ -11,7 +11,7 @@ use Rattle.cyc_tree.specs.declared.name.Sign.{Sign as PointerSign}
 use Rattle.cyc_tree.specs.declared.name.Sign.TheVariants as pointer_sign
 use Rattle.cyc_tree.specs.Tree as tree
 use Rattle.cyc_tree.specs.Tree.{Name, RegionName, Heap, Unique, Named, Base, Int, Unsigned, Char, Void, Struct, Union, Handle, Key, Pointer, TypeName, Member}
-use Rattle.cyc_parser.specs.Phrases.{Tokens, after_backquote}
+use Rattle.source_grammar.specs.Phrases.{Tokens, after_backquote}
 use Rattle.cyc_parser.specs.Tests.{is_sign, is_keyword, is_identifier, is_region, is_number, begins_type, begins_pointer, begins_constant}
 use Rattle.cyc_parser.specs.Reader.{Outcome, done, read, token, choose, placed, many, sign, keyword, listed}
 

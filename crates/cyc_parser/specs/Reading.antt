@@ -1,7 +1,7 @@
 -- What is read of the tokens that are left.
 use Rattle.std.specs.Prelude.{ℕ, ◌-◌, ◌^◌, [], ◌∷◌, Option, Some, None}
 use Rattle.cyc_lexer.specs.declared.token.TokenKind.{TokenKind}
-use Rattle.cyc_parser.specs.Phrases.{Tokens}
+use Rattle.source_grammar.specs.Phrases.{Tokens}
 
 -- the next token's kind
 abbrev pub next_kind : Tokens → Option TokenKind

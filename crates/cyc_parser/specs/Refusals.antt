@@ -5,8 +5,8 @@ use Rattle.cyc_tree.specs.Tree.{Program}
 use Rattle.cyc_tree.specs.Depths.{too_deep_at}
 use Rattle.cyc_parser.specs.declared.fault.ParseFault.{ParseFault}
 use Rattle.cyc_parser.specs.declared.fault.ParseFault.TheVariants.{Parse, TooDeep, Memory}
-use Rattle.cyc_parser.specs.Phrases.{Tokens}
-use Rattle.cyc_parser.specs.Grammar.{IsProgram}
+use Rattle.source_grammar.specs.Phrases.{Tokens}
+use Rattle.source_grammar.specs.Grammar.{IsProgram}
 use Rattle.cyc_parser.specs.Reading.{next_place}
 
 -- a program begins with these tokens

@@ -4,8 +4,8 @@ ghost use Rattle.std.specs.Prelude.{◌≡◌, ◌<◌, ◌≤◌, ◌^◌, ℕ,
 ghost use Rattle.cyc_lexer.specs.Tokens.{token_tree};
 ghost use Rattle.cyc_tree.specs.Tree.{Program as Tree};
 ghost use Rattle.cyc_tree.specs.Depths.{nesting, nesting_limit};
-ghost use Rattle.cyc_parser.specs.Phrases.{Tokens};
-ghost use Rattle.cyc_parser.specs.Grammar.{IsProgram};
+ghost use Rattle.source_grammar.specs.Phrases.{Tokens};
+ghost use Rattle.source_grammar.specs.Grammar.{IsProgram};
 ghost use Rattle.cyc_parser.specs.Refusals.{IsUnexpectedAt, IsUnexpectedFirst, IsTooDeepAt, IsRefusedFor, IsRefusedProgram};
 ghost use Rattle.cyc_tree.specs.View.{type_tree, member_tree, structure_tree, initial_tree, program_item_tree};
 ghost use Rattle.cyc_parser.specs.Reader.{Gives};

@@ -3,7 +3,7 @@
 ghost use Rattle.std.specs.Prelude.{◌≡◌, IfOk, IfErr, Some, None, map, nat_le, if◌then◌else◌};
 ghost use Rattle.cyc_tree.specs.View.{expression_tree, link_tree, links_of};
 ghost use Rattle.cyc_parser.specs.declared.fault.ParseFault.TheVariants.{Memory};
-ghost use Rattle.cyc_parser.specs.ExpressionGrammar.{binds, unary_level};
+ghost use Rattle.source_grammar.specs.ExpressionGrammar.{binds, unary_level};
 ghost use Rattle.cyc_parser.specs.Levels.{IsNextOperator, number_of};
 ghost use Rattle.cyc_parser.specs.Parts.{chained};
 

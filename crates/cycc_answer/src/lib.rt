@@ -11,5 +11,6 @@ mod result;
 mod sources;
 
 pub use answering::{answer, longest_file};
+pub use cycc_driver::Counted;
 pub use lines::{ended, refused};
 pub use result::Answer;

@@ -1,14 +1,14 @@
 -- A program's first fault as that of its text.
 use Rattle.std.proofs.Common.{◌≡◌, ℕ, List, Some, refl, sym, subst}
 use Rattle.cyc_tree.specs.Tree.{Program}
-use Rattle.type_verdicts.specs.Faults.{fault_of}
+use Rattle.check_faults.specs.Faults.{fault_of}
 use Rattle.source_typing.specs.Answers.{first_fault}
-use Rattle.accepted_sources.specs.Supported.{supported}
-use Rattle.type_verdicts.specs.declared.fault.Fault.{Fault}
-use Rattle.type_verdicts.specs.declared.fault.FaultKind.{FaultKind}
-use Rattle.type_verdicts.specs.declared.fault.FaultKind.TheVariants as kind
-use Rattle.effect_check.specs.declared.fault.CheckFault.{CheckFault}
-use Rattle.effect_check.specs.declared.fault.CheckFault.TheVariants as check
+use Rattle.accepted_programs.specs.Supported.{supported}
+use Rattle.check_faults.specs.declared.fault.Fault.{Fault}
+use Rattle.check_faults.specs.declared.fault.FaultKind.{FaultKind}
+use Rattle.check_faults.specs.declared.fault.FaultKind.TheVariants as kind
+use Rattle.unique_flow.specs.CheckFault.{CheckFault}
+use Rattle.unique_flow.specs.CheckFault.TheVariants as check
 use Rattle.cycc_driver.specs.declared.fault.Place.{Place}
 use Rattle.cycc_driver.specs.declared.fault.CompileFault.{CompileFault}
 use Rattle.cycc_driver.specs.Texts.{IsTextOf}

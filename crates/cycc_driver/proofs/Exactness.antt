@@ -6,12 +6,12 @@ use Rattle.cyc_lexer.specs.Lexing.{Token, AreTokens}
 use Rattle.cyc_lexer.proofs.TextSteps.{same_tokens, tokens_or_fault, refused_within}
 use Rattle.cyc_tree.specs.Tree.{Program}
 use Rattle.cyc_tree.proofs.DeepestPhrases.{none_too_deep}
-use Rattle.cyc_parser.specs.Grammar.{IsProgram}
+use Rattle.source_grammar.specs.Grammar.{IsProgram}
 use Rattle.cyc_parser.specs.Refusals.{IsUnexpectedFirst, IsTooDeepAt, GoNoFurther}
 use Rattle.cyc_parser.proofs.WholePrograms.{one_program}
 use Rattle.source_typing.specs.Answers.{first_fault}
-use Rattle.accepted_sources.specs.Supported.{supported}
-use Rattle.type_verdicts.specs.declared.fault.FaultKind.{FaultKind}
+use Rattle.accepted_programs.specs.Supported.{supported}
+use Rattle.check_faults.specs.declared.fault.FaultKind.{FaultKind}
 use Rattle.cycc_driver.specs.declared.fault.Place.{Place}
 use Rattle.cycc_driver.specs.declared.fault.CompileFault.{CompileFault}
 use Rattle.cycc_driver.specs.declared.fault.CompileFault.TheVariants as fault

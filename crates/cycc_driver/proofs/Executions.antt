@@ -16,10 +16,10 @@ use Rattle.rv32_machine.specs.Implements.{IsBeginning, IsRefused, HasNoFrame, ac
 use Rattle.cyc_host.specs.declared.ending.Ending.{Ending}
 use Rattle.cyc_host.specs.declared.ending.Ending.TheVariants as ending
 use Rattle.cyc_host.specs.Hosted.{Written, EndsAs, IsHosted}
-use Rattle.compiled_sources.specs.Promise.{meaning_of, frame_bound_of}
+use Rattle.compile_proof.specs.Promise.{meaning_of, frame_bound_of}
 use Rattle.cycc_driver.specs.Outcome.{WantsRoom, WritesBeginning, WritesAll, EndsAsProgram, IsTextImage, IsTextRun}
 use Rattle.cycc_driver.proofs.Longer.{same_state, runs_before}
-use Rattle.core_frames.proofs.Whole.{cut_begins}
+use Rattle.core_lines.proofs.Whole.{cut_begins}
 
 -- ---- output
 

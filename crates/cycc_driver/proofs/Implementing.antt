@@ -2,27 +2,27 @@
 use Rattle.std.specs.Prelude.{slice_index}
 use Rattle.std.proofs.Common.{◌≡◌, ℕ, ◌+◌, ◌^◌, ◌≤◌, ◌<◌, List, [], length, sym, ap, ◌∙◌, subst, arith}
 use Rattle.arena_laws.specs.Holdings.{Holdings, fresh}
-use Rattle.compiled_sources.specs.Promise.{lines_of}
-use Rattle.compiled_sources.proofs.AcceptedDo.{accepted_do}
-use Rattle.core_frames.specs.Lines.{IsPlace, code_length}
-use Rattle.core_frames.specs.Running.{Begins}
-use Rattle.core_frames.specs.Statics.{data_bytes}
-use Rattle.core_frames.proofs.Images.{IsFirst, begins_as, data_length}
+use Rattle.compile_proof.specs.Promise.{lines_of}
+use Rattle.compile_proof.proofs.AcceptedDo.{accepted_do}
+use Rattle.core_lines.specs.Lines.{IsPlace, code_length}
+use Rattle.core_lines.specs.Running.{Begins}
+use Rattle.core_lines.specs.Statics.{data_bytes}
+use Rattle.core_lines.proofs.Images.{IsFirst, begins_as, data_length}
 use Rattle.rv32_layout.specs.Holding.{IsCodeOf}
 use Rattle.rv32_layout.specs.Placed.{ArePlaced, place_of}
 use Rattle.cyc_image.specs.Format.{Contents, Fits, IsImage, code_limit, data_limit}
 use Rattle.cyc_tree.specs.Tree.{Program}
 use Rattle.rv32_machine.specs.Arrays.{Arrays, IsStart, areas_of, state_of}
-use Rattle.judged_sources.proofs.Joined.{never_stuck}
+use Rattle.compile_proof.proofs.Joined.{never_stuck}
 use Rattle.source_lowering.specs.Programs.{program_code}
 use Rattle.source_typing.specs.Answers.{program_faults}
-use Rattle.accepted_sources.specs.Supported.{supported}
-use Rattle.unique_flow.specs.Accepted.{IsAccepted}
-use Rattle.unique_flow.proofs.Accepted.{no_faults}
+use Rattle.accepted_programs.specs.Supported.{supported}
+use Rattle.accepted_programs.specs.Accepted.{IsAccepted}
+use Rattle.accepted_programs.proofs.Accepted.{no_faults}
 use Rattle.cycc_driver.proofs.Small.{code_small, data_small, each_small, memory_small}
 use Rattle.cycc_driver.specs.Outcome.{IsCode, IsImplementedBy, IsTextImage}
 use Rattle.cycc_driver.specs.Texts.{IsAcceptedAs}
-use Rattle.core_frames.proofs.Access.{of_words}
+use Rattle.core_lines.proofs.Access.{of_words}
 
 -- What the layers promise of a program: the bytes are its lines', a machine with them has the lines, and the data are its globals'.
 pub record AreLayers (program : Program) (code statics : List ℕ) : Type 0 where

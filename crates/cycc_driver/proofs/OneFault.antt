@@ -7,11 +7,11 @@ use Rattle.cyc_lexer.proofs.TextSteps.{same_tokens, same_fault, tokens_or_fault,
 use Rattle.cyc_parser.specs.Refusals.{IsUnexpectedFirst, IsTooDeepAt}
 use Rattle.cyc_parser.proofs.OnePlace.{one_place, one_depth}
 use Rattle.cyc_parser.proofs.OneFault.{one_fault as not_both}
-use Rattle.type_verdicts.proofs.Telling.{same_rule, same_at}
+use Rattle.check_faults.proofs.Telling.{same_rule, same_at}
 use Rattle.source_typing.specs.Answers.{first_fault}
-use Rattle.accepted_sources.specs.Supported.{supported}
-use Rattle.type_verdicts.specs.declared.fault.FaultKind.{FaultKind}
-use Rattle.type_verdicts.specs.declared.fault.FaultKind.TheVariants as kind
+use Rattle.accepted_programs.specs.Supported.{supported}
+use Rattle.check_faults.specs.declared.fault.FaultKind.{FaultKind}
+use Rattle.check_faults.specs.declared.fault.FaultKind.TheVariants as kind
 use Rattle.cycc_driver.specs.declared.fault.Place.{Place}
 use Rattle.cycc_driver.specs.declared.fault.CompileFault.{CompileFault}
 use Rattle.cycc_driver.specs.declared.fault.CompileFault.TheVariants as fault

@@ -6,9 +6,9 @@ use Rattle.cycc_driver.specs.declared.fault.CompileFault.TheVariants as fault
 use Rattle.cycc_driver.specs.Texts.{IsAcceptedAs}
 use Rattle.cycc_driver.specs.Refusals.{IsRefusedFor, HasNoImageFor}
 use Rattle.cycc_driver.specs.Refused.{HasNoCodeFor}
-use Rattle.compiled_sources.proofs.AcceptedDo.{accepted_do}
-use Rattle.spelled_programs.proofs.ProgramSizes.{tokens_pay}
-use Rattle.unique_flow.proofs.Accepted.{no_faults}
+use Rattle.compile_proof.proofs.AcceptedDo.{accepted_do}
+use Rattle.token_proof.proofs.ProgramSizes.{tokens_pay}
+use Rattle.accepted_programs.proofs.Accepted.{no_faults}
 
 -- what a text is refused for
 pub refused_image : (f : CompileFault) (text : List ℕ) → IsRefusedFor f text → HasNoImageFor f text

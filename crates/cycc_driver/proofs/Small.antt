@@ -5,9 +5,9 @@ use Rattle.arena_laws.specs.Holdings.{arena_base}
 use Rattle.cyc_image.specs.Format.{u32_bytes}
 use Rattle.core_meaning.specs.Memory.{Content, PartShape}
 use Rattle.core_meaning.specs.Core.{Datum}
-use Rattle.core_frames.specs.declared.line.Line.{Line}
-use Rattle.core_frames.specs.Selected.{rounded}
-use Rattle.core_frames.specs.Statics.{data_bytes, datum_bytes, element_bytes, cells_bytes, parts_bytes, number_bytes, number_in, zeros}
+use Rattle.core_lines.specs.declared.line.Line.{Line}
+use Rattle.core_lines.specs.Selected.{rounded}
+use Rattle.core_lines.specs.Statics.{data_bytes, datum_bytes, element_bytes, cells_bytes, parts_bytes, number_bytes, number_in, zeros}
 use Rattle.rv32_layout.specs.Placed.{ArePlaced, AreWords, place_of, instructions_from}
 use Rattle.rv32_isa.specs.declared.instruction.Instr.{Instr}
 use Rattle.rv32_machine.specs.Arrays.{bytes_in}

@@ -15,7 +15,7 @@ use Rattle.rv32_machine.specs.Implements.{Implements, Reaches, IsCut, IsRefused,
 use Rattle.cyc_host.specs.declared.ending.Ending.{Ending}
 use Rattle.cyc_host.specs.declared.ending.Ending.TheVariants as ending
 use Rattle.cyc_host.specs.Hosted.{IsHosted}
-use Rattle.compiled_sources.specs.Promise.{meaning_of, frame_bound_of}
+use Rattle.compile_proof.specs.Promise.{meaning_of, frame_bound_of}
 use Rattle.cycc_driver.specs.Texts.{IsAcceptedAs}
 
 -- ---- images

@@ -6,14 +6,14 @@ use Rattle.cyc_lexer.specs.Places.{line_of, column_of}
 use Rattle.cyc_image.specs.Format.{code_limit}
 use Rattle.cyc_parser.specs.Refusals.{IsUnexpectedFirst, IsTooDeepAt}
 use Rattle.cyc_tree.specs.Tree.{Program}
-use Rattle.type_verdicts.specs.Faults.{number_of}
-use Rattle.type_verdicts.specs.declared.fault.FaultKind.{FaultKind}
-use Rattle.type_verdicts.specs.declared.fault.FaultKind.TheVariants as kind
+use Rattle.check_faults.specs.Faults.{number_of}
+use Rattle.check_faults.specs.declared.fault.FaultKind.{FaultKind}
+use Rattle.check_faults.specs.declared.fault.FaultKind.TheVariants as kind
 use Rattle.source_meaning.specs.Programs.{world_of}
 use Rattle.source_lowering.specs.Bounds.{regions_left}
 use Rattle.source_typing.specs.Answers.{first_fault}
 use Rattle.source_typing.specs.Faults as rules
-use Rattle.accepted_sources.specs.Supported.{supported}
+use Rattle.accepted_programs.specs.Supported.{supported}
 use Rattle.cycc_driver.specs.declared.fault.Place.{Place}
 use Rattle.cycc_driver.specs.declared.fault.CompileFault.{CompileFault}
 use Rattle.cycc_driver.specs.declared.fault.CompileFault.TheVariants as fault

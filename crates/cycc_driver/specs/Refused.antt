@@ -4,20 +4,20 @@ use Rattle.cyc_lexer.specs.declared.fault.LexFault.{LexFault}
 use Rattle.cyc_lexer.specs.declared.fault.LexFault.TheVariants as lex
 use Rattle.cyc_parser.specs.declared.fault.ParseFault.{ParseFault}
 use Rattle.cyc_parser.specs.declared.fault.ParseFault.TheVariants as parse
-use Rattle.effect_check.specs.declared.fault.CheckFault.{CheckFault}
-use Rattle.effect_check.specs.declared.fault.CheckFault.TheVariants as check
-use Rattle.type_verdicts.specs.declared.fault.FaultKind.{FaultKind}
+use Rattle.unique_flow.specs.CheckFault.{CheckFault}
+use Rattle.unique_flow.specs.CheckFault.TheVariants as check
+use Rattle.check_faults.specs.declared.fault.FaultKind.{FaultKind}
 use Rattle.unique_flow.specs.declared.fault.FlowFault.{FlowFault}
 use Rattle.unique_flow.specs.declared.fault.FlowFault.TheVariants as flow
-use Rattle.type_verdicts.specs.declared.fault.FaultKind.TheVariants as kind
+use Rattle.check_faults.specs.declared.fault.FaultKind.TheVariants as kind
 use Rattle.cycc_driver.specs.declared.fault.Place.{Place}
 use Rattle.cycc_driver.specs.declared.fault.CompileFault.{CompileFault}
 use Rattle.cycc_driver.specs.declared.fault.CompileFault.TheVariants as fault
 use Rattle.cycc_driver.specs.Refusals.{IsPlaceOf}
 use Rattle.cyc_tree.specs.Tree.{Program}
 use Rattle.cyc_image.specs.Format.{code_limit}
-use Rattle.core_frames.specs.Lines.{code_length}
-use Rattle.compiled_sources.specs.Promise.{lines_of}
+use Rattle.core_lines.specs.Lines.{code_length}
+use Rattle.compile_proof.specs.Promise.{lines_of}
 
 -- it is of this form, at the place of an offset
 abbrev pub StandsAt : List ℕ → ℕ → (Place → CompileFault) → CompileFault → Type 0

@@ -5,7 +5,7 @@ ghost use Rattle.cyc_tree.specs.Tree.{Program as Tree};
 ghost use Rattle.cyc_image.specs.Format.{Contents, Fits, code_limit, data_limit};
 ghost use Rattle.cyc_core.specs.Trees.{program_tree};
 ghost use Rattle.source_lowering.specs.Programs.{program_code};
-ghost use Rattle.unique_flow.specs.Accepted.{IsAccepted};
+ghost use Rattle.accepted_programs.specs.Accepted.{IsAccepted};
 ghost use Rattle.cycc_driver.specs.Texts.{IsTextOf, IsAcceptedAs};
 ghost use Rattle.cycc_driver.specs.Refusals.{IsRefusedFor, HasNoImageFor, AreSame, code_bound};
 ghost use Rattle.cycc_driver.specs.Refused.{HasNoCodeFor};
@@ -17,9 +17,9 @@ use cyc_image::{Parts, write};
 use cyc_lexer::tokens;
 use cyc_parser::parse;
 use cyc_tree::Program;
-use effect_check::effects;
-use lower_checks::lower;
-use region_types::typed;
+use unique_flow::effects;
+use cyc_meaning::lower;
+use unique_flow::typed;
 use rv32_layout::{PlaceFault, data, place};
 use rv32_select::select;
 use std::alloc::Global;
@@ -41,7 +41,7 @@ fn parsed(alloc: Global, text: &[u8]) -> Result<Program, CompileFault>
 }
 
 /// The checked program, where it is accepted.
-#[tactic(auto, using(accepted_sources::proofs::NoFlow::first_is_of_effects))]
+#[tactic(auto, using(accepted_programs::proofs::NoFlow::first_is_of_effects))]
 fn checked(alloc: Global, text: &[u8], program: &Program) -> Result<Checked, CompileFault>
     ensures same { IfOk result (λ c. c ≡ program.now) }
     ensures accepted { IfOk result (λ _. IsAccepted program.now) }

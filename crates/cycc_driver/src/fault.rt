@@ -6,13 +6,13 @@ ghost use Rattle.cyc_lexer.specs.Places.{line_of, column_of};
 ghost use Rattle.cycc_driver.specs.Printed.{printed_name, fault_place, fault_text};
 ghost use Rattle.cycc_driver.specs.Refused.{IsOfLexing, IsOfParsing, IsOfChecking, IsOfFlow};
 
+use check_faults::FaultKind;
 use cyc_lexer::{LexFault, place_of};
 use cyc_parser::ParseFault;
-use effect_check::CheckFault;
+use unique_flow::CheckFault;
 use std::alloc::AllocError;
 use std::error::Error;
 use std::fmt;
-use type_verdicts::FaultKind;
 use unique_flow::FlowFault;
 
 /// A place in a text: the line and the column, from 1 on, of a byte.

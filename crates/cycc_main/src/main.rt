@@ -8,7 +8,7 @@ use command_line::status::{FILE_FAULT, MEMORY, SUCCESS, usage_status};
 use command_line::{Command, command_of};
 use cycc_answer::longest_file;
 pub use cycc_answer::{Answer, answer};
-use cycc_driver::Counted;
+use cycc_answer::Counted;
 use std::fs::File;
 use std::io::Read;
 use std::process::ExitCode;

@@ -1,19 +1,18 @@
 // A program whose effects were looked at.
 
 ghost use Rattle.std.specs.Prelude.{◌≡◌, Some, None, Err, IfOk};
-ghost use Rattle.type_verdicts.specs.Faults.{fault_of, faults_of};
-ghost use Rattle.type_verdicts.specs.Taken.{taken_of};
-ghost use Rattle.type_verdicts.specs.declared.fault.Fault.{Fault as Broken_fault};
+ghost use Rattle.check_faults.specs.Faults.{fault_of, faults_of};
+ghost use Rattle.check_faults.specs.Taken.{taken_of};
+ghost use Rattle.check_faults.specs.declared.fault.Fault.{Fault as Broken_fault};
 ghost use Rattle.source_typing.specs.Answers.{effect_fault};
-ghost use Rattle.accepted_sources.specs.Supported.{supported};
+ghost use Rattle.accepted_programs.specs.Supported.{supported};
 
 use crate::fault::CheckFault;
+use check_faults::{Fault, Taken};
 use cyc_tree::Program;
-use program_types::program_fault;
-use region_types::{Typed, supported};
+use region_types::{Typed, program_fault, supported};
 use std::alloc::{AllocError, Global};
 use std::marker::Model;
-use type_verdicts::{Fault, Taken};
 
 /// A program without a fault of names, types, regions, effects and sizes. A contract sees it as the program.
 #[derive(Drop)]
@@ -26,7 +25,7 @@ impl Model for Effected {
     ghost use Rattle.cyc_tree.specs.Tree.{Program as Tree};
     ghost use Rattle.cyc_tree.specs.Stored.{coded_program};
     ghost use Rattle.source_typing.specs.Answers.{effect_fault};
-    ghost use Rattle.accepted_sources.specs.Supported.{supported};
+    ghost use Rattle.accepted_programs.specs.Supported.{supported};
 
     ghost Value = { Tree };
 

@@ -1,7 +1,7 @@
 // Why a program is refused before its flow is looked at.
 
+use check_faults::Fault;
 use thiserror::Error;
-use type_verdicts::Fault;
 
 /// Why `effects` refuses a program.
 #[derive(Clone, Copy, PartialEq, Eq, Debug, Error)]

@@ -1,7 +1,7 @@
 //! Live regions and effects.
 //!
 //! `effects` answers the earliest fault of names, types, regions, effects and sizes, or the program without one; `effect_fault` answers
-//! the fault with any forms of the language taken. The rules are those of `source_typing`; `program_types` finds the fault. Stands on
+//! the fault with any forms of the language taken. The rules are those of `source_typing`; `check_programs` finds the fault. Stands on
 //! these and on `region_types`.
 #![tactic(auto)]
 
@@ -10,3 +10,4 @@ mod fault;
 
 pub use effected::{Effected, effect_fault, effects};
 pub use fault::CheckFault;
+pub use region_types::typed;

@@ -6,7 +6,7 @@
 
 use command_line::command_of;
 use cycc_answer::answer;
-use cycc_driver::Counted;
+use cycc_answer::Counted;
 use std::fs::File;
 use std::io;
 use std::io::{ErrorKind, Read};

@@ -15,3 +15,4 @@ mod Suffixes
 mod Tables
 mod Taken
 mod Wholes
+pub use Rattle.accepted_proof.proofs.Joined

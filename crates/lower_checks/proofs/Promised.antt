@@ -10,8 +10,8 @@ use Rattle.source_lowering.specs.Programs.{function_code, program_code}
 use Rattle.source_lowering.specs.Bounds.{FramesFit, core_bound, frame_bound}
 use Rattle.source_lowering.proofs.Programs.{programs_same}
 use Rattle.source_lowering.proofs.Bounded.{code_bounded, program_frames_bounded}
-use Rattle.spelled_programs.proofs.ProgramSizes.{tokens_pay}
-use Rattle.unique_flow.specs.Accepted.{IsAccepted}
+use Rattle.token_proof.proofs.ProgramSizes.{tokens_pay}
+use Rattle.accepted_programs.specs.Accepted.{IsAccepted}
 use Rattle.lower_checks.specs.Promise.{IsLoweringOf}
 use Rattle.lower_checks.proofs.Lowerable.{is_lowerable}
 

@@ -2,8 +2,8 @@
 use Rattle.std.specs.Prelude.{◌≡◌, ℕ, ◌+◌, ◌*◌, ◌≤◌, List, Some, slice_get, length}
 use Rattle.cyc_words.specs.Events.{AreBytes, SourceEnding}
 use Rattle.cyc_tree.specs.Tree.{Program}
-use Rattle.cyc_parser.specs.Phrases.{Tokens}
-use Rattle.cyc_parser.specs.Grammar.{IsProgram}
+use Rattle.source_grammar.specs.Phrases.{Tokens}
+use Rattle.source_grammar.specs.Grammar.{IsProgram}
 use Rattle.source_meaning.specs.Steps.{Routine}
 use Rattle.source_meaning.specs.Programs.{source, world_of}
 use Rattle.core_meaning.specs.Core as core

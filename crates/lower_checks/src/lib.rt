@@ -5,7 +5,7 @@
 //! program of `program_code` in `source_lowering`. Programs of functions, globals and locals of
 //! integers, of structs, of handles, of pointers to these and of arrays of them are taken, with the heap
 //! and lexical regions. Functions, globals and structs are found by tables of their names.
-//! Stands on `unique_flow`, `cyc_core`, `judged_sources`, `source_lowering`, `cyc_tree` and `indexmap`.
+//! Stands on `accepted_programs`, `cyc_core`, `accepted_proof`, `source_lowering`, `cyc_tree` and `indexmap`.
 #![tactic(auto)]
 
 mod assigned;

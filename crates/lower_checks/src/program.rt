@@ -19,11 +19,11 @@ use crate::objects::object_layout;
 use crate::shape::Shape;
 use crate::stored::Stored;
 use crate::table::{Table, function_number, global_stored};
+use accepted_programs::Checked;
 use cyc_core::{Datum, Function, Program};
 use cyc_tree::{Constant, Global as Declared, Initial, Item, Program as Source};
 use cyc_words::sub32;
 use std::alloc::{AllocError, Global};
-use unique_flow::Checked;
 
 /// The word of a constant. Refuses a string and `NULL`.
 fn constant_word(constant: &Constant) -> Result<u32, LowerFault>

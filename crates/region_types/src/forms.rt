@@ -1,10 +1,10 @@
 // Which forms are taken.
 
 ghost use Rattle.std.specs.Prelude.{◌≡◌};
-ghost use Rattle.accepted_sources.specs.Supported.{supported};
-ghost use Rattle.type_verdicts.specs.Taken.{taken_of};
+ghost use Rattle.accepted_programs.specs.Supported.{supported};
+ghost use Rattle.check_faults.specs.Taken.{taken_of};
 
-use type_verdicts::Taken;
+use check_faults::Taken;
 
 /// What the compiler and the evaluator take today.
 pub fn supported() -> Taken

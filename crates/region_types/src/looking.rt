@@ -2,15 +2,15 @@
 
 ghost use Rattle.std.specs.Prelude.{◌≡◌, IfOk};
 ghost use Rattle.source_typing.specs.Answers.{type_fault};
-ghost use Rattle.type_verdicts.specs.Faults.{faults_of};
-ghost use Rattle.type_verdicts.specs.Taken.{taken_of};
+ghost use Rattle.check_faults.specs.Faults.{faults_of};
+ghost use Rattle.check_faults.specs.Taken.{taken_of};
 
 use crate::forms::supported;
 use crate::program::Typed;
+use check_faults::{Fault, Taken};
+use check_programs::program_fault;
 use cyc_tree::Program;
-use program_types::program_fault;
 use std::alloc::{AllocError, Global};
-use type_verdicts::{Fault, Taken};
 
 /// A program's earliest fault of names, types, regions and sizes, without the rules on live regions and effects, where these forms are
 /// taken. Fails only where no host memory is left.

@@ -3,9 +3,9 @@
 ghost use Rattle.std.specs.Prelude.{◌≡◌};
 ghost use Rattle.region_types.specs.Faults.{IsTypeFault};
 
+use check_faults::Fault;
 use cyc_tree::Program;
 use std::marker::Model;
-use type_verdicts::Fault;
 
 /// A program, with its first fault of names, types, regions and sizes. A contract sees it as the program.
 #[derive(Drop)]

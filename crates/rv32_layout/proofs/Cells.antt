@@ -6,8 +6,8 @@ use Rattle.cyc_core.specs.declared.operation.Cell.{Cell}
 use Rattle.cyc_core.specs.declared.operation.Cell.TheVariants as cell
 use Rattle.cyc_core.specs.declared.layout.CellLayout.{CellLayout}
 use Rattle.cyc_core.specs.Trees.{cell_bytes, made_parts, cell_parts, padding_parts, part_first}
-use Rattle.core_frames.specs.Layouts.{IsNothing}
-use Rattle.core_frames.specs.Statics.{number_bytes, number_in, parts_bytes, cells_bytes, zeros, AreJoined, parts_end, AreCellsJoined, cells_end}
+use Rattle.core_lines.specs.Layouts.{IsNothing}
+use Rattle.core_lines.specs.Statics.{number_bytes, number_in, parts_bytes, cells_bytes, zeros, AreJoined, parts_end, AreCellsJoined, cells_end}
 use Rattle.rv32_layout.specs.Sizes.{cell_size, cells_size}
 
 -- ---- cells that lie one behind the other

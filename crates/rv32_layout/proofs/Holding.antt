@@ -12,10 +12,10 @@ use Rattle.rv32_isa.specs.declared.instruction.Instr.{Instr}
 use Rattle.rv32_machine.specs.State.{Areas, code_base, word_at}
 use Rattle.rv32_machine.specs.Arrays.{bytes_in, byte_at, areas_of}
 use Rattle.rv32_machine.proofs.Bytes.{in_code}
-use Rattle.core_frames.specs.declared.line.Line.{Line}
-use Rattle.core_frames.specs.declared.line.Line.TheVariants.{Plain, Label, Jump, JumpIfZero, CallTo}
-use Rattle.core_frames.specs.Lines.{size_of, code_length, instructions_of, labels_placed, AreOnce, HasInstr, HasInstrs, StandsAt, HasLines, IsPlace}
-use Rattle.core_frames.proofs.Access.{length_of_both}
+use Rattle.core_lines.specs.declared.line.Line.{Line}
+use Rattle.core_lines.specs.declared.line.Line.TheVariants.{Plain, Label, Jump, JumpIfZero, CallTo}
+use Rattle.core_lines.specs.Lines.{size_of, code_length, instructions_of, labels_placed, AreOnce, HasInstr, HasInstrs, StandsAt, HasLines, IsPlace}
+use Rattle.core_lines.proofs.Access.{length_of_both}
 use Rattle.cyc_image.specs.Format.{code_limit, u32_bytes}
 use Rattle.rv32_layout.specs.Placed.{IsWord, AreWords, ArePlaced, place_of, instructions_from}
 use Rattle.rv32_layout.specs.Holding.{IsCodeOf}

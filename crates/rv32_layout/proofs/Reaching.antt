@@ -3,10 +3,10 @@
 use Rattle.std.proofs.Common.{◌≡◌, ℕ, ◌+◌, ◌<◌, ◌≤◌, true, List, [], ◌∷◌, Some, refl, sym, subst, arith, ⊎_elim}
 use Rattle.std.proofs.lemmas.Bool.{cases_lt, false≢true}
 use Rattle.std.proofs.lemmas.Bool.Decides.{nat_tests}
-use Rattle.core_frames.specs.declared.line.Line.{Line}
-use Rattle.core_frames.specs.declared.line.Line.TheVariants.{Plain, Label, Jump, JumpIfZero, CallTo}
-use Rattle.core_frames.specs.Lines.{code_length, size_of}
-use Rattle.core_frames.proofs.Access.{of_words}
+use Rattle.core_lines.specs.declared.line.Line.{Line}
+use Rattle.core_lines.specs.declared.line.Line.TheVariants.{Plain, Label, Jump, JumpIfZero, CallTo}
+use Rattle.core_lines.specs.Lines.{code_length, size_of}
+use Rattle.core_lines.proofs.Access.{of_words}
 use Rattle.cyc_image.specs.Format.{code_limit}
 use Rattle.rv32_select.specs.Beginning.{first_target, leads_to_code, leads_if_some, begins_within}
 use Rattle.rv32_layout.specs.Placed.{place_of}

@@ -1,8 +1,8 @@
 -- Bytes as the code of lines, whatever machine has them.
 use Rattle.std.specs.Prelude.{◌≡◌, ℕ, List}
 use Rattle.rv32_machine.specs.Arrays.{Arrays, areas_of, byte_at}
-use Rattle.core_frames.specs.declared.line.Line.{Line}
-use Rattle.core_frames.specs.Lines.{HasLines}
+use Rattle.core_lines.specs.declared.line.Line.{Line}
+use Rattle.core_lines.specs.Lines.{HasLines}
 use Rattle.rv32_layout.specs.Placed.{place_of}
 
 -- each machine whose code these bytes are has the lines from its code's first address on, with each label where `place_of` says

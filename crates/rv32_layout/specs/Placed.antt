@@ -3,9 +3,9 @@ use Rattle.std.specs.Prelude.{◌≡◌, ℕ, ◌+◌, ◌^◌, ◌<◌, List, [
 use Rattle.cyc_image.specs.Format.{u32_bytes}
 use Rattle.rv32_isa.specs.Table.{decoded}
 use Rattle.rv32_isa.specs.declared.instruction.Instr.{Instr}
-use Rattle.core_frames.specs.declared.line.Line.{Line}
-use Rattle.core_frames.specs.declared.line.Line.TheVariants.{Plain, Label, Jump, JumpIfZero, CallTo}
-use Rattle.core_frames.specs.Lines.{size_of, instructions_of}
+use Rattle.core_lines.specs.declared.line.Line.{Line}
+use Rattle.core_lines.specs.declared.line.Line.TheVariants.{Plain, Label, Jump, JumpIfZero, CallTo}
+use Rattle.core_lines.specs.Lines.{size_of, instructions_of}
 
 -- where a label stands, in bytes from the first line on: at the first line that places it, or behind all lines where none does
 abbrev pub place_of : List Line → ℕ → ℕ

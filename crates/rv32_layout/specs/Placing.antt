@@ -2,8 +2,8 @@
 use Rattle.std.specs.Prelude.{◌≡◌, ℕ, ◌+◌, ◌%◌, ◌≤◌, List, ◌++◌, nat_eq, unwrap_or}
 use Rattle.indexmap.specs.IndexMap.{get}
 use Rattle.rv32_isa.specs.declared.instruction.Instr.{Instr}
-use Rattle.core_frames.specs.declared.line.Line.{Line}
-use Rattle.core_frames.specs.declared.line.Line.TheVariants.{Plain, Label, Jump, JumpIfZero, CallTo}
+use Rattle.core_lines.specs.declared.line.Line.{Line}
+use Rattle.core_lines.specs.declared.line.Line.TheVariants.{Plain, Label, Jump, JumpIfZero, CallTo}
 use Rattle.cyc_image.specs.Format.{code_limit}
 use Rattle.rv32_layout.specs.Placed.{AreWords}
 use Rattle.rv32_layout.specs.declared.places.Places.{Places}

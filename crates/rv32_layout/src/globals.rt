@@ -3,8 +3,8 @@
 ghost use Rattle.std.specs.Prelude.{◌≡◌, ◌-◌, ◌<◌, ◌≤◌, ◌↔◌, ◌++◌, ◌+◌, ◌*◌, ◌^◌, Err, IfOk, IfSome, IfNone, OnOk, IsTrue, length, map, vec_len};
 ghost use Rattle.cyc_image.specs.Format.{data_limit};
 ghost use Rattle.cyc_core.specs.Trees.{datum_tree, layout_tree, program_tree};
-ghost use Rattle.core_frames.specs.Selected.{rounded};
-ghost use Rattle.core_frames.specs.Statics.{zeros, datum_bytes, data_bytes, AreCellsJoined, cells_end, IsPlainDatum, ArePlainData};
+ghost use Rattle.core_lines.specs.Selected.{rounded};
+ghost use Rattle.core_lines.specs.Statics.{zeros, datum_bytes, data_bytes, AreCellsJoined, cells_end, IsPlainDatum, ArePlainData};
 ghost use Rattle.rv32_layout.specs.Sizes.{cell_size, cells_size, datum_size};
 
 use crate::fault::PlaceFault;

@@ -2,9 +2,9 @@
 
 ghost use Rattle.std.specs.Prelude.{◌≡◌, ◌≤◌, ◌<◌, ◌↔◌, None, IfSome};
 ghost use Rattle.cyc_image.specs.Format.{code_limit};
-ghost use Rattle.core_frames.specs.Lines.{size_of, code_length};
+ghost use Rattle.core_lines.specs.Lines.{size_of, code_length};
 
-use core_frames::Line;
+use core_lines::Line;
 use cyc_image::CODE_LIMIT;
 use rv32_select::Labelled;
 

@@ -4,7 +4,7 @@
 //! each machine with the code has the lines. The code is refused as too large exactly where it is
 //! over 1,048,576 bytes. `data` gives each global its bytes. Stands on `rv32_select`, `cyc_core`,
 //! `rv32_isa`, `byteorder`, `indexmap` and `thiserror`, and its clauses on the definitions of
-//! `core_frames`, `rv32_machine` and `cyc_image`.
+//! `core_lines`, `rv32_machine` and `cyc_image`.
 #![tactic(auto)]
 
 mod code;

@@ -2,14 +2,14 @@
 
 ghost use Rattle.std.specs.Prelude.{◌≡◌, ℕ, ◌+◌, ◌≤◌, List, ◌∷◌, nat_eq, if◌then◌else◌, unwrap_or, IfOk, OnOk};
 ghost use Rattle.indexmap.specs.IndexMap.{get};
-ghost use Rattle.core_frames.specs.declared.line.Line.{Line};
+ghost use Rattle.core_lines.specs.declared.line.Line.{Line};
 ghost use Rattle.cyc_image.specs.Format.{code_limit};
-ghost use Rattle.core_frames.specs.Lines.{size_of, code_length};
+ghost use Rattle.core_lines.specs.Lines.{size_of, code_length};
 ghost use Rattle.rv32_layout.specs.Placed.{place_of};
 ghost use Rattle.rv32_layout.specs.Placing.{place_in};
 
 use crate::length::size;
-use core_frames::Line;
+use core_lines::Line;
 use indexmap::IndexMap;
 use rv32_select::Labelled;
 use std::alloc::{AllocError, Global};

@@ -3,13 +3,13 @@
 ghost use Rattle.std.specs.Prelude.{◌≡◌, ◌+◌, ◌∷◌, [], pos, ◌≤◌, vec_len, OnOk, IfOk};
 ghost use Rattle.rv32_isa.specs.declared.instruction.Instr.TheVariants.{Jal, Bne};
 ghost use Rattle.cyc_image.specs.Format.{code_limit, u32_bytes};
-ghost use Rattle.core_frames.specs.Lines.{code_length, offset_to, instructions_of};
+ghost use Rattle.core_lines.specs.Lines.{code_length, offset_to, instructions_of};
 ghost use Rattle.rv32_layout.specs.Placed.{ArePlaced};
 ghost use Rattle.rv32_layout.specs.Placing.{place_in, IsInReach, Reaches, Appends};
 
 use crate::places::{Places, find_places};
 use byteorder::{ByteOrder, LittleEndian};
-use core_frames::Line;
+use core_lines::Line;
 use rv32_isa::{BranchOffset, Instr, JumpOffset, Register, encode};
 use rv32_select::Labelled;
 use std::alloc::{AllocError, Global};

@@ -4,12 +4,12 @@ use Rattle.std.proofs.Common.{◌≡◌, ℕ, zero, suc, ◌+◌, ◌<◌, true,
 use Rattle.std.proofs.lemmas.Bool.{false≢true}
 use Rattle.std.proofs.lemmas.Bool.Decides.{nat_tests}
 use Rattle.core_meaning.specs.Core.{Function, Program}
-use Rattle.core_frames.specs.declared.line.Line.{Line}
-use Rattle.core_frames.specs.declared.line.Line.TheVariants.{Plain, Label, Jump, JumpIfZero, CallTo}
-use Rattle.core_frames.specs.Lines.{code_length}
-use Rattle.core_frames.specs.Frames.{environment_code, prologue_code}
-use Rattle.core_frames.specs.Selected.{frame_bytes, around, labels_of, statements_code, function_code, functions_code, program_code, offsets_from, datum_locals}
-use Rattle.core_frames.proofs.Access.{length_of_both}
+use Rattle.core_lines.specs.declared.line.Line.{Line}
+use Rattle.core_lines.specs.declared.line.Line.TheVariants.{Plain, Label, Jump, JumpIfZero, CallTo}
+use Rattle.core_lines.specs.Lines.{code_length}
+use Rattle.core_lines.specs.Frames.{environment_code, prologue_code}
+use Rattle.core_lines.specs.Selected.{frame_bytes, around, labels_of, statements_code, function_code, functions_code, program_code, offsets_from, datum_locals}
+use Rattle.core_lines.proofs.Access.{length_of_both}
 use Rattle.rv32_select.specs.Beginning.{leads_to_code, begins_within}
 
 -- there is code where a label leads to it

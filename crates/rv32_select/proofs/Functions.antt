@@ -2,10 +2,10 @@
 use Rattle.std.proofs.Common.{◌≡◌, ℕ, ◌+◌, List, [], ◌∷◌, ◌++◌, ap, ◌∙◌}
 use Rattle.std.proofs.lemmas.List.{append_assoc}
 use Rattle.core_meaning.specs.Core.{Function}
-use Rattle.core_frames.specs.declared.line.Line.{Line}
-use Rattle.core_frames.specs.declared.line.Line.TheVariants.{Label}
-use Rattle.core_frames.specs.Frames.{prologue_code}
-use Rattle.core_frames.specs.Selected.{Surroundings, frame_bytes, around, labels_of, statements_code, function_code, functions_code}
+use Rattle.core_lines.specs.declared.line.Line.{Line}
+use Rattle.core_lines.specs.declared.line.Line.TheVariants.{Label}
+use Rattle.core_lines.specs.Frames.{prologue_code}
+use Rattle.core_lines.specs.Selected.{Surroundings, frame_bytes, around, labels_of, statements_code, function_code, functions_code}
 
 module _ (statics : List ℕ) (number next : ℕ) (f : Function) where
   pub function_joined : (before labelled begun whole : List Line) (bytes : ℕ) (u : Surroundings) → bytes ≡ frame_bytes f → u ≡ around statics f

@@ -2,7 +2,7 @@
 use Rattle.std.specs.Prelude.{remove}
 use Rattle.std.proofs.Common.{◌≡◌, ℕ, List, [], ◌∷◌, Option, None, map, ap}
 use Rattle.core_meaning.specs.Core.{Local}
-use Rattle.core_frames.specs.Selected.{Surroundings, within_block, offsets_from, holding}
+use Rattle.core_lines.specs.Selected.{Surroundings, within_block, offsets_from, holding}
 
 module _ {V : Type 0} (items : V → List ℕ) where
   others : (vs : List V) (b : List ℕ) (bs : List (List ℕ)) → map items vs ≡ b ∷ bs → map items (remove vs 0) ≡ bs

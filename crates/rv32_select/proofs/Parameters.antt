@@ -1,8 +1,8 @@
 -- The parameters that are left to be taken: the next one, and those behind it.
 use Rattle.std.proofs.Common.{◌≡◌, ℕ, suc, ◌+◌, ◌-◌, ◌<◌, ◌/◌, List, ◌++◌, sym, ap, ◌∙◌, arith}
 use Rattle.std.proofs.lemmas.List.{append_assoc}
-use Rattle.core_frames.specs.declared.line.Line.{Line}
-use Rattle.core_frames.specs.Frames.{load_code, save_code, slot_of, take_code}
+use Rattle.core_lines.specs.declared.line.Line.{Line}
+use Rattle.core_lines.specs.Frames.{load_code, save_code, slot_of, take_code}
 
 pub take_more : (bytes passed k n : ℕ) → k < n
     → take_code bytes passed k (n - k) ≡ load_code 5 (bytes / 4 + 1 + k) ++ save_code 5 (slot_of passed k) ++ take_code bytes passed (k + 1) (n - (k + 1))

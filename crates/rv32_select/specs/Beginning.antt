@@ -1,8 +1,8 @@
 -- How lines begin: where the first instruction of all is a jump or a call, it goes to another instruction. So it goes less far than the code is long.
 use Rattle.std.specs.Prelude.{ℕ, Bool, true, false, List, [], ◌∷◌, Option, Some, None, nat_eq, nat_lt, if◌then◌else◌}
-use Rattle.core_frames.specs.declared.line.Line.{Line}
-use Rattle.core_frames.specs.declared.line.Line.TheVariants.{Plain, Label, Jump, JumpIfZero, CallTo}
-use Rattle.core_frames.specs.Lines.{code_length}
+use Rattle.core_lines.specs.declared.line.Line.{Line}
+use Rattle.core_lines.specs.declared.line.Line.TheVariants.{Plain, Label, Jump, JumpIfZero, CallTo}
+use Rattle.core_lines.specs.Lines.{code_length}
 
 -- The label to which the first instruction goes, where it is a jump or a call. The jump that is made where a register is 0 is its line's second instruction.
 abbrev pub first_target : List Line → Option ℕ

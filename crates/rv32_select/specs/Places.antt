@@ -1,6 +1,6 @@
 -- Where code stands, as the definition of code has it, and which comparisons take two instructions.
 use Rattle.std.specs.Prelude.{Bool, true, false, map}
-use Rattle.core_frames.specs.Selected.{Surroundings}
+use Rattle.core_lines.specs.Selected.{Surroundings}
 use Rattle.cyc_core.specs.declared.operation.Binary.{Binary}
 use Rattle.cyc_core.specs.declared.operation.Binary.TheVariants as binary
 use Rattle.cyc_core.specs.declared.operation.Operation.{Operation}

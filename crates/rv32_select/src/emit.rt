@@ -1,12 +1,12 @@
 // Instructions for single steps.
 
 ghost use Rattle.std.specs.Prelude.{◌≡◌, ◌+◌, ◌*◌, ◌<◌, ◌^◌, [], ◌∷◌, ◌++◌, length, vec_len, IfOk, OnOk};
-ghost use Rattle.core_frames.specs.declared.line.Line.TheVariants.{Plain};
-ghost use Rattle.core_frames.specs.Frames.{upper_of, lower_of, is_short, word_code, load_code, save_code, environment_code};
-ghost use Rattle.core_frames.specs.Selected.{constant_code, address_code, further_code, far_code, read_line, read_code, write_line, write_code};
+ghost use Rattle.core_lines.specs.declared.line.Line.TheVariants.{Plain};
+ghost use Rattle.core_lines.specs.Frames.{upper_of, lower_of, is_short, word_code, load_code, save_code, environment_code};
+ghost use Rattle.core_lines.specs.Selected.{constant_code, address_code, further_code, far_code, read_line, read_code, write_line, write_code};
 ghost use Rattle.cyc_core.specs.Trees.{bytes_of};
 
-use core_frames::Line;
+use core_lines::Line;
 use cyc_core::Width;
 use rv32_isa::{Instr, Register, Signed12, Upper20};
 use std::alloc::AllocError;

@@ -2,11 +2,11 @@
 
 ghost use Rattle.std.specs.Prelude.{◌≡◌, ◌+◌, ◌-◌, ◌%◌, ◌^◌, ◌*◌, ◌≤◌, ◌<◌, ◌++◌, IfOk, OnOk, map, ℕ, length};
 ghost use Rattle.cyc_core.specs.Trees.{function_tree, program_tree};
-ghost use Rattle.core_frames.specs.Frames.{test_code, move_code, take_code, prologue_code};
-ghost use Rattle.core_frames.specs.Lines.{labels_placed, AreOnce};
-ghost use Rattle.core_frames.specs.Running.{DoesAsCore};
-ghost use Rattle.core_frames.specs.Selectable.{IsSelectable};
-ghost use Rattle.core_frames.specs.Selected.{slots_of, own_end, frame_bytes, labels_of, function_code, functions_code, program_code};
+ghost use Rattle.core_lines.specs.Frames.{test_code, move_code, take_code, prologue_code};
+ghost use Rattle.core_lines.specs.Lines.{labels_placed, AreOnce};
+ghost use Rattle.core_lines.specs.Running.{DoesAsCore};
+ghost use Rattle.core_lines.specs.Selectable.{IsSelectable};
+ghost use Rattle.core_lines.specs.Selected.{slots_of, own_end, frame_bytes, labels_of, function_code, functions_code, program_code};
 ghost use Rattle.rv32_select.specs.Places.{surroundings};
 
 use crate::emit::{
@@ -16,7 +16,7 @@ use crate::labelled::Labelled;
 use crate::layout::{end_from, highest_of, slots, statics, sum};
 use crate::place::Place;
 use crate::statement::{Ways, following, put_statements};
-use core_frames::Line;
+use core_lines::Line;
 use cyc_core::{Function, Program, Temporary};
 use rv32_isa::{BranchOffset, Instr, Register};
 use rv32_machine::{EXIT, STACK_REFUSED};

@@ -3,7 +3,7 @@
 ghost use Rattle.std.specs.Prelude.{◌≡◌, IfSome, IfNone, true, false};
 ghost use Rattle.rv32_select.specs.Beginning.{first_target, leads_to_code, begins_within};
 
-use core_frames::Line;
+use core_lines::Line;
 use std::marker::Model;
 
 /// Code with labels: where its first instruction is a jump or a call, an instruction stands behind the label that it goes to.
@@ -15,7 +15,7 @@ pub struct Labelled {
 
 impl Model for Labelled {
     ghost use Rattle.std.specs.Prelude.{◌≡◌, List, true};
-    ghost use Rattle.core_frames.specs.declared.line.Line.{Line};
+    ghost use Rattle.core_lines.specs.declared.line.Line.{Line};
     ghost use Rattle.rv32_select.specs.Beginning.{begins_within};
 
     ghost Value = { List Line };

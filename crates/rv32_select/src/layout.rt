@@ -1,8 +1,8 @@
 // Where the unnamed values of functions, the locals of blocks and the globals lie.
 
 ghost use Rattle.std.specs.Prelude.{◌≡◌, ◌+◌, ◌*◌, ◌<◌, ◌^◌, ◌≤◌, IfOk, OnOk, map, true};
-ghost use Rattle.core_frames.specs.Selected as selected;
-ghost use Rattle.core_frames.specs.Selected.{slots_of, rounded, offsets_from, end_from, greater, highest, highest_of, datum_local, datum_locals};
+ghost use Rattle.core_lines.specs.Selected as selected;
+ghost use Rattle.core_lines.specs.Selected.{slots_of, rounded, offsets_from, end_from, greater, highest, highest_of, datum_local, datum_locals};
 ghost use Rattle.cyc_core.specs.Trees.{local_tree, datum_tree, statement_tree, body_tree, function_tree};
 
 use cyc_core::{Datum, Function, Layout, Local, Statement};

@@ -1,9 +1,9 @@
 // Instructions for an operation.
 
 ghost use Rattle.std.specs.Prelude.{◌≡◌, ◌+◌, true, ◌++◌, OnOk, IfOk};
-ghost use Rattle.core_frames.specs.Frames.{load_code, save_code, slot_of};
-ghost use Rattle.core_frames.specs.Choosing.{held_behind_operation};
-ghost use Rattle.core_frames.specs.Selected.{binary_code, operation_code, from_temp, to_temp, nth};
+ghost use Rattle.core_lines.specs.Frames.{load_code, save_code, slot_of};
+ghost use Rattle.core_lines.specs.Choosing.{held_behind_operation};
+ghost use Rattle.core_lines.specs.Selected.{binary_code, operation_code, from_temp, to_temp, nth};
 ghost use Rattle.cyc_core.specs.Trees.{binary_tree, operation_tree};
 ghost use Rattle.rv32_select.specs.Places.{surroundings, takes_two, is_on_words, is_on_pointers, is_on_locals, is_on_memory, is_on_regions};
 ghost use Rattle.rv32_machine.specs.State.{data_base};
@@ -14,7 +14,7 @@ use crate::emit::{
 };
 use crate::layout::sum;
 use crate::place::Place;
-use core_frames::Line;
+use core_lines::Line;
 use cyc_core::{Binary, Operation, Temporary};
 use rv32_isa::{Instr, Register, Signed12};
 use rv32_machine::{GETCHAR, PUTCHAR, REGION_FREE, REGION_NEW};

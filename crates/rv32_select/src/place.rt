@@ -1,9 +1,9 @@
 // Where code stands: its function's frame, the blocks around it, and the program's data.
 
 ghost use Rattle.std.specs.Prelude.{◌≡◌, ◌<◌, ◌^◌, [], ◌∷◌, map, IfOk, OnOk, List, Option, None, ℕ};
-ghost use Rattle.core_frames.specs.Frames.{slot_of};
-ghost use Rattle.core_frames.specs.Choosing.{is_held};
-ghost use Rattle.core_frames.specs.Selected.{Surroundings, local_offset, nth, within_block, around, holding};
+ghost use Rattle.core_lines.specs.Frames.{slot_of};
+ghost use Rattle.core_lines.specs.Choosing.{is_held};
+ghost use Rattle.core_lines.specs.Selected.{Surroundings, local_offset, nth, within_block, around, holding};
 ghost use Rattle.cyc_core.specs.Trees.{local_tree, function_tree};
 ghost use Rattle.core_meaning.specs.Core as core;
 ghost use Rattle.rv32_select.specs.Places.{surroundings};

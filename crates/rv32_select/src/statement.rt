@@ -3,9 +3,9 @@
 ghost use Rattle.std.specs.Prelude.{◌≡◌, ◌+◌, ◌<◌, ◌≤◌, ◌++◌, IfOk, OnOk, None, map, pos, vec_len};
 ghost use Rattle.core_meaning.specs.Core as core;
 ghost use Rattle.cyc_core.specs.Trees.{statement_tree, body_tree, temporary_tree, optional_tree, local_tree};
-ghost use Rattle.core_frames.specs.Frames.{pass_code, result_code, call_code, values_code, leave_code, return_code, kind_number, raise_code};
-ghost use Rattle.core_frames.specs.Choosing.{held_behind, held_behind_all, held_or_loaded, choice_code};
-ghost use Rattle.core_frames.specs.Selected.{labels_in, labels_of, holding, statement_code, statements_code};
+ghost use Rattle.core_lines.specs.Frames.{pass_code, result_code, call_code, values_code, leave_code, return_code, kind_number, raise_code};
+ghost use Rattle.core_lines.specs.Choosing.{held_behind, held_behind_all, held_or_loaded, choice_code};
+ghost use Rattle.core_lines.specs.Selected.{labels_in, labels_of, holding, statement_code, statements_code};
 ghost use Rattle.rv32_select.specs.Places.{surroundings};
 
 use crate::emit::{ADDRESS, RESULT, put, put_environment, put_lines, put_load, put_save, put_word};
@@ -13,7 +13,7 @@ use crate::layout::sum;
 use crate::operation::{held_behind, put_from, put_operation, put_to};
 use crate::place::Place;
 use crate::whole::{put_clear, put_copy, put_region_alloc};
-use core_frames::Line;
+use core_lines::Line;
 use cyc_core::{Local, Statement, Temporary, Words};
 use cyc_words::Kind;
 use rv32_isa::{Instr, Register, Signed12};

@@ -2,15 +2,15 @@
 
 ghost use Rattle.std.specs.Prelude.{◌≡◌, ◌++◌, OnOk};
 ghost use Rattle.core_meaning.specs.Core as core;
-ghost use Rattle.core_frames.specs.Loops.{are_word_parts, are_words, copy_loop, clear_loop};
-ghost use Rattle.core_frames.specs.Selected.{further_code, bytes_in, bytes_code, operation_code};
+ghost use Rattle.core_lines.specs.Loops.{are_word_parts, are_words, copy_loop, clear_loop};
+ghost use Rattle.core_lines.specs.Selected.{further_code, bytes_in, bytes_code, operation_code};
 ghost use Rattle.cyc_core.specs.Trees.{cell_parts, layout_tree};
 ghost use Rattle.rv32_select.specs.Places.{surroundings};
 
 use crate::emit::{ADDRESS, OPERAND, RESULT, put_environment, put_further, put_lines, put_word};
 use crate::operation::{put_from, put_to};
 use crate::place::Place;
-use core_frames::Line;
+use core_lines::Line;
 use cyc_core::{CellLayout, Layout, Temporary, Width};
 use rv32_isa::{BranchOffset, Instr, Register, Signed12};
 use rv32_machine::REGION_ALLOC;

@@ -13,6 +13,7 @@ pub mod TakenItems
 pub mod TakenOperands
 pub mod NoStrings
 pub mod RegionNames
+pub mod NamedBelow
 mod SampleTrees
 mod AcceptedSamples1
 mod AcceptedSamples2

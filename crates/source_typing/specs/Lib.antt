@@ -29,3 +29,4 @@ pub mod Flow
 pub mod Left
 pub mod Taken
 pub mod Answers
+pub mod Named

@@ -1,1 +1,1 @@
-pub mod Accepted
+pub use Rattle.effect_check.specs.declared.fault.CheckFault

@@ -2,13 +2,15 @@
 //!
 //! `flow` answers the earliest fault of flow, or the program as `Checked`: nothing in it breaks a
 //! rule. No form that flow is judged for is supported yet, so it finds no fault: that there is none is a law of
-//! `accepted_sources`. `flow_fault` answers the earliest fault of flow where any forms of the language are taken; `judged_flow` finds
+//! `accepted_programs`. `flow_fault` answers the earliest fault of flow where any forms of the language are taken; `flow_check` finds
 //! it. Stands on these and on `effect_check`.
 #![tactic(auto)]
 
 mod checked;
 mod fault;
 
-pub use checked::{Checked, flow};
+pub use accepted_programs::Checked;
+pub use checked::flow;
+pub use effect_check::{CheckFault, effects, typed};
 pub use fault::FlowFault;
-pub use judged_flow::flow_fault;
+pub use flow_check::flow_fault;

@@ -4,8 +4,8 @@ use Rattle.cyc_lexer.specs.Tokens.{token_tree}
 use Rattle.cyc_tree.specs.Tree.{Program}
 use Rattle.cyc_tree.specs.Depths.{nesting, nesting_limit}
 use Rattle.cyc_tree.specs.View.{program_item_tree}
-use Rattle.cyc_parser.specs.Phrases.{Tokens}
-use Rattle.cyc_parser.specs.Grammar.{IsProgram}
+use Rattle.source_grammar.specs.Phrases.{Tokens}
+use Rattle.source_grammar.specs.Grammar.{IsProgram}
 use Rattle.cyc_parser.specs.Reader.{Fails}
 use Rattle.cyc_parser.specs.ReadPrograms.{program}
 use Rattle.cyc_parser.proofs.WholePrograms.{is_found, is_nested, is_only, is_refused_for, is_refused_program}

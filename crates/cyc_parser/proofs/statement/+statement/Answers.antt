@@ -1,7 +1,7 @@
 use Rattle.std.proofs.Common.{◌≡◌, map, sym, ◌∙◌, ap, arith, true, false, subst}
 use Rattle.std.proofs.lemmas.Result.{err_from_is_err_and}
 use Rattle.cyc_tree.specs.View.{item_tree, clause_tree, statement_tree}
-use Rattle.cyc_parser.specs.Phrases.{Tokens}
+use Rattle.source_grammar.specs.Phrases.{Tokens}
 use Rattle.cyc_parser.specs.Tests.{begins_item, begins_clause, begins_statement}
 use Rattle.cyc_parser.specs.Reader.{Outcome, Gives, too_deep, passes, next_is}
 use Rattle.cyc_parser.specs.Reading.{next_place}

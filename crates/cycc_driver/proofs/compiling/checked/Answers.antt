@@ -1,11 +1,11 @@
 use Rattle.std.proofs.Common.{◌≡◌, Some, ap, subst, sym, ◌∙◌}
-use Rattle.accepted_sources.proofs.NoFlow.{first_is_of_effects}
+use Rattle.accepted_programs.proofs.NoFlow.{first_is_of_effects}
 use Rattle.std.specs.Prelude.{Err}
 use Rattle.cyc_tree.specs.Tree.{Program}
-use Rattle.type_verdicts.specs.Faults.{fault_of}
+use Rattle.check_faults.specs.Faults.{fault_of}
 use Rattle.source_typing.specs.Answers.{first_fault}
-use Rattle.accepted_sources.specs.Supported.{supported}
-use Rattle.effect_check.specs.declared.fault.CheckFault.{CheckFault}
+use Rattle.accepted_programs.specs.Supported.{supported}
+use Rattle.unique_flow.specs.CheckFault.{CheckFault}
 use Rattle.cycc_driver.proofs.Breaking.{broken_text}
 use Rattle.cycc_driver.proofs.compiling.checked.Goals as goal
 

@@ -1,9 +1,9 @@
 use Rattle.std.proofs.Common.{◌≡◌, ℕ, ◌<◌, List, length, refl, ap, ◌∙◌, subst, arith}
 use Rattle.std.specs.Prelude.{Err}
-use Rattle.core_frames.specs.declared.line.Line.{Line}
-use Rattle.core_frames.specs.Lines.{IsPlace, code_length}
-use Rattle.core_frames.specs.Selected as select
-use Rattle.core_frames.specs.Statics.{data_bytes}
+use Rattle.core_lines.specs.declared.line.Line.{Line}
+use Rattle.core_lines.specs.Lines.{IsPlace, code_length}
+use Rattle.core_lines.specs.Selected as select
+use Rattle.core_lines.specs.Statics.{data_bytes}
 use Rattle.core_meaning.specs.Core as core
 use Rattle.rv32_layout.specs.declared.fault.PlaceFault.{PlaceFault}
 use Rattle.rv32_layout.specs.Holding.{IsCodeOf}

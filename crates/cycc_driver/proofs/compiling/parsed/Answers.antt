@@ -1,6 +1,6 @@
 use Rattle.std.proofs.Common.{map, subst}
 use Rattle.cyc_lexer.specs.Tokens.{token_tree}
-use Rattle.cyc_parser.specs.Grammar.{IsProgram}
+use Rattle.source_grammar.specs.Grammar.{IsProgram}
 use Rattle.cycc_driver.proofs.compiling.parsed.Goals as goal
 
 pub returns-in-Ok-parse-clause-found : goal.returns-in-Ok-parse-clause-found

@@ -2,7 +2,7 @@ use Rattle.std.proofs.Common.{◌≡◌, subst}
 use Rattle.std.specs.Prelude.{IfOk}
 use Rattle.source_typing.specs.Answers.{effect_fault}
 use Rattle.source_typing.specs.Taken.{Taken}
-use Rattle.type_verdicts.specs.Faults.{faults_of}
+use Rattle.check_faults.specs.Faults.{faults_of}
 use Rattle.effect_check.proofs.effected.earliest_fault.Goals as goal
 
 pub returns : goal.returns

@@ -1,7 +1,7 @@
 use Rattle.std.proofs.Common.{◌≡◌, sym, ap, ◌∙◌}
 use Rattle.source_typing.specs.Answers.{type_fault}
 use Rattle.source_typing.specs.Taken.{Taken}
-use Rattle.accepted_sources.specs.Supported.{supported}
+use Rattle.accepted_programs.specs.Supported.{supported}
 use Rattle.region_types.proofs.looking.typed.Goals as goal
 
 pub new-requires : goal.new-requires

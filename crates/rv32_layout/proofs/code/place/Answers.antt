@@ -1,6 +1,6 @@
 use Rattle.std.proofs.Common.{◌≤◌, arith}
 use Rattle.cyc_image.specs.Format.{code_limit}
-use Rattle.core_frames.specs.Lines.{code_length}
+use Rattle.core_lines.specs.Lines.{code_length}
 use Rattle.rv32_layout.proofs.Holding.{is_code_of, are_places}
 use Rattle.rv32_layout.proofs.code.place.Goals as goal
 

@@ -1,6 +1,6 @@
 use Rattle.std.proofs.Common.{◌≡◌, ◌+◌, ◌<◌, ◌∷◌, length, drop, refl, sym, ap, ◌∙◌, arith}
 use Rattle.std.proofs.lemmas.List.{drop_more}
-use Rattle.core_frames.specs.Selected.{rounded}
+use Rattle.core_lines.specs.Selected.{rounded}
 use Rattle.rv32_layout.specs.Sizes.{datum_size}
 use Rattle.rv32_layout.proofs.Statics.{data_of_rest, ends_within}
 use Rattle.rv32_layout.proofs.globals.are_too_large.Goals as goal

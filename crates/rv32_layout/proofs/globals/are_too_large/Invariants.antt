@@ -2,7 +2,7 @@ use Rattle.std.specs.Prelude.{length}
 use Rattle.std.proofs.Common.{◌≡◌, ◌+◌, ◌≤◌, drop, map}
 use Rattle.cyc_image.specs.Format.{data_limit}
 use Rattle.cyc_core.specs.Trees.{datum_tree}
-use Rattle.core_frames.specs.Statics.{data_bytes}
+use Rattle.core_lines.specs.Statics.{data_bytes}
 use Rattle.rv32_layout.proofs.globals.are_too_large.Given as goal
 
 abbrev pub invariant-each : goal.invariant-each

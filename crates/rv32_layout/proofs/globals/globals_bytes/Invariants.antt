@@ -1,6 +1,6 @@
 use Rattle.std.proofs.Common.{◌≡◌, ◌++◌, drop, map, vec_len}
 use Rattle.cyc_core.specs.Trees.{datum_tree}
-use Rattle.core_frames.specs.Statics.{data_bytes, ArePlainData}
+use Rattle.core_lines.specs.Statics.{data_bytes, ArePlainData}
 use Rattle.rv32_layout.proofs.globals.globals_bytes.Given as goal
 
 abbrev pub invariant-each : goal.invariant-each

@@ -3,7 +3,7 @@ use Rattle.std.proofs.lemmas.List.{drop_more, drop_all}
 use Rattle.cyc_core.specs.declared.operation.Cell.TheVariants as cell
 use Rattle.cyc_core.specs.declared.layout.CellLayout.{CellLayout}
 use Rattle.cyc_core.specs.Trees.{cell_parts}
-use Rattle.core_frames.specs.Statics.{AreCellsJoined, cells_end}
+use Rattle.core_lines.specs.Statics.{AreCellsJoined, cells_end}
 use Rattle.rv32_layout.specs.Sizes.{cell_size, cells_size}
 use Rattle.rv32_layout.proofs.Cells.{more_joined, more_end, end_is}
 use Rattle.rv32_layout.proofs.globals.joined_bytes.Goals as goal

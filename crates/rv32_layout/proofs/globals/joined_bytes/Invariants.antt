@@ -1,6 +1,6 @@
 use Rattle.std.proofs.Common.{◌≡◌, ◌<◌, ◌^◌, drop, map}
 use Rattle.cyc_core.specs.Trees.{cell_parts}
-use Rattle.core_frames.specs.Statics.{AreCellsJoined, cells_end}
+use Rattle.core_lines.specs.Statics.{AreCellsJoined, cells_end}
 use Rattle.rv32_layout.proofs.globals.joined_bytes.Given as goal
 
 abbrev pub invariant-each : goal.invariant-each

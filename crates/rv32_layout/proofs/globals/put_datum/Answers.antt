@@ -1,7 +1,7 @@
 use Rattle.std.proofs.Common.{◌≡◌, ◌*◌, ◌++◌, sym, ap, ◌∙◌, subst}
 use Rattle.cyc_core.specs.declared.layout.Layout.{Layout}
 use Rattle.cyc_core.specs.Trees.{layout_tree, datum_tree}
-use Rattle.core_frames.specs.Statics.{zeros, datum_bytes, AreCellsJoined, cells_end, IsPlainDatum}
+use Rattle.core_lines.specs.Statics.{zeros, datum_bytes, AreCellsJoined, cells_end, IsPlainDatum}
 use Rattle.rv32_layout.specs.Sizes.{cells_size}
 use Rattle.rv32_layout.proofs.Statics.{whole_zeros, whole_is_plain}
 use Rattle.rv32_layout.proofs.globals.put_datum.Goals as goal

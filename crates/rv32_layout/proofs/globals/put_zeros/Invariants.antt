@@ -1,5 +1,5 @@
 use Rattle.std.proofs.Common.{◌≡◌, ◌-◌, ◌++◌}
-use Rattle.core_frames.specs.Statics.{zeros}
+use Rattle.core_lines.specs.Statics.{zeros}
 use Rattle.rv32_layout.proofs.globals.put_zeros.Given as goal
 
 abbrev pub invariant-each : goal.invariant-each

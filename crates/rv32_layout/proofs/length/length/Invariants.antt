@@ -1,6 +1,6 @@
 use Rattle.std.proofs.Common.{◌≡◌, ◌+◌, ◌≤◌, drop}
 use Rattle.cyc_image.specs.Format.{code_limit}
-use Rattle.core_frames.specs.Lines.{code_length}
+use Rattle.core_lines.specs.Lines.{code_length}
 use Rattle.rv32_layout.proofs.length.length.Given as goal
 
 abbrev pub invariant-each : goal.invariant-each

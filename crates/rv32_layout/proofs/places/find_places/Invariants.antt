@@ -1,6 +1,6 @@
 use Rattle.std.proofs.Common.{◌≡◌, ℕ, ◌+◌, drop, nat_eq, unwrap_or}
 use Rattle.indexmap.specs.IndexMap.{get}
-use Rattle.core_frames.specs.Lines.{code_length}
+use Rattle.core_lines.specs.Lines.{code_length}
 use Rattle.rv32_layout.specs.Placed.{place_of}
 use Rattle.rv32_layout.proofs.places.find_places.Given as goal
 

@@ -1,6 +1,6 @@
 use Rattle.std.proofs.Common.{◌≡◌, ◌<◌, ◌+◌, [], length, drop, arith, refl, sym, ap, subst, ◌∙◌, append-nil, vec_len}
 use Rattle.std.proofs.lemmas.List.{drop_all}
-use Rattle.core_frames.specs.Lines.{size_of, code_length}
+use Rattle.core_lines.specs.Lines.{size_of, code_length}
 use Rattle.rv32_layout.specs.Placed.{AreWords, ArePlaced, place_of, instructions_from}
 use Rattle.rv32_select.specs.Beginning.{first_target}
 use Rattle.rv32_layout.specs.Placing.{place_in}

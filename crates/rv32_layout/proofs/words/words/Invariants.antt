@@ -1,5 +1,5 @@
 use Rattle.std.proofs.Common.{◌≡◌, ℕ, ◌+◌, List, ◌++◌, drop, vec_len}
-use Rattle.core_frames.specs.Lines.{code_length}
+use Rattle.core_lines.specs.Lines.{code_length}
 use Rattle.rv32_layout.specs.Placed.{AreWords, ArePlaced, place_of, instructions_from}
 use Rattle.rv32_select.specs.Beginning.{first_target}
 use Rattle.rv32_layout.proofs.words.words.Given as goal

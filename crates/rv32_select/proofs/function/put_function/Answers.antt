@@ -1,6 +1,6 @@
 use Rattle.std.proofs.Common.{◌++◌, ap, ◌∙◌}
 use Rattle.cyc_core.specs.Trees.{function_tree, body_tree}
-use Rattle.core_frames.specs.Selected.{statements_code}
+use Rattle.core_lines.specs.Selected.{statements_code}
 use Rattle.rv32_select.specs.Places.{surroundings}
 use Rattle.rv32_select.proofs.Functions.{function_joined}
 use Rattle.rv32_select.proofs.function.put_function.Goals as goal

@@ -1,7 +1,7 @@
 use Rattle.std.proofs.Common.{◌<◌, ◌+◌, ◌∷◌, ◌++◌, length, drop, map, arith, sym, ap, ◌∙◌}
 use Rattle.std.proofs.lemmas.List.{drop_more}
 use Rattle.cyc_core.specs.Trees.{function_tree}
-use Rattle.core_frames.specs.Selected.{function_code, functions_code}
+use Rattle.core_lines.specs.Selected.{function_code, functions_code}
 use Rattle.rv32_select.proofs.Functions.{functions_more}
 use Rattle.rv32_select.proofs.function.put_functions.Goals as goal
 

@@ -1,6 +1,6 @@
 use Rattle.std.proofs.Common.{◌≡◌, ◌++◌, drop, map, length}
 use Rattle.cyc_core.specs.Trees.{function_tree}
-use Rattle.core_frames.specs.Selected.{functions_code}
+use Rattle.core_lines.specs.Selected.{functions_code}
 use Rattle.rv32_select.proofs.function.put_functions.Given as goal
 
 abbrev pub invariant-each : goal.invariant-each

@@ -1,5 +1,5 @@
 use Rattle.std.proofs.Common.{◌≡◌, ◌-◌, ◌++◌}
-use Rattle.core_frames.specs.Frames.{take_code}
+use Rattle.core_lines.specs.Frames.{take_code}
 use Rattle.rv32_select.proofs.function.put_parameters.Given as goal
 
 abbrev pub invariant-each : goal.invariant-each

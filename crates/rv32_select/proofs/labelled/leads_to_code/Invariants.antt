@@ -1,5 +1,5 @@
 use Rattle.std.proofs.Common.{◌≡◌, drop, nat_lt, if◌then◌else◌}
-use Rattle.core_frames.specs.Lines.{code_length}
+use Rattle.core_lines.specs.Lines.{code_length}
 use Rattle.rv32_select.specs.Beginning.{leads_to_code}
 use Rattle.rv32_select.proofs.labelled.leads_to_code.Given as goal
 

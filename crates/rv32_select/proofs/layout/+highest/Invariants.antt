@@ -1,6 +1,6 @@
 use Rattle.std.proofs.Common.{◌≡◌, ◌≤◌, drop}
 use Rattle.cyc_core.specs.Trees.{statement_tree, body_tree}
-use Rattle.core_frames.specs.Selected.{greater, highest_of}
+use Rattle.core_lines.specs.Selected.{greater, highest_of}
 use Rattle.rv32_select.proofs.Sizes.{statement_size, statements_size}
 use Rattle.rv32_select.proofs.layout.+highest.Given as goal
 

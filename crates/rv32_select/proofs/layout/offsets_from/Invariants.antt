@@ -1,6 +1,6 @@
 use Rattle.std.proofs.Common.{◌≡◌, ◌++◌, drop, map}
 use Rattle.cyc_core.specs.Trees.{local_tree}
-use Rattle.core_frames.specs.Selected.{offsets_from}
+use Rattle.core_lines.specs.Selected.{offsets_from}
 use Rattle.rv32_select.proofs.layout.offsets_from.Given as goal
 
 abbrev pub invariant-each : goal.invariant-each

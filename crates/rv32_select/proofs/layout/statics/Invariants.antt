@@ -1,6 +1,6 @@
 use Rattle.std.proofs.Common.{◌≡◌, ◌++◌, drop, map}
 use Rattle.cyc_core.specs.Trees.{datum_tree}
-use Rattle.core_frames.specs.Selected.{offsets_from, datum_locals}
+use Rattle.core_lines.specs.Selected.{offsets_from, datum_locals}
 use Rattle.rv32_select.proofs.layout.statics.Given as goal
 
 abbrev pub invariant-each : goal.invariant-each

@@ -1,7 +1,7 @@
 use Rattle.std.proofs.Common.{ap, ◌∙◌}
 use Rattle.cyc_core.specs.Trees.{body_tree}
-use Rattle.core_frames.specs.Choosing.{held_behind_all}
-use Rattle.core_frames.specs.Selected.{Surroundings, holding}
+use Rattle.core_lines.specs.Choosing.{held_behind_all}
+use Rattle.core_lines.specs.Selected.{Surroundings, holding}
 use Rattle.rv32_select.specs.Places.{surroundings}
 use Rattle.rv32_select.proofs.statement.+statement.Goals as goal
 

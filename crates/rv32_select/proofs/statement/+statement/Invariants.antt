@@ -1,7 +1,7 @@
 use Rattle.std.proofs.Common.{◌≡◌, ◌+◌, ◌≤◌, ◌++◌, drop}
 use Rattle.cyc_core.specs.Trees.{statement_tree, body_tree}
-use Rattle.core_frames.specs.Choosing.{held_behind_all}
-use Rattle.core_frames.specs.Selected.{labels_of, holding, statements_code}
+use Rattle.core_lines.specs.Choosing.{held_behind_all}
+use Rattle.core_lines.specs.Selected.{labels_of, holding, statements_code}
 use Rattle.rv32_select.specs.Places.{surroundings}
 use Rattle.rv32_select.proofs.Sizes.{statement_size, statements_size}
 use Rattle.rv32_select.proofs.statement.+statement.Given as goal

@@ -1,6 +1,6 @@
 use Rattle.std.proofs.Common.{◌≡◌, ◌++◌, drop, map}
 use Rattle.cyc_core.specs.Trees.{temporary_tree}
-use Rattle.core_frames.specs.Frames.{pass_code}
+use Rattle.core_lines.specs.Frames.{pass_code}
 use Rattle.rv32_select.proofs.statement.put_arguments.Given as goal
 
 abbrev pub invariant-each : goal.invariant-each

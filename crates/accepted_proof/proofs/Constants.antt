@@ -1,0 +1,110 @@
+-- The constant of a global without fault: a number, where it is an integer, and `NULL`, where it is a pointer.
+use Rattle.std.proofs.Common.{◌≡◌, ℕ, ◌<◌, ◌%◌, ◌^◌, Bool, true, false, [], refl}
+use Rattle.std.specs.Prelude.{◌++◌}
+use Rattle.cyc_tree.specs.Tree.{Constant, Initial}
+use Rattle.cyc_words.specs.Words.{difference_of}
+use Rattle.source_lowering.specs.Lowerable.{HasBeginning, TakesGlobal}
+use Rattle.source_lowering.specs.Taken.{IsIntegerShape, TakesConstant}
+use Rattle.source_meaning.specs.Calls.{number_type}
+use Rattle.source_meaning.specs.Memory.{AsChar, AsInt, AsUnsigned, IntegerType}
+use Rattle.type_proof.specs.Entries.{IsObjectType}
+use Rattle.type_proof.specs.Programs.{InitialJudged, IsFirst, IsNumber}
+use Rattle.source_typing.specs.Conversions.{broken, conversion, if_integer}
+use Rattle.source_typing.specs.Globals.{constant, initial_faults}
+use Rattle.source_typing.specs.Declarations.{converted_to}
+use Rattle.source_typing.specs.Converts.{IsInteger}
+use Rattle.source_typing.specs.Regions.{Regions}
+use Rattle.source_typing.specs.Scope.{Env}
+use Rattle.source_typing.specs.Taken.{constant_form, initial_form, takes_initial}
+use Rattle.type_proof.specs.Judged.{safe_forms}
+use Rattle.source_typing.specs.Types.{Fat, Handle, Char, Int, Null, StaticType, Struct, Thin, Unsigned, integer_type, is_integer, shape_of}
+use Rattle.source_typing.specs.Verdicts.{Of, faults_of}
+
+-- what the meaning and lowering want of a first value
+pub record ConstantGood (u : StaticType) (c : Constant) : Type 0 where
+  pub first : IsFirst u c
+  pub taken : TakesConstant (shape_of u) c
+
+-- ---- numbers
+
+if_broken : (at : ℕ) (b : Bool) → broken at (if_integer b) ≡ [] → b ≡ true
+if_broken at true e = refl
+if_broken at false e = absurd cc
+
+-- an integer converts to integers alone
+from_integer : (r : Regions) (k : IntegerType) (at : ℕ) (u : StaticType) → broken at (conversion r (integer_type k) u) ≡ [] → IsInteger u
+from_integer r AsInt at u e = if_broken at (is_integer u) e
+from_integer r AsUnsigned at u e = if_broken at (is_integer u) e
+from_integer r AsChar at u e = if_broken at (is_integer u) e
+
+number_first : (u : StaticType) (c : Constant) → IsInteger u → IsNumber c → IsFirst u c
+number_first Int c h n = n
+number_first Unsigned c h n = n
+number_first Char c h n = n
+number_first _ c h n = absurd cc
+
+integer_shape : (u : StaticType) → IsInteger u → IsIntegerShape (shape_of u)
+integer_shape Int h = tt
+integer_shape Unsigned h = tt
+integer_shape Char h = tt
+integer_shape _ h = absurd cc
+
+-- ---- `NULL`
+
+null_good : (r : Regions) (at place : ℕ) (u : StaticType) → IsObjectType u → broken at (conversion r Null u) ≡ [] → ConstantGood u (Constant.Null place)
+null_good r at place (Thin true q t) w e = record { first = tt; taken = tt }
+null_good r at place (Thin false q t) w e = absurd cc
+null_good r at place (Fat q t) w e = record { first = tt; taken = tt }
+null_good r at place Int w e = absurd cc
+null_good r at place Unsigned w e = absurd cc
+null_good r at place Char w e = absurd cc
+null_good r at place (Struct tag rs) w e = absurd cc
+null_good r at place (Handle q) w e = absurd cc
+null_good r at place _ w e = absurd w
+
+-- ---- all of them
+
+constant_good : (g : Env) (c : Constant) (u : StaticType) → IsObjectType u → constant_form safe_forms c ≡ []
+    → faults_of (constant c) ++ converted_to g (constant c) (Of u) ≡ []
+    → ConstantGood u c
+constant_good g (Constant.Number at n suffix) u w f e =
+    let i : IsInteger u = from_integer g.regions (number_type n suffix) at u e in
+    record {
+      first = number_first u (Constant.Number at n suffix) i (record { of = number_type n suffix; word = n % 2 ^ 32; gives = λ strings. refl });
+      taken = integer_shape u i;
+    }
+constant_good g (Constant.Negative at n suffix) u w f e =
+    let i : IsInteger u = from_integer g.regions (number_type n suffix) at u e in
+    record {
+      first = number_first u (Constant.Negative at n suffix) i
+          (record { of = number_type n suffix; word = difference_of 0 (n % 2 ^ 32); gives = λ strings. refl });
+      taken = integer_shape u i;
+    }
+constant_good g (Constant.Character at byte) u w f e =
+    let i : IsInteger u = from_integer g.regions AsChar at u e in
+    record {
+      first = number_first u (Constant.Character at byte) i (record { of = AsChar; word = byte % 256; gives = λ strings. refl });
+      taken = integer_shape u i;
+    }
+constant_good g (Constant.Text at bytes) u w f e = absurd cc
+constant_good g (Constant.Null at) u w f e = null_good g.regions at at u w e
+
+-- ---- initializers
+
+-- where a global has elements, they are few
+abbrev pub IsFew : Initial → Type 0
+IsFew Initial.Unset = Unit {0}
+IsFew (Initial.Elements n) = n < 2 ^ 32
+IsFew (Initial.Given c) = Unit {0}
+
+pub record InitialGood (u : StaticType) (i : Initial) : Type 0 where
+  pub first : InitialJudged u i
+  pub taken : HasBeginning (shape_of u) → IsFew i → TakesGlobal (shape_of u) i
+
+pub initial_good : (g : Env) (i : Initial) (u : StaticType) → IsObjectType u → takes_initial safe_forms i ≡ true
+    → initial_form safe_forms i ≡ [] → initial_faults g i (Of u) ≡ []
+    → InitialGood u i
+initial_good g Initial.Unset u w t f e = record { first = tt; taken = λ h few. h }
+initial_good g (Initial.Elements n) u w t f e = record { first = tt; taken = λ h few. (few, h) }
+initial_good g (Initial.Given c) u w t f e =
+    let k : ConstantGood u c = constant_good g c u w f e in record { first = k.first; taken = λ h few. k.taken }

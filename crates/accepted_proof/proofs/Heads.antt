@@ -1,0 +1,393 @@
+-- The head of a function without fault: it takes objects and gives one or nothing, its types, effect and bounds speak of its region variables and the heap
+-- alone, and it is read alike by tables that have the same tags.
+use Rattle.std.proofs.Common.{◌≡◌, ℕ, zero, suc, ◌<◌, ◌≤◌, Bool, true, false, Option, Some, None, List, [], ◌∷◌, refl, sym, subst, ap, ap₂, ◌∙◌, arith}
+use Rattle.std.specs.Prelude.{◌||◌, ◌++◌, if◌then◌else◌, length, map, not, replicate}
+use Rattle.cyc_tree.specs.Places.{region_place}
+use Rattle.cyc_tree.specs.Tree as tree
+use Rattle.cyc_tree.specs.Tree.{TypeName}
+use Rattle.source_meaning.specs.Shapes.{part_of, part_shapes}
+use Rattle.source_meaning.specs.Shapes as shapes
+use Rattle.type_proof.specs.Entries.{AreObjects}
+use Rattle.source_typing.specs.Named.{AllBelow, Below, BoundsBelow, TypesBelow}
+use Rattle.source_typing.specs.Faults.{Fault, is_clean, own_after, test, type_rule}
+use Rattle.source_typing.specs.Functions.{AllSpotted, Parameters, Reading, Variables, all_faults, all_of, and_known, and_parameter, bounds_of, effect_of}
+use Rattle.source_typing.specs.Functions.{effect_region, head_after, if_no_key, pair_of, used_named, used_region}
+use Rattle.source_typing.specs.Functions.{
+  Head,
+  body_scope,
+  end_reached,
+  function_faults,
+  head_judged,
+  head_of,
+  if_parameter,
+  if_result,
+  is_main,
+  key_regions,
+  levels_but,
+  main_faults,
+  main_form,
+}
+use Rattle.source_typing.specs.Functions.{parameter_type, read_parameters, result_type, take_spots, variables}
+use Rattle.source_typing.specs.Regions.{Level, Region, is_among}
+use Rattle.source_typing.specs.Statements.{items_faults}
+use Rattle.source_typing.specs.Tables.{Tables, Tag, find, tag_in}
+use Rattle.source_typing.specs.Tags.{repeated, settled_alone}
+use Rattle.source_typing.specs.Taken.{Taken, bounds_form, bounds_if, effect_form, effect_if, function_taken, member_taken, members_taken, refused_type}
+use Rattle.source_typing.specs.Taken.{takes_type, type_taken}
+use Rattle.type_proof.specs.Judged.{safe_forms}
+use Rattle.source_typing.specs.Types.{Int, PartialType, StaticType, shape_of}
+use Rattle.source_typing.specs.Verdicts.{Faulty, Of, Unjudged, Verdict, after, both, faults_of, known}
+use Rattle.source_typing.specs.Written.{Found, RegionNamed, Spot, all_found, argument_spots, base_of, base_spots, find_region, regions_of_tag, spot, spots_of}
+use Rattle.source_typing.specs.Written.{tag_of, written, written_on, written_with}
+use Rattle.source_typing.proofs.Inversion.{none_of_both, of_is, own_is, test_is}
+use Rattle.accepted_proof.specs.Good.{IsGoodSignature, NamesBelow}
+use Rattle.accepted_proof.proofs.HeadTypes.{PlainGood, ResultGood, SpotsGood, ObjectGood, parameter_good, result_facts, result_good}
+use Rattle.accepted_proof.proofs.HeadTypes.{find_below, type_spots_good, object_more}
+use Rattle.accepted_proof.proofs.MemberTypes.{AreMembersTaken}
+use Rattle.accepted_proof.proofs.GoodTypes.{KnowsTags, RegionBelow}
+use Rattle.accepted_proof.proofs.Sure.{surely_is}
+
+-- ---- what isn't taken is at fault
+
+-- a head whose types are taken
+pub record HeadTaken (k : Taken) (f : tree.Function) : Type 0 where
+  pub parameters : AreMembersTaken k f.parameters
+  pub result : takes_type k f.result ≡ true
+
+parameter_taken : (b : Bool) (g : Tables) (vs : Variables) (t : TypeName) → (if b then t else refused_type t.at) ≡ t
+    → faults_of (parameter_type g t (take_spots vs (spots_of g t))) ≡ []
+    → b ≡ true
+parameter_taken true g vs t e p = refl
+parameter_taken false g vs t e p = absurd (by (subst (λ z. faults_of (parameter_type g z (take_spots vs (spots_of g z))) ≡ []) (sym e) p))
+  where
+    by : faults_of (parameter_type g (refused_type t.at) (take_spots vs (spots_of g (refused_type t.at)))) ≡ [] → ⊥
+    by h = cc
+
+parameters_taken : (k : Taken) (g : Tables) (vs : Variables) (ms : List tree.Member) → members_taken k ms ++ [] ≡ ms
+    → all_faults (read_parameters g vs ms).types ≡ []
+    → AreMembersTaken k ms
+parameters_taken k g vs [] e p = tt
+parameters_taken k g vs (m ∷ ms) e p =
+    let f : member_taken k m ≡ m = cc in
+    let i : type_taken k m.of ≡ m.of = ap (λ (z : tree.Member). z.of) f in
+    let j : members_taken k ms ++ [] ≡ ms = cc in
+    let ws : Variables = (take_spots vs (spots_of g m.of)).after_all in
+    let z : (faults_of (parameter_type g m.of (take_spots vs (spots_of g m.of))) ≡ []) × (all_faults (read_parameters g ws ms).types ≡ []) =
+    none_of_both (faults_of (parameter_type g m.of (take_spots vs (spots_of g m.of)))) (all_faults (read_parameters g ws ms).types) p in
+    (parameter_taken (takes_type k m.of) g vs m.of i z.0, parameters_taken k g ws ms j z.1)
+
+result_taken : (b : Bool) (g : Tables) (names : List RegionNamed) (t : TypeName) → (if b then t else refused_type t.at) ≡ t
+    → faults_of (result_type g names t) ≡ []
+    → b ≡ true
+result_taken true g names t e p = refl
+result_taken false g names t e p = absurd (by (subst (λ z. faults_of (result_type g names z) ≡ []) (sym e) p))
+  where
+    by : faults_of (result_type g names (refused_type t.at)) ≡ [] → ⊥
+    by h = cc
+
+-- nothing stands for an effect and bounds that are taken
+pub no_effect : (b : Bool) (e : Option (List tree.RegionName)) → effect_if b e ≡ e → effect_form b e ≡ []
+no_effect true None p = refl
+no_effect true (Some []) p = refl
+no_effect true (Some (r ∷ rs)) p = refl
+no_effect false None p = refl
+no_effect false (Some []) p = refl
+no_effect false (Some (r ∷ rs)) p = absurd cc
+
+pub no_bounds : (b : Bool) (bs : List tree.Bound) → bounds_if b bs ≡ bs → bounds_form b bs ≡ []
+no_bounds true [] p = refl
+no_bounds true (x ∷ bs) p = refl
+no_bounds false [] p = refl
+no_bounds false (x ∷ bs) p = absurd cc
+
+pub no_forms : (b : Bool) (f : tree.Function) → effect_if b f.effect ≡ f.effect → bounds_if b f.bounds ≡ f.bounds
+    → effect_form b f.effect ++ bounds_form b f.bounds ≡ []
+no_forms b f e q = ap₂ (λ (es bs : List tree.Member). es ++ bs) (no_effect b f.effect e) (no_bounds b f.bounds q)
+
+-- ---- the faults of a head
+
+pub record HeadClean (g : Tables) (f : tree.Function) (ps : Parameters) (r : Verdict StaticType) : Type 0 where
+  pub main : main_faults f r ≡ []
+  pub parameters : all_faults ps.types ≡ []
+  pub once : repeated [] f.parameters ≡ []
+  pub result : faults_of r ≡ []
+
+pub head_clean : (g : Tables) (f : tree.Function) → (head_of false g f).faults ≡ []
+    → HeadClean g f (read_parameters g (variables [] 0) f.parameters)
+    (result_type g (read_parameters g (variables [] 0) f.parameters).variables_after.names f.result)
+head_clean g f p =
+    let ps : Parameters = read_parameters g (variables [] 0) f.parameters in
+    let r : Verdict StaticType = result_type g ps.variables_after.names f.result in
+    let es : List Fault = all_faults (effect_of false ps.variables_after (key_regions ps.types) f.effect) in
+    let bs : List Fault = all_faults (bounds_of ps.variables_after.names f.bounds) in
+    let o : (main_faults f r ≡ []) × ((((all_faults ps.types ++ repeated [] f.parameters) ++ faults_of r) ++ es) ++ bs ≡ []) =
+    own_is (main_faults f r) ((((all_faults ps.types ++ repeated [] f.parameters) ++ faults_of r) ++ es) ++ bs) p in
+    let q1 : ((all_faults ps.types ++ repeated [] f.parameters) ++ faults_of r) ++ es ≡ [] =
+    (none_of_both (((all_faults ps.types ++ repeated [] f.parameters) ++ faults_of r) ++ es) bs o.1).0 in
+    let q2 : (all_faults ps.types ++ repeated [] f.parameters) ++ faults_of r ≡ [] =
+    (none_of_both ((all_faults ps.types ++ repeated [] f.parameters) ++ faults_of r) es q1).0 in
+    let q3 : (all_faults ps.types ++ repeated [] f.parameters ≡ []) × (faults_of r ≡ []) =
+    none_of_both (all_faults ps.types ++ repeated [] f.parameters) (faults_of r) q2 in
+    let q4 : (all_faults ps.types ≡ []) × (repeated [] f.parameters ≡ []) = none_of_both (all_faults ps.types) (repeated [] f.parameters) q3.0 in
+    record { main = o.0; parameters = q4.0; once = q4.1; result = q3.1 }
+
+pub head_taken : (k : Taken) (g : Tables) (f : tree.Function) → function_taken k f ≡ f → (head_of false g f).faults ≡ [] → HeadTaken k f
+head_taken k g f t p =
+    let ps : Parameters = read_parameters g (variables [] 0) f.parameters in
+    let r : Verdict StaticType = result_type g ps.variables_after.names f.result in
+    let c : HeadClean g f ps r = head_clean g f p in
+    let a : type_taken k f.result ≡ f.result = ap (λ (z : tree.Function). z.result) t in
+    let e : effect_if k.regions f.effect ≡ f.effect = ap (λ (z : tree.Function). z.effect) t in
+    let b : bounds_if k.regions f.bounds ≡ f.bounds = ap (λ (z : tree.Function). z.bounds) t in
+    let m : members_taken k f.parameters ++ [] ≡ f.parameters =
+    subst (λ zs. members_taken k f.parameters ++ zs ≡ f.parameters) (no_forms k.regions f e b) (ap (λ (z : tree.Function). z.parameters) t) in
+    record {
+      parameters = parameters_taken k g (variables [] 0) f.parameters m c.parameters;
+      result = result_taken (takes_type k f.result) g ps.variables_after.names f.result a c.result;
+    }
+
+-- ---- parameters
+
+pub record ParametersGood (vs : Variables) (ms : List tree.Member) (ps : Parameters) : Type 0 where
+  pub types : List StaticType
+  pub known : map known ps.types ≡ map (λ t. Some t) types
+  pub objects : AreObjects types
+  pub below : TypesBelow ps.variables_after.count types
+  pub shapes : part_shapes (map part_of ms) ≡ map shape_of types
+  pub names : NamesBelow ps.variables_after.count ps.variables_after.names
+  pub more : vs.count ≤ ps.variables_after.count
+
+parameters_good : (g : Tables) (vs : Variables) (ms : List tree.Member) → KnowsTags g → AreMembersTaken safe_forms ms → NamesBelow vs.count vs.names
+    → all_faults (read_parameters g vs ms).types ≡ []
+    → ParametersGood vs ms (read_parameters g vs ms)
+parameters_good g vs [] tags t h p =
+    record { types = []; known = refl; objects = tt; below = tt; shapes = refl; names = h; more = omega arith }
+parameters_good g vs (m ∷ ms) tags t h p =
+    let s : AllSpotted = take_spots vs (spots_of g m.of) in
+    let v : Verdict StaticType = parameter_type g m.of s in
+    let z : (faults_of v ≡ []) × (all_faults (read_parameters g s.after_all ms).types ≡ []) =
+    none_of_both (faults_of v) (all_faults (read_parameters g s.after_all ms).types) p in
+    let k : SpotsGood vs (length (base_spots g m.of.base)) m.of.pointers s = type_spots_good g vs m.of t.0 h in
+    let first : (u : StaticType) × (v ≡ Of u) × ObjectGood s.after_all.count m.of u =
+    surely_is (λ u. ObjectGood s.after_all.count m.of u) v (parameter_good g vs m.of tags t.0 h) z.0 in
+    let rest : ParametersGood s.after_all ms (read_parameters g s.after_all ms) = parameters_good g s.after_all ms tags t.1 k.names z.1 in
+    let n : ℕ = (read_parameters g s.after_all ms).variables_after.count in
+    let a : vs.count ≤ s.after_all.count = k.more in
+    let b : s.after_all.count ≤ n = rest.more in
+    record {
+      types = first.0 ∷ rest.types;
+      known = ap₂ (λ (o : Option StaticType) (os : List (Option StaticType)). o ∷ os) (ap (λ (w : Verdict StaticType). known w) first.1) rest.known;
+      objects = (first.2.object, rest.objects);
+      below = (object_more s.after_all.count n first.0 b first.2.object first.2.below, rest.below);
+      shapes = ap₂ (λ (x : shapes.Shape) (xs : List shapes.Shape). x ∷ xs) first.2.shape rest.shapes;
+      names = rest.names;
+      more = omega (arith, a, b);
+    }
+
+-- ---- effects and `main`
+
+levels_below : (ks : List Region) (n m : ℕ) → n ≤ m → AllBelow m (levels_but ks n)
+levels_below ks zero m l = tt
+levels_below ks (suc n) m l =
+    let less : n ≤ m = omega arith in
+    let last : n < m = omega arith in
+    by (is_among ks (Level n)) last (levels_below ks n m less)
+  where
+    by : (b : Bool) → n < m → AllBelow m (levels_but ks n) → AllBelow m (if b then levels_but ks n else Level n ∷ levels_but ks n)
+    by true last others = others
+    by false last others = (last, others)
+
+all_judged : (rs : List Region) → all_of (map (λ (r : Region). Of r) rs) ≡ rs
+all_judged [] = refl
+all_judged (r ∷ rs) = ap (λ (qs : List Region). r ∷ qs) (all_judged rs)
+
+-- a region that is known
+abbrev IfBelow : ℕ → Verdict Region → Type 0
+IfBelow n (Of r) = Below n r
+IfBelow n (Faulty f fs) = Unit {0}
+IfBelow n Unjudged = Unit {0}
+
+used_below : (n : ℕ) (names : List RegionNamed) (r : tree.RegionName) → NamesBelow n names → IfBelow n (used_region names r)
+used_below n names (tree.Heap at) h = tt
+used_below n names (tree.Unique at) h = tt
+used_below n names (tree.Named x) h = by (find_region names x.text) (find_below n names x.text h)
+  where
+    by : (o : Option Region) → RegionBelow n o → IfBelow n (used_named x.at o)
+    by None k = tt
+    by (Some r) k = k
+
+no_key_below : (n : ℕ) (v : Verdict Region) (fits : Region → Bool) (at : ℕ) → IfBelow n v → IfBelow n (after v (λ a. if_no_key (fits a) at a))
+no_key_below n (Faulty f fs) fits at h = tt
+no_key_below n Unjudged fits at h = tt
+no_key_below n (Of a) fits at h = by (fits a)
+  where
+    by : (b : Bool) → IfBelow n (if_no_key b at a)
+    by true = h
+    by false = tt
+
+known_below : (n : ℕ) (v : Verdict Region) (others : List Region) → IfBelow n v → AllBelow n others → AllBelow n (and_known v others)
+known_below n (Of r) others h k = (h, k)
+known_below n (Faulty f fs) others h k = k
+known_below n Unjudged others h k = k
+
+written_below : (n : ℕ) (names : List RegionNamed) (ks : List Region) (rs : List tree.RegionName) → NamesBelow n names
+    → AllBelow n (all_of (map (effect_region false names ks) rs))
+written_below n names ks [] h = tt
+written_below n names ks (r ∷ rs) h =
+    known_below n (effect_region false names ks r) (all_of (map (effect_region false names ks) rs))
+    (no_key_below n (used_region names r) (λ a. not (is_among ks a)) (region_place r) (used_below n names r h)) (written_below n names ks rs h)
+
+effect_below : (vs : Variables) (ks : List Region) (e : Option (List tree.RegionName)) → NamesBelow vs.count vs.names
+    → AllBelow vs.count (all_of (effect_of false vs ks e))
+effect_below vs ks None h =
+    subst (λ (rs : List Region). AllBelow vs.count rs) (sym (all_judged (levels_but ks vs.count))) (levels_below ks vs.count vs.count (omega arith))
+effect_below vs ks (Some rs) h = written_below vs.count vs.names ks rs h
+
+pair_below : (n : ℕ) (v w : Verdict Region) (others : List (Region × Region)) → IfBelow n v → IfBelow n w → BoundsBelow n others
+    → BoundsBelow n (and_known (both v w pair_of) others)
+pair_below n (Of a) (Of b) others h k o = (h, k, o)
+pair_below n (Of a) (Faulty f fs) others h k o = o
+pair_below n (Of a) Unjudged others h k o = o
+pair_below n (Faulty f fs) (Of b) others h k o = o
+pair_below n (Faulty f fs) (Faulty c cs) others h k o = o
+pair_below n (Faulty f fs) Unjudged others h k o = o
+pair_below n Unjudged (Of b) others h k o = o
+pair_below n Unjudged (Faulty c cs) others h k o = o
+pair_below n Unjudged Unjudged others h k o = o
+
+bounds_below : (n : ℕ) (names : List RegionNamed) (bs : List tree.Bound) → NamesBelow n names → BoundsBelow n (all_of (bounds_of names bs))
+bounds_below n names [] h = tt
+bounds_below n names (b ∷ bs) h =
+    pair_below n (used_region names b.longer) (used_region names b.shorter) (all_of (bounds_of names bs)) (used_below n names b.longer h)
+    (used_below n names b.shorter h) (bounds_below n names bs h)
+
+main_formed : (v : Verdict StaticType) (ms : List tree.Member) → main_form v ms ≡ true → (v ≡ Of Int) × (ms ≡ [])
+main_formed (Of Int) [] e = (refl, refl)
+main_formed _ ms e = absurd cc
+
+main_is : (b : Bool) (v : Verdict StaticType) (ms : List tree.Member) → not b || main_form v ms ≡ true → b ≡ true → (v ≡ Of Int) × (ms ≡ [])
+main_is true v ms e p = main_formed v ms e
+main_is false v ms e p = absurd cc
+
+-- ---- all of it
+
+pub record HeadGood (g : Tables) (f : tree.Function) : Type 0 where
+  pub signature : IsGoodSignature (head_of false g f).signature
+  pub shapes : part_shapes (map part_of f.parameters) ≡ map shape_of signature.types
+  pub result : ResultGood (head_of false g f).signature.regions f.result signature.gives
+  pub main_takes : is_main f ≡ true → f.parameters ≡ []
+  pub main_gives : is_main f ≡ true → signature.gives ≡ Int
+  pub once : repeated [] f.parameters ≡ []
+  pub effect : AllBelow (head_of false g f).signature.regions (head_of false g f).signature.effect
+  pub bounds : BoundsBelow (head_of false g f).signature.regions (head_of false g f).signature.bounds
+  pub names : NamesBelow (head_of false g f).signature.regions (head_of false g f).names
+
+pub head_good : (g : Tables) (f : tree.Function) → KnowsTags g → function_taken safe_forms f ≡ f → (head_of false g f).faults ≡ [] → HeadGood g f
+head_good g f tags t p =
+    let ps : Parameters = read_parameters g (variables [] 0) f.parameters in
+    let n : ℕ = ps.variables_after.count in
+    let r : Verdict StaticType = result_type g ps.variables_after.names f.result in
+    let c : HeadClean g f ps r = head_clean g f p in
+    let k : HeadTaken safe_forms f = head_taken safe_forms g f t p in
+    let q : ParametersGood (variables [] 0) f.parameters ps = parameters_good g (variables [] 0) f.parameters tags k.parameters tt c.parameters in
+    let u : (t : StaticType) × (r ≡ Of t) × PlainGood n f.result t =
+    surely_is (λ u. PlainGood n f.result u) r (result_good n g ps.variables_after.names f.result tags k.result q.names) c.result in
+    let known_result : ResultGood n f.result u.0 = result_facts n f.result u.0 u.2 in
+    let main : is_main f ≡ true → (r ≡ Of Int) × (f.parameters ≡ []) =
+    main_is (is_main f) r f.parameters (test_is (not (is_main f) || main_form r f.parameters) type_rule f.name.at c.main) in
+    record {
+      signature = record {
+        sound = ap (λ fs. is_clean fs) p;
+        types = q.types;
+        parameters = q.known;
+        objects = q.objects;
+        types_below = q.below;
+        gives = u.0;
+        result = ap (λ (v : Verdict StaticType). known v) u.1;
+        plain = known_result.plain;
+        gives_below = known_result.below;
+      };
+      shapes = q.shapes;
+      result = known_result;
+      main_takes = λ e. (main e).1;
+      main_gives = λ e. of_is u.0 Int (sym u.1 ∙ (main e).0);
+      once = c.once;
+      effect = effect_below ps.variables_after (key_regions ps.types) f.effect q.names;
+      bounds = bounds_below n ps.variables_after.names f.bounds q.names;
+      names = q.names;
+    }
+
+-- where a function has no fault, its head has none
+pub body_head_clean : (g : Tables) (i : ℕ) (f : tree.Function) → function_faults false g i f ≡ [] → (head_of false g f).faults ≡ []
+body_head_clean g i f p =
+    let h : Head = head_of false g f in
+    (none_of_both h.faults (own_after (test (not (end_reached f h)) type_rule f.end) (items_faults (body_scope false g i f h) true f.body)) p).0
+
+-- ---- other tables
+
+-- tables in which each name in a type means the same
+pub record SameTags (g h : Tables) : Type 0 where
+  pub tags : (x : List ℕ) (union : Bool) (at : ℕ) → tag_of (find g x) union at ≡ tag_of (find h x) union at
+  pub regions : (x : List ℕ) → tag_in g x ≡ tag_in h x
+
+module _ (g h : Tables) (k : SameTags g h) where
+  base_same : (b : tree.Base) → base_of g b ≡ base_of h b
+  base_same tree.Int = refl
+  base_same tree.Unsigned = refl
+  base_same tree.Char = refl
+  base_same tree.Void = refl
+  base_same (tree.Struct tag rs) = k.tags tag.text false tag.at
+  base_same (tree.Union tag rs) = k.tags tag.text true tag.at
+  base_same (tree.Handle r) = refl
+  base_same (tree.Key r) = refl
+
+  arguments_same : (tag : tree.Name) (rs : List tree.RegionName) → argument_spots g tag rs ≡ argument_spots h tag rs
+  arguments_same tag [] = ap (λ (o : Option Tag). replicate (regions_of_tag o) (spot false None)) (k.regions tag.text)
+  arguments_same tag (r ∷ rs) = refl
+
+  base_spots_same : (b : tree.Base) → base_spots g b ≡ base_spots h b
+  base_spots_same tree.Int = refl
+  base_spots_same tree.Unsigned = refl
+  base_spots_same tree.Char = refl
+  base_spots_same tree.Void = refl
+  base_spots_same (tree.Struct tag rs) = arguments_same tag rs
+  base_spots_same (tree.Union tag rs) = arguments_same tag rs
+  base_spots_same (tree.Handle r) = refl
+  base_spots_same (tree.Key r) = refl
+
+pub spots_same : (g h : Tables) (t : TypeName) → SameTags g h → spots_of g t ≡ spots_of h t
+spots_same g h t k = ap (λ (ss : List Spot). ss ++ map (λ (p : tree.Pointer). spot true p.region) t.pointers) (base_spots_same g h k t.base)
+
+built_same : (g h : Tables) (t : TypeName) (fs : List Found × List Fault) → SameTags g h → written_with g t fs ≡ written_with h t fs
+built_same g h t (fs, bad) k = ap (λ (v : Verdict ℕ). written_on t fs bad v) (base_same g h k t.base)
+
+pub written_same : (g h : Tables) (names : List RegionNamed) (t : TypeName) → SameTags g h → written g names t ≡ written h names t
+written_same g h names t k =
+    ap (λ (ss : List Spot). written_with g t (all_found names ss)) (spots_same g h t k) ∙ built_same g h t (all_found names (spots_of h t)) k
+
+parameters_same : (g h : Tables) (vs : Variables) (ms : List tree.Member) → SameTags g h → read_parameters g vs ms ≡ read_parameters h vs ms
+parameters_same g h vs [] k = refl
+parameters_same g h vs (m ∷ ms) k =
+    let s : AllSpotted = take_spots vs (spots_of h m.of) in
+    ap (λ (ss : List Spot). and_parameter (parameter_type g m.of (take_spots vs ss)) (read_parameters g (take_spots vs ss).after_all ms))
+    (spots_same g h m.of k)
+    ∙ ap (λ (v : Verdict PartialType). and_parameter (after (after v (settled_alone m.of.at)) (if_parameter m.of.at)) (read_parameters g s.after_all ms))
+    (built_same g h m.of (s.found, s.faults) k)
+    ∙ ap (λ (ps : Parameters). and_parameter (parameter_type h m.of s) ps) (parameters_same g h s.after_all ms k)
+
+-- a head as it is read, with the type of its result
+abbrev reading : Bool → tree.Function → Parameters → Verdict StaticType → Reading
+reading l f ps r = record {
+  variables = ps.variables_after;
+  parameters = ps.types;
+  result = r;
+  effect = effect_of l ps.variables_after (key_regions ps.types) f.effect;
+  bounds = bounds_of ps.variables_after.names f.bounds;
+}
+
+pub head_same : (l : Bool) (g h : Tables) (f : tree.Function) → SameTags g h → head_of l g f ≡ head_of l h f
+head_same l g h f k =
+    let ps : Parameters = read_parameters h (variables [] 0) f.parameters in
+    ap (λ (z : Parameters). head_after l g f z) (parameters_same g h (variables [] 0) f.parameters k)
+    ∙ ap (λ (v : Verdict PartialType). head_judged f (reading l f ps (after (after v (settled_alone f.result.at)) (if_result f.result.at))))
+    (written_same g h ps.variables_after.names f.result k)

@@ -1,0 +1,215 @@
+-- What is known of the tags of a program while they are judged: their kinds, and that those that stand later have no fault of their own.
+use Rattle.std.proofs.Common.{◌≡◌, ◌<◌, ◌≤◌, ◌+◌, ℕ, suc, Bool, true, false, Option, Some, None, List, [], ◌∷◌, ◌++◌, refl, sym, subst, ap, ◌∙◌, arith}
+use Rattle.std.specs.Prelude.{◌&&◌, length}
+use Rattle.cyc_tree.specs.Tree as tree
+use Rattle.cyc_tree.specs.Operands.{AreSomeMembers}
+use Rattle.cyc_tree.specs.Tree.{Item}
+use Rattle.source_typing.specs.Named.{Below}
+use Rattle.source_typing.specs.Faults.{Fault, is_clean}
+use Rattle.source_typing.specs.Programs.{Judged, all_tag_faults, bare_from, builtins, entries, first_entry, first_from, judged_tag, name_of, named}
+use Rattle.source_typing.specs.Regions.{Level, Region, TheHeap}
+use Rattle.source_typing.specs.Scope.{Env}
+use Rattle.source_typing.specs.Tables.{Entry, Named, OfBuiltin, OfFunction, OfOther, OfTag, OfValue, Tables}
+use Rattle.source_typing.specs.Tags.{bare_tag, head_faults, head_scope, member_faults, parameter_added, parameters_from, region_parameters, repeated}
+use Rattle.source_typing.specs.Tags.{struct_sized, tag_faults, tag_parts, tag_scope}
+use Rattle.source_typing.specs.Taken.{Taken, are_members, item_taken, members_taken, only_taken, refused_member, refused_structure, structure_if}
+use Rattle.source_typing.specs.Taken.{takes_arguments, takes_structure}
+use Rattle.type_proof.specs.Judged.{safe_forms}
+use Rattle.source_typing.specs.Written.{RegionNamed, find_region}
+use Rattle.source_typing.proofs.Entries.{judged_name}
+use Rattle.source_typing.proofs.Inversion.{both_none, none_of_both, own_is}
+use Rattle.accepted_proof.specs.Good.{NamesBelow}
+use Rattle.accepted_proof.proofs.GoodTypes.{IsKnownEntry, KnowsTags}
+use Rattle.accepted_proof.proofs.HeadTags.{AreAlike, TablesAlike, heads_clean, own_first}
+use Rattle.accepted_proof.proofs.MemberTypes.{AreMembersTaken, members_are_taken}
+use Rattle.accepted_proof.proofs.Named.{named_known}
+use Rattle.accepted_proof.proofs.Tags.{judged_list}
+
+-- ---- structs that are taken
+
+-- a struct that has a member, and all of whose members are taken as they are
+pub record StructTaken (k : Taken) (s : tree.Structure) : Type 0 where
+  pub some : AreSomeMembers s.members
+  pub members : members_taken k s.members ≡ s.members
+
+pub any_arguments : (k : Taken) → k.parameters ≡ true → (rs : List tree.RegionName) → takes_arguments k rs ≡ true
+any_arguments k p [] = refl
+any_arguments k p (r ∷ rs) = p
+
+pub struct_taken : (k : Taken) (b : Bool) (ms : List tree.Member) (s : tree.Structure) → b ≡ true → s.members ≡ ms
+    → structure_if (b && are_members ms) s (members_taken k s.members) ≡ s → StructTaken k s
+struct_taken k true (m ∷ ms) s t h e =
+    record { some = subst AreSomeMembers (sym h) tt; members = ap (λ (z : tree.Structure). z.members) e }
+struct_taken k true [] s t h e =
+    absurd (let a : refused_member s.at [] ∷ [] ≡ s.members = ap (λ (z : tree.Structure). z.members) e in
+    let b : refused_member s.at [] ∷ [] ≡ [] = a ∙ h in cc)
+struct_taken k false ms s t h e = absurd cc
+
+-- a struct or union that isn't taken is at fault
+refused_clean : (g : Tables) (i : ℕ) (u : Bool) (s t : tree.Structure) → refused_structure t ≡ s → tag_faults g i u s ≡ [] → ⊥
+refused_clean g i u s t e p = by (subst (λ z. tag_faults g i u z ≡ []) (sym e) p)
+  where
+    by : tag_faults g i u (refused_structure t) ≡ [] → ⊥
+    by p =
+        let r : tree.Structure = refused_structure t in
+        let a : ((region_parameters r).1 ++ member_faults (tag_scope g i r) u r.members) ++ repeated [] r.members ≡ [] =
+        (own_is (struct_sized g u r (tag_parts g i u r)) (((region_parameters r).1 ++ member_faults (tag_scope g i r) u r.members) ++ repeated [] r.members)
+        p).1 in
+        cc
+
+-- structs, globals and functions alone
+abbrev pub IsSorted : Item → Type 0
+IsSorted (tree.StructItem s) = StructTaken safe_forms s
+IsSorted (tree.UnionItem s) = ⊥
+IsSorted (tree.GlobalItem x) = Unit {0}
+IsSorted (tree.FunctionItem f) = Unit {0}
+
+abbrev pub AreSorted : List Item → Type 0
+AreSorted [] = Unit {0}
+AreSorted (x ∷ is) = IsSorted x × AreSorted is
+
+item_sorted : (g : Tables) (i : ℕ) (x : Item) → item_taken safe_forms x ≡ x → (judged_tag g i x).faults ≡ [] → IsSorted x
+item_sorted g i (tree.StructItem s) e p =
+    let q : structure_if (takes_structure safe_forms true s) s (members_taken safe_forms s.members) ≡ s = cc in
+    struct_taken safe_forms (takes_arguments safe_forms s.regions) s.members s (any_arguments safe_forms refl s.regions) refl q
+item_sorted g i (tree.UnionItem s) e p = let f : refused_structure s ≡ s = cc in absurd (refused_clean g i true s s f p)
+item_sorted g i (tree.GlobalItem x) e p = tt
+item_sorted g i (tree.FunctionItem f) e p = tt
+
+pub all_sorted : (g : Tables) (i : ℕ) (done : List Judged) (is : List Item) → only_taken safe_forms is ≡ is
+    → all_tag_faults (judged_list g i done is) ≡ [] → AreSorted is
+all_sorted g i done [] t p = tt
+all_sorted g i done (x ∷ is) t p =
+    let a : item_taken safe_forms x ≡ x = cc in
+    let b : only_taken safe_forms is ≡ is = cc in
+    let j : Judged = judged_tag (builtins (entries done ++ first_from g i (x ∷ is))) i x in
+    let c : (j.faults ≡ []) × (all_tag_faults (judged_list g (suc i) (done ++ j ∷ []) is) ≡ []) =
+    none_of_both j.faults (all_tag_faults (judged_list g (suc i) (done ++ j ∷ []) is)) p in
+    (item_sorted (builtins (entries done ++ first_from g i (x ∷ is))) i x a c.0, all_sorted g (suc i) (done ++ j ∷ []) is b c.1)
+
+-- ---- tags alone
+
+pub bare_known : (i : ℕ) (is : List Item) → AreSorted is → KnowsTags (bare_from i is)
+bare_known i [] h = λ x. tt
+bare_known i (tree.StructItem s ∷ is) h = named_known _ (bare_from (suc i) is) (refl, refl) (bare_known (suc i) is h.1)
+bare_known i (tree.UnionItem s ∷ is) h = absurd h.0
+bare_known i (tree.GlobalItem x ∷ is) h = named_known (named x.name OfOther) (bare_from (suc i) is) tt (bare_known (suc i) is h.1)
+bare_known i (tree.FunctionItem f ∷ is) h = named_known (named f.name OfOther) (bare_from (suc i) is) tt (bare_known (suc i) is h.1)
+
+pub first_alike : (h : Tables) (i : ℕ) (is : List Item) → TablesAlike (first_from h i is) (bare_from i is)
+first_alike h i [] = tt
+first_alike h i (tree.StructItem s ∷ is) = (refl, refl, first_alike h (suc i) is)
+first_alike h i (tree.UnionItem s ∷ is) = (refl, refl, first_alike h (suc i) is)
+first_alike h i (tree.GlobalItem x ∷ is) = (refl, tt, first_alike h (suc i) is)
+first_alike h i (tree.FunctionItem f ∷ is) = (refl, tt, first_alike h (suc i) is)
+
+-- an item that was judged stands in the place of what was first known of it
+pub alike_step : (done : List Judged) (j : Judged) (n : Named) (rest b : Tables) → j.entry.name ≡ n.name
+    → ((e : Entry) → AreAlike n.entry e → AreAlike j.entry.entry e)
+    → TablesAlike (entries done ++ n ∷ rest) b → TablesAlike (entries (done ++ j ∷ []) ++ rest) b
+alike_step [] j n rest [] e k h = absurd h
+alike_step [] j n rest (m ∷ b) e k h = (e ∙ h.0, k m.entry h.1, h.2)
+alike_step (d ∷ done) j n rest [] e k h = absurd h
+alike_step (d ∷ done) j n rest (m ∷ b) e k h = (h.0, h.1, alike_step done j n rest b e k h.2)
+
+pub item_alike : (g h : Tables) (i : ℕ) (x : Item) (e : Entry) → AreAlike (first_entry h i x) e → AreAlike (judged_tag g i x).entry.entry e
+item_alike g h i (tree.StructItem s) (OfTag z) k = k
+item_alike g h i (tree.StructItem s) (OfValue v) k = absurd k
+item_alike g h i (tree.StructItem s) (OfFunction f) k = absurd k
+item_alike g h i (tree.StructItem s) (OfBuiltin n) k = absurd k
+item_alike g h i (tree.StructItem s) OfOther k = absurd k
+item_alike g h i (tree.UnionItem s) (OfTag z) k = k
+item_alike g h i (tree.UnionItem s) (OfValue v) k = absurd k
+item_alike g h i (tree.UnionItem s) (OfFunction f) k = absurd k
+item_alike g h i (tree.UnionItem s) (OfBuiltin n) k = absurd k
+item_alike g h i (tree.UnionItem s) OfOther k = absurd k
+item_alike g h i (tree.GlobalItem x) e k = k
+item_alike g h i (tree.FunctionItem f) e k = k
+
+-- ---- the faults of a struct
+
+pub record TagClean (g : Tables) (i : ℕ) (s : tree.Structure) : Type 0 where
+  pub sized : struct_sized g false s (tag_parts g i false s) ≡ []
+  pub parameters : (region_parameters s).1 ≡ []
+  pub members : member_faults (tag_scope g i s) false s.members ≡ []
+  pub once : repeated [] s.members ≡ []
+
+pub tag_clean : (g : Tables) (i : ℕ) (s : tree.Structure) → tag_faults g i false s ≡ [] → TagClean g i s
+tag_clean g i s p =
+    let o = own_is (struct_sized g false s (tag_parts g i false s))
+    (((region_parameters s).1 ++ member_faults (tag_scope g i s) false s.members) ++ repeated [] s.members) p in
+    let b = none_of_both ((region_parameters s).1 ++ member_faults (tag_scope g i s) false s.members) (repeated [] s.members) o.1 in
+    let c = none_of_both (region_parameters s).1 (member_faults (tag_scope g i s) false s.members) b.0 in
+    record { sized = o.0; parameters = c.0; members = c.1; once = b.1 }
+
+-- the region parameters of a struct are names before so many
+and_name : (m : ℕ) (ns : List RegionNamed) (n : RegionNamed) → NamesBelow m ns → Below m n.id → NamesBelow m (ns ++ n ∷ [])
+and_name m [] n h b = (b, tt)
+and_name m (x ∷ ns) n h b = (h.0, and_name m ns n h.1 b)
+
+added : (m : ℕ) (o : Option Region) (at : ℕ) (rest : List RegionNamed × List Fault) → NamesBelow m rest.0 → NamesBelow m (parameter_added o at rest).0
+added m None at rest h = h
+added m (Some r) at (names, fs) h = h
+
+names_from : (m k : ℕ) (names : List RegionNamed) (rs : List tree.RegionName) → k + length rs ≤ m → NamesBelow m names
+    → NamesBelow m (parameters_from k names rs).0
+names_from m k names [] l h = h
+names_from m k names (tree.Named x ∷ rs) l h =
+    let later : suc k + length rs ≤ m = omega (arith, l) in
+    let one : k < m = omega (arith, l) in
+    let new : RegionNamed = record { name = x.text; id = Level k } in
+    added m (find_region names x.text) x.at (parameters_from (suc k) (names ++ new ∷ []) rs)
+    (names_from m (suc k) (names ++ new ∷ []) rs later (and_name m names new h one))
+names_from m k names (tree.Heap at ∷ rs) l h =
+    let later : suc k + length rs ≤ m = omega (arith, l) in
+    added m (Some TheHeap) at (parameters_from (suc k) names rs) (names_from m (suc k) names rs later h)
+names_from m k names (tree.Unique at ∷ rs) l h =
+    let later : suc k + length rs ≤ m = omega (arith, l) in
+    added m (Some TheHeap) at (parameters_from (suc k) names rs) (names_from m (suc k) names rs later h)
+
+pub parameters_below : (g : Tables) (i : ℕ) (s : tree.Structure) → NamesBelow (length s.regions) (tag_scope g i s).names
+parameters_below g i s = names_from (length s.regions) 0 [] s.regions (omega arith) tt
+
+-- what is first known of a struct is that it has no fault
+first_sound : (g h : Tables) (i : ℕ) (s : tree.Structure) → KnowsTags h → TablesAlike g h → StructTaken safe_forms s → tag_faults g i false s ≡ []
+    → IsKnownEntry (first_entry h i (tree.StructItem s))
+first_sound g h i s tags alike k p =
+    let c : TagClean g i s = tag_clean g i s p in
+    let taken : AreMembersTaken safe_forms s.members = members_are_taken safe_forms (tag_scope g i s) s.members k.members c.members in
+    let e : Env = head_scope h i false s in
+    let clean : head_faults e false s.members ≡ [] =
+    heads_clean (length s.regions) (tag_scope g i s) e (own_first g h (named s.tag (bare_tag i false s false)) refl alike tags) refl
+    (parameters_below h i s) s.members taken c.members in (
+      ap (λ (fs : List Fault). is_clean fs) (both_none ((region_parameters s).1 ++ head_faults e false s.members) (repeated [] s.members)
+          (both_none (region_parameters s).1 (head_faults e false s.members) c.parameters clean) c.once),
+      refl,
+    )
+
+pub builtins_alike : (g h : Tables) → TablesAlike g h → TablesAlike (builtins g) (builtins h)
+builtins_alike g h k = (refl, tt, (refl, tt, k))
+
+-- what is known of the items that aren't judged yet
+pub first_known : (b : Tables) (i : ℕ) (done : List Judged) (is : List Item) → KnowsTags (builtins b)
+    → TablesAlike (entries done ++ first_from (builtins b) i is) b
+    → AreSorted is → all_tag_faults (judged_list (builtins b) i done is) ≡ [] → KnowsTags (first_from (builtins b) i is)
+first_known b i done [] tags alike k p = λ x. tt
+first_known b i done (x ∷ is) tags alike k p =
+    let h : Tables = builtins b in
+    let g : Tables = builtins (entries done ++ first_from h i (x ∷ is)) in
+    let j : Judged = judged_tag g i x in
+    let c : (j.faults ≡ []) × (all_tag_faults (judged_list h (suc i) (done ++ j ∷ []) is) ≡ []) =
+    none_of_both j.faults (all_tag_faults (judged_list h (suc i) (done ++ j ∷ []) is)) p in
+    let others : KnowsTags (first_from h (suc i) is) =
+    first_known b (suc i) (done ++ j ∷ []) is tags
+    (alike_step done j (named (name_of x) (first_entry h i x)) (first_from h (suc i) is) b (judged_name g i x) (λ e q. item_alike g h i x e q) alike)
+    k.1 c.1 in
+    named_known (named (name_of x) (first_entry h i x)) (first_from h (suc i) is)
+    (by x k.0 c.0 (builtins_alike (entries done ++ first_from h i (x ∷ is)) b alike)) others
+  where
+    by : (x : Item) → IsSorted x → (judged_tag (builtins (entries done ++ first_from (builtins b) i (x ∷ is))) i x).faults ≡ []
+        → TablesAlike (builtins (entries done ++ first_from (builtins b) i (x ∷ is))) (builtins b)
+        → IsKnownEntry (first_entry (builtins b) i x)
+    by (tree.StructItem s) k p a = first_sound (builtins (entries done ++ first_from (builtins b) i (tree.StructItem s ∷ is))) (builtins b) i s tags a k p
+    by (tree.UnionItem s) k p a = absurd k
+    by (tree.GlobalItem y) k p a = tt
+    by (tree.FunctionItem f) k p a = tt

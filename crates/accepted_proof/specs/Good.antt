@@ -1,0 +1,105 @@
+-- What is known of the names in scope where a phrase of integers, pointers, structs, arrays and lexical regions is judged, and what is then known of the
+-- phrase.
+use Rattle.std.specs.Prelude.{◌≡◌, ℕ, true, false, Some, List, [], ◌∷◌, map}
+use Rattle.cyc_tree.specs.Operands.{ItemsHaveOperands}
+use Rattle.cyc_tree.specs.Tree.{BlockItems, Expression}
+use Rattle.type_proof.specs.Entries.{AreObjects, IsObjectType, IsPlain}
+use Rattle.type_proof.specs.Judged.{ItemsJudged, safe_forms}
+use Rattle.source_typing.specs.Named.{Below, TypeBelow, TypesBelow}
+pub use Rattle.source_typing.specs.Named.{NamesBelow}
+use Rattle.source_typing.specs.Expressions.{judge}
+use Rattle.source_typing.specs.Regions.{Region}
+use Rattle.source_typing.specs.Scope.{Enclosing, Env, In, InBlock, InRegion, Nowhere, Seat, Value, in_scope, is_place}
+use Rattle.source_typing.specs.Statements.{items_faults}
+use Rattle.source_typing.specs.Calls.{part_types}
+use Rattle.source_typing.specs.Tables.{Arrayed, Entry, OfBuiltin, OfFunction, OfTag, OfValue, Signature, Stored, Tables, Tag}
+use Rattle.source_typing.specs.Taken.{items_taken, taken}
+use Rattle.source_typing.specs.Types.{Null, StaticType, Void}
+use Rattle.source_typing.specs.Verdicts.{Faulty, Of, Unjudged, Verdict}
+
+-- ---- names
+
+-- A function whose head has no fault: it takes objects and gives one or nothing, and its types speak of its region variables and the heap alone.
+pub record IsGoodSignature (s : Signature) : Type 0 where
+  pub sound : s.sound ≡ true
+  pub types : List StaticType
+  pub parameters : s.parameters ≡ map (λ t. Some t) types
+  pub objects : AreObjects types
+  pub types_below : TypesBelow s.regions types
+  pub gives : StaticType
+  pub result : s.result ≡ Some gives
+  pub plain : IsPlain gives
+  pub gives_below : TypeBelow s.regions gives
+
+-- A struct without fault: its members are objects, whose types speak of its region parameters and the heap alone.
+pub record IsGoodTag (t : Tag) : Type 0 where
+  pub sound : t.sound ≡ true
+  pub no_union : t.is_union ≡ false
+  pub types : List StaticType
+  pub parts : part_types t.parts ≡ map (λ t. Some t) types
+  pub objects : AreObjects types
+  pub types_below : TypesBelow t.regions types
+
+-- a variable or an array, whose type and place speak of region names in scope alone; a struct; or a function
+abbrev pub IsGoodEntry : ℕ → Entry → Type 0
+IsGoodEntry count (OfValue (Stored t r)) = IsObjectType t × TypeBelow count t × Below count r
+IsGoodEntry count (OfValue (Arrayed t r)) = IsObjectType t × TypeBelow count t × Below count r
+IsGoodEntry count (OfTag t) = IsGoodTag t
+IsGoodEntry count (OfFunction s) = IsGoodSignature s
+IsGoodEntry count (OfBuiltin n) = Unit {0}
+IsGoodEntry count _ = ⊥
+
+abbrev pub AllGood : ℕ → Tables → Type 0
+AllGood count [] = Unit {0}
+AllGood count (n ∷ ns) = IsGoodEntry count n.entry × AllGood count ns
+
+-- the region of the `rnew` around, or the heap: one that is in scope
+pub record IsAround (count : ℕ) (i : Enclosing) : Type 0 where
+  pub region : Region
+  pub is : i ≡ InRegion region
+  pub below : Below count region
+
+-- all is known of each name in scope
+pub record IsGood (g : Env) : Type 0 where
+  pub names : AllGood g.regions.count (in_scope g)
+  pub regions : NamesBelow g.regions.count g.names
+  pub frame : Below g.regions.count g.frame
+  pub enclosing : IsAround g.regions.count g.enclosing
+
+-- ---- expressions
+
+-- a phrase is at fault, or it is in order, and this holds of it
+abbrev pub Surely : {A : Type 0} → (A → Type 0) → Verdict A → Type 0
+Surely P (Of a) = P a
+Surely P (Faulty f fs) = Unit {0}
+Surely P Unjudged = ⊥
+
+-- what an expression may be: an object, `NULL`, or nothing
+abbrev pub IsValueType : StaticType → Type 0
+IsValueType Null = Unit {0}
+IsValueType Void = Unit {0}
+IsValueType t = IsObjectType t
+
+-- a place lies in a region that is in scope, and not in a block of its own
+abbrev pub SeatBelow : ℕ → Seat → Type 0
+SeatBelow count Nowhere = Unit {0}
+SeatBelow count (In r) = Below count r
+SeatBelow count InBlock = ⊥
+
+-- what is known of an expression without fault
+pub record IsGoodValue (g : Env) (v : Value) : Type 0 where
+  pub type : IsValueType v.type
+  pub below : TypeBelow g.regions.count v.type
+  pub seat : SeatBelow g.regions.count v.seat
+  pub object : is_place v.seat ≡ true → IsObjectType v.type
+
+-- each expression of these forms is at fault, or it is in order
+abbrev pub ExpressionsJudged : Type 0
+ExpressionsJudged = (e : Expression) (g : Env) → IsGood g → Surely (λ v. IsGoodValue g v) (judge g (taken safe_forms e))
+
+-- ---- the body of a function that gives a type
+
+-- a body of these forms in which the rules find no fault is in order
+abbrev pub BodiesJudged : Type 0
+BodiesJudged = (items : BlockItems) (g : Env) (gives : StaticType) → IsGood g → g.result ≡ Some gives → IsPlain gives
+    → items_taken safe_forms items ≡ items → ItemsHaveOperands items → items_faults g true items ≡ [] → ItemsJudged g items

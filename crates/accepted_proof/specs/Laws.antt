@@ -1,0 +1,29 @@
+-- What holds of all programs of the forms that are taken today in which the rules find no fault.
+use Rattle.std.specs.Prelude.{◌≡◌, ◌<◌, ℕ, false, List, [], length}
+use Rattle.cyc_tree.specs.Tree.{Program}
+use Rattle.cyc_words.specs.Events.{SourceEnding}
+use Rattle.source_lowering.specs.Programs.{program_code}
+use Rattle.source_lowering.specs.Lowerable.{IsLowerable}
+use Rattle.source_meaning.specs.Programs.{source}
+use Rattle.type_proof.specs.Programs.{ProgramJudged}
+use Rattle.source_typing.specs.Answers.{program_faults}
+use Rattle.source_typing.specs.Programs.{tables_of}
+use Rattle.accepted_programs.specs.Supported.{supported}
+
+-- each phrase of each is judged, by the tables that the rules have of its names
+abbrev pub AcceptedAreJudged : Type 0
+AcceptedAreJudged = (p : Program) → program_faults supported p ≡ [] → ProgramJudged p (tables_of false p)
+
+-- lowering takes each
+abbrev pub AcceptedAreLowerable : Type 0
+AcceptedAreLowerable = (p : Program) → program_faults supported p ≡ [] → IsLowerable p
+
+-- none is ever stuck, on any input, with any fuel
+abbrev pub AcceptedAreNeverStuck : Type 0
+AcceptedAreNeverStuck = (p : Program) → program_faults supported p ≡ []
+    → (input : List ℕ) (n : ℕ) → (source p input n).ending ≡ SourceEnding.Stuck → ⊥
+
+-- the Core of each has the function that it begins with
+abbrev pub AcceptedHaveMain : Type 0
+AcceptedHaveMain = (p : Program) → program_faults supported p ≡ []
+    → (program_code p).main < length (program_code p).functions

@@ -1,0 +1,312 @@
+// What the region variables of a call are fixed to by its arguments.
+
+ghost use Rattle.std.specs.List.{list_all};
+ghost use Rattle.std.specs.Prelude.{◌≡◌, [], ◌∷◌, IfOk, None, Some, is_some, option_map, replicate};
+ghost use Rattle.cyc_types.specs.Bases.{base_type};
+ghost use Rattle.cyc_types.specs.Regions.{region_of, regions_of};
+ghost use Rattle.cyc_types.specs.Types.{static_type};
+ghost use Rattle.source_typing.specs.Faults.{earliest};
+ghost use Rattle.source_typing.specs.Fixing.{fit, fit_all, fits_of};
+ghost use Rattle.check_faults.specs.Faults.{faults_of};
+ghost use Rattle.check_calls.specs.Fitted.{base_fits, fits_all, found_in, layer_fits, parameter_fits, pointer_fits};
+ghost use Rattle.check_calls.specs.Enclosings.{enclosing_of};
+ghost use Rattle.check_calls.specs.Fixings.{fixed_with, fixing_faults, fixing_of, fixings_of, found_of, last_fixing, noted, regions_by, settled};
+
+use crate::enclosing::Enclosing;
+use check_faults::{Fault, FaultKind, sooner};
+use check_operators::Value;
+use cyc_types::{BaseType, CType, Layer, RegionId};
+use std::alloc::{AllocError, Global};
+
+/// What a region variable is fixed to.
+#[derive(Clone, Copy, Debug)]
+pub(crate) enum Fixed {
+    /// A region.
+    Is(RegionId),
+    /// That of a unique pointer, which no variable may be.
+    Unique,
+}
+
+/// What a region variable is fixed to, and where the argument stands that fixes it.
+#[derive(Clone, Copy, Debug)]
+pub(crate) struct Fixing {
+    pub is: Fixed,
+    pub at: u32,
+}
+
+/// What a variable is fixed to by a pointer.
+fn fixed_by(pointer: Layer) -> Fixed
+    ensures { found_of result ≡ found_in pointer }
+{
+    match pointer {
+        Layer::Thin(_, region) | Layer::Fat(region) => Fixed::Is(region),
+        Layer::Unique(_) => Fixed::Unique,
+    }
+}
+
+/// Fixes a variable, where nothing fixed it yet.
+fn note_at(fixings: &mut Vec<Option<Fixing>>, variable: usize, fixing: Fixing)
+    ensures { fixings_of fixings.new.items ≡ noted (fixings_of fixings.old.items) variable (fixing_of fixing) }
+{
+    if variable < fixings.len() {
+        if fixings[variable].is_none() {
+            fixings[variable] = Some(fixing);
+        }
+    }
+}
+
+/// Fixes the variable that a region of a parameter's type is.
+fn note(fixings: &mut Vec<Option<Fixing>>, region: RegionId, fixing: Fixing)
+    ensures { fixings_of fixings.new.items ≡ fixed_with (fit fixing.at (region_of region) (found_of fixing.is) ∷ []) 0 (fixings_of fixings.old.items) }
+{
+    match region {
+        RegionId::Heap => {}
+        RegionId::Level(variable) => note_at(fixings, variable as usize, fixing),
+    }
+}
+
+/// Fixes what a pointer of a parameter's type fixes, by the one at its place.
+#[tactic(auto, using(crate::proofs::Fixes::with_nothing))]
+fn note_pointer(fixings: &mut Vec<Option<Fixing>>, mine: Layer, theirs: Layer, at: u32)
+    ensures { fixings_of fixings.new.items ≡ fixed_with (layer_fits at mine theirs) 0 (fixings_of fixings.old.items) }
+{
+    match mine {
+        Layer::Thin(_, region) | Layer::Fat(region) => {
+            let is = fixed_by(theirs);
+            note(fixings, region, Fixing { is, at })
+        }
+        Layer::Unique(_) => {}
+    }
+}
+
+/// The same of pointers, from the innermost one on.
+fn note_pointers(fixings: &mut Vec<Option<Fixing>>, mine: &[Layer], theirs: &[Layer], at: u32)
+    ensures { fixings_of fixings.new.items ≡ fixed_with (pointer_fits at mine.now theirs.now) 0 (fixings_of fixings.old.items) }
+{
+    let count = mine.len().min(theirs.len());
+    'each: for index in 0..count {
+        note_pointer(fixings, mine[index], theirs[index], at);
+    }
+}
+
+/// The same of region arguments.
+fn note_arguments(
+    fixings: &mut Vec<Option<Fixing>>,
+    mine: &[RegionId],
+    theirs: &[RegionId],
+    at: u32,
+)
+    ensures { fixings_of fixings.new.items ≡ fixed_with (fit_all at (regions_of mine.now) (regions_of theirs.now)) 0 (fixings_of fixings.old.items) }
+{
+    let count = mine.len().min(theirs.len());
+    'each: for index in 0..count {
+        let is = Fixed::Is(theirs[index]);
+        note(fixings, mine[index], Fixing { is, at });
+    }
+}
+
+/// The same of types that are no pointers.
+#[tactic(auto, using(crate::proofs::Fixes::with_nothing, crate::proofs::Places::fit_none))]
+fn note_base(fixings: &mut Vec<Option<Fixing>>, mine: &BaseType, theirs: &BaseType, at: u32)
+    ensures { fixings_of fixings.new.items ≡ fixed_with (fits_of at (base_type mine.now) (Some (base_type theirs.now))) 0 (fixings_of fixings.old.items) }
+{
+    match (mine, theirs) {
+        (BaseType::Handle(region), BaseType::Handle(is)) => {
+            let is = Fixed::Is(*is);
+            note(fixings, *region, Fixing { is, at })
+        }
+        (BaseType::Key(region), BaseType::Key(is)) => {
+            let is = Fixed::Is(*is);
+            note(fixings, *region, Fixing { is, at })
+        }
+        (BaseType::Struct(tag, regions), BaseType::Struct(other, others)) => {
+            if tag == other {
+                note_arguments(fixings, regions.as_slice(), others.as_slice(), at)
+            }
+        }
+        (BaseType::Union(tag, regions), BaseType::Union(other, others)) => {
+            if tag == other {
+                note_arguments(fixings, regions.as_slice(), others.as_slice(), at)
+            }
+        }
+        _ => {}
+    }
+}
+
+/// The same of what is under the pointers of two types, where there are as many.
+#[tactic(auto, using(crate::proofs::Fixes::with_nothing))]
+fn note_bases(fixings: &mut Vec<Option<Fixing>>, mine: &CType, theirs: &CType, at: u32)
+    ensures { fixings_of fixings.new.items ≡ fixed_with (base_fits at mine.now theirs.now) 0 (fixings_of fixings.old.items) }
+{
+    if mine.layers.len() == theirs.layers.len() {
+        note_base(fixings, &mine.base, &theirs.base, at)
+    }
+}
+
+/// Fixes what a parameter's type fixes, by an argument's.
+fn note_type(fixings: &mut Vec<Option<Fixing>>, mine: &CType, theirs: &CType, at: u32)
+    ensures { fixings_of fixings.new.items ≡ fixed_with (fits_of at (static_type mine.now) (Some (static_type theirs.now))) 0 (fixings_of fixings.old.items) }
+{
+    note_bases(fixings, mine, theirs, at);
+    let here = mine.layers.as_slice();
+    let there = theirs.layers.as_slice();
+    let count = here.len().min(there.len());
+    note_pointers(
+        fixings,
+        &here[here.len() - count..],
+        &there[there.len() - count..],
+        at,
+    );
+}
+
+/// Fixes what a parameter's type fixes, where it is known, by an argument's.
+#[tactic(auto, using(crate::proofs::Fixes::with_nothing))]
+fn note_parameter(fixings: &mut Vec<Option<Fixing>>, parameter: &Option<CType>, argument: &Value)
+    ensures { fixings_of fixings.new.items ≡ fixed_with (parameter_fits parameter.now argument.now) 0 (fixings_of fixings.old.items) }
+{
+    match parameter {
+        Some(of) => note_type(fixings, of, &argument.of, argument.at),
+        None => {}
+    }
+}
+
+/// Fixes what the parameters' types fix, by the arguments'.
+fn note_types(fixings: &mut Vec<Option<Fixing>>, parameters: &[Option<CType>], arguments: &[Value])
+    ensures { fixings_of fixings.new.items ≡ fixed_with (fits_all parameters.now arguments.now) 0 (fixings_of fixings.old.items) }
+{
+    let count = parameters.len().min(arguments.len());
+    'each: for index in 0..count {
+        note_parameter(fixings, &parameters[index], &arguments[index]);
+    }
+}
+
+/// So many region variables that nothing fixes yet.
+fn not_fixed(alloc: Global, variables: u32) -> Result<Vec<Option<Fixing>>, AllocError>
+    ensures { IfOk result (λ fixings. fixings_of fixings.items ≡ replicate variables None) }
+{
+    let mut fixings = Vec::new(alloc);
+    'each: for _variable in 0..variables {
+        fixings.push(None)?;
+    }
+    Ok(fixings)
+}
+
+/// What a variable of a call at a place is fixed to that no argument fixes.
+fn last_fixing(enclosing: Enclosing, at: u32) -> Option<Fixing>
+    ensures { option_map fixing_of result ≡ last_fixing (enclosing_of enclosing) at }
+{
+    match enclosing {
+        Enclosing::In(region) => Some(Fixing {
+            is: Fixed::Is(region),
+            at,
+        }),
+        Enclosing::Unique => Some(Fixing {
+            is: Fixed::Unique,
+            at,
+        }),
+        Enclosing::NotKnown => None,
+    }
+}
+
+/// Fixes each variable that nothing fixed yet.
+fn note_all(fixings: &mut Vec<Option<Fixing>>, last: Fixing)
+    ensures { fixings_of fixings.new.items ≡ settled (Some (fixing_of last)) (fixings_of fixings.old.items) }
+{
+    'each: for variable in 0..fixings.len() {
+        note_at(fixings, variable, last);
+    }
+}
+
+/// The same, where there is what fixes them.
+#[tactic(auto, using(crate::proofs::Settling::settled_by_none))]
+fn settle(fixings: &mut Vec<Option<Fixing>>, last: Option<Fixing>)
+    ensures { fixings_of fixings.new.items ≡ settled (option_map fixing_of last) (fixings_of fixings.old.items) }
+{
+    match last {
+        Some(last) => note_all(fixings, last),
+        None => {}
+    }
+}
+
+/// What so many region variables of a call at a place are fixed to. Fails only where no host memory is left.
+pub(crate) fn fixings_for(
+    alloc: Global,
+    enclosing: Enclosing,
+    at: u32,
+    variables: u32,
+    parameters: &[Option<CType>],
+    arguments: &[Value],
+) -> Result<Vec<Option<Fixing>>, AllocError>
+    ensures { IfOk result (λ fixings. fixings_of fixings.items
+        ≡ settled (last_fixing (enclosing_of enclosing) at) (fixed_with (fits_all parameters.now arguments.now) 0 (replicate variables None))) }
+{
+    let mut fixings = not_fixed(alloc, variables)?;
+    note_types(&mut fixings, parameters, arguments);
+    settle(&mut fixings, last_fixing(enclosing, at));
+    Ok(fixings)
+}
+
+/// Whether something fixes each variable.
+pub(crate) fn are_settled(fixings: &[Option<Fixing>]) -> bool
+    ensures { result ≡ list_all (λ fixing. is_some fixing) fixings.now }
+{
+    fixings.iter().all(|fixing| fixing.is_some())
+}
+
+/// The fault of a variable that would be the unique region.
+fn fixing_fault(fixing: Option<Fixing>) -> Option<Fault>
+    ensures { faults_of result ≡ earliest (fixing_faults (fixings_of (fixing ∷ []))) }
+{
+    match fixing {
+        Some(
+            Fixing {
+                is: Fixed::Unique,
+                at,
+            },
+        ) => Some(Fault {
+            kind: FaultKind::Region,
+            at,
+        }),
+        _ => None,
+    }
+}
+
+/// The fault of the variables that is answered.
+pub(crate) fn fixings_fault(fixings: &[Option<Fixing>]) -> Option<Fault>
+    ensures { faults_of result ≡ earliest (fixing_faults (fixings_of fixings.now)) }
+{
+    let mut found = None;
+    'each: for fixing in fixings {
+        found = sooner(found, fixing_fault(*fixing));
+    }
+    found
+}
+
+/// What a variable stands for; the heap stands in for one at fault, and for one that nothing fixes.
+fn region_by(fixing: Option<Fixing>) -> RegionId
+    ensures { regions_of (result ∷ []) ≡ regions_by (fixings_of (fixing ∷ [])) }
+{
+    match fixing {
+        Some(
+            Fixing {
+                is: Fixed::Is(region),
+                ..
+            },
+        ) => region,
+        _ => RegionId::Heap,
+    }
+}
+
+/// What the variables stand for.
+pub(crate) fn regions_by(
+    alloc: Global,
+    fixings: &[Option<Fixing>],
+) -> Result<Vec<RegionId>, AllocError>
+    ensures { IfOk result (λ regions. regions_of regions.items ≡ regions_by (fixings_of fixings.now)) }
+{
+    let mut regions = Vec::new(alloc);
+    'each: for fixing in fixings {
+        regions.push(region_by(*fixing))?;
+    }
+    Ok(regions)
+}

@@ -1,0 +1,42 @@
+-- What is answered of makings, by what is answered of their parts.
+use Rattle.std.specs.Prelude.{Bool, false, true, ℕ, if◌then◌else◌}
+use Rattle.cyc_tree.specs.Tree.{Array, Made, One}
+use Rattle.source_typing.specs.Expressions.{judge}
+use Rattle.source_typing.specs.Faults.{fault, type_rule}
+use Rattle.source_typing.specs.Making.{Goal, NoHandle, To, ToUnique, array_made, elements, handled, made, with_counter}
+use Rattle.source_typing.specs.Scope.{Enclosing, Env, InRegion, InUnique, NotKnown, Value}
+use Rattle.source_typing.specs.Taken.{Taken, taken}
+use Rattle.check_faults.specs.Verdicts.{Is, NotJudged, Short, Wrong, short_after, short_both, shortened}
+
+-- the `rnew` around what is made
+abbrev pub enclosed_short : Short Goal → Enclosing
+enclosed_short (Is (To r)) = InRegion r
+enclosed_short (Is ToUnique) = InUnique
+enclosed_short (Is NoHandle) = NotKnown
+enclosed_short (Wrong f) = NotKnown
+enclosed_short NotJudged = NotKnown
+
+-- whether what should be a handle is none, and the value isn't judged
+abbrev pub is_refused_alone : Short Goal → Short Value → Bool
+is_refused_alone (Is NoHandle) NotJudged = true
+is_refused_alone (Is NoHandle) (Is v) = false
+is_refused_alone (Is NoHandle) (Wrong f) = false
+is_refused_alone (Is (To r)) v = false
+is_refused_alone (Is ToUnique) v = false
+is_refused_alone (Wrong f) v = false
+is_refused_alone NotJudged v = false
+
+abbrev pub with_short_goal : ℕ → Short Goal → Short Value → (Goal → Value → Short Value) → Short Value
+with_short_goal at s v rule = (if is_refused_alone s v then Wrong (fault type_rule at) else short_both s v rule)
+
+-- where a handle makes, by whether it is `unique_region` and by what is answered of it
+abbrev pub short_goal : Bool → Env → Short Value → Short Goal
+short_goal true g s = Is ToUnique
+short_goal false g s = short_after s (λ h. shortened (handled g h))
+
+-- what is answered of what is made, by what is answered of where
+abbrev pub short_made : Env → ℕ → Short Goal → Taken → Made → Short Value
+short_made g at s k (One e) = with_short_goal at s (shortened (judge g (taken k e))) (λ a b. shortened (made at a b))
+short_made g at s k (Array x n e) = (if k.filled then
+    with_short_goal at s (short_both (shortened (judge g (taken k n))) (shortened (judge (with_counter x g) (taken k e))) (λ a b. shortened (elements at a b)))
+    (λ a b. shortened (array_made at a b)) else Wrong (fault type_rule at))

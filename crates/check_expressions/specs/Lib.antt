@@ -1,0 +1,6 @@
+pub mod Within
+pub mod Forms
+pub mod Goals
+pub mod Joined
+pub mod Suffixes
+pub use Rattle.check_calls.specs.Enclosings

@@ -1,0 +1,179 @@
+// Handles of regions, and what is made in them.
+
+ghost use Rattle.std.specs.Prelude.{◌≡◌, IfOk};
+ghost use Rattle.cyc_tree.specs.Tree.{HeapRegion};
+ghost use Rattle.cyc_tree.specs.View.{expression_tree};
+ghost use Rattle.source_meaning.specs.Expressions.{is_unique_region};
+ghost use Rattle.source_typing.specs.Expressions.{judge};
+ghost use Rattle.source_typing.specs.Making.{array_made, elements, handled, made};
+ghost use Rattle.source_typing.specs.Scope.{Env};
+ghost use Rattle.source_typing.specs.Taken.{takes_handle};
+ghost use Rattle.check_faults.specs.Taken.{taken_of};
+ghost use Rattle.check_faults.specs.Verdicts.{short_both, short_of, shortened};
+ghost use Rattle.check_scopes.specs.Knows.{Sees};
+ghost use Rattle.check_operators.specs.Goals.{goal_in};
+ghost use Rattle.check_operators.specs.Values.{value_of};
+ghost use Rattle.check_calls.specs.Enclosings.{enclosing_of};
+ghost use Rattle.source_typing.specs.Taken as rules;
+ghost use Rattle.check_expressions.specs.Goals.{enclosed_short, is_refused_alone, short_goal, with_short_goal};
+
+use crate::parts::refused;
+use check_calls::Enclosing;
+use check_faults::{Taken, Verdict};
+use check_operators::{Goal, Value, array_made, elements, handled, heap_region, made};
+use check_scopes::Scope;
+use cyc_tree::Expression;
+use std::alloc::{AllocError, Global};
+
+/// `heap_region`, where regions are taken.
+pub(crate) fn heap_region_taken<'p>(taken: Taken, alloc: Global, at: u32) -> Verdict<Value<'p>>
+    ensures { (g : Env) → short_of value_of result ≡ shortened (judge g (rules.taken (taken_of taken) (HeapRegion at))) }
+{
+    if taken.regions {
+        heap_region(alloc, at)
+    } else {
+        refused(at)
+    }
+}
+
+/// Whether an expression is `unique_region`, also in parentheses.
+pub fn is_unique_region(expression: &Expression) -> bool
+    ensures { result ≡ is_unique_region (expression_tree expression.now) }
+{
+    match expression {
+        Expression::UniqueRegion(_) => true,
+        Expression::Grouped(_, inner) => is_unique_region(inner),
+        _ => false,
+    }
+}
+
+/// Whether an `rnew` with this handle is taken.
+pub fn takes_handle(taken: Taken, handle: &Expression) -> bool
+    ensures { result ≡ takes_handle (taken_of taken) (is_unique_region (expression_tree handle.now)) }
+{
+    if is_unique_region(handle) {
+        taken.unique
+    } else {
+        taken.regions
+    }
+}
+
+/// Where a handle makes, by whether it is `unique_region` and by what it is.
+pub fn goal_part(scope: &Scope, is_unique: bool, handle: Verdict<Value>) -> Verdict<Goal>
+    ensures { (g : Env) → Sees scope.now g → short_of goal_in result ≡ short_goal is_unique g (short_of value_of handle.entry) }
+{
+    if is_unique {
+        return Verdict::Of(Goal::ToUnique);
+    }
+    match handle {
+        Verdict::Of(value) => handled(scope, &value),
+        Verdict::Wrong(fault) => Verdict::Wrong(fault),
+        Verdict::NotJudged => Verdict::NotJudged,
+    }
+}
+
+/// The `rnew` around what is made, by where it makes.
+pub(crate) fn enclosing_by(goal: &Verdict<Goal>) -> Enclosing
+    ensures { enclosing_of result ≡ enclosed_short (short_of goal_in goal.now) }
+{
+    match goal {
+        Verdict::Of(Goal::To(region)) => Enclosing::In(*region),
+        Verdict::Of(Goal::ToUnique) => Enclosing::Unique,
+        _ => Enclosing::NotKnown,
+    }
+}
+
+/// Whether what should be a handle is none, and the value isn't judged.
+fn is_refused_alone(goal: &Verdict<Goal>, value: &Verdict<Value>) -> bool
+    ensures { result ≡ is_refused_alone (short_of goal_in goal.now) (short_of value_of value.now) }
+{
+    matches!(
+        (goal, value),
+        (Verdict::Of(Goal::NoHandle), Verdict::NotJudged)
+    )
+}
+
+/// Where a value is made, and what it is.
+#[tactic(auto, using(check_faults::proofs::Shortened::pair_wrong, check_faults::proofs::Shortened::pair_not_judged))]
+fn made_both<'p>(
+    at: u32,
+    goal: Verdict<Goal>,
+    value: Verdict<Value<'p>>,
+) -> Result<Verdict<Value<'p>>, AllocError>
+    ensures { IfOk result (λ v. short_of value_of v
+        ≡ short_both (short_of goal_in goal) (short_of value_of value.entry) (λ a b. shortened (made at a b))) }
+{
+    match goal.paired(value) {
+        Verdict::Of((goal, value)) => made(at, goal, value),
+        Verdict::Wrong(fault) => Ok(Verdict::Wrong(fault)),
+        Verdict::NotJudged => Ok(Verdict::NotJudged),
+    }
+}
+
+/// What is made of a value, by where it is made and what it is. What should be a handle and is none is at fault here, whether or not
+/// the value is judged.
+pub(crate) fn made_parts<'p>(
+    at: u32,
+    goal: Verdict<Goal>,
+    value: Verdict<Value<'p>>,
+) -> Result<Verdict<Value<'p>>, AllocError>
+    ensures { IfOk result (λ v. short_of value_of v
+        ≡ with_short_goal at (short_of goal_in goal) (short_of value_of value.entry) (λ a b. shortened (made at a b))) }
+{
+    if is_refused_alone(&goal, &value) {
+        Ok(refused(at))
+    } else {
+        made_both(at, goal, value)
+    }
+}
+
+/// An element of an array that is made, by what their count and the element are.
+#[tactic(auto, using(check_faults::proofs::Shortened::pair_known, check_faults::proofs::Shortened::pair_wrong, check_faults::proofs::Shortened::pair_not_judged))]
+pub(crate) fn elements_part<'p>(
+    at: u32,
+    count: Verdict<Value<'p>>,
+    element: Verdict<Value<'p>>,
+) -> Verdict<Value<'p>>
+    ensures { short_of value_of result
+        ≡ short_both (short_of value_of count.entry) (short_of value_of element.entry) (λ a b. shortened (elements at a b)) }
+{
+    match count.paired(element) {
+        Verdict::Of((count, element)) => elements(at, &count, element),
+        Verdict::Wrong(fault) => Verdict::Wrong(fault),
+        Verdict::NotJudged => Verdict::NotJudged,
+    }
+}
+
+/// Where an array is made, and what its elements are.
+#[tactic(auto, using(check_faults::proofs::Shortened::pair_wrong, check_faults::proofs::Shortened::pair_not_judged))]
+fn array_both<'p>(
+    at: u32,
+    goal: Verdict<Goal>,
+    element: Verdict<Value<'p>>,
+) -> Result<Verdict<Value<'p>>, AllocError>
+    ensures { IfOk result (λ v. short_of value_of v
+        ≡ short_both (short_of goal_in goal) (short_of value_of element.entry) (λ a b. shortened (array_made at a b))) }
+{
+    match goal.paired(element) {
+        Verdict::Of((goal, element)) => array_made(at, goal, element),
+        Verdict::Wrong(fault) => Ok(Verdict::Wrong(fault)),
+        Verdict::NotJudged => Ok(Verdict::NotJudged),
+    }
+}
+
+/// An array that is made, by where it is made and what its elements are. What should be a handle and is none is at fault here, whether
+/// or not the elements are judged.
+pub(crate) fn array_parts<'p>(
+    at: u32,
+    goal: Verdict<Goal>,
+    element: Verdict<Value<'p>>,
+) -> Result<Verdict<Value<'p>>, AllocError>
+    ensures { IfOk result (λ v. short_of value_of v
+        ≡ with_short_goal at (short_of goal_in goal) (short_of value_of element.entry) (λ a b. shortened (array_made at a b))) }
+{
+    if is_refused_alone(&goal, &element) {
+        Ok(refused(at))
+    } else {
+        array_both(at, goal, element)
+    }
+}

@@ -1,0 +1,142 @@
+// What the names of a program mean.
+
+ghost use Rattle.std.specs.Prelude.{◌≡◌, ◌+◌, ◌∷◌, IfOk, List, OnOk, Some, not, ℕ};
+ghost use Rattle.cyc_tree.specs.View.{function_tree, name_tree, program_item_tree, program_tree};
+ghost use Rattle.source_typing.specs.Functions.{head_of};
+ghost use Rattle.source_typing.specs.Programs.{builtins, entries, entry_with, is_seen, judged_tags, name_of, tables_of};
+ghost use Rattle.source_typing.specs.Tables.{Entry, OfFunction, Tables, find};
+ghost use Rattle.source_typing.specs.Taken.{function_taken, item_taken, only_taken};
+ghost use Rattle.source_typing.specs.Taken as rules_taken;
+ghost use Rattle.check_faults.specs.Taken.{taken_of};
+ghost use Rattle.check_types.specs.Naming.{tag_named};
+ghost use Rattle.check_scopes.specs.Globals.{global_meaning};
+ghost use Rattle.check_scopes.specs.Means.{Means};
+ghost use Rattle.check_programs.specs.Names.{Since};
+ghost use Rattle.check_programs.specs.Programs.{AreSeen};
+ghost use Rattle.check_programs.specs.Structs.{KnowsStructs, MeansTag, tag_meaning};
+
+use crate::global::{JudgedGlobal, judged_global};
+use crate::structs::Structs;
+use check_functions::{head_meaning, read_head};
+use check_scopes::{Globals, Meaning};
+use check_types::TagName;
+use cyc_tree::{Function, Item, Name};
+use std::alloc::{AllocError, Global};
+
+/// The names of the functions that every program has, and what they mean. Fails only where no host memory is left.
+fn builtin_names<'p>(alloc: Global) -> Result<Globals<'p>, AllocError>
+    ensures { (others : Tables) (x : List ℕ) → IfOk result (λ names. Since (find (builtins others) x) (global_meaning names x) (find others x)) }
+{
+    let mut names = Globals::new(alloc);
+    names.add(b"getchar".as_slice(), Meaning::Builtin(0))?;
+    names.add(b"putchar".as_slice(), Meaning::Builtin(1))?;
+    Ok(names)
+}
+
+/// An item's name.
+#[tactic(auto, using(crate::proofs::Items::name_stays))]
+pub(crate) fn item_name(item: &Item) -> &Name
+    ensures plain { name_tree result.now ≡ name_of (program_item_tree item.now) }
+    ensures taken { (k : rules_taken.Taken) → name_tree result.now ≡ name_of (item_taken k (program_item_tree item.now)) }
+{
+    match item {
+        Item::Struct(structure) | Item::Union(structure) => &structure.tag,
+        Item::Global(global) => &global.name,
+        Item::Function(function) => &function.name,
+    }
+}
+
+/// What a function's name means. Fails only where no host memory is left.
+fn function_meaning<'p>(
+    alloc: Global,
+    structs: Structs<'_, 'p>,
+    lenient: bool,
+    function: &'p Function,
+) -> Result<Meaning<'p>, AllocError>
+    ensures { (g : Tables) → KnowsStructs structs.entry g
+        → let f = function_taken (taken_of structs.entry.taken) (function_tree function.entry.now) in
+        IfOk result (λ m. Means (Some (OfFunction (head_of lenient g f).signature)) (Some m)) }
+{
+    let head = read_head(alloc, structs.taken, structs.tags, lenient, function)?;
+    head_meaning(alloc, head)
+}
+
+/// What the name of a struct or union means: one that isn't taken is one of a declaration at fault.
+fn tag_meaning<'p>(structs: Structs<'_, '_>, name: &Name) -> Meaning<'p>
+    ensures { result ≡ tag_meaning (tag_named structs.entry.tags.now (name_tree name.now).text) }
+{
+    match structs.tags.of(&name.text) {
+        TagName::Tag { is_union, regions } => Meaning::Tag { is_union, regions },
+        TagName::NotJudged(regions) => Meaning::FaultyTag(regions),
+        TagName::NoName | TagName::Other => Meaning::FaultyTag(0),
+    }
+}
+
+/// What the name of an item after so many means. Fails only where no host memory is left.
+fn item_meaning<'p>(
+    alloc: Global,
+    structs: Structs<'_, 'p>,
+    lenient: bool,
+    index: u32,
+    item: &'p Item,
+) -> Result<Meaning<'p>, AllocError>
+    ensures { (g : Tables) (e : Entry) → KnowsStructs structs.entry g → MeansTag structs.entry (program_item_tree item.entry.now) e
+        → IfOk result (λ m. Means (Some (entry_with lenient g index e (item_taken (taken_of structs.entry.taken) (program_item_tree item.entry.now)))) (Some m)) }
+{
+    match item {
+        Item::Struct(structure) | Item::Union(structure) => {
+            Ok(tag_meaning(structs, &structure.tag))
+        }
+        Item::Global(global) => {
+            let judged = judged_global(alloc, structs, index, global)?;
+            let JudgedGlobal {
+                fault: _fault,
+                meaning,
+                bytes: _bytes,
+            } = judged;
+            Ok(meaning)
+        }
+        Item::Function(function) => function_meaning(alloc, structs, lenient, function),
+    }
+}
+
+/// What the names of a program's items mean, and those of the functions that every program has; with or without the rules on live
+/// regions and effects. Fails only where no host memory is left.
+pub fn program_names<'p>(
+    alloc: Global,
+    structs: Structs<'_, 'p>,
+    lenient: bool,
+    items: &'p [Item],
+) -> Result<Globals<'p>, AllocError>
+    ensures { let all = only_taken (taken_of structs.entry.taken) (program_tree items.entry.now) in
+        KnowsStructs structs.entry (builtins (entries (judged_tags all)))
+        → IfOk result (λ names. (x : List ℕ) → Means (find (tables_of lenient all) x) (global_meaning names x)) }
+{
+    let mut names = builtin_names(alloc)?;
+    let mut index = 0;
+    'each: for item in items {
+        let meaning = item_meaning(alloc, structs, lenient, index, item)?;
+        names.add(item_name(item).text.as_slice(), meaning)?;
+        index = next_index(index)?;
+    }
+    Ok(names)
+}
+
+/// The index after this one. One over a u32 is want of memory.
+pub fn next_index(index: u32) -> Result<u32, AllocError>
+    ensures { IfOk result (λ i. i ≡ index + 1) }
+{
+    match index.checked_add(1) {
+        Some(next) => Ok(next),
+        None => Err(AllocError),
+    }
+}
+
+/// Adds a name to those that are seen, and tells whether it is a new one. Fails only where no host memory is left.
+#[tactic(auto, using(crate::proofs::Seeing::seen_now, crate::proofs::Seeing::seen_more))]
+pub(crate) fn see<'p>(seen: &mut Globals<'p>, name: &'p [u8]) -> Result<bool, AllocError>
+    ensures is_new { (names : List (List ℕ)) → AreSeen names seen.old → IfOk result (λ b. b ≡ not (is_seen names name.entry.now)) }
+    ensures seen { (names : List (List ℕ)) → AreSeen names seen.old → OnOk result (AreSeen (name.entry.now ∷ names) seen.new) }
+{
+    seen.add(name, Meaning::NotKnown)
+}

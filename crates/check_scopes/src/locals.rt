@@ -1,0 +1,129 @@
+// The locals that are visible at a point.
+
+ghost use Rattle.std.specs.Prelude.{◌≡◌, ◌∷◌, [], OnErr, OnOk, length, option_copied};
+ghost use Rattle.check_scopes.specs.Linked.{position_of};
+ghost use Rattle.check_scopes.specs.Locals.{dropped_to, find_what, is_after, known};
+
+use crate::last::LastLocals;
+use cyc_types::{CType, RegionId};
+use std::alloc::{AllocError, Global};
+use std::marker::Model;
+
+/// What a local is.
+#[derive(Debug, Drop)]
+pub enum What<'p> {
+    /// A variable of a type, in a region.
+    Variable(CType<'p>, RegionId),
+    /// An array of elements of a type, in a region.
+    Array(CType<'p>, RegionId),
+    /// The index of an array that is made.
+    Counter,
+    /// One whose declaration is at fault.
+    NotKnown,
+}
+
+/// A local by its name, and the one of that name that it hides.
+#[derive(Drop)]
+struct Local<'p> {
+    name: &'p [u8],
+    what: What<'p>,
+    hidden: Option<usize>,
+}
+
+/// The locals that are visible at a point, in the order of their declarations. A contract sees them as a list of what each
+/// name is, the latest first.
+#[derive(Drop)]
+pub struct Locals<'p> {
+    all: Vec<Local<'p>>,
+    last: LastLocals<'p>,
+}
+
+impl<'p> Model for Locals<'p> {
+    ghost use Rattle.std.specs.Prelude.{List};
+    ghost use Rattle.check_scopes.specs.Linked.{position_of};
+    ghost use Rattle.check_scopes.specs.Locals.{Known};
+    ghost use Rattle.check_scopes.specs.Linked.{AreLinked, known_of};
+
+    ghost Value = { List Known };
+
+    ghost view = { λ s. known_of s.all.items };
+
+    ghost invariant = { λ s. AreLinked s.all.items s.last };
+}
+
+impl<'p> Locals<'p> {
+    /// No locals.
+    pub fn new(alloc: Global) -> Self
+        ensures { result ≡ [] }
+    {
+        Locals {
+            all: Vec::new(alloc),
+            last: LastLocals::new(alloc),
+        }
+    }
+
+    /// How many locals there are.
+    pub fn len(&self) -> usize
+        ensures { result ≡ length self.now }
+    {
+        self.all.len()
+    }
+
+    /// Declares a local. Fails only where no host memory is left, and then none is added.
+    pub fn declare(&mut self, name: &'p [u8], what: What<'p>) -> Result<(), AllocError>
+        ensures declared { OnOk result (self.new ≡ known name.entry.now what.entry ∷ self.old) }
+        ensures kept { OnErr result (self.new ≡ self.old) }
+    {
+        let position = self.all.len();
+        let hidden = self.last.of(name);
+        self.all.push(Local { name, what, hidden })?;
+        match self.last.add(name, position) {
+            Ok(()) => Ok(()),
+            Err(refused) => {
+                self.all.pop();
+                Err(refused)
+            }
+        }
+    }
+
+    /// Leaves a block: only so many locals stay, the earliest.
+    pub fn leave(&mut self, count: usize)
+        ensures { self.new ≡ dropped_to count self.old }
+    {
+        'each: while count < self.all.len() {
+            if let Some(local) = self.all.pop() {
+                self.last.set(local.name, local.hidden);
+            }
+        }
+    }
+
+    /// What a name is, where there is a local of that name.
+    pub fn find(&self, name: &[u8]) -> Option<&What<'p>>
+        ensures { option_copied result ≡ find_what self.now name.now }
+    {
+        match self.last.of(name) {
+            Some(position) => match self.all.get(position) {
+                Some(local) => Some(&local.what),
+                None => None,
+            },
+            None => None,
+        }
+    }
+
+    /// How many locals were declared before the latest one of a name, where there is one.
+    pub fn position(&self, name: &[u8]) -> Option<usize>
+        ensures { result ≡ position_of self.now name.now }
+    {
+        self.last.of(name)
+    }
+
+    /// Whether there is one of a name after the first so many locals.
+    pub fn is_second(&self, outer: usize, name: &[u8]) -> bool
+        ensures { result ≡ is_after self.now outer name.now }
+    {
+        match self.last.of(name) {
+            Some(position) => outer <= position,
+            None => false,
+        }
+    }
+}

@@ -1,0 +1,11 @@
+use Rattle.std.proofs.Common.{◌≡◌, ◌≤◌, ◌+◌, drop, map}
+use Rattle.cyc_tree.specs.View.{clause_tree, clauses_of}
+use Rattle.source_typing.specs.Statements.{defaults}
+use Rattle.check_statements.proofs.named_members.defaults.Given as goal
+
+-- the clauses so far and the rest are all clauses
+abbrev pub invariant-each : goal.invariant-each
+invariant-each l = record {
+  fewer : l.times ≤ l.clause-index;
+  all : l.times + defaults (clauses_of (map clause_tree (drop l.clause-index l.clauses))) ≡ defaults (clauses_of (map clause_tree l.clauses));
+}

@@ -1,0 +1,23 @@
+use Rattle.std.proofs.Common.{ap, sym, ◌∙◌}
+use Rattle.std.specs.Prelude.{not, option_map, ◌&&◌, ◌++◌}
+use Rattle.cyc_tree.proofs.PartForms.{clause_parts}
+use Rattle.cyc_tree.specs.View.{OneClause, clause_tree}
+use Rattle.source_typing.specs.Faults.{earliest, test, type_rule}
+use Rattle.source_typing.specs.Statements.{clause_names, clause_scope, items_faults}
+use Rattle.source_typing.specs.Ways.{ways_of_items}
+use Rattle.check_faults.specs.Taken.{taken_of}
+use Rattle.check_statements.specs.Switching.{chosen_in, one_clause_taken}
+use Rattle.check_statements.proofs.Blocks.{two_found}
+use Rattle.check_statements.proofs.switch.clause_found.Goals as goal
+
+pub returns : goal.returns
+returns c = λ g tags inside.
+    let reached = c.args.reached in
+    let u = option_map chosen_in c.args.chosen in
+    let o = one_clause_taken (taken_of c.args.scope.now.taken) (clause_tree c.args.clause.now) in
+    let names = clause_names g u o.pattern in
+    let body = items_faults (clause_scope g u o.pattern) reached o.body in
+    let pattern = c.pattern_fault-pattern.ensures g tags
+    ∙ ap (λ (q : OneClause). earliest (clause_names g u q.pattern)) (sym (clause_parts c.args.clause.now)) in
+    c.first_or.ensures (names ++ body) (test (not (reached && (ways_of_items o.body).falls)) type_rule o.at)
+    (two_found c.pattern_fault-pattern.result c.args.inside c.sooner.result names body c.sooner.ensures pattern inside) c.end_fault-end.ensures

@@ -1,0 +1,41 @@
+-- The union of a `switch` and its clauses, in code and by the rules.
+use Rattle.std.specs.Prelude.{Bool, List, None, Option, Some, bytes_eq, false, not, true, ℕ, ◌&&◌, ◌++◌}
+use Rattle.cyc_tree.specs.Tree.{Case, Default, Pattern}
+use Rattle.cyc_tree.specs.View.{OneClause}
+use Rattle.cyc_types.specs.Regions.{regions_of}
+use Rattle.source_typing.specs.Faults.{Fault, own_after, test, type_rule}
+use Rattle.source_typing.specs.Scope.{Env}
+use Rattle.source_typing.specs.Statements.{clause_names, clause_scope, items_faults}
+use Rattle.source_typing.specs.Statements as rules
+use Rattle.source_typing.specs.Taken.{Taken, items_taken}
+use Rattle.source_typing.specs.Types.{StaticType, Union}
+use Rattle.source_typing.specs.Ways.{ways_of_items}
+use Rattle.check_statements.specs.declared.switch.Chosen.{Chosen}
+
+abbrev pub chosen_in : Chosen → rules.Chosen
+chosen_in c = record { tag = c.tag.now; regions = regions_of c.regions.now }
+
+-- the union that a type is
+abbrev pub union_in : StaticType → Option rules.Chosen
+union_in (Union tag rs) = Some (record { tag = tag; regions = rs })
+union_in t = None
+
+-- whether a pattern is `default`
+abbrev pub is_default : Pattern → Bool
+is_default (Case f x) = false
+is_default Default = true
+
+-- whether a pattern names a member
+abbrev pub names_part : Pattern → List ℕ → Bool
+names_part (Case f x) member = bytes_eq f.text member
+names_part Default member = false
+
+-- a clause as far as it is taken
+abbrev pub one_clause_taken : Taken → OneClause → OneClause
+one_clause_taken k c = record { at = c.at; pattern = c.pattern; body = items_taken k c.body }
+
+-- the faults of one clause: those of its pattern and of its block, or else that its end is reached
+abbrev pub clause_faults : Env → Bool → Option rules.Chosen → OneClause → List Fault
+clause_faults g reached union c =
+    own_after (test (not (reached && (ways_of_items c.body).falls)) type_rule c.at)
+    (clause_names g union c.pattern ++ items_faults (clause_scope g union c.pattern) reached c.body)

@@ -1,0 +1,219 @@
+// Statements and blocks.
+
+ghost use Rattle.std.specs.Prelude.{◌≡◌, ◌≤◌, IfOk, OnOk, length, map, option_map, ℕ};
+ghost use Rattle.cyc_tree.specs.View.{clause_tree, clauses_of, item_tree, items_of, statement_tree};
+ghost use Rattle.source_typing.specs.Faults.{earliest};
+ghost use Rattle.source_typing.specs.Scope.{Env, block_entered};
+ghost use Rattle.source_typing.specs.Statements.{clauses_faults, items_faults, statement_faults};
+ghost use Rattle.source_typing.specs.Taken.{clauses_taken, items_taken, statement_taken};
+ghost use Rattle.check_faults.specs.Faults.{faults_of};
+ghost use Rattle.check_faults.specs.Taken.{taken_of};
+ghost use Rattle.check_scopes.specs.Changes.{AllAround, left};
+ghost use Rattle.check_scopes.specs.Knows.{Knows};
+ghost use Rattle.check_regions.specs.declared.scope.RegionMark.{RegionMark};
+ghost use Rattle.check_statements.specs.Contexts.{StandsIn, Suits, kept_to};
+ghost use Rattle.check_statements.specs.Switching.{chosen_in, clause_faults, one_clause_taken};
+
+use crate::context::Context;
+use crate::declaration::declare;
+use crate::exchange::exchange_taken;
+use crate::operand::{Kind, free_taken};
+use crate::regions::next_region;
+use crate::returning::{condition_fault, expression_fault, return_fault, unless};
+use crate::switch::{Chosen, bind, clause_found, switch_fault, union_of};
+use crate::ways::reached_after;
+use check_expressions::judge;
+use check_faults::{Fault, sooner};
+use check_regions::RegionNames;
+use check_scopes::Scope;
+use cyc_tree::{BlockItem, Clause, Statement};
+use std::alloc::{AllocError, Global};
+
+/// The earliest fault of a statement, by whether its start is reached. What is in scope is the same before and after it. Fails only
+/// where no host memory is left.
+#[cycle(statement)]
+fn statement_fault<'p>(
+    scope: &mut Scope<'_, 'p>,
+    names: &mut RegionNames<'p>,
+    alloc: Global,
+    context: Context<'_, 'p>,
+    reached: bool,
+    statement: &'p Statement,
+) -> Result<Option<Fault>, AllocError>
+    ensures fault { (g : Env) → Knows scope.old g → Suits context.entry names.old g → AllAround g.block g.locals
+        → IfOk result (λ f. faults_of f
+        ≡ earliest (statement_faults g reached (statement_taken (taken_of scope.old.taken) (statement_tree statement.entry.now)))) }
+    ensures scope { OnOk result (scope.new ≡ scope.old) }
+    ensures kept { OnOk result (names.new ≡ names.old) }
+{
+    match statement {
+        Statement::Empty(_) => Ok(None),
+        Statement::Block(_, items) => block_fault(scope, names, alloc, context, reached, items),
+        Statement::Run(value) => expression_fault(scope, alloc, value),
+        Statement::Exchange(left, right) => exchange_taken(scope, alloc, left, right),
+        Statement::If(_, condition, body) => {
+            let first = condition_fault(scope, alloc, condition)?;
+            let second = statement_fault(scope, names, alloc, context, reached, body)?;
+            Ok(sooner(first, second))
+        }
+        Statement::IfElse(_, condition, body, otherwise) => {
+            let first = condition_fault(scope, alloc, condition)?;
+            let second = statement_fault(scope, names, alloc, context, reached, body)?;
+            let third = statement_fault(scope, names, alloc, context, reached, otherwise)?;
+            Ok(sooner(sooner(first, second), third))
+        }
+        Statement::While(_, condition, body) => {
+            let first = condition_fault(scope, alloc, condition)?;
+            let second = statement_fault(scope, names, alloc, context.looping(), reached, body)?;
+            Ok(sooner(first, second))
+        }
+        Statement::Switch(at, place, clauses) => {
+            if !scope.taken.unions {
+                return Ok(unless(false, *at));
+            }
+            let place = judge(scope, alloc, place)?;
+            let inside = clauses_fault(
+                scope,
+                names,
+                alloc,
+                context.switching(),
+                reached,
+                union_of(&place),
+                clauses,
+            )?;
+            Ok(switch_fault(scope.tables, *at, &place, clauses, inside))
+        }
+        Statement::Break(at) => Ok(unless(context.can_break(), *at)),
+        Statement::Continue(at) => Ok(unless(context.in_loop, *at)),
+        Statement::Return(at, value) => return_fault(scope, alloc, *at, context.result, value),
+        Statement::FreeUnique(at, pointer) => {
+            free_taken(scope, alloc, scope.taken.unique, *at, Kind::Unique, pointer)
+        }
+        Statement::FreeKey(at, key) => {
+            free_taken(scope, alloc, scope.taken.keys, *at, Kind::Key, key)
+        }
+    }
+}
+
+/// The earliest fault of a block. What is in scope is the same before and after it. Fails only where no host memory is left.
+#[cycle(statement)]
+fn block_fault<'p>(
+    scope: &mut Scope<'_, 'p>,
+    names: &mut RegionNames<'p>,
+    alloc: Global,
+    context: Context<'_, 'p>,
+    reached: bool,
+    items: &'p [BlockItem],
+) -> Result<Option<Fault>, AllocError>
+    ensures fault { (g : Env) → Knows scope.old g → Suits context.entry names.old g → AllAround g.block g.locals
+        → IfOk result (λ f. faults_of f
+        ≡ earliest (items_faults (block_entered g) reached (items_taken (taken_of scope.old.taken) (items_of (map item_tree items.entry.now))))) }
+    ensures scope { OnOk result (scope.new ≡ scope.old) }
+    ensures kept { OnOk result (names.new ≡ names.old) }
+{
+    let outer = scope.locals.len();
+    let known = names.len();
+    let mark = scope.regions.mark();
+    let frame = next_region(scope.regions.names())?;
+    scope.regions.begin_block()?;
+    let inner = context.in_block(frame);
+    let found = items_fault(scope, names, alloc, inner, outer, reached, items)?;
+    scope.regions.leave(mark);
+    scope.locals.leave(outer);
+    names.leave(known);
+    Ok(found)
+}
+
+/// The earliest fault of a block's items, where the block's own locals come after the first `outer` ones, by whether the start is
+/// reached. What was in scope before is so again where the block is left. Fails only where no host memory is left.
+#[cycle(statement)]
+pub fn items_fault<'p>(
+    scope: &mut Scope<'_, 'p>,
+    names: &mut RegionNames<'p>,
+    alloc: Global,
+    context: Context<'_, 'p>,
+    outer: usize,
+    reached: bool,
+    items: &'p [BlockItem],
+) -> Result<Option<Fault>, AllocError>
+    ensures fault { (g : Env) → StandsIn context.entry names.old outer scope.old g
+        → IfOk result (λ f. faults_of f
+        ≡ earliest (items_faults g reached (items_taken (taken_of scope.old.taken) (items_of (map item_tree items.entry.now))))) }
+    ensures left { OnOk result ((count : ℕ) (mark : RegionMark) → count ≤ length scope.old.locals → mark.names ≤ length scope.old.regions.begun
+        → mark.opened ≤ length scope.old.regions.opened → left count mark scope.new ≡ left count mark scope.old) }
+    ensures kept { OnOk result ((count : ℕ) → count ≤ length names.old → kept_to count names.new ≡ kept_to count names.old) }
+{
+    let mut found = None;
+    let mut reached = reached;
+    'each: for item in items {
+        let fault = match item {
+            BlockItem::Declare(declaration) => {
+                declare(scope, names, alloc, context, outer, declaration)?
+            }
+            BlockItem::Execute(statement) => {
+                statement_fault(scope, names, alloc, context, reached, statement)?
+            }
+        };
+        found = sooner(found, fault);
+        reached = reached_after(scope.taken, reached, item);
+    }
+    Ok(found)
+}
+
+/// The earliest fault of the clauses of a `switch`. What is in scope is the same before and after them. Fails only where no host memory
+/// is left.
+#[cycle(statement)]
+fn clauses_fault<'p>(
+    scope: &mut Scope<'_, 'p>,
+    names: &mut RegionNames<'p>,
+    alloc: Global,
+    context: Context<'_, 'p>,
+    reached: bool,
+    chosen: Option<Chosen<'_>>,
+    clauses: &'p [Clause],
+) -> Result<Option<Fault>, AllocError>
+    ensures fault { (g : Env) → Knows scope.old g → Suits context.entry names.old g → AllAround g.block g.locals
+        → IfOk result (λ f. faults_of f ≡ earliest (clauses_faults g reached (option_map chosen_in chosen.entry)
+        (clauses_taken (taken_of scope.old.taken) (clauses_of (map clause_tree clauses.entry.now))))) }
+    ensures scope { OnOk result (scope.new ≡ scope.old) }
+    ensures kept { OnOk result (names.new ≡ names.old) }
+{
+    let mut found = None;
+    'each: for clause in clauses {
+        let fault = clause_fault(scope, names, alloc, context, reached, chosen, clause)?;
+        found = sooner(found, fault);
+    }
+    Ok(found)
+}
+
+/// The earliest fault of a clause of a `switch`, which is a block with its name. What is in scope is the same before and after it. Fails
+/// only where no host memory is left.
+#[cycle(statement)]
+fn clause_fault<'p>(
+    scope: &mut Scope<'_, 'p>,
+    names: &mut RegionNames<'p>,
+    alloc: Global,
+    context: Context<'_, 'p>,
+    reached: bool,
+    chosen: Option<Chosen<'_>>,
+    clause: &'p Clause,
+) -> Result<Option<Fault>, AllocError>
+    ensures fault { (g : Env) → Knows scope.old g → Suits context.entry names.old g → AllAround g.block g.locals
+        → IfOk result (λ f. faults_of f ≡ earliest (clause_faults g reached (option_map chosen_in chosen.entry)
+        (one_clause_taken (taken_of scope.old.taken) (clause_tree clause.entry.now)))) }
+    ensures scope { OnOk result (scope.new ≡ scope.old) }
+    ensures kept { OnOk result (names.new ≡ names.old) }
+{
+    let outer = scope.locals.len();
+    let known = names.len();
+    let mark = scope.regions.mark();
+    let frame = next_region(scope.regions.names())?;
+    scope.regions.begin_block()?;
+    bind(scope, chosen, frame, &clause.pattern)?;
+    let inner = context.in_block(frame);
+    let found = items_fault(scope, names, alloc, inner, outer, reached, &clause.body)?;
+    scope.regions.leave(mark);
+    scope.locals.leave(outer);
+    names.leave(known);
+    Ok(clause_found(scope, reached, chosen, clause, found))
+}

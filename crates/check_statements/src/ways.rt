@@ -1,0 +1,132 @@
+// How statements may be left, and which ends are reached.
+
+ghost use Rattle.std.specs.Prelude.{◌≡◌, ◌&&◌, false, map, true};
+ghost use Rattle.cyc_tree.specs.View.{clause_tree, clauses_of, item_tree, items_of, statement_tree};
+ghost use Rattle.source_typing.specs.Taken.{clauses_taken, items_taken, statement_taken};
+ghost use Rattle.check_faults.specs.Taken.{taken_of};
+ghost use Rattle.source_typing.specs.Ways.{breaks_of, either_way, then_ways, ways, ways_of, ways_of_items};
+ghost use Rattle.check_statements.specs.Leaving.{item_falls, ways_in};
+
+use check_faults::Taken;
+use cyc_tree::{BlockItem, Clause, Statement};
+
+/// How a statement may be left whose start is reached.
+#[derive(Clone, Copy)]
+pub(crate) struct Ways {
+    /// Whether its end is reached.
+    falls: bool,
+    /// Whether a `break` leaves it.
+    breaks: bool,
+}
+
+impl Ways {
+    /// Those of one statement after the other.
+    fn then(self, next: Ways) -> Ways
+        ensures { ways_in result ≡ then_ways (ways_in self) (ways_in next) }
+    {
+        Ways {
+            falls: self.falls && next.falls,
+            breaks: self.breaks || (self.falls && next.breaks),
+        }
+    }
+
+    /// Those of one statement or the other.
+    fn or(self, other: Ways) -> Ways
+        ensures { ways_in result ≡ either_way (ways_in self) (ways_in other) }
+    {
+        Ways {
+            falls: self.falls || other.falls,
+            breaks: self.breaks || other.breaks,
+        }
+    }
+}
+
+/// The end is reached, and no `break` leaves it.
+fn falling() -> Ways
+    ensures { ways_in result ≡ ways true false }
+{
+    Ways {
+        falls: true,
+        breaks: false,
+    }
+}
+
+/// How a statement may be left.
+#[cycle(ways)]
+fn statement_ways(taken: Taken, statement: &Statement) -> Ways
+    ensures { ways_in result ≡ ways_of (statement_taken (taken_of taken) (statement_tree statement.now)) }
+{
+    match statement {
+        Statement::Block(_, items) => items_ways(taken, items),
+        Statement::If(_, _, body) => statement_ways(taken, body).or(falling()),
+        Statement::IfElse(_, _, body, otherwise) => {
+            let first = statement_ways(taken, body);
+            first.or(statement_ways(taken, otherwise))
+        }
+        Statement::Switch(_, _, clauses) => Ways {
+            falls: !taken.unions || clauses_break(taken, clauses),
+            breaks: false,
+        },
+        Statement::Break(_) => Ways {
+            falls: false,
+            breaks: true,
+        },
+        Statement::Continue(_) | Statement::Return(_, _) => Ways {
+            falls: false,
+            breaks: false,
+        },
+        _ => falling(),
+    }
+}
+
+/// How the items of a block may be left.
+#[cycle(ways)]
+fn items_ways(taken: Taken, items: &[BlockItem]) -> Ways
+    ensures { ways_in result ≡ ways_of_items (items_taken (taken_of taken) (items_of (map item_tree items.now))) }
+{
+    let mut so_far = falling();
+    'each: for item in items {
+        let next = match item {
+            BlockItem::Declare(_) => falling(),
+            BlockItem::Execute(statement) => statement_ways(taken, statement),
+        };
+        so_far = so_far.then(next);
+    }
+    so_far
+}
+
+/// Whether a `break` leaves one of the clauses of a `switch`.
+#[cycle(ways)]
+fn clauses_break(taken: Taken, clauses: &[Clause]) -> bool
+    ensures { result ≡ breaks_of (clauses_taken (taken_of taken) (clauses_of (map clause_tree clauses.now))) }
+{
+    let mut any = false;
+    'each: for clause in clauses {
+        any = any || items_ways(taken, &clause.body).breaks;
+    }
+    any
+}
+
+/// Whether the end of an item of a block is reached, by whether its start is.
+pub(crate) fn reached_after(taken: Taken, reached: bool, item: &BlockItem) -> bool
+    ensures { result ≡ (reached && item_falls (taken_of taken) (item_tree item.now)) }
+{
+    reached && item_falls(taken, item)
+}
+
+/// Whether the end of an item of a block is reached, where its start is.
+fn item_falls(taken: Taken, item: &BlockItem) -> bool
+    ensures { result ≡ item_falls (taken_of taken) (item_tree item.now) }
+{
+    match item {
+        BlockItem::Declare(_) => true,
+        BlockItem::Execute(statement) => statement_ways(taken, statement).falls,
+    }
+}
+
+/// Whether the end of a block is reached, where its start is.
+pub fn items_fall(taken: Taken, items: &[BlockItem]) -> bool
+    ensures { result ≡ (ways_of_items (items_taken (taken_of taken) (items_of (map item_tree items.now)))).falls }
+{
+    items_ways(taken, items).falls
+}

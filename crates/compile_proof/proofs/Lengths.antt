@@ -1,0 +1,148 @@
+-- How long lines are: those of each statement, function and program, by the operations that they are made from.
+use Rattle.std.proofs.Common.{ℕ, zero, suc, ◌+◌, ◌*◌, ◌/◌, ◌≤◌, Bool, true, false, if◌then◌else◌, List, [], ◌∷◌, ◌++◌, Option, None, length, arith}
+use Rattle.core_meaning.specs.Core.{Statement, Do, If, While, Block, Break, Continue, Call, Return, Raise, Statements, NoStatements, MoreStatements, Function, Program}
+use Rattle.core_lines.specs.declared.line.Line.TheVariants.{Label, Jump, JumpIfZero, CallTo}
+use Rattle.core_lines.specs.Lines.{code_length}
+use Rattle.core_lines.specs.Frames.{load_code, save_code, slot_of, pass_code, result_code, environment_code, test_code, move_code, take_code, prologue_code, values_code, leave_code}
+use Rattle.core_lines.specs.Choosing.{is_held, held_behind, held_behind_all, held_or_loaded, choice_code}
+use Rattle.core_lines.specs.Selected.{offsets_from, frame_bytes, datum_locals, Surroundings, labels_in, labels_of, holding, within_block, statement_code, statements_code, around, function_code, functions_code, program_code}
+use Rattle.source_lowering.specs.Bounds.{branch_count, statement_operations, operations_of, all_operations, core_code}
+use Rattle.compile_proof.proofs.OperationLengths.{IsWithin, both_within, less_within, nothing_within, load_within, save_within, operation_within}
+
+-- ---- statements
+
+-- from one slot to another
+moved_within : (to k from j : ℕ) → IsWithin 24 (load_code to k ++ save_code from j)
+moved_within to k from j = both_within 12 12 (load_code to k) (save_code from j) (load_within to k) (save_within from j)
+
+pass_within : (passed k : ℕ) (ts : List ℕ) → IsWithin (24 * length ts) (pass_code passed k ts)
+pass_within passed k [] = nothing_within 0
+pass_within passed k (t ∷ ts) =
+    less_within (24 + 24 * length ts) (24 * length (t ∷ ts)) _ (omega arith)
+    (both_within 24 (24 * length ts) (load_code 5 (slot_of passed t) ++ save_code 5 (1 + k)) (pass_code passed (k + 1) ts)
+    (moved_within 5 (slot_of passed t) 5 (1 + k))
+    (pass_within passed (k + 1) ts))
+
+result_within : (passed r : ℕ) (ts : List ℕ) → IsWithin (12 * length ts) (result_code passed r ts)
+result_within passed r [] = nothing_within 0
+result_within passed r (t ∷ ts) =
+    less_within (12 + 12 * length ts) (12 * length (t ∷ ts)) _ (omega arith)
+    (both_within 12 (12 * length ts) (save_code (suc r) (slot_of passed t)) (result_code passed (suc r) ts) (save_within (suc r) (slot_of passed t))
+    (result_within passed (suc r) ts))
+
+values_within : (passed r : ℕ) (ts : List ℕ) → IsWithin (12 * length ts) (values_code passed r ts)
+values_within passed r [] = nothing_within 0
+values_within passed r (t ∷ ts) =
+    less_within (12 + 12 * length ts) (12 * length (t ∷ ts)) _ (omega arith)
+    (both_within 12 (12 * length ts) (load_code (suc r) (slot_of passed t)) (values_code passed (suc r) ts) (load_within (suc r) (slot_of passed t))
+    (values_within passed (suc r) ts))
+
+leave_within : (bytes : ℕ) → IsWithin 28 (leave_code bytes)
+leave_within bytes = record { is = omega arith }
+
+choice_within : (passed : ℕ) (held : Option ℕ) (t label : ℕ) → IsWithin 20 (choice_code passed held t label)
+choice_within passed held t label =
+    both_within 12 8 (held_or_loaded passed held t) (JumpIfZero 5 label ∷ []) (by (is_held held t)) (record { is = omega arith })
+  where
+    by : (b : Bool) → IsWithin 12 (if b then [] else load_code 5 (slot_of passed t))
+    by true = nothing_within 12
+    by false = load_within 5 (slot_of passed t)
+
+-- an exception alone is three lines
+branch_within : (bytes : ℕ) (u : Surroundings) (next out again : ℕ) (ss : Statements) (n : ℕ) → IsWithin (64 * n) (statements_code bytes u next out again ss)
+    → IsWithin (12 + 64 * branch_count ss n) (statements_code bytes u next out again ss)
+branch_within bytes u next out again (MoreStatements (Raise kind) NoStatements) n h = record { is = omega arith }
+branch_within bytes u next out again ss n h = less_within (64 * n) (12 + 64 * n) _ (omega arith) h
+
+mutual
+  statement_within : (bytes : ℕ) (u : Surroundings) (next out again : ℕ) (s : Statement)
+      → IsWithin (64 * statement_operations s) (statement_code bytes u next out again s)
+  statement_within bytes u next out again (Do operation) = operation_within u operation
+  statement_within bytes u next out again (If t these those) =
+      let behind = next + 1 + labels_of these in
+      let n = operations_of these in let m = operations_of those in
+      let a = 12 + 64 * branch_count these n in let b = 12 + 64 * branch_count those m in
+      less_within (20 + a + 4 + b + 0) (64 * (1 + (branch_count these n + branch_count those m))) _ (omega arith)
+      (both_within (20 + a + 4 + b) 0 _ (Label behind ∷ [])
+      (both_within (20 + a + 4) b _ (statements_code bytes (holding None u) (behind + 1) out again those)
+      (both_within (20 + a) 4 _ (Jump behind ∷ Label next ∷ [])
+      (both_within 20 a (choice_code u.passed u.held t next) (statements_code bytes (holding None u) (next + 1) out again these)
+      (choice_within u.passed u.held t next) (branch_within bytes (holding None u) (next + 1) out again these n
+      (statements_within bytes (holding None u) (next + 1) out again these))) (record { is = omega arith }))
+      (branch_within bytes (holding None u) (behind + 1) out again those m (statements_within bytes (holding None u) (behind + 1) out again those)))
+      (record { is = omega arith }))
+  statement_within bytes u next out again (While test t body) =
+      let behind = next + 1 + labels_of test in
+      let a = 64 * operations_of test in let b = 64 * operations_of body in
+      less_within (0 + a + 20 + b + 4) (64 * (1 + (operations_of test + operations_of body))) _ (omega arith)
+      (both_within (0 + a + 20 + b) 4 _ (Jump next ∷ Label behind ∷ [])
+      (both_within (0 + a + 20) b _ (statements_code bytes (holding None u) (behind + 1) behind next body)
+      (both_within (0 + a) 20 _ (choice_code u.passed (held_behind_all None test) t behind)
+      (both_within 0 a (Label next ∷ []) (statements_code bytes (holding None u) (next + 1) out again test) (record { is = omega arith })
+      (statements_within bytes (holding None u) (next + 1) out again test)) (choice_within u.passed (held_behind_all None test) t behind))
+      (statements_within bytes (holding None u) (behind + 1) behind next body)) (record { is = omega arith }))
+  statement_within bytes u next out again (Block locals body) =
+      less_within (64 * operations_of body) (64 * (1 + operations_of body)) _ (omega arith)
+      (statements_within bytes (within_block locals u) next out again body)
+  statement_within bytes u next out again Break = record { is = omega arith }
+  statement_within bytes u next out again Continue = record { is = omega arith }
+  statement_within bytes u next out again (Call results number arguments) =
+      less_within (24 * length arguments + 4 + 12 * length results) (64 * (1 + (length results + length arguments))) _ (omega arith)
+      (both_within (24 * length arguments + 4) (12 * length results) (pass_code u.passed 0 arguments ++ (CallTo number ∷ [])) (result_code u.passed 9 results)
+      (both_within (24 * length arguments) 4 (pass_code u.passed 0 arguments) (CallTo number ∷ []) (pass_within u.passed 0 arguments)
+      (record { is = omega arith })) (result_within u.passed 9 results))
+  statement_within bytes u next out again (Return values) =
+      less_within (12 * length values + 28) (64 * (1 + length values)) _ (omega arith)
+      (both_within (12 * length values) 28 (values_code u.passed 9 values) (leave_code bytes) (values_within u.passed 9 values) (leave_within bytes))
+  statement_within bytes u next out again (Raise kind) = record { is = omega arith }
+
+  statements_within : (bytes : ℕ) (u : Surroundings) (next out again : ℕ) (ss : Statements)
+      → IsWithin (64 * operations_of ss) (statements_code bytes u next out again ss)
+  statements_within bytes u next out again NoStatements = nothing_within 0
+  statements_within bytes u next out again (MoreStatements s ss) =
+      less_within (64 * statement_operations s + 64 * operations_of ss) (64 * (statement_operations s + operations_of ss)) _ (omega arith)
+      (both_within (64 * statement_operations s) (64 * operations_of ss) _ _ (statement_within bytes u next out again s)
+      (statements_within bytes (holding (held_behind s) u) (next + labels_in s) out again ss))
+
+-- ---- functions and programs
+
+take_within : (bytes passed k more : ℕ) → IsWithin (24 * more) (take_code bytes passed k more)
+take_within bytes passed k zero = nothing_within 0
+take_within bytes passed k (suc more) =
+    less_within (24 + 24 * more) (24 * suc more) _ (omega arith)
+    (both_within 24 (24 * more) (load_code 5 (bytes / 4 + 1 + k) ++ save_code 5 (slot_of passed k)) (take_code bytes passed (k + 1) more)
+    (moved_within 5 (bytes / 4 + 1 + k) 5 (slot_of passed k))
+    (take_within bytes passed (k + 1) more))
+
+prologue_within : (bytes passed parameters : ℕ) → IsWithin (52 + 24 * parameters) (prologue_code bytes passed parameters)
+prologue_within bytes passed parameters =
+    both_within 52 (24 * parameters) (test_code bytes ++ move_code bytes ++ save_code 1 0) (take_code bytes passed 0 parameters)
+    (record { is = omega arith }) (take_within bytes passed 0 parameters)
+
+function_within : (statics : List ℕ) (number next : ℕ) (f : Function)
+    → IsWithin (64 * (8 + (f.parameters + operations_of f.body))) (function_code statics number next f)
+function_within statics number next f =
+    let p = f.parameters in let o = operations_of f.body in
+    less_within (0 + (52 + 24 * p) + 64 * o) (64 * (8 + (p + o))) _ (omega arith)
+    (both_within (0 + (52 + 24 * p)) (64 * o) ((Label number ∷ []) ++ prologue_code (frame_bytes f) f.passed f.parameters) _
+    (both_within 0 (52 + 24 * p) (Label number ∷ []) (prologue_code (frame_bytes f) f.passed f.parameters) (record { is = omega arith })
+    (prologue_within (frame_bytes f) f.passed f.parameters))
+    (statements_within (frame_bytes f) (around statics f) next number number f.body))
+
+functions_within : (statics : List ℕ) (number next : ℕ) (fs : List Function) → IsWithin (64 * all_operations fs) (functions_code statics number next fs)
+functions_within statics number next [] = nothing_within 0
+functions_within statics number next (f ∷ fs) =
+    let o = 8 + (f.parameters + operations_of f.body) in
+    less_within (64 * o + 64 * all_operations fs) (64 * (o + all_operations fs)) _ (omega arith)
+    (both_within (64 * o) (64 * all_operations fs) (function_code statics number next f) (functions_code statics (number + 1) (next + labels_of f.body) fs)
+    (function_within statics number next f)
+    (functions_within statics (number + 1) (next + labels_of f.body) fs))
+
+-- The lines of a program take no more bytes than its operations are counted for.
+pub lines_within : (p : Program) → code_length (program_code p) ≤ core_code p
+lines_within p =
+    let statics = offsets_from 0 (datum_locals p.data_objects) in
+    let all = 64 * all_operations p.functions in
+    (less_within (12 + all) (core_code p) (program_code p) (omega arith)
+    (both_within 12 all ((CallTo p.main ∷ []) ++ environment_code 0) (functions_code statics 0 (length p.functions) p.functions) (record { is = omega arith })
+    (functions_within statics 0 (length p.functions) p.functions))).is

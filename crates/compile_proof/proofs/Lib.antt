@@ -1,0 +1,21 @@
+pub mod Naming
+mod Tiles
+pub mod Layouts
+pub mod StaticShapes
+pub mod Pointers
+pub mod Parts
+pub mod MadeNames
+pub mod Expressions
+pub mod WholeNames
+pub mod Functions
+pub mod Selectable
+pub mod Frames
+pub mod DoesAsSource
+pub mod OperationLengths
+pub mod Lengths
+pub mod Data
+pub mod LowerableDo
+pub mod NamedApart
+pub mod DataWithin
+pub mod AcceptedDo
+pub use Rattle.accepted_proof.proofs.Joined

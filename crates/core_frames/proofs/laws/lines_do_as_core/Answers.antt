@@ -1,5 +1,0 @@
-use Rattle.core_frames.proofs.DoesAsCore.{does_as_core}
-use Rattle.core_frames.proofs.laws.lines_do_as_core.Goals as goal
-
-pub returns : goal.returns
-returns c = does_as_core

@@ -1,0 +1,111 @@
+-- The code of frames: words into registers, loads and saves of slots, calls with their arguments and results, prologues and returns.
+use Rattle.std.specs.Prelude.{zero, suc, ℕ, ℤ, pos, ◌+◌, ◌*◌, ◌/◌, ◌%◌, ◌^◌, Bool, ◌||◌, nat_lt, nat_le, if◌then◌else◌, List, [], ◌∷◌, ◌++◌}
+use Rattle.cyc_words.specs.declared.faults.Kind.{Kind}
+use Rattle.cyc_words.specs.declared.faults.Kind.TheVariants.{NullException, ArrayBounds}
+use Rattle.rv32_isa.specs.Numbers.{signed}
+use Rattle.rv32_isa.specs.declared.instruction.Instr.TheVariants.{Lui, Jalr, Bgeu, Lw, Sw, Addi, Add, Sub, Ecall}
+use Rattle.rv32_machine.specs.State.{stack_base}
+use Rattle.core_lines.specs.declared.line.Line.{Line}
+use Rattle.core_lines.specs.declared.line.Line.TheVariants.{Plain, Jump, CallTo}
+
+-- ---- words and slots
+
+-- The upper part of a word and the lower one with its sign, from which LUI and ADDI put it together again.
+abbrev pub upper_of : ℕ → ℕ
+upper_of w = (w + 2048) % 2 ^ 32 / 2 ^ 12
+
+abbrev pub lower_of : ℕ → ℤ
+lower_of w = signed 12 (w % 2 ^ 12)
+
+-- the lower part alone is the word
+abbrev pub is_short : ℕ → Bool
+is_short w = nat_lt w 2048 || nat_le 0xfffff800 w
+
+-- a word into a register, by two instructions
+abbrev pub word_code : ℕ → ℕ → List Line
+word_code to w = Plain (Lui to (upper_of w)) ∷ Plain (Addi to to (lower_of w)) ∷ []
+
+-- slot k of a frame stands 4 * k bytes from the stack pointer on
+abbrev pub load_code : ℕ → ℕ → List Line
+load_code to k =
+    (if is_short (4 * k) then Plain (Lw to 2 (lower_of (4 * k))) ∷ []
+    else Plain (Lui 7 (upper_of (4 * k))) ∷ Plain (Add 7 7 2) ∷ Plain (Lw to 7 (lower_of (4 * k))) ∷ [])
+
+abbrev pub save_code : ℕ → ℕ → List Line
+save_code from k =
+    (if is_short (4 * k) then Plain (Sw 2 from (lower_of (4 * k))) ∷ []
+    else Plain (Lui 7 (upper_of (4 * k))) ∷ Plain (Add 7 7 2) ∷ Plain (Sw 7 from (lower_of (4 * k))) ∷ [])
+
+-- ---- frames: slot 0 has the return address, the next `passed` the words for a callee, then come the temporaries
+
+abbrev pub slot_of : ℕ → ℕ → ℕ
+slot_of passed t = 1 + passed + t
+
+-- from a temporary to another slot, and so on for all
+abbrev pub pass_code : ℕ → ℕ → List ℕ → List Line
+pass_code passed k [] = []
+pass_code passed k (t ∷ ts) = load_code 5 (slot_of passed t) ++ save_code 5 (1 + k) ++ pass_code passed (k + 1) ts
+
+-- results come in the registers behind x9
+abbrev pub result_code : ℕ → ℕ → List ℕ → List Line
+result_code passed r [] = []
+result_code passed r (t ∷ ts) = save_code (suc r) (slot_of passed t) ++ result_code passed (suc r) ts
+
+-- the label of a function is its number
+abbrev pub call_code : ℕ → List ℕ → ℕ → List ℕ → List Line
+call_code passed results f arguments = pass_code passed 0 arguments ++ (CallTo f ∷ []) ++ result_code passed 9 results
+
+-- a call of the environment
+abbrev pub environment_code : ℕ → List Line
+environment_code number = Plain (Addi 17 0 (pos number)) ∷ Plain Ecall ∷ []
+
+-- an exception, by the number of its kind
+abbrev pub kind_number : Kind → ℕ
+kind_number NullException = 1
+kind_number ArrayBounds = 2
+
+-- it is raised: the kind's number is the call's argument
+abbrev pub raise_code : Kind → List Line
+raise_code kind = (Plain (Addi 10 0 (pos (kind_number kind))) ∷ []) ++ environment_code 3
+
+-- the stack is refused where fewer bytes than the frame's are left of it
+abbrev pub test_code : ℕ → List Line
+test_code bytes =
+    word_code 6 (stack_base + bytes) ++ (Plain (Bgeu 2 6 (pos 20)) ∷ []) ++ word_code 10 bytes ++ environment_code 13
+
+abbrev pub move_code : ℕ → List Line
+move_code bytes = word_code 7 bytes ++ (Plain (Sub 2 2 7) ∷ [])
+
+-- each parameter's word, from the caller's frame above into the slot of its temporary
+abbrev pub take_code : ℕ → ℕ → ℕ → ℕ → List Line
+take_code bytes passed k zero = []
+take_code bytes passed k (suc more) =
+    load_code 5 (bytes / 4 + 1 + k) ++ save_code 5 (slot_of passed k) ++ take_code bytes passed (k + 1) more
+
+-- registers into slots from one on, and back
+abbrev pub saves_code : ℕ → List ℕ → List Line
+saves_code k [] = []
+saves_code k (r ∷ rs) = save_code r k ++ saves_code (suc k) rs
+
+abbrev pub restores_code : ℕ → List ℕ → List Line
+restores_code k [] = []
+restores_code k (r ∷ rs) = load_code r k ++ restores_code (suc k) rs
+
+abbrev pub prologue_code : ℕ → ℕ → ℕ → List ℕ → ℕ → List Line
+prologue_code bytes passed first saved parameters =
+    test_code bytes ++ move_code bytes ++ save_code 1 0 ++ saves_code first saved ++ take_code bytes passed 0 parameters
+
+abbrev pub values_code : ℕ → ℕ → List ℕ → List Line
+values_code passed r [] = []
+values_code passed r (t ∷ ts) = load_code (suc r) (slot_of passed t) ++ values_code passed (suc r) ts
+
+abbrev pub leave_code : ℕ → List Line
+leave_code bytes = load_code 1 0 ++ word_code 7 bytes ++ (Plain (Add 2 2 7) ∷ Plain (Jalr 0 1 (pos 0)) ∷ [])
+
+-- a return's values, and on to where the function ends
+abbrev pub return_code : ℕ → List ℕ → ℕ → List Line
+return_code passed values exit = values_code passed 9 values ++ (Jump exit ∷ [])
+
+-- where the function ends: the registers that it saved come back, and the frame is given back
+abbrev pub epilogue_code : ℕ → ℕ → List ℕ → List Line
+epilogue_code bytes first saved = restores_code first saved ++ leave_code bytes

@@ -1,0 +1,87 @@
+// What whole expressions do to locals that can't be copied.
+
+ghost use Rattle.std.specs.Prelude.{◌≡◌, IfOk, option_map};
+ghost use Rattle.cyc_tree.specs.View.{expression_tree, name_tree};
+ghost use Rattle.flow_summaries.specs.Expressions.{uses_of};
+ghost use Rattle.flow_summaries.specs.Statements.{freed_local, passage_of_result};
+ghost use Rattle.flow_summaries.specs.Uses.{number_of};
+ghost use Rattle.source_typing.specs.Scope.{Env};
+ghost use Rattle.source_typing.specs.Taken.{taken};
+ghost use Rattle.check_faults.specs.Taken.{taken_of};
+ghost use Rattle.check_scopes.specs.Knows.{Knows};
+ghost use Rattle.check_scopes.specs.Matching.{AreLocals};
+ghost use Rattle.flow_effects.specs.Passed.{passage_of};
+
+use crate::expression::uses;
+use check_expressions::Enclosing;
+use check_expressions::Around;
+use check_scopes::Scope;
+use cyc_tree::{Expression, Name};
+use cyc_types::RegionId;
+use flow_effects::{Passed, Usage};
+use std::alloc::{AllocError, Global};
+
+/// An expression that is given away. Fails only where no host memory is left.
+pub(crate) fn given(
+    scope: &Scope<'_, '_>,
+    alloc: Global,
+    expression: &Expression,
+) -> Result<Passed, AllocError>
+    ensures { (g : Env) → Knows scope.now g → AreLocals scope.now.locals g.locals
+        → IfOk result (λ p. passage_of p ≡ (uses_of g (taken (taken_of scope.now.taken) (expression_tree expression.now))).value) }
+{
+    let around = Around {
+        enclosing: Enclosing::In(RegionId::Heap),
+        counters: &[],
+    };
+    let used = uses(scope, alloc, around, Usage::Value, expression)?;
+    Ok(used.passed)
+}
+
+/// An expression that is looked at. Fails only where no host memory is left.
+pub(crate) fn looked(
+    scope: &Scope<'_, '_>,
+    alloc: Global,
+    expression: &Expression,
+) -> Result<Passed, AllocError>
+    ensures { (g : Env) → Knows scope.now g → AreLocals scope.now.locals g.locals
+        → IfOk result (λ p. passage_of p ≡ (uses_of g (taken (taken_of scope.now.taken) (expression_tree expression.now))).look) }
+{
+    let around = Around {
+        enclosing: Enclosing::In(RegionId::Heap),
+        counters: &[],
+    };
+    let used = uses(scope, alloc, around, Usage::Look, expression)?;
+    Ok(used.passed)
+}
+
+/// The value of a `return`, where it has one. Fails only where no host memory is left.
+pub(crate) fn result_given(
+    scope: &Scope<'_, '_>,
+    alloc: Global,
+    value: &Option<Expression>,
+) -> Result<Passed, AllocError>
+    ensures { (g : Env) → Knows scope.now g → AreLocals scope.now.locals g.locals → IfOk result (λ p. passage_of p
+        ≡ passage_of_result g (option_map (λ e. taken (taken_of scope.now.taken) (expression_tree e)) value.now)) }
+{
+    match value {
+        None => Ok(Passed::nothing()),
+        Some(value) => given(scope, alloc, value),
+    }
+}
+
+/// A local that is freed, at a place. Fails only where no host memory is left.
+pub(crate) fn freed(
+    scope: &Scope<'_, '_>,
+    alloc: Global,
+    at: u32,
+    name: &Name,
+) -> Result<Passed, AllocError>
+    ensures { (g : Env) → AreLocals scope.now.locals g.locals
+        → IfOk result (λ p. passage_of p ≡ freed_local at (name_tree name.now) (number_of g.locals (name_tree name.now).text)) }
+{
+    match scope.locals.position(&name.text) {
+        None => Ok(Passed::copied_if(true, at)),
+        Some(number) => Passed::moved(alloc, name.at, Some(number)),
+    }
+}

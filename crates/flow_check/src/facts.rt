@@ -1,0 +1,53 @@
+// What the flow of an expression asks for of the judgement of its parts.
+
+ghost use Rattle.std.specs.Prelude.{◌≡◌};
+ghost use Rattle.cyc_types.specs.Sameness.{HasTags};
+ghost use Rattle.check_operators.specs.Values.{value_of};
+ghost use Rattle.source_typing.specs.Scope.{Env};
+ghost use Rattle.check_faults.specs.Verdicts.{short_of};
+ghost use Rattle.flow_check.specs.Short.{in_block_short, is_moved_short, is_unique_short, place_short};
+
+use check_faults::Verdict;
+use check_operators::{Seat, Value};
+use check_statements::is_unique;
+use cyc_types::{Tables, is_copyable};
+
+/// Whether a value would be moved.
+pub(crate) fn is_moved(tables: &Tables, judged: &Verdict<Value>) -> bool
+    ensures { (g : Env) → HasTags tables.now g.tables → result ≡ is_moved_short g (short_of value_of judged.now) }
+{
+    match judged {
+        Verdict::Of(value) => !is_copyable(&value.of, tables),
+        Verdict::Wrong(_) | Verdict::NotJudged => false,
+    }
+}
+
+/// Whether it is a unique pointer.
+pub(crate) fn is_unique_value(judged: &Verdict<Value>) -> bool
+    ensures { result ≡ is_unique_short (short_of value_of judged.now) }
+{
+    match judged {
+        Verdict::Of(value) => is_unique(&value.of),
+        Verdict::Wrong(_) | Verdict::NotJudged => false,
+    }
+}
+
+/// Whether it is a place in the block of a unique pointer.
+pub(crate) fn in_block(judged: &Verdict<Value>) -> bool
+    ensures { result ≡ in_block_short (short_of value_of judged.now) }
+{
+    match judged {
+        Verdict::Of(value) => matches!(value.seat, Seat::InBlock),
+        Verdict::Wrong(_) | Verdict::NotJudged => false,
+    }
+}
+
+/// Where what stands before a suffix begins, where it is in order.
+pub(crate) fn place_of(judged: &Verdict<Value>) -> u32
+    ensures { result ≡ place_short (short_of value_of judged.now) }
+{
+    match judged {
+        Verdict::Of(value) => value.at,
+        Verdict::Wrong(_) | Verdict::NotJudged => 0,
+    }
+}

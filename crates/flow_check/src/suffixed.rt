@@ -1,0 +1,55 @@
+// What stands after suffixes.
+
+ghost use Rattle.std.specs.Prelude.{◌≡◌};
+ghost use Rattle.cyc_types.specs.Sameness.{HasTags};
+ghost use Rattle.check_operators.specs.Values.{value_of};
+ghost use Rattle.flow_summaries.specs.Passages.{Passage};
+ghost use Rattle.flow_summaries.specs.Uses.{uses_as_place};
+ghost use Rattle.source_typing.specs.Scope as rules_scope;
+ghost use Rattle.check_faults.specs.Verdicts.{short_of};
+ghost use Rattle.flow_effects.specs.Passed.{passage_of};
+ghost use Rattle.flow_check.specs.Short.{is_moved_short};
+ghost use Rattle.flow_check.specs.Suffixed.{IsSuffixed};
+
+use crate::facts::is_moved;
+use check_faults::Verdict;
+use check_operators::Value;
+use cyc_types::Tables;
+use flow_effects::{Passed, Used};
+
+/// What stands after some suffixes: what it is, and what it does where it is looked at. A noncopyable value isn't moved out of it.
+#[derive(Drop)]
+pub(crate) struct Suffixed<'p> {
+    pub(crate) judged: Verdict<Value<'p>>,
+    pub(crate) look: Used,
+    /// Where what stands before the last suffix begins.
+    pub(crate) at: u32,
+    /// Whether its value would be moved.
+    pub(crate) moves: bool,
+}
+
+impl<'p> Suffixed<'p> {
+    /// A place that is a part of what begins there.
+    pub(crate) fn of(
+        tables: &Tables<'p>,
+        at: u32,
+        judged: Verdict<Value<'p>>,
+        own: bool,
+        passed: Passed,
+    ) -> Suffixed<'p>
+        ensures { (g : rules_scope.Env) (p : Passage) → HasTags tables.now g.tables → passage_of passed ≡ p
+            → IsSuffixed (short_of value_of judged.entry) (uses_as_place at (is_moved_short g (short_of value_of judged.entry)) own p) result }
+    {
+        let moves = is_moved(tables, &judged);
+        Suffixed {
+            judged,
+            look: Used {
+                passed,
+                whole: false,
+                own,
+            },
+            at,
+            moves,
+        }
+    }
+}

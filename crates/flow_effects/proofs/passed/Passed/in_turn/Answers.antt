@@ -1,0 +1,6 @@
+use Rattle.std.proofs.Common.{ap₂}
+use Rattle.flow_effects.specs.Tables.{passage_in}
+use Rattle.flow_effects.proofs.passed.Passed.in_turn.Goals as goal
+
+pub returns : goal.returns
+returns c = ap₂ passage_in c.turn.ensures c.sooner.ensures

@@ -1,0 +1,90 @@
+// What follows one after another in a block.
+
+ghost use Rattle.std.specs.Prelude.{◌≡◌, IfOk};
+ghost use Rattle.flow_effects.specs.Exits.{exits_of};
+ghost use Rattle.flow_effects.specs.Steps.{all_before, declared_before, lent_if, step_before};
+
+use crate::exits::Exits;
+use crate::passed::{Begun, Passed};
+use std::alloc::{AllocError, Global};
+
+/// A local that is lent until the end of the block.
+#[derive(Clone, Copy, Debug)]
+pub struct Loan {
+    /// Where the declaration begins.
+    pub at: u32,
+    /// Where the local's name stands in it.
+    pub name_at: u32,
+    /// The local's number; a pointer that is no local isn't lent.
+    pub number: Option<usize>,
+}
+
+/// A declaration.
+#[derive(Drop)]
+pub struct Declared {
+    /// Its initializer.
+    pub initial: Option<Passed>,
+    pub loan: Option<Loan>,
+    /// How many locals are around.
+    pub around: usize,
+    /// How its local begins, where it adds one.
+    pub begun: Option<Begun>,
+}
+
+/// What stands before the rest of a block, or before other clauses.
+#[derive(Drop)]
+pub enum Step {
+    Executed(Exits),
+    Declared(Declared),
+    /// A clause of a `switch`.
+    Way(Exits),
+}
+
+/// A loan that may begin before this. Fails only where no host memory is left.
+fn lent(alloc: Global, loan: Option<Loan>, rest: Exits) -> Result<Exits, AllocError>
+    ensures { IfOk result (λ w. exits_of w ≡ lent_if loan (exits_of rest)) }
+{
+    match loan {
+        None => Ok(rest),
+        Some(loan) => rest.lent(alloc, loan.at, loan.name_at, loan.number),
+    }
+}
+
+impl Declared {
+    /// This declaration, and the rest of its block. Fails only where no host memory is left.
+    fn before(self, alloc: Global, rest: Exits) -> Result<Exits, AllocError>
+        ensures { IfOk result (λ w. exits_of w ≡ declared_before self (exits_of rest)) }
+    {
+        let inside = rest.leaving(self.around, self.begun);
+        let lent = lent(alloc, self.loan, inside)?;
+        match self.initial {
+            None => Ok(lent),
+            Some(initial) => lent.after(alloc, initial),
+        }
+    }
+}
+
+impl Step {
+    /// This, and what comes after it. Fails only where no host memory is left.
+    fn before(self, alloc: Global, rest: Exits) -> Result<Exits, AllocError>
+        ensures { IfOk result (λ w. exits_of w ≡ step_before self (exits_of rest)) }
+    {
+        match self {
+            Step::Executed(first) => first.in_sequence(alloc, rest),
+            Step::Declared(first) => first.before(alloc, rest),
+            Step::Way(first) => first.either(alloc, rest),
+        }
+    }
+}
+
+/// All of these, before what comes last. Fails only where no host memory is left.
+pub fn all_before(alloc: Global, steps: Vec<Step>, last: Exits) -> Result<Exits, AllocError>
+    ensures { IfOk result (λ w. exits_of w ≡ all_before steps.items (exits_of last)) }
+{
+    let mut steps = steps;
+    let mut rest = last;
+    'each: while let Some(step) = steps.pop() {
+        rest = step.before(alloc, rest)?;
+    }
+    Ok(rest)
+}

@@ -1,0 +1,98 @@
+// What a phrase does to the locals, by their numbers.
+
+ghost use Rattle.std.specs.Prelude.{◌≡◌, IfOk};
+ghost use Rattle.flow_summaries.specs.Effects.{below, with_number};
+ghost use Rattle.flow_effects.specs.Tables.{table_at};
+ghost use Rattle.flow_effects.specs.Touches.{idle_touch, joined, touch_of};
+ghost use Rattle.flow_effects.specs.declared.touch.How.TheVariants as how;
+
+use crate::table::Table;
+use crate::touch::{How, Touch};
+use crate::touches::{Touches, forget, join, join_nothing, set_touch, touch_at, turn};
+use std::alloc::{AllocError, Global};
+
+impl Table {
+    /// Nothing is done to any local.
+    pub fn nothing() -> Table
+        ensures { table_at result ≡ (λ i. idle_touch) }
+    {
+        Table {
+            count: 0,
+            touches: Touches::Nothing,
+        }
+    }
+
+    /// What is done to a local.
+    pub fn at(&self, number: usize) -> Touch
+        ensures { touch_of result ≡ table_at self.now number }
+    {
+        touch_at(&self.touches, number)
+    }
+
+    /// With something else done to a local. Fails only where no host memory is left.
+    pub fn with(self, alloc: Global, number: usize, touch: Touch) -> Result<Table, AllocError>
+        ensures { IfOk result (λ t. table_at t ≡ with_number number (touch_of touch) (table_at self)) }
+    {
+        let Some(count) = number.checked_add(1) else {
+            return Err(AllocError);
+        };
+        let mut touches = self.touches;
+        set_touch(alloc, number, touch, &mut touches)?;
+        Ok(Table {
+            count: self.count.max(count),
+            touches,
+        })
+    }
+
+    /// Without the locals from this number on.
+    pub fn below(self, count: usize) -> Table
+        ensures { table_at result ≡ below count idle_touch (table_at self) }
+    {
+        let mut reach = self.count;
+        let mut touches = self.touches;
+        'each: while count < reach {
+            reach -= 1;
+            forget(reach, &mut touches);
+        }
+        Table {
+            count: reach,
+            touches,
+        }
+    }
+
+    /// This phrase, and then another one.
+    pub fn turn(self, next: Table) -> Table
+        ensures { table_at result ≡ (λ i. joined how.Turn (table_at self i) (table_at next i)) }
+    {
+        let mut touches = next.touches;
+        turn(self.touches, &mut touches);
+        Table {
+            count: self.count.max(next.count),
+            touches,
+        }
+    }
+
+    /// What a phrase does, joined to this. Fails only where no host memory is left.
+    pub fn joined(self, alloc: Global, how: How, first: &Table) -> Result<Table, AllocError>
+        ensures { IfOk result (λ t. table_at t ≡ (λ i. joined how (table_at first.now i) (table_at self i))) }
+    {
+        let mut touches = self.touches;
+        join(alloc, how, &first.touches, &mut touches)?;
+        Ok(Table {
+            count: self.count.max(first.count),
+            touches,
+        })
+    }
+
+    /// This, joined to a phrase that does nothing.
+    pub fn joined_to_nothing(self, how: How) -> Table
+        ensures { table_at result ≡ (λ i. joined how idle_touch (table_at self i)) }
+    {
+        let mut touches = self.touches;
+        join_nothing(how, &mut touches);
+        Table {
+            count: self.count,
+            touches,
+        }
+    }
+}

@@ -1,0 +1,179 @@
+// What a phrase does to the locals, by their numbers.
+
+ghost use Rattle.std.specs.Prelude.{◌≡◌, OnOk, IfOk, ℕ};
+ghost use Rattle.flow_summaries.specs.Effects.{with_number};
+ghost use Rattle.flow_effects.specs.Touches.{idle_touch, joined, touch_at, touch_of};
+ghost use Rattle.flow_effects.specs.declared.touch.How.TheVariants as how;
+
+use crate::touch::{How, Touch};
+use std::alloc::{AllocError, Global};
+
+/// What a phrase does to the locals, by their numbers: nothing to those that it hasn't. A tree in which the halves of the odd numbers
+/// go on the left, and those of the even ones on the right.
+#[derive(Drop)]
+pub enum Touches {
+    Nothing,
+    Fork(Box<Touches>, Touch, Box<Touches>),
+}
+
+/// What stands where the first phrase does something and the second one nothing. Fails only where no host memory is left.
+fn copied(alloc: Global, how: How, first: &Touches) -> Result<Touches, AllocError>
+    ensures { IfOk result (λ t. (i : ℕ) → touch_at t i ≡ joined how (touch_at first.now i) idle_touch) }
+{
+    match first {
+        Touches::Nothing => Ok(Touches::Nothing),
+        Touches::Fork(left, here, right) => {
+            let left = Box::new(alloc, copied(alloc, how, left)?)?;
+            let right = Box::new(alloc, copied(alloc, how, right)?)?;
+            let here = how.joined(*here, Touch::none());
+            Ok(Touches::Fork(left, here, right))
+        }
+    }
+}
+
+/// What stands where the first phrase does nothing, whatever the second one does.
+fn each_joined(how: How, next: &mut Touches)
+    ensures { (i : ℕ) → touch_at next.new i ≡ joined how idle_touch (touch_at next.old i) }
+{
+    match next {
+        Touches::Nothing => {}
+        Touches::Fork(left, here, right) => {
+            each_joined(how, left);
+            *here = how.joined(Touch::none(), *here);
+            each_joined(how, right);
+        }
+    }
+}
+
+/// What stands where the first phrase does nothing.
+pub fn join_nothing(how: How, next: &mut Touches)
+    ensures { (i : ℕ) → touch_at next.new i ≡ joined how idle_touch (touch_at next.old i) }
+{
+    match how {
+        How::Turn | How::After | How::LastWay => {}
+        How::Meet | How::EachWay | How::FirstWay | How::Pair | How::Head => each_joined(how, next),
+    }
+}
+
+/// One phrase after the other, local by local. A tree that the other one hasn't is taken as it is.
+pub fn turn(first: Touches, next: &mut Touches)
+    ensures { (i : ℕ) → touch_at next.new i ≡ joined how.Turn (touch_at first i) (touch_at next.old i) }
+{
+    match first {
+        Touches::Nothing => {}
+        Touches::Fork(first_left, first_here, first_right) => match next {
+            Touches::Nothing => *next = Touches::Fork(first_left, first_here, first_right),
+            Touches::Fork(left, here, right) => {
+                turn(Box::into_inner(first_left), left);
+                *here = How::Turn.joined(first_here, *here);
+                turn(Box::into_inner(first_right), right);
+            }
+        },
+    }
+}
+
+/// Joins what a phrase does to what another one does, local by local. Fails only where no host memory is left.
+pub fn join(alloc: Global, how: How, first: &Touches, next: &mut Touches) -> Result<(), AllocError>
+    ensures { OnOk result ((i : ℕ) → touch_at next.new i ≡ joined how (touch_at first.now i) (touch_at next.old i)) }
+{
+    match first {
+        Touches::Nothing => {
+            join_nothing(how, next);
+            Ok(())
+        }
+        Touches::Fork(first_left, first_here, first_right) => match next {
+            Touches::Nothing => {
+                *next = copied(alloc, how, first)?;
+                Ok(())
+            }
+            Touches::Fork(left, here, right) => {
+                join(alloc, how, first_left, left)?;
+                *here = how.joined(*first_here, *here);
+                join(alloc, how, first_right, right)
+            }
+        },
+    }
+}
+
+/// What a phrase does that touches one local alone. Fails only where no host memory is left.
+
+fn placed(alloc: Global, number: usize, touch: Touch) -> Result<Touches, AllocError>
+    ensures { IfOk result (λ t. (i : ℕ) → touch_at t i ≡ with_number number (touch_of touch) (λ j. idle_touch) i) }
+{
+    if number == 0 {
+        let left = Box::new(alloc, Touches::Nothing)?;
+        let right = Box::new(alloc, Touches::Nothing)?;
+        Ok(Touches::Fork(left, touch, right))
+    } else if number % 2 == 1 {
+        let left = Box::new(alloc, placed(alloc, number / 2, touch)?)?;
+        let right = Box::new(alloc, Touches::Nothing)?;
+        Ok(Touches::Fork(left, Touch::none(), right))
+    } else {
+        let left = Box::new(alloc, Touches::Nothing)?;
+        let right = Box::new(alloc, placed(alloc, number / 2 - 1, touch)?)?;
+        Ok(Touches::Fork(left, Touch::none(), right))
+    }
+}
+
+/// What is done to a local.
+pub fn touch_at(touches: &Touches, number: usize) -> Touch
+    ensures { touch_of result ≡ touch_at touches.now number }
+{
+    match touches {
+        Touches::Nothing => Touch::none(),
+        Touches::Fork(left, here, right) => {
+            if number == 0 {
+                *here
+            } else if number % 2 == 1 {
+                touch_at(left, number / 2)
+            } else {
+                touch_at(right, number / 2 - 1)
+            }
+        }
+    }
+}
+
+/// Sets what is done to a local. Fails only where no host memory is left.
+pub fn set_touch(
+    alloc: Global,
+    number: usize,
+    touch: Touch,
+    touches: &mut Touches,
+) -> Result<(), AllocError>
+    ensures { OnOk result ((i : ℕ) → touch_at touches.new i ≡ with_number number (touch_of touch) (touch_at touches.old) i) }
+{
+    match touches {
+        Touches::Nothing => {
+            *touches = placed(alloc, number, touch)?;
+            Ok(())
+        }
+        Touches::Fork(left, here, right) => {
+            if number == 0 {
+                *here = touch;
+                Ok(())
+            } else if number % 2 == 1 {
+                set_touch(alloc, number / 2, touch, left)
+            } else {
+                set_touch(alloc, number / 2 - 1, touch, right)
+            }
+        }
+    }
+}
+
+/// Nothing is done to a local any more.
+pub fn forget(number: usize, touches: &mut Touches)
+    ensures { (i : ℕ) → touch_at touches.new i ≡ with_number number idle_touch (touch_at touches.old) i }
+{
+    match touches {
+        Touches::Nothing => {}
+        Touches::Fork(left, here, right) => {
+            if number == 0 {
+                *here = Touch::none();
+            } else if number % 2 == 1 {
+                forget(number / 2, left);
+            } else {
+                forget(number / 2 - 1, right);
+            }
+        }
+    }
+}

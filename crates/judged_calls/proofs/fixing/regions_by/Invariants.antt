@@ -1,8 +1,0 @@
-use Rattle.std.proofs.Common.{◌≡◌, take}
-use Rattle.cyc_types.specs.Regions.{regions_of}
-use Rattle.judged_calls.specs.Fixings.{fixings_of, regions_by}
-use Rattle.judged_calls.proofs.fixing.regions_by.Given as goal
-
--- what the variables so far stand for
-abbrev pub invariant-each : goal.invariant-each
-invariant-each l = regions_of l.regions.items ≡ regions_by (fixings_of (take l.fixing-index l.fixings))

@@ -1,5 +1,0 @@
-pub mod Within
-pub mod Forms
-pub mod Goals
-pub mod Joined
-pub mod Suffixes

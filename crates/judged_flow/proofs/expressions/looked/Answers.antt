@@ -1,6 +1,0 @@
-use Rattle.std.proofs.Common.{rules}
-use Rattle.judged_flow.proofs.Within.{nothing_around}
-use Rattle.judged_flow.proofs.expressions.looked.Goals as goal
-
-pub returns : goal.returns
-returns c = λ g k ls. (c.in_ok-used.ensures g (nothing_around k ls (search rules) k.enclosing)).passed

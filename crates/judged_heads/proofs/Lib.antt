@@ -1,9 +1,0 @@
-pub mod ReadParameters
-pub mod HeadFaults
-pub mod Heads
-pub mod Bodies
-pub mod Effects
-pub mod Below
-pub mod Parameters
-pub mod Signatures
-pub mod KeyTypes

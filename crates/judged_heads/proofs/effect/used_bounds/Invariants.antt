@@ -1,9 +1,0 @@
-use Rattle.scoped_types.specs.Fields.{pair_of}
-use Rattle.cyc_tree.specs.View.{bound_tree}
-use Rattle.judged_heads.specs.Used.{bound_by}
-use Rattle.judged_heads.proofs.Effects.{UsedTo}
-use Rattle.judged_heads.proofs.effect.used_bounds.Given as goal
-
--- those so far
-abbrev pub invariant-each : goal.invariant-each
-invariant-each l = UsedTo pair_of (λ b. bound_by l.names (bound_tree b)) l.bounds l.bound-index l.used

@@ -1,4 +1,0 @@
-pub mod Bodies
-pub mod Heads
-pub mod Reading
-pub mod Used

@@ -1,6 +1,0 @@
-use Rattle.std.proofs.Common.{ap₂}
-use Rattle.passages.specs.Tables.{passage_in}
-use Rattle.passages.proofs.passed.Passed.in_turn.Goals as goal
-
-pub returns : goal.returns
-returns c = ap₂ passage_in c.turn.ensures c.sooner.ensures

@@ -1,4 +1,0 @@
-use Rattle.passages.proofs.touches.+placed.Given as goal
-
-abbrev pub decreases-placed : goal.decreases-placed
-decreases-placed l = l.number

@@ -1,5 +1,0 @@
-use Rattle.passed_locals.proofs.Statements.{exits_told}
-use Rattle.passed_locals.proofs.laws.statements_leave_as_told.Goals as goal
-
-pub returns : goal.returns
-returns c = λ g x. exits_told x g

@@ -1,8 +1,0 @@
--- What the functions and globals of a program are in code.
-use Rattle.std.specs.Prelude.{List, Option, bytes_eq, ℕ}
-use Rattle.indexmap.specs.IndexMap.{get_by}
-use Rattle.scoped_names.specs.declared.globals.Globals.{Globals}
-use Rattle.scoped_names.specs.declared.meaning.Meaning.{Meaning}
-
-abbrev pub global_meaning : Globals → List ℕ → Option Meaning
-global_meaning s x = get_by (λ key. bytes_eq x key.now) s.entries

@@ -1,7 +1,0 @@
--- The point up to which names are in scope.
-use Rattle.std.specs.Prelude.{length}
-use Rattle.scoped_types.specs.Scopes.{Scoped}
-use Rattle.scoped_types.specs.declared.scope.RegionMark.{RegionMark}
-
-abbrev pub mark_of : Scoped → RegionMark
-mark_of s = record { names = length s.begun; opened = length s.opened }

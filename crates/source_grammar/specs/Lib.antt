@@ -1,0 +1,5 @@
+pub mod Phrases
+pub mod TypeGrammar
+pub mod ExpressionGrammar
+pub mod StatementGrammar
+pub mod Grammar

@@ -1,6 +1,0 @@
-pub mod Flat
-pub mod Named
-pub mod Judged
-pub mod Entries
-pub mod Structs
-pub mod Programs

@@ -1,9 +1,0 @@
-// What holds of all programs that are in order.
-
-ghost use Rattle.source_safety.specs.Programs.{NeverStuck};
-
-/// A law, with nothing to run: a program of integers, pointers, structs, arrays, the heap and
-/// lexical regions that is in order is never stuck, on any input and with any fuel.
-pub fn never_stuck()
-    ensures { NeverStuck }
-{}

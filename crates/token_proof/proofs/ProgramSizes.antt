@@ -1,0 +1,119 @@
+-- A program has at least the tokens that its functions are large.
+use Rattle.std.proofs.Common.{◌≡◌, ◌+◌, ◌≤◌, List, [], ◌∷◌, length, map, Option, Some, None, ⊎_elim, arith}
+use Rattle.cyc_lexer.specs.declared.token.Sign.TheVariants as sign
+use Rattle.cyc_tree.specs.Tree as tree
+use Rattle.cyc_tree.specs.Tree.{RegionName, Member, Bound, Initial, Item, Program}
+use Rattle.source_grammar.specs.Phrases.{Tokens, IsRegion, Each, Behind}
+use Rattle.source_grammar.specs.TypeGrammar.{IsTyped}
+use Rattle.source_grammar.specs.Grammar.{IsMember, AreMembers, IsStructure, IsConstant, IsInitial, AreParameters, MayBeListed, IsEffect, IsBound, AreBounds}
+use Rattle.source_grammar.specs.Grammar.{IsItem, IsProgram}
+use Rattle.source_meaning.specs.Shapes.{part_of}
+use Rattle.source_meaning.specs.Programs.{functions_of, world_of}
+use Rattle.source_lowering.specs.Bounds.{item_size, routines_size}
+use Rattle.token_proof.proofs.Shorter.{one_taken, keyword_taken, sign_taken, name_taken, string_taken, none_taken, region_shorter, each_shorter}
+use Rattle.token_proof.proofs.Shorter.{listed_shorter, regions_shorter, type_shorter, typed_shorter}
+use Rattle.token_proof.proofs.ExpressionSizes.{Takes}
+use Rattle.token_proof.proofs.StatementSizes.{count_shorter, items_sized}
+
+-- ---- what stands before a function's body
+
+-- each parameter has its name
+typed_size : (m : Member) (from to : Tokens) → IsTyped m from to → Takes 1 from to
+typed_size m from to (a, of, name) = omega (arith, type_shorter m.of from a of, name_taken name)
+
+more_typed_size : (ms : List Member) (from to : Tokens) → Each (Behind sign.Comma IsTyped) ms from to → Takes (length ms) from to
+more_typed_size [] from to is = omega (arith, none_taken is)
+more_typed_size (m ∷ ms) from to (a, (b, comma, is), are) = omega (arith, sign_taken comma, typed_size m b a is, more_typed_size ms a to are)
+
+parameters_size : (ms : List Member) (from to : Tokens) → AreParameters ms from to → Takes (length ms) from to
+parameters_size [] from to is = ⊎_elim (λ none. omega (arith, none_taken none)) (λ void. omega (arith, keyword_taken void)) is
+parameters_size (m ∷ ms) from to (a, is, are) = omega (arith, typed_size m from a is, more_typed_size ms a to are)
+
+listed_regions_shorter : (rs : List RegionName) (from to : Tokens) → MayBeListed rs from to → length to ≤ length from
+listed_regions_shorter [] from to is = none_taken is
+listed_regions_shorter (r ∷ rs) from to are = listed_shorter IsRegion region_shorter (r ∷ rs) from to are
+
+effect_shorter : (effect : Option (List RegionName)) (from to : Tokens) → IsEffect effect from to → length to ≤ length from
+effect_shorter None from to is = none_taken is
+effect_shorter (Some regions) from to (a, b, c, behind, opened, are, closed) =
+    omega (arith, sign_taken behind, sign_taken opened, listed_regions_shorter regions b c are, sign_taken closed)
+
+bound_shorter : (bound : Bound) (from to : Tokens) → IsBound bound from to → length to ≤ length from
+bound_shorter bound from to (a, b, longer, above, shorter) =
+    omega (arith, region_shorter bound.longer from a longer, sign_taken above, region_shorter bound.shorter b to shorter)
+
+bounds_shorter : (bounds : List Bound) (from to : Tokens) → AreBounds bounds from to → length to ≤ length from
+bounds_shorter [] from to is = none_taken is
+bounds_shorter (bound ∷ bounds) from to (a, colon, are) = omega (arith, sign_taken colon, listed_shorter IsBound bound_shorter (bound ∷ bounds) a to are)
+
+-- ---- items
+
+-- the name, and the four signs around the parameters and the body
+function_size : (f : tree.Function) (from to : Tokens) → IsItem (tree.FunctionItem f) from to
+    → Takes (5 + (length f.parameters + item_size f.body)) from to
+function_size f from to (z, a, typed, named, (b, c, d, e, g, h, i, opened, takes, has, within, closed, begins, does, ends)) =
+    omega (
+      arith,
+      type_shorter f.result from z typed,
+      name_taken named,
+      sign_taken opened,
+      parameters_size f.parameters b c takes,
+      effect_shorter f.effect c d has,
+      bounds_shorter f.bounds d e within,
+      sign_taken closed,
+      sign_taken begins,
+      items_sized f.body h i does,
+      one_taken ends,
+    )
+
+member_shorter : (m : Member) (from to : Tokens) → IsMember m from to → length to ≤ length from
+member_shorter m from to (a, is, ends) = omega (arith, typed_shorter m from a is, sign_taken ends)
+
+members_shorter : (ms : List Member) (from to : Tokens) → AreMembers ms from to → length to ≤ length from
+members_shorter [] from to is = absurd is
+members_shorter (m ∷ ms) from to (a, b, c, opened, are, closed, ends) =
+    omega (arith, sign_taken opened, each_shorter IsMember member_shorter (m ∷ ms) a b are, sign_taken closed, sign_taken ends)
+
+structure_shorter : (s : tree.Structure) (from to : Tokens) → IsStructure s from to → length to ≤ length from
+structure_shorter s from to (a, b, named, of, are) = omega (arith, name_taken named, regions_shorter s.regions a b of, members_shorter s.members b to are)
+
+constant_shorter : (c : tree.Constant) (from to : Tokens) → IsConstant c from to → length to ≤ length from
+constant_shorter (tree.Constant.Number at value suffix) from to is = omega (arith, one_taken is)
+constant_shorter (tree.Constant.Negative at value suffix) from to (a, place, minus, is) = omega (arith, one_taken minus, one_taken is)
+constant_shorter (tree.Constant.Character at byte) from to is = omega (arith, one_taken is)
+constant_shorter (tree.Constant.Text at bytes) from to is = omega (arith, string_taken is)
+constant_shorter (tree.Constant.Null at) from to is = omega (arith, one_taken is)
+
+initial_shorter : (i : Initial) (from to : Tokens) → IsInitial i from to → length to ≤ length from
+initial_shorter Initial.Unset from to is = none_taken is
+initial_shorter (Initial.Elements count) from to is = count_shorter count from to is
+initial_shorter (Initial.Given constant) from to (a, begins, is) = omega (arith, sign_taken begins, constant_shorter constant a to is)
+
+-- an item that isn't a function
+struct_shorter : (s : tree.Structure) (from to : Tokens) → IsItem (tree.StructItem s) from to → length to ≤ length from
+struct_shorter s from to (a, word, is) = omega (arith, one_taken word, structure_shorter s a to is)
+
+union_shorter : (s : tree.Structure) (from to : Tokens) → IsItem (tree.UnionItem s) from to → length to ≤ length from
+union_shorter s from to (a, b, tagged, word, is) = omega (arith, one_taken tagged, keyword_taken word, structure_shorter s b to is)
+
+global_shorter : (g : tree.Global) (from to : Tokens) → IsItem (tree.GlobalItem g) from to → length to ≤ length from
+global_shorter g from to (a, b, c, typed, named, gives, ends) =
+    omega (arith, type_shorter g.of from a typed, name_taken named, initial_shorter g.initial b c gives, sign_taken ends)
+
+-- ---- programs
+
+parts_length : (ms : List Member) → length (map part_of ms) ≡ length ms
+parts_length [] = omega arith
+parts_length (m ∷ ms) = let rest = parts_length ms in omega (arith, rest)
+
+items_size : (items : List Item) (from to : Tokens) → Each IsItem items from to → Takes (routines_size (functions_of items)) from to
+items_size [] from to is = omega (arith, none_taken is)
+items_size (tree.StructItem s ∷ items) from to (a, is, are) = omega (arith, struct_shorter s from a is, items_size items a to are)
+items_size (tree.UnionItem u ∷ items) from to (a, is, are) = omega (arith, union_shorter u from a is, items_size items a to are)
+items_size (tree.GlobalItem g ∷ items) from to (a, is, are) = omega (arith, global_shorter g from a is, items_size items a to are)
+items_size (tree.FunctionItem f ∷ items) from to (a, is, are) =
+    omega (arith, function_size f from a is, parts_length f.parameters, items_size items a to are)
+
+pub tokens_pay : (p : Program) (tokens : Tokens) → IsProgram p tokens → routines_size (world_of p).functions ≤ length tokens
+tokens_pay [] tokens is = absurd is
+tokens_pay (item ∷ items) tokens are = let all = items_size (item ∷ items) tokens [] are in omega (arith, all)

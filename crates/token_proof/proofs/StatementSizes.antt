@@ -1,0 +1,120 @@
+-- A statement has at least the tokens of its expressions, and one of its own.
+use Rattle.std.proofs.Common.{ℕ, ◌+◌, ◌≤◌, length, Some, None, arith}
+use Rattle.cyc_lexer.specs.declared.token.Keyword.TheVariants as word
+use Rattle.cyc_lexer.specs.declared.token.Sign.TheVariants as sign
+use Rattle.cyc_tree.specs.Tree as tree
+use Rattle.cyc_tree.specs.Tree.{Expression, Declaration, Pattern, BlockItems, NoItems, Declare, Execute, Clauses, NoClauses, MoreClauses}
+use Rattle.source_grammar.specs.Phrases.{Tokens, KeywordAt, IsSign, InParentheses}
+use Rattle.source_grammar.specs.ExpressionGrammar.{IsExpression}
+use Rattle.source_grammar.specs.StatementGrammar.{IsCount, IsNameInParentheses, IsDeclaration, IsPattern, IsStatement, AreItems, AreClauses}
+use Rattle.source_lowering.specs.Bounds.{tokens_of, declaration_tokens, statement_size, item_size}
+use Rattle.token_proof.proofs.Shorter.{one_taken, keyword_taken, sign_taken, name_taken, none_taken, one_region_shorter, type_shorter}
+use Rattle.token_proof.proofs.ExpressionSizes.{Takes, in_parentheses, expression_size}
+
+-- ---- declarations
+
+pub count_shorter : (count : ℕ) (from to : Tokens) → IsCount count from to → length to ≤ length from
+count_shorter count from to (a, b, at, suffix, opened, is, closed) = omega (arith, sign_taken opened, one_taken is, sign_taken closed)
+
+name_in_parentheses : (n : tree.Name) (from to : Tokens) → IsNameInParentheses n from to → length to ≤ length from
+name_in_parentheses n from to (a, b, opened, is, closed) = omega (arith, sign_taken opened, name_taken is, sign_taken closed)
+
+-- its name and its semicolon are two tokens
+declaration_size : (declaration : Declaration) (from to : Tokens) → IsDeclaration declaration from to → Takes (1 + declaration_tokens declaration) from to
+declaration_size (tree.Local of name tree.Unset) from to (a, b, c, typed, is, none, ends) =
+    omega (arith, type_shorter of from a typed, name_taken is, none_taken none, sign_taken ends)
+declaration_size (tree.Local of name (tree.Elements count)) from to (a, b, c, typed, is, counted, ends) =
+    omega (arith, type_shorter of from a typed, name_taken is, count_shorter count b c counted, sign_taken ends)
+declaration_size (tree.Local of name (tree.Value value)) from to (a, b, c, typed, is, (d, begins, gives), ends) =
+    omega (arith, type_shorter of from a typed, name_taken is, sign_taken begins, expression_size value d c gives, sign_taken ends)
+declaration_size (tree.Region at region handle) from to (a, b, c, word, of, is, ends) =
+    omega (arith, one_taken word, one_region_shorter region a b of, name_taken is, sign_taken ends)
+declaration_size (tree.Open at region handle key) from to (a, b, c, d, e, f, word, of, is, begins, opens, by, ends) =
+    omega (
+      arith,
+      one_taken word,
+      one_region_shorter region a b of,
+      name_taken is,
+      sign_taken begins,
+      keyword_taken opens,
+      name_in_parentheses key e f by,
+      sign_taken ends,
+    )
+declaration_size (tree.Alias at region of alias pointer) from to (a, b, c, d, e, f, g, word, other, within, typed, is, begins, named, ends) =
+    omega (
+      arith,
+      one_taken word,
+      keyword_taken other,
+      one_region_shorter region b c within,
+      type_shorter of c d typed,
+      name_taken is,
+      sign_taken begins,
+      name_taken named,
+      sign_taken ends,
+    )
+declaration_size (tree.NewKey at region key) from to
+    (a, b, c, d, e, f, g, h, i, j, word, made, brace, within, is, closed, begins, call, opened, shut, ends) =
+    omega (
+      arith,
+      one_taken word,
+      keyword_taken made,
+      sign_taken brace,
+      one_region_shorter region c d within,
+      name_taken is,
+      sign_taken closed,
+      sign_taken begins,
+      keyword_taken call,
+      sign_taken opened,
+      sign_taken shut,
+      sign_taken ends,
+    )
+
+-- ---- statements
+
+pattern_shorter : (at : ℕ) (pattern : Pattern) (from to : Tokens) → IsPattern at pattern from to → length to ≤ length from
+pattern_shorter at (tree.Case member name) from to (a, b, c, d, e, f, word, opened, dot, named, gives, is, closed) =
+    omega (arith, one_taken word, sign_taken opened, sign_taken dot, name_taken named, sign_taken gives, name_taken is, sign_taken closed)
+pattern_shorter at tree.Default from to is = omega (arith, one_taken is)
+
+-- an expression in parentheses, as a condition is
+condition_size : (e : Expression) (from to : Tokens) → InParentheses (IsExpression e) from to → Takes (2 + tokens_of e) from to
+condition_size e = in_parentheses (tokens_of e) (IsExpression e) (expression_size e)
+
+-- a `switch`, and its clauses
+switched : (at : ℕ) (place : Expression) (clauses : Clauses) (from to : Tokens) → IsStatement (tree.Switch at place clauses) from to
+    → (a : Tokens) × (b : Tokens) × (c : Tokens) × (d : Tokens) × KeywordAt word.Switch at from a × InParentheses (IsExpression place) a b × IsSign sign.LeftBrace b c
+    × AreClauses clauses c d × IsSign sign.RightBrace d to
+switched at place NoClauses from to is = absurd is
+switched at place (MoreClauses first pattern body others) from to is = is
+
+mutual
+  pub sized : (s : tree.Statement) (from to : Tokens) → IsStatement s from to → Takes (statement_size s) from to
+  sized (tree.Empty at) from to is = omega (arith, one_taken is)
+  sized (tree.Block at items) from to (a, b, opened, are, closed) = omega (arith, one_taken opened, items_sized items a b are, sign_taken closed)
+  sized (tree.Run e) from to (a, is, ends) = omega (arith, expression_size e from a is, sign_taken ends)
+  sized (tree.Exchange left right) from to (a, b, c, one, sign, other, ends) =
+      omega (arith, expression_size left from a one, sign_taken sign, expression_size right b c other, sign_taken ends)
+  sized (tree.If at condition body) from to (a, b, word, tests, is) = omega (arith, one_taken word, condition_size condition a b tests, sized body b to is)
+  sized (tree.IfElse at condition body otherwise) from to (a, b, c, d, word, tests, is, closes, other, follows) =
+      omega (arith, one_taken word, condition_size condition a b tests, sized body b c is, keyword_taken other, sized otherwise d to follows)
+  sized (tree.While at condition body) from to (a, b, word, tests, is) = omega (arith, one_taken word, condition_size condition a b tests, sized body b to is)
+  sized (tree.Switch at place clauses) from to is =
+      let (a, b, c, d, word, chooses, opened, are, closed) = switched at place clauses from to is in
+      omega (arith, one_taken word, condition_size place a b chooses, sign_taken opened, clauses_shorter clauses c d are, sign_taken closed)
+  sized (tree.Break at) from to (a, word, ends) = omega (arith, one_taken word, sign_taken ends)
+  sized (tree.Continue at) from to (a, word, ends) = omega (arith, one_taken word, sign_taken ends)
+  sized (tree.Return at None) from to (a, word, ends) = omega (arith, one_taken word, sign_taken ends)
+  sized (tree.Return at (Some value)) from to (a, word, (b, gives, ends)) =
+      omega (arith, one_taken word, expression_size value a b gives, sign_taken ends)
+  sized (tree.FreeUnique at pointer) from to (a, b, word, is, ends) = omega (arith, one_taken word, name_in_parentheses pointer a b is, sign_taken ends)
+  sized (tree.FreeKey at key) from to (a, b, word, is, ends) = omega (arith, one_taken word, name_in_parentheses key a b is, sign_taken ends)
+
+  pub items_sized : (items : BlockItems) (from to : Tokens) → AreItems items from to → Takes (item_size items) from to
+  items_sized NoItems from to is = omega (arith, none_taken is)
+  items_sized (Declare declaration others) from to (a, is, are) = omega (arith, declaration_size declaration from a is, items_sized others a to are)
+  items_sized (Execute statement others) from to (a, is, are) = omega (arith, sized statement from a is, items_sized others a to are)
+
+  clauses_shorter : (clauses : Clauses) (from to : Tokens) → AreClauses clauses from to → length to ≤ length from
+  clauses_shorter NoClauses from to is = none_taken is
+  clauses_shorter (MoreClauses at pattern body others) from to (a, b, c, is, colon, are, follow) =
+      omega (arith, pattern_shorter at pattern from a is, sign_taken colon, items_sized body b c are, clauses_shorter others c to follow)

@@ -1,0 +1,116 @@
+-- Which statements of integers, pointers, structs, arrays and lexical regions are in order: the judgement of each of their expressions, where it stands.
+use Rattle.std.specs.Prelude.{◌≡◌, ℕ, true, ◌||◌, Some, None, ◌∷◌}
+use Rattle.cyc_tree.specs.Operands.{ExpressionHasOperands}
+use Rattle.cyc_tree.specs.Tree as tree
+use Rattle.cyc_tree.specs.Tree.{Expression, Initializer, Statement, BlockItems, NoItems, Declare, Execute, TypeName}
+use Rattle.source_meaning.specs.Shapes.{written, settled, settled_by}
+use Rattle.source_typing.specs.Converts.{Converts}
+use Rattle.source_typing.specs.Declarations.{declare, with_region}
+use Rattle.source_typing.specs.Expressions.{judge}
+use Rattle.source_typing.specs.Regions.{with_scope}
+use Rattle.source_typing.specs.Scope.{Env, Value, block_entered, next_region}
+use Rattle.source_typing.specs.Statements.{in_a_loop}
+use Rattle.source_typing.specs.Tables.{What, Stored, Arrayed, has_beginning}
+use Rattle.source_typing.specs.Taken.{Taken, taken, with_arrays}
+use Rattle.source_typing.specs.Types.{StaticType, Void, Handle, is_testable, shape_of}
+use Rattle.source_typing.specs.Verdicts.{Of}
+use Rattle.type_proof.specs.Entries.{IsObjectType}
+use Rattle.source_typing.specs.Named.{TypeBelow}
+
+-- the forms that safety is proved of so far
+abbrev pub safe_forms : Taken
+safe_forms = with_arrays
+
+-- an expression of these forms that is in order, and what it is
+pub record Accepted (g : Env) (e : Expression) : Type 0 where
+  pub value : Value
+  pub judged : judge g e ≡ Of value
+  pub is_taken : taken safe_forms e ≡ e
+  pub operands : ExpressionHasOperands e
+
+-- a condition
+pub record Condition (g : Env) (e : Expression) : Type 0 where
+  pub accepted : Accepted g e
+  pub testable : is_testable accepted.value.type ≡ true
+
+-- a scope with one more local
+abbrev pub named : Env → tree.Name → What → Env
+named g x w = record g { locals = record { name = x.text; what = w; block = g.block } ∷ g.locals }
+
+-- a variable of a type, in the innermost block
+abbrev pub extended : Env → tree.Name → StaticType → Env
+extended g x t = named g x (Stored t g.frame)
+
+-- an array of elements of a type, in the innermost block
+abbrev pub arrayed : Env → tree.Name → StaticType → Env
+arrayed g x t = named g x (Arrayed t g.frame)
+
+-- what is stored, passed or returned as a value of a type
+pub record Fitting (g : Env) (e : Expression) (t : StaticType) : Type 0 where
+  pub accepted : Accepted g e
+  pub converts : Converts g.regions accepted.value.type t
+
+-- A local, which has its type as it is written: its region names are in scope, and it begins without an initializer.
+pub record LocalUnset (g : Env) (of : TypeName) (x : tree.Name) : Type 0 where
+  pub type : StaticType
+  pub object : IsObjectType type
+  pub below : TypeBelow g.regions.count type
+  pub begins : has_beginning g.tables type ≡ true
+  pub shape : settled (written of) ≡ shape_of type
+  pub scope : (declare g (tree.Local of x Initializer.Unset)).scope ≡ extended g x type
+
+-- An array, of elements whose type begins without an initializer. How many there are is no matter: the index of each access is compared with their count.
+pub record LocalArray (g : Env) (of : TypeName) (x : tree.Name) (count : ℕ) : Type 0 where
+  pub type : StaticType
+  pub object : IsObjectType type
+  pub below : TypeBelow g.regions.count type
+  pub begins : has_beginning g.tables type ≡ true
+  pub shape : settled (written of) ≡ shape_of type
+  pub scope : (declare g (tree.Local of x (Initializer.Elements count))).scope ≡ arrayed g x type
+
+-- one with an initializer, whose value converts to its type
+pub record LocalSet (g : Env) (of : TypeName) (x : tree.Name) (e : Expression) : Type 0 where
+  pub type : StaticType
+  pub object : IsObjectType type
+  pub below : TypeBelow g.regions.count type
+  pub fitting : Fitting g e type
+  pub shape : settled_by (written of) (shape_of fitting.accepted.value.type) ≡ shape_of type
+  pub scope : (declare g (tree.Local of x (Initializer.Value e))).scope ≡ extended g x type
+
+-- a lexical region, whose name and handle are in scope from here on
+abbrev pub RegionOpened : Env → ℕ → tree.RegionName → tree.Name → Type 0
+RegionOpened g at r x = ((declare g (tree.Region at r x)).scope ≡ extended (with_region r with_scope g) x (Handle (next_region g)))
+
+abbrev pub DeclarationJudged : Env → tree.Declaration → Type 0
+DeclarationJudged g (tree.Local of x Initializer.Unset) = LocalUnset g of x
+DeclarationJudged g (tree.Local of x (Initializer.Elements count)) = LocalArray g of x count
+DeclarationJudged g (tree.Local of x (Initializer.Value e)) = LocalSet g of x e
+DeclarationJudged g (tree.Region at r x) = RegionOpened g at r x
+DeclarationJudged g _ = ⊥
+
+-- a result that converts to the type that the function gives
+pub record Returned (g : Env) (e : Expression) : Type 0 where
+  pub gives : StaticType
+  pub result : g.result ≡ Some gives
+  pub object : IsObjectType gives
+  pub fitting : Fitting g e gives
+
+-- `return` without a value stands in a function that gives none, `break` and `continue` in a loop
+abbrev mutual
+  pub StatementJudged : Env → Statement → Type 0
+  StatementJudged g (Statement.Empty at) = Unit {0}
+  StatementJudged g (Statement.Block at items) = ItemsJudged (block_entered g) items
+  StatementJudged g (Statement.Run e) = Accepted g e
+  StatementJudged g (Statement.If at e body) = Condition g e × StatementJudged g body
+  StatementJudged g (Statement.IfElse at e body otherwise) = Condition g e × (StatementJudged g body × StatementJudged g otherwise)
+  StatementJudged g (Statement.While at e body) = Condition g e × StatementJudged (in_a_loop g) body
+  StatementJudged g (Statement.Break at) = (g.in_loop || g.in_switch ≡ true)
+  StatementJudged g (Statement.Continue at) = (g.in_loop ≡ true)
+  StatementJudged g (Statement.Return at None) = (g.result ≡ Some Void)
+  StatementJudged g (Statement.Return at (Some e)) = Returned g e
+  StatementJudged g _ = ⊥
+
+  pub ItemsJudged : Env → BlockItems → Type 0
+  ItemsJudged g NoItems = Unit {0}
+  ItemsJudged g (Declare d others) = DeclarationJudged g d × ItemsJudged (declare g d).scope others
+  ItemsJudged g (Execute s others) = StatementJudged g s × ItemsJudged g others

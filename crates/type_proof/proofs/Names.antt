@@ -6,6 +6,7 @@ use Rattle.source_meaning.specs.Memory.{Region, Live, Memory, same_region}
 use Rattle.source_typing.specs.Regions as names
 use Rattle.source_typing.specs.Regions.{TheHeap, Level, same_id, is_heap, is_among, any_of, by_bounds, reaches, Regions, with_scope, entry_regions}
 use Rattle.source_typing.specs.Written.{RegionNamed}
+pub use Rattle.source_typing.proofs.NamedBelow.{below_up, all_up, names_up}
 use Rattle.source_meaning.proofs.Cases.{region_is, region_itself}
 use Rattle.type_proof.specs.Flat.{Tables}
 pub use Rattle.source_typing.specs.Named.{Below, AllBelow, BoundsBelow}

@@ -14,6 +14,7 @@ use Rattle.flow_summaries.specs.Exits.{Exits}
 use Rattle.flow_summaries.specs.Laws.{DoesAs, LeavesAs, way_after}
 use Rattle.flow_summaries.specs.Passages.{Passage}
 use Rattle.flow_summaries.proofs.Effects.{none_after, after_met, way_then, ways_met, head_is}
+use Rattle.source_typing.proofs.Meeting.{meet_all_itself}
 use Rattle.type_proof.specs.Flat.{Tables}
 use Rattle.type_proof.proofs.Invariant.{RunType, Ghost, Inv, Grows}
 use Rattle.type_proof.proofs.Growth.{grows_trans}
@@ -36,15 +37,8 @@ head_keeps Holds = elim [ Plain ↦ refl | _ ↦ refl ]
 head_keeps Loses = elim [ Plain ↦ refl | _ ↦ refl ]
 head_keeps MayLose = elim [ Plain ↦ refl | _ ↦ refl ]
 
-meet_itself : (s : States) → meet_all s s ≡ s
-meet_itself [] = refl
-meet_itself (Plain ∷ s) = ap (λ t. Plain ∷ t) (meet_itself s)
-meet_itself (Held ∷ s) = ap (λ t. Held ∷ t) (meet_itself s)
-meet_itself (Gone ∷ s) = ap (λ t. Gone ∷ t) (meet_itself s)
-meet_itself (Lent ∷ s) = ap (λ t. Lent ∷ t) (meet_itself s)
-
 pub heads_keep : (n : ℕ) (e : Effects) (s : States) → meet_all (states_after n (to_head (Some e)) s) (states_after n e (states_after n (to_head (Some e)) s)) ≡ states_after n (to_head (Some e)) s
-heads_keep zero e s = meet_itself s
+heads_keep zero e s = meet_all_itself s
 heads_keep (suc n) e [] = refl
 heads_keep (suc n) e (a ∷ s) =
     let x = head_keeps (e n) a in let y = heads_keep n e s in

@@ -15,11 +15,11 @@ fn nothing() -> Instr {
     Instr::Addi(Register::ZERO, Register::ZERO, Signed12::new(0))
 }
 
-// lines whose first jump goes to one of them
+// lines whose first jump goes to one of them, and of which none is a branch alone
 fn labelled(lines: Vec<Line>) -> Result<Labelled, Fail> {
     match Labelled::new(lines) {
         Some(labelled) => Ok(labelled),
-        None => Err(Fail::new("the first jump goes to behind all lines")),
+        None => Err(Fail::new("no code with labels")),
     }
 }
 
@@ -67,6 +67,16 @@ fn a_first_jump_to_behind_all_lines_is_refused(rt: HostRuntime) -> Result<(), Fa
     assert!(rt; Labelled::new(placed_before.to_vec(rt.alloc())?).is_some());
     let not_first = [Line::Plain(nothing()), Line::Jump(0)];
     assert!(rt; Labelled::new(not_first.to_vec(rt.alloc())?).is_some());
+    Ok(())
+}
+
+#[test]
+fn a_branch_alone_is_refused(rt: HostRuntime) -> Result<(), Fail> {
+    let register = Register::TEMPORARY_0;
+    let alone = [Line::Label(0), Line::BranchIfZero(register, 0)];
+    assert!(rt; Labelled::new(alone.to_vec(rt.alloc())?).is_none());
+    let over_a_jump = [Line::Label(0), Line::JumpIfZero(register, 0)];
+    assert!(rt; Labelled::new(over_a_jump.to_vec(rt.alloc())?).is_some());
     Ok(())
 }
 

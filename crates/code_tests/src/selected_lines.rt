@@ -3,9 +3,9 @@
 use core_lines::Line;
 use cyc_core::{
     Cell, CellLayout, Function, Layout, Local, Operation, Program, Statement, Temporary, Variable,
-    Words,
+    Width, Words,
 };
-use rv32_isa::decode;
+use rv32_isa::{Register, decode};
 use rv32_select::select;
 use std::alloc::{AllocError, Global};
 use std::rc::Rc;
@@ -80,7 +80,8 @@ fn are_words(lines: &[Line], words: &[u32]) -> bool {
     lines.len() == words.len()
 }
 
-// The call of `main`, the exit and what begins a function are 15 lines, and what leaves it are 5.
+// The call of `main`, the exit and what begins a function are 15 lines. A return jumps to the function's end: its label, and 5 lines. The labels behind those
+// of the functions are each one's end and then those within it.
 
 #[test]
 fn an_element_lies_its_index_times_its_bytes_on(rt: HostRuntime) -> Result<(), Fail> {
@@ -92,7 +93,7 @@ fn an_element_lies_its_index_times_its_bytes_on(rt: HostRuntime) -> Result<(), F
     ]?;
     let functions = vec![in rt.alloc(); function(rt.alloc(), 3, body)]?;
     let lines = lines_of(rt.alloc(), functions)?;
-    assert_eq!(rt; lines.len(), 35);
+    assert_eq!(rt; lines.len(), 37);
     // lw x5, 8(x2); lui x6, 0; addi x6, x6, 12; mul x5, x5, x6; lw x6, 4(x2); add x5, x5, x6; sw x5, 12(x2)
     let small = [
         0x0081_2283,
@@ -115,6 +116,10 @@ fn an_element_lies_its_index_times_its_bytes_on(rt: HostRuntime) -> Result<(), F
         0x0051_2223,
     ];
     assert!(rt; are_words(&lines[22..29], &large));
+    // lw x10, 12(x2)
+    assert!(rt; are_words(&lines[29..30], &[0x00c1_2503]));
+    assert_eq!(rt; lines[30], Line::Jump(1));
+    assert_eq!(rt; lines[31], Line::Label(1));
     Ok(())
 }
 
@@ -135,14 +140,20 @@ fn a_fat_pointer_returns_in_three_registers(rt: HostRuntime) -> Result<(), Fail>
         function(rt.alloc(), 3, there),
     ]?;
     let lines = lines_of(rt.alloc(), functions)?;
-    assert_eq!(rt; lines.len(), 45);
+    assert_eq!(rt; lines.len(), 49);
     assert_eq!(rt; lines[15], Line::CallTo(1));
     // sw x10, 4(x2); sw x11, 8(x2); sw x12, 12(x2); lw x10, 8(x2)
     let taken = [0x00a1_2223, 0x00b1_2423, 0x00c1_2623, 0x0081_2503];
     assert!(rt; are_words(&lines[16..20], &taken));
-    // lw x10, 12(x2); lw x11, 4(x2); lw x12, 8(x2); lw x1, 0(x2)
-    let given = [0x00c1_2503, 0x0041_2583, 0x0081_2603, 0x0001_2083];
-    assert!(rt; are_words(&lines[37..41], &given));
+    assert_eq!(rt; lines[20], Line::Jump(2));
+    assert_eq!(rt; lines[21], Line::Label(2));
+    // lw x10, 12(x2); lw x11, 4(x2); lw x12, 8(x2)
+    let given = [0x00c1_2503, 0x0041_2583, 0x0081_2603];
+    assert!(rt; are_words(&lines[39..42], &given));
+    assert_eq!(rt; lines[42], Line::Jump(3));
+    assert_eq!(rt; lines[43], Line::Label(3));
+    // lw x1, 0(x2)
+    assert!(rt; are_words(&lines[44..45], &[0x0001_2083]));
     Ok(())
 }
 
@@ -171,7 +182,7 @@ fn an_array_takes_the_bytes_of_its_elements(rt: HostRuntime) -> Result<(), Fail>
     let block = vec![in rt.alloc(); Statement::Block(locals, body)]?;
     let functions = vec![in rt.alloc(); function(rt.alloc(), 1, block)]?;
     let lines = lines_of(rt.alloc(), functions)?;
-    assert_eq!(rt; lines.len(), 31);
+    assert_eq!(rt; lines.len(), 37);
     // addi x5, x2, 8; sw x5, 4(x2); lw x5, 4(x2); addi x7, x5, 24; sb x0, 0(x5); addi x5, x5, 1; bne x5, x7, -8
     let bytes = [
         0x0081_0293,
@@ -196,5 +207,38 @@ fn an_array_takes_the_bytes_of_its_elements(rt: HostRuntime) -> Result<(), Fail>
     assert!(rt; are_words(&lines[22..29], &words));
     // addi x5, x2, 68; sw x5, 4(x2)
     assert!(rt; are_words(&lines[29..31], &[0x0441_0293, 0x0051_2223]));
+    assert_eq!(rt; lines[31], Line::Label(1));
+    // lw x1, 0(x2); lui x7, 0; addi x7, x7, 80; add x2, x2, x7; jalr x0, 0(x1)
+    let end = [
+        0x0001_2083,
+        0x0000_03b7,
+        0x0503_8393,
+        0x0071_0133,
+        0x0000_8067,
+    ];
+    assert!(rt; are_words(&lines[32..37], &end));
+    Ok(())
+}
+
+#[test]
+fn a_choice_loads_what_was_read_from_a_local(rt: HostRuntime) -> Result<(), Fail> {
+    let (flag, local) = (Temporary(0), Variable { out: 0, index: 0 });
+    let (none, others) = (Vec::new(rt.alloc()), Vec::new(rt.alloc()));
+    let body = vec![in rt.alloc();
+        Statement::Do(Operation::Get(flag, local, Width::Word)),
+        Statement::If(flag, none, others),
+    ]?;
+    let locals = vec![in rt.alloc(); Local::Scalar(Cell::Word)]?;
+    let block = vec![in rt.alloc(); Statement::Block(locals, body)]?;
+    let functions = vec![in rt.alloc(); function(rt.alloc(), 1, block)]?;
+    let lines = lines_of(rt.alloc(), functions)?;
+    // lw x5, 8(x2); sw x5, 4(x2); lw x5, 4(x2)
+    let read = [0x0081_2283, 0x0051_2223, 0x0041_2283];
+    assert!(rt; are_words(&lines[15..18], &read));
+    assert_eq!(rt; lines[18], Line::JumpIfZero(Register::TEMPORARY_0, 2));
+    assert_eq!(rt; lines[19], Line::Jump(3));
+    assert_eq!(rt; lines[20], Line::Label(2));
+    assert_eq!(rt; lines[21], Line::Label(3));
+    assert_eq!(rt; lines[22], Line::Label(1));
     Ok(())
 }

@@ -10,6 +10,7 @@ use Rattle.core_meaning.specs.Meaning.{core as core_source}
 use Rattle.rv32_machine.specs.State.{Areas, State}
 use Rattle.rv32_machine.specs.Run.{run_steps, from, ending_of}
 use Rattle.rv32_machine.specs.Implements.{Meaning, Implements, AgreesIn, Reaches}
+use Rattle.core_lines.specs.Choosing.{far}
 use Rattle.core_lines.specs.Running.{named, core_meaning, IsNeverStuck}
 use Rattle.core_lines.proofs.DoesAsCore.{does_as_core}
 use Rattle.source_lowering.specs.Programs.{program_code}
@@ -94,5 +95,5 @@ does_as_source p lowerable named_apart n places s input bytes begins sound =
     let names = names_of (world_of p).functions in
     let bound = frame_bound_of (world_of p) in
     implements_same bound n s input (core_meaning names (program_code p) input) (meaning_of p input) (core_is_source p lowerable input bytes sound)
-    (does_as_core (program_code p) (selectable p lowerable) names bound n places s input bytes (frames_bounded p lowerable named_apart) begins
+    (does_as_core (program_code p) far (selectable p lowerable) names bound n places s input bytes (frames_bounded p lowerable named_apart) begins
     (core_sound p lowerable input bytes sound))

@@ -15,6 +15,7 @@ use Rattle.core_meaning.specs.Core.{
   If,
   While,
   Block,
+  Leave,
   Break,
   Continue,
   Call,
@@ -52,6 +53,7 @@ mutual
   statement_same (If t these those) = let h = statements_same these in let g = statements_same those in omega (arith, h, g)
   statement_same (While test t body) = let h = statements_same test in let g = statements_same body in omega (arith, h, g)
   statement_same (Block locals body) = let h = words_same locals in let g = statements_same body in omega (arith, h, g)
+  statement_same (Leave body) = statements_same body
   statement_same Break = refl
   statement_same Continue = refl
   statement_same (Call results number arguments) = refl

@@ -1,11 +1,13 @@
 -- How long lines are: those of each statement, function and program, by the operations that they are made from.
 use Rattle.std.proofs.Common.{ℕ, zero, suc, ◌+◌, ◌*◌, ◌/◌, ◌≤◌, Bool, true, false, if◌then◌else◌, List, [], ◌∷◌, ◌++◌, Option, None, length, arith}
-use Rattle.core_meaning.specs.Core.{Statement, Do, If, While, Block, Break, Continue, Call, Return, Raise, Statements, NoStatements, MoreStatements, Function, Program}
-use Rattle.core_lines.specs.declared.line.Line.TheVariants.{Label, Jump, JumpIfZero, CallTo}
+use Rattle.core_meaning.specs.Core.{Statement, Do, If, While, Block, Leave, Break, Continue, Call, Return, Raise, Statements, NoStatements, MoreStatements, Function, Program}
+use Rattle.core_lines.specs.declared.line.Line.TheVariants.{Label, Jump, JumpIfZero, BranchIfZero, CallTo}
 use Rattle.core_lines.specs.Lines.{code_length}
-use Rattle.core_lines.specs.Frames.{load_code, save_code, slot_of, pass_code, result_code, environment_code, test_code, move_code, take_code, prologue_code, values_code, leave_code}
-use Rattle.core_lines.specs.Choosing.{is_held, held_behind, held_behind_all, held_or_loaded, choice_code}
-use Rattle.core_lines.specs.Selected.{offsets_from, frame_bytes, datum_locals, Surroundings, labels_in, labels_of, holding, within_block, statement_code, statements_code, around, function_code, functions_code, program_code}
+use Rattle.core_lines.specs.Frames.{load_code, save_code, slot_of, pass_code, result_code, environment_code, test_code, move_code, saves_code, take_code, prologue_code, epilogue_code}
+use Rattle.core_lines.specs.Choosing.{is_held, held_behind, held_behind_all, held_or_loaded, jump_if_zero, choice_code}
+use Rattle.core_lines.specs.Homes.{saved_slot, saved_by}
+use Rattle.core_lines.specs.Selected.{offsets_from, frame_bytes, datum_locals, Surroundings, labels_in, labels_of, names_after, names_after_all, naming, holding, within_block, statement_code, statements_code, around, labels_within, function_code, functions_code, program_code}
+use Rattle.core_lines.proofs.SavedFew.{return_within, ends_within}
 use Rattle.source_lowering.specs.Bounds.{branch_count, statement_operations, operations_of, all_operations, core_code}
 use Rattle.compile_proof.proofs.OperationLengths.{IsWithin, both_within, less_within, nothing_within, load_within, save_within, operation_within}
 
@@ -30,19 +32,16 @@ result_within passed r (t ∷ ts) =
     (both_within 12 (12 * length ts) (save_code (suc r) (slot_of passed t)) (result_code passed (suc r) ts) (save_within (suc r) (slot_of passed t))
     (result_within passed (suc r) ts))
 
-values_within : (passed r : ℕ) (ts : List ℕ) → IsWithin (12 * length ts) (values_code passed r ts)
-values_within passed r [] = nothing_within 0
-values_within passed r (t ∷ ts) =
-    less_within (12 + 12 * length ts) (12 * length (t ∷ ts)) _ (omega arith)
-    (both_within 12 (12 * length ts) (load_code (suc r) (slot_of passed t)) (values_code passed (suc r) ts) (load_within (suc r) (slot_of passed t))
-    (values_within passed (suc r) ts))
+jump_within : (wide : ℕ → Bool) (label : ℕ) → IsWithin 8 (jump_if_zero wide 5 label ∷ [])
+jump_within wide label = by (wide label)
+  where
+    by : (b : Bool) → IsWithin 8 ((if b then JumpIfZero 5 label else BranchIfZero 5 label) ∷ [])
+    by true = record { is = omega arith }
+    by false = record { is = omega arith }
 
-leave_within : (bytes : ℕ) → IsWithin 28 (leave_code bytes)
-leave_within bytes = record { is = omega arith }
-
-choice_within : (passed : ℕ) (held : Option ℕ) (t label : ℕ) → IsWithin 20 (choice_code passed held t label)
-choice_within passed held t label =
-    both_within 12 8 (held_or_loaded passed held t) (JumpIfZero 5 label ∷ []) (by (is_held held t)) (record { is = omega arith })
+choice_within : (wide : ℕ → Bool) (passed : ℕ) (held : Option ℕ) (t label : ℕ) → IsWithin 20 (choice_code wide passed held t label)
+choice_within wide passed held t label =
+    both_within 12 8 (held_or_loaded passed held t) (jump_if_zero wide 5 label ∷ []) (by (is_held held t)) (jump_within wide label)
   where
     by : (b : Bool) → IsWithin 12 (if b then [] else load_code 5 (slot_of passed t))
     by true = nothing_within 12
@@ -60,30 +59,36 @@ mutual
   statement_within bytes u next out again (Do operation) = operation_within u operation
   statement_within bytes u next out again (If t these those) =
       let behind = next + 1 + labels_of these in
+      let further = holding None (naming (names_after_all these u.names) u) in
       let n = operations_of these in let m = operations_of those in
       let a = 12 + 64 * branch_count these n in let b = 12 + 64 * branch_count those m in
       less_within (20 + a + 4 + b + 0) (64 * (1 + (branch_count these n + branch_count those m))) _ (omega arith)
       (both_within (20 + a + 4 + b) 0 _ (Label behind ∷ [])
-      (both_within (20 + a + 4) b _ (statements_code bytes (holding None u) (behind + 1) out again those)
+      (both_within (20 + a + 4) b _ (statements_code bytes further (behind + 1) out again those)
       (both_within (20 + a) 4 _ (Jump behind ∷ Label next ∷ [])
-      (both_within 20 a (choice_code u.passed u.held t next) (statements_code bytes (holding None u) (next + 1) out again these)
-      (choice_within u.passed u.held t next) (branch_within bytes (holding None u) (next + 1) out again these n
+      (both_within 20 a (choice_code u.wide u.passed u.held t next) (statements_code bytes (holding None u) (next + 1) out again these)
+      (choice_within u.wide u.passed u.held t next) (branch_within bytes (holding None u) (next + 1) out again these n
       (statements_within bytes (holding None u) (next + 1) out again these))) (record { is = omega arith }))
-      (branch_within bytes (holding None u) (behind + 1) out again those m (statements_within bytes (holding None u) (behind + 1) out again those)))
+      (branch_within bytes further (behind + 1) out again those m (statements_within bytes further (behind + 1) out again those)))
       (record { is = omega arith }))
   statement_within bytes u next out again (While test t body) =
       let behind = next + 1 + labels_of test in
+      let further = holding None (naming (names_after_all test u.names) u) in
       let a = 64 * operations_of test in let b = 64 * operations_of body in
       less_within (0 + a + 20 + b + 4) (64 * (1 + (operations_of test + operations_of body))) _ (omega arith)
       (both_within (0 + a + 20 + b) 4 _ (Jump next ∷ Label behind ∷ [])
-      (both_within (0 + a + 20) b _ (statements_code bytes (holding None u) (behind + 1) behind next body)
-      (both_within (0 + a) 20 _ (choice_code u.passed (held_behind_all None test) t behind)
+      (both_within (0 + a + 20) b _ (statements_code bytes further (behind + 1) behind next body)
+      (both_within (0 + a) 20 _ (choice_code u.wide u.passed (held_behind_all None test) t behind)
       (both_within 0 a (Label next ∷ []) (statements_code bytes (holding None u) (next + 1) out again test) (record { is = omega arith })
-      (statements_within bytes (holding None u) (next + 1) out again test)) (choice_within u.passed (held_behind_all None test) t behind))
-      (statements_within bytes (holding None u) (behind + 1) behind next body)) (record { is = omega arith }))
+      (statements_within bytes (holding None u) (next + 1) out again test)) (choice_within u.wide u.passed (held_behind_all None test) t behind))
+      (statements_within bytes further (behind + 1) behind next body)) (record { is = omega arith }))
   statement_within bytes u next out again (Block locals body) =
       less_within (64 * operations_of body) (64 * (1 + operations_of body)) _ (omega arith)
       (statements_within bytes (within_block locals u) next out again body)
+  statement_within bytes u next out again (Leave body) =
+      less_within (64 * operations_of body + 0) (64 * operations_of body) _ (omega arith)
+      (both_within (64 * operations_of body) 0 (statements_code bytes u (next + 1) next again body) (Label next ∷ [])
+      (statements_within bytes u (next + 1) next again body) (record { is = omega arith }))
   statement_within bytes u next out again Break = record { is = omega arith }
   statement_within bytes u next out again Continue = record { is = omega arith }
   statement_within bytes u next out again (Call results number arguments) =
@@ -91,9 +96,7 @@ mutual
       (both_within (24 * length arguments + 4) (12 * length results) (pass_code u.passed 0 arguments ++ (CallTo number ∷ [])) (result_code u.passed 9 results)
       (both_within (24 * length arguments) 4 (pass_code u.passed 0 arguments) (CallTo number ∷ []) (pass_within u.passed 0 arguments)
       (record { is = omega arith })) (result_within u.passed 9 results))
-  statement_within bytes u next out again (Return values) =
-      less_within (12 * length values + 28) (64 * (1 + length values)) _ (omega arith)
-      (both_within (12 * length values) 28 (values_code u.passed 9 values) (leave_code bytes) (values_within u.passed 9 values) (leave_within bytes))
+  statement_within bytes u next out again (Return values) = record { is = return_within u.passed values u.exit }
   statement_within bytes u next out again (Raise kind) = record { is = omega arith }
 
   statements_within : (bytes : ℕ) (u : Surroundings) (next out again : ℕ) (ss : Statements)
@@ -102,7 +105,7 @@ mutual
   statements_within bytes u next out again (MoreStatements s ss) =
       less_within (64 * statement_operations s + 64 * operations_of ss) (64 * (statement_operations s + operations_of ss)) _ (omega arith)
       (both_within (64 * statement_operations s) (64 * operations_of ss) _ _ (statement_within bytes u next out again s)
-      (statements_within bytes (holding (held_behind s) u) (next + labels_in s) out again ss))
+      (statements_within bytes (holding (held_behind s) (naming (names_after s u.names) u)) (next + labels_in s) out again ss))
 
 -- ---- functions and programs
 
@@ -114,35 +117,51 @@ take_within bytes passed k (suc more) =
     (moved_within 5 (bytes / 4 + 1 + k) 5 (slot_of passed k))
     (take_within bytes passed (k + 1) more))
 
-prologue_within : (bytes passed parameters : ℕ) → IsWithin (52 + 24 * parameters) (prologue_code bytes passed parameters)
-prologue_within bytes passed parameters =
-    both_within 52 (24 * parameters) (test_code bytes ++ move_code bytes ++ save_code 1 0) (take_code bytes passed 0 parameters)
-    (record { is = omega arith }) (take_within bytes passed 0 parameters)
+prologue_within : (bytes passed first : ℕ) (saved : List ℕ) (parameters : ℕ)
+    → IsWithin (52 + code_length (saves_code first saved) + 24 * parameters) (prologue_code bytes passed first saved parameters)
+prologue_within bytes passed first saved parameters =
+    let s = code_length (saves_code first saved) in
+    both_within (52 + s) (24 * parameters) (test_code bytes ++ move_code bytes ++ save_code 1 0 ++ saves_code first saved)
+    (take_code bytes passed 0 parameters)
+    (both_within 52 s (test_code bytes ++ move_code bytes ++ save_code 1 0) (saves_code first saved) (record { is = omega arith })
+    (record { is = omega arith }))
+    (take_within bytes passed 0 parameters)
 
-function_within : (statics : List ℕ) (number next : ℕ) (f : Function)
-    → IsWithin (64 * (8 + (f.parameters + operations_of f.body))) (function_code statics number next f)
-function_within statics number next f =
+function_within : (wide : ℕ → Bool) (statics : List ℕ) (number next : ℕ) (f : Function)
+    → IsWithin (64 * (8 + (f.parameters + operations_of f.body))) (function_code wide statics number next f)
+function_within wide statics number next f =
     let p = f.parameters in let o = operations_of f.body in
-    less_within (0 + (52 + 24 * p) + 64 * o) (64 * (8 + (p + o))) _ (omega arith)
-    (both_within (0 + (52 + 24 * p)) (64 * o) ((Label number ∷ []) ++ prologue_code (frame_bytes f) f.passed f.parameters) _
-    (both_within 0 (52 + 24 * p) (Label number ∷ []) (prologue_code (frame_bytes f) f.passed f.parameters) (record { is = omega arith })
-    (prologue_within (frame_bytes f) f.passed f.parameters))
-    (statements_within (frame_bytes f) (around statics f) next number number f.body))
+    let bytes = frame_bytes f in
+    let prologue = prologue_code bytes f.passed (saved_slot f) (saved_by f) p in
+    let body = statements_code bytes (around wide statics next f) (next + 1) number number f.body in
+    let epilogue = epilogue_code bytes (saved_slot f) (saved_by f) in
+    let first = 52 + code_length (saves_code (saved_slot f) (saved_by f)) + 24 * p in
+    let last = code_length epilogue in
+    let ends = ends_within f bytes in
+    less_within (0 + first + 64 * o + 0 + last) (64 * (8 + (p + o))) _ (omega (arith, ends))
+    (both_within (0 + first + 64 * o + 0) last ((Label number ∷ []) ++ prologue ++ body ++ (Label next ∷ [])) epilogue
+    (both_within (0 + first + 64 * o) 0 ((Label number ∷ []) ++ prologue ++ body) (Label next ∷ [])
+    (both_within (0 + first) (64 * o) ((Label number ∷ []) ++ prologue) body
+    (both_within 0 first (Label number ∷ []) prologue (record { is = omega arith }) (prologue_within bytes f.passed (saved_slot f) (saved_by f) p))
+    (statements_within bytes (around wide statics next f) (next + 1) number number f.body)) (record { is = omega arith })) (record { is = omega arith }))
 
-functions_within : (statics : List ℕ) (number next : ℕ) (fs : List Function) → IsWithin (64 * all_operations fs) (functions_code statics number next fs)
-functions_within statics number next [] = nothing_within 0
-functions_within statics number next (f ∷ fs) =
+functions_within : (wide : ℕ → Bool) (statics : List ℕ) (number next : ℕ) (fs : List Function)
+    → IsWithin (64 * all_operations fs) (functions_code wide statics number next fs)
+functions_within wide statics number next [] = nothing_within 0
+functions_within wide statics number next (f ∷ fs) =
     let o = 8 + (f.parameters + operations_of f.body) in
     less_within (64 * o + 64 * all_operations fs) (64 * (o + all_operations fs)) _ (omega arith)
-    (both_within (64 * o) (64 * all_operations fs) (function_code statics number next f) (functions_code statics (number + 1) (next + labels_of f.body) fs)
-    (function_within statics number next f)
-    (functions_within statics (number + 1) (next + labels_of f.body) fs))
+    (both_within (64 * o) (64 * all_operations fs) (function_code wide statics number next f)
+    (functions_code wide statics (number + 1) (next + labels_within f) fs)
+    (function_within wide statics number next f)
+    (functions_within wide statics (number + 1) (next + labels_within f) fs))
 
--- The lines of a program take no more bytes than its operations are counted for.
-pub lines_within : (p : Program) → code_length (program_code p) ≤ core_code p
-lines_within p =
+-- The lines of a program take no more bytes than its operations are counted for, whichever of its jumps are branches alone.
+pub lines_within : (p : Program) (wide : ℕ → Bool) → code_length (program_code wide p) ≤ core_code p
+lines_within p wide =
     let statics = offsets_from 0 (datum_locals p.data_objects) in
     let all = 64 * all_operations p.functions in
-    (less_within (12 + all) (core_code p) (program_code p) (omega arith)
-    (both_within 12 all ((CallTo p.main ∷ []) ++ environment_code 0) (functions_code statics 0 (length p.functions) p.functions) (record { is = omega arith })
-    (functions_within statics 0 (length p.functions) p.functions))).is
+    (less_within (12 + all) (core_code p) (program_code wide p) (omega arith)
+    (both_within 12 all ((CallTo p.main ∷ []) ++ environment_code 0) (functions_code wide statics 0 (length p.functions) p.functions)
+    (record { is = omega arith })
+    (functions_within wide statics 0 (length p.functions) p.functions))).is

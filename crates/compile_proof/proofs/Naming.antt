@@ -37,6 +37,7 @@ use Rattle.core_meaning.specs.Core.{
   If,
   While,
   Block,
+  Leave,
   Break,
   Continue,
   Call,
@@ -113,12 +114,12 @@ has_code u (RegionAlloc t k n layout) h f =
     let g = max_second (suc t) (max (suc k) (suc n)) u.temporaries f in
     (max_first (suc t) (max (suc k) (suc n)) u.temporaries f, max_first (suc k) (suc n) u.temporaries g, max_second (suc k) (suc n) u.temporaries g, h)
 has_code u (RegionFree k) h f = f
-has_code u (UniqueAlloc t layout) h f = absurd h
-has_code u (UniqueFree p) h f = absurd h
-has_code u (KeyNew t) h f = absurd h
-has_code u (KeyOpen k) h f = absurd h
-has_code u (KeyClose k) h f = absurd h
-has_code u (KeyFree k) h f = absurd h
+has_code u (UniqueAlloc t layout) h f = (f, h.0, h.1)
+has_code u (UniqueFree p) h f = f
+has_code u (KeyNew t) h f = f
+has_code u (KeyOpen k) h f = f
+has_code u (KeyClose k) h f = f
+has_code u (KeyFree k) h f = f
 
 mutual
   has_lines : (u : Scope) (s : Statement) → IsNaming u.blocks u.unnamed u.data_objects s → statement_temporaries s ≤ u.temporaries
@@ -141,6 +142,7 @@ mutual
             (max_second (passed_by test) (passed_by body) u.passed g),
       )
   has_lines u (Block locals body) h f g = (h.0, have_lines (scope_within locals u) body h.1 f g)
+  has_lines u (Leave body) h f g = have_lines u body h f g
   has_lines u Break h f g = tt
   has_lines u Continue h f g = tt
   has_lines u (Call results number arguments) h f g = (

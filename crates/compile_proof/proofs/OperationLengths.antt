@@ -1,6 +1,6 @@
 -- How long the lines of an operation are.
 use Rattle.std.specs.Prelude.{nat_eq, if◌then◌else◌}
-use Rattle.std.proofs.Common.{ℕ, pos, ◌+◌, ◌*◌, ◌%◌, ◌^◌, ◌≤◌, Bool, true, false, List, [], ◌∷◌, ◌++◌, arith}
+use Rattle.std.proofs.Common.{ℕ, zero, suc, pos, ◌+◌, ◌*◌, ◌%◌, ◌^◌, ◌≤◌, Bool, true, false, List, [], ◌∷◌, ◌++◌, arith}
 use Rattle.core_meaning.specs.Core.{Binary, Add, Subtract, Multiply, Divide, DivideUnsigned, Remainder, RemainderUnsigned, And, Or, Xor, ShiftLeft, ShiftRight, ShiftRightUnsigned, Equal, NotEqual, Less, LessEqual, LessUnsigned, LessEqualUnsigned, Operation, Constant, NullPointer, Move, Narrow, Apply, LocalAddress, OwnAddress, DataAddress, Offset, Element, Get, Put, Load, Store, Copy, Clear, IsNull, SamePlace, Getchar, Putchar, HeapHandle, RegionNew, RegionAlloc, RegionFree, UniqueAlloc, UniqueFree, KeyNew, KeyOpen, KeyClose, KeyFree}
 use Rattle.rv32_isa.specs.declared.instruction.Instr.TheVariants as instr
 use Rattle.rv32_machine.specs.State.{data_base}
@@ -9,7 +9,7 @@ use Rattle.core_lines.specs.declared.line.Line.TheVariants.{Plain}
 use Rattle.core_lines.specs.Lines.{code_length}
 use Rattle.core_lines.specs.Frames.{lower_of, is_short, word_code, load_code, save_code, slot_of, environment_code}
 use Rattle.core_lines.specs.Loops.{are_words, copy_loop, clear_loop}
-use Rattle.core_lines.specs.Selected.{Surroundings, nth, local_offset, from_temp, to_temp, constant_code, far_code, read_line, read_code, write_line, write_code, binary_code, address_code, bytes_code, further_code, bytes_in, operation_code}
+use Rattle.core_lines.specs.Selected.{Surroundings, nth, local_offset, local_home, from_temp, to_temp, constant_code, far_code, read_line, read_code, write_line, write_code, binary_code, address_code, get_code, byte_code, put_code, bytes_code, further_code, bytes_in, operation_code}
 use Rattle.core_lines.proofs.Access.{length_of_both}
 use Rattle.source_lowering.specs.Bounds.{operation_count}
 
@@ -127,6 +127,27 @@ block_within u t h n bytes =
     (both_within 24 28 (from_temp u 10 h ++ from_temp u 5 n) (bytes_code bytes) (two_within u 10 h 5 n) (record { is = omega arith })) (environment_within 5))
     (save_within 10 (slot_of u.passed t)))
 
+-- a local's word comes from the frame, or from its register
+get_within : (u : Surroundings) (home t width offset : ℕ) → IsWithin 64 (get_code u home t width offset)
+get_within u zero t width offset = to_within 12 u 5 t (read_code width 2 offset) (omega arith) (read_within width 2 offset)
+get_within u (suc h) t width offset = less_within 12 64 _ (omega arith) (save_within (suc h) (slot_of u.passed t))
+
+put_within : (u : Surroundings) (home width offset x : ℕ) → IsWithin 64 (put_code u home width offset x)
+put_within u zero width offset x =
+    less_within (12 + 12) 64 _ (omega arith)
+    (both_within 12 12 (from_temp u 6 x) (write_code width 2 offset) (from_within u 6 x) (write_within width 2 offset))
+put_within u (suc h) width offset x =
+    less_within (12 + 4) 64 _ (omega arith)
+    (if_within (12 + 4) (nat_eq width 1) (byte_code u (suc h) x) (from_temp u (suc h) x)
+    (both_within 12 4 (from_temp u 6 x) (Plain (instr.Andi (suc h) 6 (pos 255)) ∷ []) (from_within u 6 x) (record { is = omega arith }))
+    (less_within 12 (12 + 4) _ (omega arith) (from_within u (suc h) x)))
+
+-- a call of the environment about what a temporary holds
+about_within : (u : Surroundings) (t number : ℕ) → IsWithin 64 (from_temp u 10 t ++ environment_code number)
+about_within u t number =
+    less_within (12 + 8) 64 _ (omega arith)
+    (both_within 12 8 (from_temp u 10 t) (environment_code number) (from_within u 10 t) (environment_within number))
+
 pub operation_within : (u : Surroundings) (o : Operation) → IsWithin (64 * operation_count o) (operation_code u o)
 operation_within u (Constant t w) = to_within 8 u 5 t (constant_code (w % 2 ^ 32)) (omega arith) (constant_within (w % 2 ^ 32))
 operation_within u (NullPointer t) = less_within 12 64 _ (omega arith) (save_within 0 (slot_of u.passed t))
@@ -154,11 +175,8 @@ operation_within u (Element t p i cells bytes) =
     (both_within 20 4 factors (Plain (instr.Mul 5 5 6) ∷ [])
     (both_within 12 8 (from_temp u 5 i) (word_code 6 (bytes % 2 ^ 32)) (from_within u 5 i) (record { is = omega arith })) (record { is = omega arith }))
     (from_within u 6 p)) (record { is = omega arith }))
-operation_within u (Get t out local width) =
-    to_within 12 u 5 t (read_code width 2 (local_offset u out local)) (omega arith) (read_within width 2 (local_offset u out local))
-operation_within u (Put out local width x) =
-    less_within (12 + 12) 64 _ (omega arith)
-    (both_within 12 12 (from_temp u 6 x) (write_code width 2 (local_offset u out local)) (from_within u 6 x) (write_within width 2 (local_offset u out local)))
+operation_within u (Get t out local width) = get_within u (local_home u out local) t width (local_offset u out local)
+operation_within u (Put out local width x) = put_within u (local_home u out local) width (local_offset u out local) x
 operation_within u (Load t p d) =
     to_within 24 u 5 t (from_temp u 5 p ++ read_code d.width 5 d.bytes) (omega arith)
     (both_within 12 12 (from_temp u 5 p) (read_code d.width 5 d.bytes) (from_within u 5 p) (read_within d.width 5 d.bytes))
@@ -190,11 +208,13 @@ operation_within u (Putchar t x) =
 operation_within u (HeapHandle t) = to_within 8 u 5 t (constant_code 0) (omega arith) (constant_within 0)
 operation_within u (RegionNew t) = to_within 8 u 10 t (environment_code 4) (omega arith) (environment_within 4)
 operation_within u (RegionAlloc t h n layout) = block_within u t h n layout.bytes
-operation_within u (RegionFree h) =
-    less_within (12 + 8) 64 _ (omega arith) (both_within 12 8 (from_temp u 10 h) (environment_code 6) (from_within u 10 h) (environment_within 6))
-operation_within u (UniqueAlloc t layout) = nothing_within 64
-operation_within u (UniqueFree p) = nothing_within 64
-operation_within u (KeyNew t) = nothing_within 64
-operation_within u (KeyOpen k) = nothing_within 64
-operation_within u (KeyClose k) = nothing_within 64
-operation_within u (KeyFree k) = nothing_within 64
+operation_within u (RegionFree h) = about_within u h 6
+operation_within u (UniqueAlloc t layout) =
+    let bytes = word_code 10 (layout.bytes % 2 ^ 32) in
+    to_within 16 u 10 t (bytes ++ environment_code 7) (omega arith)
+    (both_within 8 8 bytes (environment_code 7) (record { is = omega arith }) (environment_within 7))
+operation_within u (UniqueFree p) = about_within u p 8
+operation_within u (KeyNew t) = to_within 8 u 10 t (environment_code 9) (omega arith) (environment_within 9)
+operation_within u (KeyOpen k) = about_within u k 10
+operation_within u (KeyClose k) = about_within u k 11
+operation_within u (KeyFree k) = about_within u k 12

@@ -5,6 +5,7 @@ use Rattle.core_meaning.specs.Core.{
   Operation,
   Constant,
   NullPointer,
+  Move,
   Narrow,
   Apply,
   LocalAddress,
@@ -26,11 +27,18 @@ use Rattle.core_meaning.specs.Core.{
   RegionNew,
   RegionAlloc,
   RegionFree,
+  UniqueAlloc,
+  UniqueFree,
+  KeyNew,
+  KeyOpen,
+  KeyClose,
+  KeyFree,
   Statement,
   Do,
   If,
   While,
   Block,
+  Leave,
   Break,
   Continue,
   Call,
@@ -44,7 +52,7 @@ use Rattle.core_lines.specs.Layouts.{IsLayout, IsFull, IsZero}
 use Rattle.core_lines.specs.Selectable.{AreLayouts, IsLocal}
 
 -- An operation within blocks that have so many locals each, the innermost first, in a function of so many unnamed values, over so many objects of
--- the data. Only these are used.
+-- the data. `Move` isn't used.
 abbrev pub NamesIn : List ℕ → (own objects : ℕ) → Operation → Type 0
 NamesIn blocks own objects (Constant t w) = Unit {0}
 NamesIn blocks own objects (NullPointer t) = Unit {0}
@@ -69,7 +77,13 @@ NamesIn blocks own objects (HeapHandle t) = Unit {0}
 NamesIn blocks own objects (RegionNew t) = Unit {0}
 NamesIn blocks own objects (RegionAlloc t h n layout) = IsLayout layout
 NamesIn blocks own objects (RegionFree h) = Unit {0}
-NamesIn blocks own objects _ = ⊥
+NamesIn blocks own objects (UniqueAlloc t layout) = IsLayout layout × (layout.bytes < 2 ^ 32)
+NamesIn blocks own objects (UniqueFree p) = Unit {0}
+NamesIn blocks own objects (KeyNew t) = Unit {0}
+NamesIn blocks own objects (KeyOpen k) = Unit {0}
+NamesIn blocks own objects (KeyClose k) = Unit {0}
+NamesIn blocks own objects (KeyFree k) = Unit {0}
+NamesIn blocks own objects (Move t x) = ⊥
 
 abbrev mutual
   pub IsNaming : List ℕ → (own objects : ℕ) → Statement → Type 0
@@ -77,6 +91,7 @@ abbrev mutual
   IsNaming blocks own objects (If t these those) = AreNaming blocks own objects these × AreNaming blocks own objects those
   IsNaming blocks own objects (While test t body) = AreNaming blocks own objects test × AreNaming blocks own objects body
   IsNaming blocks own objects (Block locals body) = AreLayouts locals × AreNaming (length locals ∷ blocks) own objects body
+  IsNaming blocks own objects (Leave body) = AreNaming blocks own objects body
   IsNaming blocks own objects Break = Unit {0}
   IsNaming blocks own objects Continue = Unit {0}
   IsNaming blocks own objects (Call results f arguments) = Unit {0}

@@ -10,6 +10,7 @@ use Rattle.rv32_machine.specs.State.{Areas, State}
 use Rattle.rv32_machine.specs.Implements.{Meaning, Implements}
 use Rattle.core_lines.specs.declared.line.Line.{Line}
 use Rattle.core_lines.specs.Lines.{code_length}
+use Rattle.core_lines.specs.Choosing.{far}
 use Rattle.core_lines.specs.Selected as select
 use Rattle.core_lines.specs.Running.{Begins, IsNeverStuck}
 use Rattle.source_lowering.specs.Programs as lower
@@ -48,7 +49,7 @@ frame_bound_of w name = bound_in w (function_of w.functions name)
 
 -- the lines of the program's lowered Core
 abbrev pub lines_of : Program → List Line
-lines_of p = select.program_code (lower.program_code p)
+lines_of p = select.program_code far (lower.program_code p)
 
 -- A machine that begins with the lines and the data does what the source does, on each input of bytes on which the source is never stuck, whatever its store
 -- answers.

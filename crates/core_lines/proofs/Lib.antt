@@ -85,7 +85,7 @@ pub mod EachStatement
 pub mod DoesAsCore
 mod NoLabels
 pub mod LabelsOnce
-mod NoTargets
+pub mod NoTargets
 pub mod TargetsOnce
 pub mod Shortening
 pub mod DataBytes

@@ -1,6 +1,7 @@
 -- From the layers to the whole: an image of a program's placed code and data does what the program does.
-use Rattle.std.specs.Prelude.{slice_index}
-use Rattle.std.proofs.Common.{◌≡◌, ℕ, ◌+◌, ◌^◌, ◌≤◌, ◌<◌, List, [], length, sym, ap, ◌∙◌, subst, arith}
+use Rattle.std.specs.Prelude.{slice_index, nat_eq, nat_le, if◌then◌else◌}
+use Rattle.std.proofs.Common.{◌≡◌, ℕ, ◌+◌, ◌^◌, ◌≤◌, ◌<◌, Bool, true, false, List, [], length, refl, sym, ap, ◌∙◌, subst, arith}
+use Rattle.std.proofs.lemmas.Bool.{leb-true, leb-false}
 use Rattle.arena_laws.specs.Holdings.{Holdings, fresh}
 use Rattle.compile_proof.specs.Promise.{lines_of}
 use Rattle.compile_proof.proofs.AcceptedDo.{accepted_do}
@@ -12,7 +13,8 @@ use Rattle.rv32_layout.specs.Holding.{IsCodeOf}
 use Rattle.rv32_layout.specs.Placed.{ArePlaced, place_of}
 use Rattle.cyc_image.specs.Format.{Contents, Fits, IsImage, code_limit, data_limit}
 use Rattle.cyc_tree.specs.Tree.{Program}
-use Rattle.rv32_machine.specs.Arrays.{Arrays, IsStart, areas_of, state_of}
+use Rattle.rv32_machine.specs.State.{stack_base}
+use Rattle.rv32_machine.specs.Arrays.{Arrays, IsStart, areas_of, state_of, first_register, stack_length}
 use Rattle.compile_proof.proofs.Joined.{never_stuck}
 use Rattle.source_lowering.specs.Programs.{program_code}
 use Rattle.source_typing.specs.Answers.{program_faults}
@@ -31,6 +33,26 @@ pub record AreLayers (program : Program) (code statics : List ℕ) : Type 0 wher
   pub places : (label : ℕ) → IsPlace (place_of (lines_of program) label)
   pub statics_are : statics ≡ data_bytes 0 (program_code program).data_objects
 
+-- each register begins as a word: the stack's end, or 0
+first_small : (register : ℕ) → first_register register < 2 ^ 32
+first_small register = by (nat_eq register 2)
+  where
+    by : (c : Bool) → (if c then stack_base + stack_length else 0) < 2 ^ 32
+    by true = omega arith
+    by false = omega arith
+
+register_small : (parts : Contents) (holdings : Holdings) (arena : ℕ → ℕ) (start : Arrays) → IsStart parts holdings arena start
+    → (register : ℕ) → slice_index start.registers register < 2 ^ 32
+register_small parts holdings arena start starts register = by (nat_le 32 register) refl
+  where
+    by : (c : Bool) → nat_le 32 register ≡ c → slice_index start.registers register < 2 ^ 32
+    by true e = let none = starts.no_more register (leb-true 32 register e) in omega (arith, none)
+    by false e =
+        let below = leb-false 32 register e in
+        let first = starts.registers register (omega (arith, below)) in
+        let small = first_small register in
+        omega (arith, first, small)
+
 module _ (program : Program) (code statics : List ℕ) (parts : Contents) (layers : AreLayers program code statics) (is_code : parts.code ≡ code)
     (is_statics : parts.statics ≡ statics) (from_first : parts.entry ≡ 0) (fits : Fits parts) where
   first_machine : (arena : ℕ → ℕ) (start : Arrays) → ((at : ℕ) → arena at < 256) → IsStart parts (fresh parts.pages) arena start → IsFirst start
@@ -40,6 +62,7 @@ module _ (program : Program) (code statics : List ℕ) (parts : Contents) (layer
         runs = starts.runs;
         at_first = starts.at_entry ∙ omega (arith, from_first);
         pointer = starts.registers 2 (omega arith);
+        words = register_small parts (fresh parts.pages) arena start starts;
         code_within = let within = fits.code_within in omega (arith, within, ap (λ (bs : List ℕ). length bs) starts.code);
         statics_within = let within = fits.data_within in omega (arith, within, ap (λ (bs : List ℕ). length bs) starts.statics);
         stack_whole = starts.stack;

@@ -3,9 +3,9 @@ use Rattle.std.proofs.Common.{◌≡◌, ℕ, ◌+◌, ◌<◌, ◌≤◌, ◌%�
 use Rattle.std.proofs.lemmas.List.{drop_more}
 use Rattle.std.proofs.lemmas.Bool.Decides.{nat_tests}
 use Rattle.core_lines.specs.declared.line.Line.{Line}
-use Rattle.core_lines.specs.declared.line.Line.TheVariants.{Plain, Label, Jump, JumpIfZero, CallTo}
+use Rattle.core_lines.specs.declared.line.Line.TheVariants.{Plain, Label, Jump, JumpIfZero, BranchIfZero, CallTo}
 use Rattle.core_lines.specs.Lines.{code_length}
-use Rattle.rv32_layout.specs.Placed.{place_of}
+use Rattle.core_lines.specs.Relaxed.{place_of}
 
 -- the lines from one on
 pub drop_here : (lines : List Line) (i : ℕ) (line : Line) → i < length lines → line ≡ get_or lines i line → drop i lines ≡ line ∷ drop (i + 1) lines
@@ -18,6 +18,7 @@ place_is_of_words (Plain instr ∷ lines) label = omega (arith, place_is_of_word
 place_is_of_words (Label l ∷ lines) label = let rest = place_is_of_words lines label in grind (arith, nat_tests)
 place_is_of_words (Jump l ∷ lines) label = omega (arith, place_is_of_words lines label)
 place_is_of_words (JumpIfZero register l ∷ lines) label = omega (arith, place_is_of_words lines label)
+place_is_of_words (BranchIfZero register l ∷ lines) label = omega (arith, place_is_of_words lines label)
 place_is_of_words (CallTo l ∷ lines) label = omega (arith, place_is_of_words lines label)
 
 pub place_within_length : (lines : List Line) (label : ℕ) → place_of lines label ≤ code_length lines
@@ -26,4 +27,5 @@ place_within_length (Plain instr ∷ lines) label = omega (arith, place_within_l
 place_within_length (Label l ∷ lines) label = let rest = place_within_length lines label in grind (arith, nat_tests)
 place_within_length (Jump l ∷ lines) label = omega (arith, place_within_length lines label)
 place_within_length (JumpIfZero register l ∷ lines) label = omega (arith, place_within_length lines label)
+place_within_length (BranchIfZero register l ∷ lines) label = omega (arith, place_within_length lines label)
 place_within_length (CallTo l ∷ lines) label = omega (arith, place_within_length lines label)

@@ -1,15 +1,15 @@
 -- Why each jump of lines that aren't too large reaches its label: the first one since its label stands before the end, and any behind it since it may go to
 -- any place.
-use Rattle.std.proofs.Common.{◌≡◌, ℕ, ◌+◌, ◌<◌, ◌≤◌, true, List, [], ◌∷◌, Some, refl, sym, subst, arith, ⊎_elim}
+use Rattle.std.proofs.Common.{◌≡◌, ℕ, zero, suc, ◌+◌, ◌<◌, ◌≤◌, true, List, [], ◌∷◌, Some, drop, refl, sym, subst, arith, ⊎_elim}
 use Rattle.std.proofs.lemmas.Bool.{cases_lt, false≢true}
 use Rattle.std.proofs.lemmas.Bool.Decides.{nat_tests}
 use Rattle.core_lines.specs.declared.line.Line.{Line}
-use Rattle.core_lines.specs.declared.line.Line.TheVariants.{Plain, Label, Jump, JumpIfZero, CallTo}
+use Rattle.core_lines.specs.declared.line.Line.TheVariants.{Plain, Label, Jump, JumpIfZero, BranchIfZero, CallTo}
 use Rattle.core_lines.specs.Lines.{code_length, size_of}
 use Rattle.core_lines.proofs.Access.{of_words}
 use Rattle.cyc_image.specs.Format.{code_limit}
-use Rattle.rv32_select.specs.Beginning.{first_target, leads_to_code, leads_if_some, begins_within}
-use Rattle.rv32_layout.specs.Placed.{place_of}
+use Rattle.rv32_select.specs.Beginning.{first_target, leads_to_code, leads_if_some, begins_within, are_long}
+use Rattle.core_lines.specs.Relaxed.{place_of}
 use Rattle.rv32_layout.specs.Placing.{IsInReach, Reaches}
 use Rattle.rv32_layout.proofs.Lines.{place_is_of_words, place_within_length}
 
@@ -22,6 +22,7 @@ leads_before_end (Plain instr ∷ lines) label leads = omega (arith, leads_befor
 leads_before_end (Label l ∷ lines) label leads = let rest = leads_before_end lines label in grind (arith, nat_tests)
 leads_before_end (Jump l ∷ lines) label leads = omega (arith, leads_before_end lines label leads)
 leads_before_end (JumpIfZero register l ∷ lines) label leads = omega (arith, leads_before_end lines label leads)
+leads_before_end (BranchIfZero register l ∷ lines) label leads = omega (arith, leads_before_end lines label leads)
 leads_before_end (CallTo l ∷ lines) label leads = omega (arith, leads_before_end lines label leads)
 
 first_before_end : (lines : List Line) (label : ℕ) → begins_within lines ≡ true → first_target lines ≡ Some label → place_of lines label < code_length lines
@@ -52,13 +53,14 @@ module _ (lines rest : List Line) (within : code_length lines ≤ code_limit) (b
       in_reach label at whole (⊎_elim (λ later. omega arith) (λ start. let here = from_start start in omega arith) (cases_lt 0 at))
 
   pub line_reaches : (line : Line) (at : ℕ) → at + (size_of line + code_length rest) ≡ code_length lines
-      → (at ≡ 0 → first_target (line ∷ rest) ≡ first_target lines) → Reaches (place_of lines) at line
-  line_reaches (Plain instr) at whole first = tt
-  line_reaches (Label label) at whole first = tt
-  line_reaches (Jump label) at whole first = jump_reaches label at whole (λ start. sym (first start))
-  line_reaches (JumpIfZero register label) at whole first =
+      → (at ≡ 0 → first_target (line ∷ rest) ≡ first_target lines) → are_long (line ∷ rest) ≡ true → Reaches (place_of lines) at line
+  line_reaches (Plain instr) at whole first long = tt
+  line_reaches (Label label) at whole first long = tt
+  line_reaches (Jump label) at whole first long = jump_reaches label at whole (λ start. sym (first start))
+  line_reaches (JumpIfZero register label) at whole first long =
       let place_within = place_within_length lines label in in_reach label (at + 4) (omega arith) (omega arith)
-  line_reaches (CallTo label) at whole first = jump_reaches label at whole (λ start. sym (first start))
+  line_reaches (BranchIfZero register label) at whole first long = absurd (false≢true long)
+  line_reaches (CallTo label) at whole first long = jump_reaches label at whole (λ start. sym (first start))
 
 -- a line of no bytes is a label, and the first jump is behind it
 pub first_behind : (line : Line) (lines : List Line) → size_of line ≡ 0 → first_target lines ≡ first_target (line ∷ lines)
@@ -66,7 +68,19 @@ first_behind (Plain instr) lines none = absurd (omega arith)
 first_behind (Label label) lines none = refl
 first_behind (Jump label) lines none = absurd (omega arith)
 first_behind (JumpIfZero register label) lines none = absurd (omega arith)
+first_behind (BranchIfZero register label) lines none = absurd (omega arith)
 first_behind (CallTo label) lines none = absurd (omega arith)
+
+-- no line from one on is a branch alone, where none of all is
+pub others_long : (lines : List Line) (i : ℕ) → are_long lines ≡ true → are_long (drop i lines) ≡ true
+others_long lines zero long = long
+others_long [] (suc i) long = refl
+others_long (Plain instr ∷ lines) (suc i) long = others_long lines i long
+others_long (Label label ∷ lines) (suc i) long = others_long lines i long
+others_long (Jump label ∷ lines) (suc i) long = others_long lines i long
+others_long (JumpIfZero register label ∷ lines) (suc i) long = others_long lines i long
+others_long (BranchIfZero register label ∷ lines) (suc i) long = absurd (false≢true long)
+others_long (CallTo label ∷ lines) (suc i) long = others_long lines i long
 
 -- the same, where a table says where labels stand
 pub same_reaches : (f g : ℕ → ℕ) (at : ℕ) (line : Line) → ((label : ℕ) → f label ≡ g label) → Reaches f at line → Reaches g at line
@@ -74,4 +88,5 @@ same_reaches f g at (Plain instr) same reach = tt
 same_reaches f g at (Label label) same reach = tt
 same_reaches f g at (Jump label) same reach = rw (sym (same label)) reach
 same_reaches f g at (JumpIfZero register label) same reach = rw (sym (same label)) reach
+same_reaches f g at (BranchIfZero register label) same reach = rw (sym (same label)) reach
 same_reaches f g at (CallTo label) same reach = rw (sym (same label)) reach

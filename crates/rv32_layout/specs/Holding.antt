@@ -3,7 +3,7 @@ use Rattle.std.specs.Prelude.{◌≡◌, ℕ, List}
 use Rattle.rv32_machine.specs.Arrays.{Arrays, areas_of, byte_at}
 use Rattle.core_lines.specs.declared.line.Line.{Line}
 use Rattle.core_lines.specs.Lines.{HasLines}
-use Rattle.rv32_layout.specs.Placed.{place_of}
+use Rattle.core_lines.specs.Relaxed.{place_of}
 
 -- each machine whose code these bytes are has the lines from its code's first address on, with each label where `place_of` says
 abbrev pub IsCodeOf : List Line → List ℕ → Type 0

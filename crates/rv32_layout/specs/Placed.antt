@@ -1,20 +1,11 @@
 -- Placed code: the instructions that the lines stand for, one after the other, each as its word.
-use Rattle.std.specs.Prelude.{◌≡◌, ℕ, ◌+◌, ◌^◌, ◌<◌, List, [], ◌∷◌, ◌++◌, Some, nat_eq, if◌then◌else◌}
+use Rattle.std.specs.Prelude.{◌≡◌, ℕ, ◌+◌, ◌^◌, ◌<◌, List, [], ◌∷◌, ◌++◌, Some}
 use Rattle.cyc_image.specs.Format.{u32_bytes}
 use Rattle.rv32_isa.specs.Table.{decoded}
 use Rattle.rv32_isa.specs.declared.instruction.Instr.{Instr}
 use Rattle.core_lines.specs.declared.line.Line.{Line}
-use Rattle.core_lines.specs.declared.line.Line.TheVariants.{Plain, Label, Jump, JumpIfZero, CallTo}
 use Rattle.core_lines.specs.Lines.{size_of, instructions_of}
-
--- where a label stands, in bytes from the first line on: at the first line that places it, or behind all lines where none does
-abbrev pub place_of : List Line → ℕ → ℕ
-place_of [] label = 0
-place_of (Plain instr ∷ lines) label = 4 + place_of lines label
-place_of (Label l ∷ lines) label = (if nat_eq l label then 0 else place_of lines label)
-place_of (Jump l ∷ lines) label = 4 + place_of lines label
-place_of (JumpIfZero register l ∷ lines) label = 8 + place_of lines label
-place_of (CallTo l ∷ lines) label = 4 + place_of lines label
+pub use Rattle.core_lines.specs.Relaxed.{place_of}
 
 -- the instructions of all lines, the first of which is at an address
 abbrev pub instructions_from : (ℕ → ℕ) → ℕ → List Line → List Instr

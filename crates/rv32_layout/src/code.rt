@@ -3,7 +3,8 @@
 ghost use Rattle.std.specs.Prelude.{◌≡◌, ◌<◌, ◌≤◌, ◌↔◌, ℕ, Err, IfOk, vec_len};
 ghost use Rattle.cyc_image.specs.Format.{code_limit};
 ghost use Rattle.core_lines.specs.Lines.{code_length, labels_placed, AreOnce, IsPlace};
-ghost use Rattle.rv32_layout.specs.Placed.{place_of, ArePlaced};
+ghost use Rattle.core_lines.specs.Relaxed.{place_of};
+ghost use Rattle.rv32_layout.specs.Placed.{ArePlaced};
 ghost use Rattle.rv32_layout.specs.Holding.{IsCodeOf};
 
 use crate::fault::PlaceFault;

@@ -17,6 +17,7 @@ pub(crate) fn size(line: Line) -> u32
         Line::Label(_) => 0,
         Line::Jump(_) => 4,
         Line::JumpIfZero(_, _) => 8,
+        Line::BranchIfZero(_, _) => 4,
         Line::CallTo(_) => 4,
     }
 }

@@ -5,7 +5,7 @@ ghost use Rattle.indexmap.specs.IndexMap.{get};
 ghost use Rattle.core_lines.specs.declared.line.Line.{Line};
 ghost use Rattle.cyc_image.specs.Format.{code_limit};
 ghost use Rattle.core_lines.specs.Lines.{size_of, code_length};
-ghost use Rattle.rv32_layout.specs.Placed.{place_of};
+ghost use Rattle.core_lines.specs.Relaxed.{place_of};
 ghost use Rattle.rv32_layout.specs.Placing.{place_in};
 
 use crate::length::size;

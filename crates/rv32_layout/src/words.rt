@@ -1,11 +1,11 @@
 // The words of lines.
 
 ghost use Rattle.std.specs.Prelude.{◌≡◌, ◌+◌, ◌∷◌, [], pos, ◌≤◌, vec_len, OnOk, IfOk};
-ghost use Rattle.rv32_isa.specs.declared.instruction.Instr.TheVariants.{Jal, Bne};
+ghost use Rattle.rv32_isa.specs.declared.instruction.Instr.TheVariants.{Jal, Beq, Bne};
 ghost use Rattle.cyc_image.specs.Format.{code_limit, u32_bytes};
 ghost use Rattle.core_lines.specs.Lines.{code_length, offset_to, instructions_of};
 ghost use Rattle.rv32_layout.specs.Placed.{ArePlaced};
-ghost use Rattle.rv32_layout.specs.Placing.{place_in, IsInReach, Reaches, Appends};
+ghost use Rattle.rv32_layout.specs.Placing.{place_in, IsInReach, IsInBranch, Reaches, Appends};
 
 use crate::places::{Places, find_places};
 use byteorder::{ByteOrder, LittleEndian};
@@ -53,6 +53,16 @@ fn put_jump_if_zero(bytes: &mut Vec<u8>, register: Register, place: u32) -> Resu
     Ok(())
 }
 
+/// Appends a branch to a place that is made where the register is 0.
+fn put_branch_if_zero(bytes: &mut Vec<u8>, register: Register, place: u32) -> Result<(), AllocError>
+    requires { IsInBranch place (vec_len bytes.old) }
+    ensures { OnOk result (Appends (Beq register 0 (offset_to place (vec_len bytes.old)) ∷ []) bytes.old.items bytes.new.items) }
+{
+    let offset = BranchOffset::new(place as i32 - bytes.len() as i32);
+    put_word(bytes, Instr::Beq(register, Register::ZERO, offset))?;
+    Ok(())
+}
+
 /// Appends the words of a line.
 fn put_line(bytes: &mut Vec<u8>, line: Line, places: &Places) -> Result<(), AllocError>
     requires { Reaches (place_in places.now) (vec_len bytes.old) line }
@@ -63,6 +73,11 @@ fn put_line(bytes: &mut Vec<u8>, line: Line, places: &Places) -> Result<(), Allo
         Line::Label(_) => {}
         Line::Jump(label) => put_jump(bytes, Register::ZERO, places.of(label))?,
         Line::JumpIfZero(register, label) => put_jump_if_zero(bytes, register, places.of(label))?,
+        Line::BranchIfZero(register, label) => put_branch_if_zero(
+            bytes,
+            register,
+            places.of(label),
+        )?,
         Line::CallTo(label) => put_jump(bytes, Register::RETURN_ADDRESS, places.of(label))?,
     }
     Ok(())

@@ -1,6 +1,6 @@
 -- How large statements are: what goes down at each call among the functions that go over them.
 use Rattle.std.proofs.Common.{ℕ, ◌+◌}
-use Rattle.core_meaning.specs.Core.{Statement, Statements, Do, If, While, Block, Break, Continue, Call, Return, Raise, NoStatements, MoreStatements}
+use Rattle.core_meaning.specs.Core.{Statement, Statements, Do, If, While, Block, Leave, Break, Continue, Call, Return, Raise, NoStatements, MoreStatements}
 
 abbrev mutual
   pub statement_size : Statement → ℕ
@@ -8,6 +8,7 @@ abbrev mutual
   statement_size (If t these those) = statements_size these + statements_size those + 2
   statement_size (While test t body) = statements_size test + statements_size body + 2
   statement_size (Block locals body) = statements_size body + 2
+  statement_size (Leave body) = statements_size body + 2
   statement_size Break = 0
   statement_size Continue = 0
   statement_size (Call results f arguments) = 0

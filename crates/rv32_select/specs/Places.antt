@@ -1,5 +1,6 @@
 -- Where code stands, as the definition of code has it, and which comparisons take two instructions.
-use Rattle.std.specs.Prelude.{Bool, true, false, map}
+use Rattle.std.specs.Prelude.{Bool, true, false, [], map}
+use Rattle.core_lines.specs.Choosing.{far}
 use Rattle.core_lines.specs.Selected.{Surroundings}
 use Rattle.cyc_core.specs.declared.operation.Binary.{Binary}
 use Rattle.cyc_core.specs.declared.operation.Binary.TheVariants as binary
@@ -7,11 +8,16 @@ use Rattle.cyc_core.specs.declared.operation.Operation.{Operation}
 use Rattle.cyc_core.specs.declared.operation.Operation.TheVariants as operation
 use Rattle.rv32_select.specs.declared.place.Place.{Place}
 
+-- no local has a home, and each label may be out of a branch's reach
 abbrev pub surroundings : Place → Surroundings
 surroundings p = record {
+  wide = far;
   passed = p.passed;
+  exit = p.exit;
   own = p.own.items;
   blocks = map (λ offsets. offsets.items) p.blocks.items;
+  homes = [];
+  names = [];
   low = p.low;
   statics = p.statics.items;
   held = p.held;

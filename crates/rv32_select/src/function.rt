@@ -1,12 +1,13 @@
 // Instructions for functions and programs.
 
-ghost use Rattle.std.specs.Prelude.{◌≡◌, ◌+◌, ◌-◌, ◌%◌, ◌^◌, ◌*◌, ◌≤◌, ◌<◌, ◌++◌, IfOk, OnOk, map, ℕ, length};
+ghost use Rattle.std.specs.Prelude.{◌≡◌, ◌+◌, ◌-◌, ◌%◌, ◌^◌, ◌*◌, ◌≤◌, ◌<◌, ◌++◌, [], IfOk, OnOk, map, ℕ, length};
 ghost use Rattle.cyc_core.specs.Trees.{function_tree, program_tree};
-ghost use Rattle.core_lines.specs.Frames.{test_code, move_code, take_code, prologue_code};
+ghost use Rattle.core_lines.specs.Frames.{test_code, move_code, take_code, prologue_code, leave_code};
+ghost use Rattle.core_lines.specs.Choosing.{far};
 ghost use Rattle.core_lines.specs.Lines.{labels_placed, AreOnce};
 ghost use Rattle.core_lines.specs.Running.{DoesAsCore};
 ghost use Rattle.core_lines.specs.Selectable.{IsSelectable};
-ghost use Rattle.core_lines.specs.Selected.{slots_of, own_end, frame_bytes, labels_of, function_code, functions_code, program_code};
+ghost use Rattle.core_lines.specs.Selected.{slots_of, own_end, frame_bytes, labels_within, function_code, functions_code, program_code};
 ghost use Rattle.rv32_select.specs.Places.{surroundings};
 
 use crate::emit::{
@@ -18,7 +19,7 @@ use crate::place::Place;
 use crate::statement::{Ways, following, put_statements};
 use core_lines::Line;
 use cyc_core::{Function, Program, Temporary};
-use rv32_isa::{BranchOffset, Instr, Register};
+use rv32_isa::{BranchOffset, Instr, Register, Signed12};
 use rv32_machine::{EXIT, STACK_REFUSED};
 use std::alloc::{AllocError, Global};
 
@@ -29,6 +30,7 @@ const TOO_MANY: u64 = 0x0200_0000;
 const STACK_BASE: u64 = 0x0040_0000;
 
 /// The bytes of a function's frame: rounded up to 16, and no more than no stack has.
+#[tactic(auto, using(crate::proofs::Homeless::tree_body))]
 fn frame_bytes(function: &Function) -> Result<u64, AllocError>
     ensures { IfOk result (λ n. n ≡ frame_bytes (function_tree function.now)) }
 {
@@ -84,7 +86,7 @@ fn put_prologue(
     bytes: u64,
     parameters: u32,
 ) -> Result<(), AllocError>
-    ensures { OnOk result (lines.new.items ≡ lines.old.items ++ prologue_code bytes place.now.passed parameters) }
+    ensures { OnOk result (lines.new.items ≡ lines.old.items ++ prologue_code bytes place.now.passed 0 [] parameters) }
 {
     put_stack_test(lines, bytes)?;
     put_stack_move(lines, bytes)?;
@@ -92,7 +94,22 @@ fn put_prologue(
     put_parameters(lines, place, bytes, parameters)
 }
 
-/// Appends a function, whose label is its number, and whose other labels are numbered from `next` on. Answers the next free label.
+/// Appends the end of an activation: the stack pointer goes back over its frame, and the return.
+fn put_leave(lines: &mut Vec<Line>, bytes: u64) -> Result<(), AllocError>
+    ensures { OnOk result (lines.new.items ≡ lines.old.items ++ leave_code bytes) }
+{
+    let pointer = Register::STACK_POINTER;
+    put_load(lines, Register::RETURN_ADDRESS, 0)?;
+    put_word(lines, ADDRESS, bytes)?;
+    put(lines, Instr::Add(pointer, pointer, ADDRESS))?;
+    put(
+        lines,
+        Instr::Jalr(Register::ZERO, Register::RETURN_ADDRESS, Signed12::new(0)),
+    )
+}
+
+/// Appends a function, whose label is its number, and which ends at the label `next`: its other labels are those behind. Answers the next
+/// free label.
 fn put_function(
     lines: &mut Vec<Line>,
     place: &mut Place,
@@ -100,20 +117,21 @@ fn put_function(
     next: usize,
     function: &Function,
 ) -> Result<usize, AllocError>
-    ensures code { OnOk result (lines.new.items ≡ lines.old.items ++ function_code place.old.statics.items number next (function_tree function.now)) }
-    ensures free { IfOk result (λ n. n ≡ next + labels_of (function_tree function.now).body) }
+    ensures code { OnOk result (lines.new.items ≡ lines.old.items ++ function_code far place.old.statics.items number next (function_tree function.now)) }
+    ensures free { IfOk result (λ n. n ≡ next + labels_within (function_tree function.now)) }
     ensures same { OnOk result (place.new.statics.items ≡ place.old.statics.items) }
 {
     let bytes = frame_bytes(function)?;
-    place.begin(function)?;
+    place.begin(function, next)?;
     put_lines(lines, &[Line::Label(number)])?;
     put_prologue(lines, place, bytes, function.parameters)?;
     let ways = Ways {
         out: number,
         again: number,
-        bytes,
     };
-    let free = put_statements(lines, place, next, ways, &function.body)?;
+    let free = put_statements(lines, place, following(next)?, ways, &function.body)?;
+    put_lines(lines, &[Line::Label(next)])?;
+    put_leave(lines, bytes)?;
     Ok(free)
 }
 
@@ -123,7 +141,7 @@ fn put_functions(
     place: &mut Place,
     functions: &[Function],
 ) -> Result<(), AllocError>
-    ensures { OnOk result (lines.new.items ≡ lines.old.items ++ functions_code place.old.statics.items 0 (length functions.now) (map function_tree functions.now)) }
+    ensures { OnOk result (lines.new.items ≡ lines.old.items ++ functions_code far place.old.statics.items 0 (length functions.now) (map function_tree functions.now)) }
 {
     let mut next = functions.len();
     let mut number = 0;
@@ -136,7 +154,7 @@ fn put_functions(
 
 /// The lines of a lowered program.
 fn program_lines(alloc: Global, program: &Program) -> Result<Vec<Line>, AllocError>
-    ensures { IfOk result (λ lines. lines.items ≡ program_code (program_tree program.now)) }
+    ensures { IfOk result (λ lines. lines.items ≡ program_code far (program_tree program.now)) }
 {
     let mut lines = Vec::new(alloc);
     let mut place = Place::new(alloc, statics(alloc, &program.globals)?);
@@ -149,7 +167,7 @@ fn program_lines(alloc: Global, program: &Program) -> Result<Vec<Line>, AllocErr
 /// The instructions of a lowered program. Fails only where no host memory is left, and where a program hasn't its `main`: no
 /// lowered program is without.
 pub fn select(alloc: Global, program: &Program) -> Result<Labelled, AllocError>
-    ensures code { IfOk result (λ labelled. labelled ≡ program_code (program_tree program.now)) }
+    ensures code { IfOk result (λ labelled. labelled ≡ program_code far (program_tree program.now)) }
     // each label is placed once
     ensures once { IfOk result (λ labelled. AreOnce (labels_placed labelled)) }
     // a machine that begins with the lines does what the program does

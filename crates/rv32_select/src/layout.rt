@@ -134,6 +134,7 @@ pub fn highest_of(low: u64, statements: &[Statement]) -> Result<u64, AllocError>
 }
 
 /// The first slot behind a function's temporaries.
+#[tactic(auto, using(crate::proofs::Homeless::tree_slots))]
 pub fn slots(function: &Function) -> u64
     ensures slots { result ≡ slots_of (function_tree function.now) }
     ensures small { result < 2 ^ 60 }

@@ -273,7 +273,6 @@ pub fn held_behind(operation: Operation) -> Option<u32>
         | Operation::DataAddress(to, _)
         | Operation::Offset(to, _, _, _)
         | Operation::Element(to, _, _, _, _)
-        | Operation::Get(to, _, _)
         | Operation::Load(to, _, _)
         | Operation::IsNull(to, _)
         | Operation::SamePlace(to, _, _)

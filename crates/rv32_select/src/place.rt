@@ -2,11 +2,12 @@
 
 ghost use Rattle.std.specs.Prelude.{◌≡◌, ◌<◌, ◌^◌, [], ◌∷◌, map, IfOk, OnOk, List, Option, None, ℕ};
 ghost use Rattle.core_lines.specs.Frames.{slot_of};
-ghost use Rattle.core_lines.specs.Choosing.{is_held};
-ghost use Rattle.core_lines.specs.Selected.{Surroundings, local_offset, nth, within_block, around, holding};
+ghost use Rattle.core_lines.specs.Choosing.{far, is_held};
+ghost use Rattle.core_lines.specs.Selected.{Surroundings, local_offset, nth, around, holding};
 ghost use Rattle.cyc_core.specs.Trees.{local_tree, function_tree};
 ghost use Rattle.core_meaning.specs.Core as core;
 ghost use Rattle.rv32_select.specs.Places.{surroundings};
+ghost use Rattle.rv32_select.specs.Plain.{plain, plain_block};
 
 use crate::layout::{end_from, offsets_from, slots};
 use cyc_core::{Function, Local, Temporary, Variable};
@@ -18,6 +19,8 @@ pub struct Place {
     alloc: Global,
     /// The most words that the function passes to a call.
     pub passed: u32,
+    /// The label of the function's end.
+    pub exit: usize,
     /// The offsets in the frame of the function's unnamed values.
     pub own: Vec<u64>,
     /// The offsets in the frame of the locals of the blocks around the code, the innermost block first.
@@ -38,6 +41,7 @@ impl Place {
         Place {
             alloc,
             passed: 0,
+            exit: 0,
             own: Vec::new(alloc),
             blocks: Vec::new(alloc),
             low: 0,
@@ -46,15 +50,16 @@ impl Place {
         }
     }
 
-    /// Goes on to the start of a function.
-    pub fn begin(&mut self, function: &Function) -> Result<(), AllocError>
-        ensures place { OnOk result (surroundings self.new ≡ around self.old.statics.items (function_tree function.now)) }
+    /// Goes on to the start of a function, which ends at a label.
+    pub fn begin(&mut self, function: &Function, exit: usize) -> Result<(), AllocError>
+        ensures place { OnOk result (surroundings self.new ≡ plain (around far self.old.statics.items exit (function_tree function.now))) }
         ensures same { OnOk result (self.new.statics.items ≡ self.old.statics.items) }
     {
         let first = 4 * slots(function);
         self.own = offsets_from(self.alloc, first, &function.own)?;
         self.low = end_from(first, &function.own)?;
         self.passed = function.passed;
+        self.exit = exit;
         self.blocks = Vec::new(self.alloc);
         self.held = None;
         Ok(())
@@ -111,7 +116,7 @@ impl Place {
 
     /// Enters a block with these locals. Answers where its locals begin.
     pub fn enter(&mut self, locals: &[Local]) -> Result<u64, AllocError>
-        ensures { IfOk result (λ low. low ≡ self.old.low × (surroundings self.new ≡ within_block (map local_tree locals.now) (surroundings self.old))) }
+        ensures { IfOk result (λ low. low ≡ self.old.low × (surroundings self.new ≡ plain_block (map local_tree locals.now) (surroundings self.old))) }
     {
         let low = self.low;
         let offsets = offsets_from(self.alloc, low, locals)?;
@@ -125,7 +130,7 @@ impl Place {
     /// Leaves the innermost block, whose locals began at `low`. No temporary is held then.
     #[tactic(auto, using(crate::proofs::Leaving::left_is))]
     pub fn leave(&mut self, low: u64)
-        ensures { (locals : List core.Local) (outer : Surroundings) (held : Option ℕ) → surroundings self.old ≡ holding held (within_block locals outer) → low ≡ outer.low → surroundings self.new ≡ holding None outer }
+        ensures { (locals : List core.Local) (outer : Surroundings) (held : Option ℕ) → surroundings self.old ≡ holding held (plain_block locals outer) → low ≡ outer.low → surroundings self.new ≡ holding None outer }
     {
         if !self.blocks.is_empty() {
             self.blocks.remove(0);

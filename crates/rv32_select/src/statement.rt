@@ -3,12 +3,13 @@
 ghost use Rattle.std.specs.Prelude.{◌≡◌, ◌+◌, ◌<◌, ◌≤◌, ◌++◌, IfOk, OnOk, None, map, pos, vec_len};
 ghost use Rattle.core_meaning.specs.Core as core;
 ghost use Rattle.cyc_core.specs.Trees.{statement_tree, body_tree, temporary_tree, optional_tree, local_tree};
-ghost use Rattle.core_lines.specs.Frames.{pass_code, result_code, call_code, values_code, leave_code, return_code, kind_number, raise_code};
-ghost use Rattle.core_lines.specs.Choosing.{held_behind, held_behind_all, held_or_loaded, choice_code};
-ghost use Rattle.core_lines.specs.Selected.{labels_in, labels_of, holding, statement_code, statements_code};
+ghost use Rattle.core_lines.specs.Frames.{pass_code, result_code, call_code, values_code, return_code, kind_number, raise_code};
+ghost use Rattle.core_lines.specs.Choosing.{far, held_behind, held_behind_all, held_or_loaded, choice_code};
+ghost use Rattle.core_lines.specs.Selected.{labels_in, labels_of, holding};
 ghost use Rattle.rv32_select.specs.Places.{surroundings};
+ghost use Rattle.rv32_select.specs.Plain.{plain_code, plain_codes};
 
-use crate::emit::{ADDRESS, RESULT, put, put_environment, put_lines, put_load, put_save, put_word};
+use crate::emit::{RESULT, put, put_environment, put_lines, put_save};
 use crate::layout::sum;
 use crate::operation::{held_behind, put_from, put_operation, put_to};
 use crate::place::Place;
@@ -27,8 +28,6 @@ pub struct Ways {
     pub out: usize,
     /// The label at its start, before its test.
     pub again: usize,
-    /// The bytes of the frame, which a return gives back.
-    pub bytes: u64,
 }
 
 /// The label after one. Fails where labels run out: no memory has so many lines.
@@ -59,7 +58,7 @@ fn put_choice(
     temporary: Temporary,
     label: usize,
 ) -> Result<(), AllocError>
-    ensures { OnOk result (lines.new.items ≡ lines.old.items ++ choice_code place.now.passed place.now.held temporary.0 label) }
+    ensures { OnOk result (lines.new.items ≡ lines.old.items ++ choice_code far place.now.passed place.now.held temporary.0 label) }
 {
     put_held(lines, place, temporary)?;
     put_lines(lines, &[Line::JumpIfZero(RESULT, label)])
@@ -112,20 +111,6 @@ fn put_call(
     put_results(lines, place, to)
 }
 
-/// Appends the end of an activation: the stack pointer goes back over its frame, and the return.
-fn put_leave(lines: &mut Vec<Line>, bytes: u64) -> Result<(), AllocError>
-    ensures { OnOk result (lines.new.items ≡ lines.old.items ++ leave_code bytes) }
-{
-    let pointer = Register::STACK_POINTER;
-    put_load(lines, Register::RETURN_ADDRESS, 0)?;
-    put_word(lines, ADDRESS, bytes)?;
-    put(lines, Instr::Add(pointer, pointer, ADDRESS))?;
-    put(
-        lines,
-        Instr::Jalr(Register::ZERO, Register::RETURN_ADDRESS, Signed12::new(0)),
-    )
-}
-
 /// Appends the loads of a function's result into the registers in which it comes.
 fn put_values(lines: &mut Vec<Line>, place: &Place, value: Option<Words>) -> Result<(), AllocError>
     ensures { OnOk result (lines.new.items ≡ lines.old.items ++ values_code place.now.passed 9 (optional_tree value)) }
@@ -141,17 +126,16 @@ fn put_values(lines: &mut Vec<Line>, place: &Place, value: Option<Words>) -> Res
     }
 }
 
-/// Appends a return, with what temporaries hold where it has a value.
+/// Appends a return, with what temporaries hold where it has a value: it goes on at the function's end.
 fn put_return(
     lines: &mut Vec<Line>,
     place: &Place,
-    bytes: u64,
     value: Option<Words>,
 ) -> Result<(), AllocError>
-    ensures { OnOk result (lines.new.items ≡ lines.old.items ++ return_code bytes place.now.passed (optional_tree value)) }
+    ensures { OnOk result (lines.new.items ≡ lines.old.items ++ return_code place.now.passed (optional_tree value) place.now.exit) }
 {
     put_values(lines, place, value)?;
-    put_leave(lines, bytes)
+    put_lines(lines, &[Line::Jump(place.exit)])
 }
 
 /// The number of an exception's kind.
@@ -184,7 +168,7 @@ fn put_statement(
     ways: Ways,
     statement: &Statement,
 ) -> Result<usize, AllocError>
-    ensures code { OnOk result (lines.new.items ≡ lines.old.items ++ statement_code ways.bytes (surroundings place.old) next ways.out ways.again (statement_tree statement.now)) }
+    ensures code { OnOk result (lines.new.items ≡ lines.old.items ++ plain_code (surroundings place.old) next ways.out ways.again (statement_tree statement.now)) }
     ensures free { IfOk result (λ n. n ≡ next + labels_in (statement_tree statement.now)) }
     ensures same { OnOk result (surroundings place.new ≡ holding (held_behind (statement_tree statement.now)) (surroundings place.old)) }
 {
@@ -215,7 +199,7 @@ fn put_statement(
         Statement::Call(result, function, arguments) => {
             put_call(lines, place, *result, *function, arguments)?;
         }
-        Statement::Return(value) => put_return(lines, place, ways.bytes, *value)?,
+        Statement::Return(value) => put_return(lines, place, *value)?,
         Statement::Raise(kind) => put_raise(lines, *kind)?,
     }
     place.hold(None);
@@ -231,7 +215,7 @@ pub fn put_statements(
     ways: Ways,
     statements: &[Statement],
 ) -> Result<usize, AllocError>
-    ensures code { OnOk result (lines.new.items ≡ lines.old.items ++ statements_code ways.bytes (surroundings place.old) next ways.out ways.again (body_tree statements.now)) }
+    ensures code { OnOk result (lines.new.items ≡ lines.old.items ++ plain_codes (surroundings place.old) next ways.out ways.again (body_tree statements.now)) }
     ensures free { IfOk result (λ n. n ≡ next + labels_of (body_tree statements.now)) }
     ensures same { OnOk result (surroundings place.new ≡ holding (held_behind_all (surroundings place.old).held (body_tree statements.now)) (surroundings place.old)) }
 {
@@ -254,7 +238,7 @@ fn put_if(
     these: &[Statement],
     those: &[Statement],
 ) -> Result<usize, AllocError>
-    ensures code { OnOk result (lines.new.items ≡ lines.old.items ++ statement_code ways.bytes (surroundings place.old) next ways.out ways.again (core.If test.0 (body_tree these.now) (body_tree those.now))) }
+    ensures code { OnOk result (lines.new.items ≡ lines.old.items ++ plain_code (surroundings place.old) next ways.out ways.again (core.If test.0 (body_tree these.now) (body_tree those.now))) }
     ensures free { IfOk result (λ n. n ≡ next + labels_in (core.If test.0 (body_tree these.now) (body_tree those.now))) }
     ensures same { OnOk result (surroundings place.new ≡ holding None (surroundings place.old)) }
 {
@@ -281,7 +265,7 @@ fn put_while(
     flag: Temporary,
     body: &[Statement],
 ) -> Result<usize, AllocError>
-    ensures code { OnOk result (lines.new.items ≡ lines.old.items ++ statement_code ways.bytes (surroundings place.old) next ways.out ways.again (core.While (body_tree test.now) flag.0 (body_tree body.now))) }
+    ensures code { OnOk result (lines.new.items ≡ lines.old.items ++ plain_code (surroundings place.old) next ways.out ways.again (core.While (body_tree test.now) flag.0 (body_tree body.now))) }
     ensures free { IfOk result (λ n. n ≡ next + labels_in (core.While (body_tree test.now) flag.0 (body_tree body.now))) }
     ensures same { OnOk result (surroundings place.new ≡ holding None (surroundings place.old)) }
 {
@@ -293,7 +277,6 @@ fn put_while(
     let inside = Ways {
         out: behind,
         again: next,
-        bytes: ways.bytes,
     };
     let free = put_statements(lines, place, following(behind)?, inside, body)?;
     put_lines(lines, &[Line::Jump(next), Line::Label(behind)])?;
@@ -311,7 +294,7 @@ fn put_block(
     locals: &[Local],
     body: &[Statement],
 ) -> Result<usize, AllocError>
-    ensures code { OnOk result (lines.new.items ≡ lines.old.items ++ statement_code ways.bytes (surroundings place.old) next ways.out ways.again (core.Block (map local_tree locals.now) (body_tree body.now))) }
+    ensures code { OnOk result (lines.new.items ≡ lines.old.items ++ plain_code (surroundings place.old) next ways.out ways.again (core.Block (map local_tree locals.now) (body_tree body.now))) }
     ensures free { IfOk result (λ n. n ≡ next + labels_in (core.Block (map local_tree locals.now) (body_tree body.now))) }
     ensures same { OnOk result (surroundings place.new ≡ holding None (surroundings place.old)) }
 {

@@ -39,6 +39,12 @@ use Rattle.core_meaning.specs.Core.{
   RegionNew,
   RegionAlloc,
   RegionFree,
+  UniqueAlloc,
+  UniqueFree,
+  KeyNew,
+  KeyOpen,
+  KeyClose,
+  KeyFree,
 }
 
 -- temporaries from 0 on, these among them
@@ -71,6 +77,12 @@ operation_temporaries (HeapHandle t) = suc t
 operation_temporaries (RegionNew t) = suc t
 operation_temporaries (RegionAlloc t h n layout) = max (suc t) (max (suc h) (suc n))
 operation_temporaries (RegionFree h) = suc h
+operation_temporaries (UniqueAlloc t layout) = suc t
+operation_temporaries (UniqueFree p) = suc p
+operation_temporaries (KeyNew t) = suc t
+operation_temporaries (KeyOpen k) = suc k
+operation_temporaries (KeyClose k) = suc k
+operation_temporaries (KeyFree k) = suc k
 operation_temporaries _ = 0
 
 abbrev mutual

@@ -1,6 +1,7 @@
 use Rattle.std.proofs.Common.{◌≡◌, ℕ, ◌<◌, List, length, refl, ap, ◌∙◌, subst, arith}
 use Rattle.std.specs.Prelude.{Err}
 use Rattle.core_lines.specs.declared.line.Line.{Line}
+use Rattle.core_lines.specs.Choosing.{far}
 use Rattle.core_lines.specs.Lines.{IsPlace, code_length}
 use Rattle.core_lines.specs.Selected as select
 use Rattle.core_lines.specs.Statics.{data_bytes}
@@ -14,7 +15,7 @@ use Rattle.cycc_driver.proofs.compiling.lay_out.Goals as goal
 
 pub returns-in-Err-TooLarge-clause-refused : goal.returns-in-Err-TooLarge-clause-refused
 returns-in-Err-TooLarge-clause-refused c =
-    let lines = c.in_ok-labelled.ensures.code ∙ ap select.program_code c.in_ok-core.ensures.code in
+    let lines = c.in_ok-labelled.ensures.code ∙ ap (select.program_code far) c.in_ok-core.ensures.code in
     let large = c.in-Err-TooLarge.ensures.too_large.0 (ap (λ (f : PlaceFault). Err f) c.in-Err-TooLarge.field-0-is) in
     record {
       long = subst (λ (ls : List Line). code_limit < code_length ls) lines large;
@@ -24,13 +25,13 @@ returns-in-Err-TooLarge-clause-refused c =
 
 pub returns-in-Ok-data-clause-code : goal.returns-in-Ok-data-clause-code
 returns-in-Ok-data-clause-code c =
-    let lines = c.in_ok-labelled.ensures.code ∙ ap select.program_code c.in_ok-core.ensures.code in
+    let lines = c.in_ok-labelled.ensures.code ∙ ap (select.program_code far) c.in_ok-core.ensures.code in
     let placed = c.in-Ok.ensures in
     is_code c.args.checked.now c.in-Ok.code.bytes.items (omega (arith, placed.length, ap code_length lines)) (omega (arith, placed.within))
 
 pub returns-in-Ok-data-clause-implemented : goal.returns-in-Ok-data-clause-implemented
 returns-in-Ok-data-clause-implemented c = λ parts is_code is_statics from_first fits.
-    let lines = c.in_ok-labelled.ensures.code ∙ ap select.program_code c.in_ok-core.ensures.code in
+    let lines = c.in_ok-labelled.ensures.code ∙ ap (select.program_code far) c.in_ok-core.ensures.code in
     let placed = c.in-Ok.ensures in
     let bytes = c.in-Ok.code.bytes.items in
     implemented c.args.checked.now bytes c.in-Ok-data.data.items parts record {

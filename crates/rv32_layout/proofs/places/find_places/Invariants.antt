@@ -1,7 +1,7 @@
 use Rattle.std.proofs.Common.{◌≡◌, ℕ, ◌+◌, drop, nat_eq, unwrap_or}
 use Rattle.indexmap.specs.IndexMap.{get}
 use Rattle.core_lines.specs.Lines.{code_length}
-use Rattle.rv32_layout.specs.Placed.{place_of}
+use Rattle.core_lines.specs.Relaxed.{place_of}
 use Rattle.rv32_layout.proofs.places.find_places.Given as goal
 
 abbrev pub invariant-each : goal.invariant-each

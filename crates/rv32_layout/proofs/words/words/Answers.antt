@@ -1,11 +1,12 @@
-use Rattle.std.proofs.Common.{◌≡◌, ◌<◌, ◌+◌, [], length, drop, arith, refl, sym, ap, subst, ◌∙◌, append-nil, vec_len}
+use Rattle.std.proofs.Common.{◌≡◌, ◌<◌, ◌+◌, true, [], length, drop, arith, refl, sym, ap, subst, ◌∙◌, append-nil, vec_len}
 use Rattle.std.proofs.lemmas.List.{drop_all}
 use Rattle.core_lines.specs.Lines.{size_of, code_length}
-use Rattle.rv32_layout.specs.Placed.{AreWords, ArePlaced, place_of, instructions_from}
-use Rattle.rv32_select.specs.Beginning.{first_target}
+use Rattle.core_lines.specs.Relaxed.{place_of}
+use Rattle.rv32_layout.specs.Placed.{AreWords, ArePlaced, instructions_from}
+use Rattle.rv32_select.specs.Beginning.{first_target, are_long}
 use Rattle.rv32_layout.specs.Placing.{place_in}
 use Rattle.rv32_layout.proofs.Lines.{drop_here}
-use Rattle.rv32_layout.proofs.Reaching.{line_reaches, first_behind, same_reaches}
+use Rattle.rv32_layout.proofs.Reaching.{line_reaches, first_behind, same_reaches, others_long}
 use Rattle.rv32_layout.proofs.Appending.{Appends-length, line_length, continues}
 use Rattle.rv32_layout.proofs.words.words.Goals as goal
 
@@ -20,9 +21,11 @@ put_line-requires c =
     let whole : at + (size_of line + code_length rest) ≡ code_length items = omega (arith, ap code_length here, c.each.invariant.whole) in
     let limited = rw (← c.lines-line-items.ensures.same) at c.requires in
     let begins = rw (← c.lines-line-items.ensures.same) at c.lines-line-items.ensures.begins in
+    let long = rw (← c.lines-line-items.ensures.same) at c.lines-line-items.ensures.long in
     let same = rw (← c.lines-line-items.ensures.same) at c.in_ok-places.ensures in
     same_reaches (place_of items) (place_in c.in_ok-places.places) at line (λ label. sym (same label))
-    (line_reaches items rest limited begins line at whole (λ none. sym (ap first_target here) ∙ c.each.invariant.first none))
+    (line_reaches items rest limited begins line at whole (λ none. sym (ap first_target here) ∙ c.each.invariant.first none)
+    (subst (λ lines. are_long lines ≡ true) here (others_long items c.each.line-index long)))
 
 pub each-preserved : goal.each-preserved
 each-preserved c =

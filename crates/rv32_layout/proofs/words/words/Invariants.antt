@@ -1,6 +1,7 @@
 use Rattle.std.proofs.Common.{◌≡◌, ℕ, ◌+◌, List, ◌++◌, drop, vec_len}
 use Rattle.core_lines.specs.Lines.{code_length}
-use Rattle.rv32_layout.specs.Placed.{AreWords, ArePlaced, place_of, instructions_from}
+use Rattle.core_lines.specs.Relaxed.{place_of}
+use Rattle.rv32_layout.specs.Placed.{AreWords, ArePlaced, instructions_from}
 use Rattle.rv32_select.specs.Beginning.{first_target}
 use Rattle.rv32_layout.proofs.words.words.Given as goal
 

@@ -3,14 +3,16 @@ use Rattle.std.proofs.Common.{◌<◌, arith}
 use Rattle.std.proofs.lemmas.List.{length-map}
 use Rattle.cyc_core.specs.Trees.{function_tree, program_tree}
 use Rattle.rv32_select.proofs.Beginning.{program_begins}
+use Rattle.rv32_select.proofs.NoBranches.{program_long}
 use Rattle.rv32_select.proofs.Meaning.{lines_once, lines_do_as}
 use Rattle.rv32_select.proofs.function.select.Goals as goal
 
 pub invariant_of-result : goal.invariant_of-result
 invariant_of-result c =
     let program = c.args.program.now in
+    let lines = c.in_ok-lines.lines.items in
     let there : program.main < length (map function_tree program.functions.items) = omega (arith, length-map program.functions.items function_tree) in
-    program_begins (program_tree program) c.in_ok-lines.lines.items c.in_ok-lines.ensures there
+    (program_begins (program_tree program) lines c.in_ok-lines.ensures there, program_long (program_tree program) lines c.in_ok-lines.ensures)
 
 pub returns-clause-once : goal.returns-clause-once
 returns-clause-once c = lines_once (program_tree c.args.program.now) c.in_ok-lines.lines.items c.in_ok-lines.ensures

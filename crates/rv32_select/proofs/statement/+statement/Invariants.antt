@@ -1,8 +1,9 @@
 use Rattle.std.proofs.Common.{◌≡◌, ◌+◌, ◌≤◌, ◌++◌, drop}
 use Rattle.cyc_core.specs.Trees.{statement_tree, body_tree}
 use Rattle.core_lines.specs.Choosing.{held_behind_all}
-use Rattle.core_lines.specs.Selected.{labels_of, holding, statements_code}
+use Rattle.core_lines.specs.Selected.{labels_of, holding}
 use Rattle.rv32_select.specs.Places.{surroundings}
+use Rattle.rv32_select.specs.Plain.{plain_codes}
 use Rattle.rv32_select.proofs.Sizes.{statement_size, statements_size}
 use Rattle.rv32_select.proofs.statement.+statement.Given as goal
 
@@ -25,8 +26,8 @@ decreases-put_block l = statements_size (body_tree l.body.now) + 1
 abbrev pub invariant-put_statements-each : goal.invariant-put_statements-each
 invariant-put_statements-each l = record {
   code : l.lines.items ++
-      statements_code l.ways.bytes (surroundings l.place) l.free l.ways.out l.ways.again (body_tree (drop l.statement-index l.statements)) ≡
-      l.initial.lines.items ++ statements_code l.ways.bytes (surroundings l.initial.place) l.next l.ways.out l.ways.again (body_tree l.statements);
+      plain_codes (surroundings l.place) l.free l.ways.out l.ways.again (body_tree (drop l.statement-index l.statements)) ≡
+      l.initial.lines.items ++ plain_codes (surroundings l.initial.place) l.next l.ways.out l.ways.again (body_tree l.statements);
   free : l.free + labels_of (body_tree (drop l.statement-index l.statements)) ≡ l.next + labels_of (body_tree l.statements);
   same : surroundings l.place ≡ holding (surroundings l.place).held (surroundings l.initial.place);
   held : held_behind_all (surroundings l.place).held (body_tree (drop l.statement-index l.statements)) ≡

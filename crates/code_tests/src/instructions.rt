@@ -192,7 +192,7 @@ fn assembled_words_are_read_shown_and_written(rt: HostRuntime) -> Result<(), All
         assert!(rt; shown.as_str() == text, "{shown} for {line}");
         assert_eq!(rt; encode(instr), word, "{line}");
     }
-    assert_eq!(rt; decode(0), None);
+    assert!(rt; decode(0).is_none());
     Ok(())
 }
 

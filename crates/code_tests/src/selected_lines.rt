@@ -5,7 +5,7 @@ use cyc_core::{
     Cell, CellLayout, Function, Layout, Local, Operation, Program, Statement, Temporary, Variable,
     Width, Words,
 };
-use rv32_isa::{Register, decode};
+use rv32_isa::encode;
 use rv32_select::select;
 use std::alloc::{AllocError, Global};
 use std::rc::Rc;
@@ -70,11 +70,9 @@ fn lines_of(alloc: Global, functions: Vec<Function>) -> Result<Vec<Line>, AllocE
 // whether lines are the instructions that these words say
 fn are_words(lines: &[Line], words: &[u32]) -> bool {
     for (line, word) in lines.iter().zip(words.iter()) {
-        let Some(instr) = decode(*word) else {
-            return false;
-        };
-        if *line != Line::Plain(instr) {
-            return false;
+        match line {
+            Line::Plain(instr) if encode(*instr) == *word => {}
+            _ => return false,
         }
     }
     lines.len() == words.len()
@@ -118,8 +116,8 @@ fn an_element_lies_its_index_times_its_bytes_on(rt: HostRuntime) -> Result<(), F
     assert!(rt; are_words(&lines[22..29], &large));
     // lw x10, 12(x2)
     assert!(rt; are_words(&lines[29..30], &[0x00c1_2503]));
-    assert_eq!(rt; lines[30], Line::Jump(1));
-    assert_eq!(rt; lines[31], Line::Label(1));
+    assert!(rt; matches!(lines[30], Line::Jump(1)));
+    assert!(rt; matches!(lines[31], Line::Label(1)));
     Ok(())
 }
 
@@ -141,17 +139,17 @@ fn a_fat_pointer_returns_in_three_registers(rt: HostRuntime) -> Result<(), Fail>
     ]?;
     let lines = lines_of(rt.alloc(), functions)?;
     assert_eq!(rt; lines.len(), 49);
-    assert_eq!(rt; lines[15], Line::CallTo(1));
+    assert!(rt; matches!(lines[15], Line::CallTo(1)));
     // sw x10, 4(x2); sw x11, 8(x2); sw x12, 12(x2); lw x10, 8(x2)
     let taken = [0x00a1_2223, 0x00b1_2423, 0x00c1_2623, 0x0081_2503];
     assert!(rt; are_words(&lines[16..20], &taken));
-    assert_eq!(rt; lines[20], Line::Jump(2));
-    assert_eq!(rt; lines[21], Line::Label(2));
+    assert!(rt; matches!(lines[20], Line::Jump(2)));
+    assert!(rt; matches!(lines[21], Line::Label(2)));
     // lw x10, 12(x2); lw x11, 4(x2); lw x12, 8(x2)
     let given = [0x00c1_2503, 0x0041_2583, 0x0081_2603];
     assert!(rt; are_words(&lines[39..42], &given));
-    assert_eq!(rt; lines[42], Line::Jump(3));
-    assert_eq!(rt; lines[43], Line::Label(3));
+    assert!(rt; matches!(lines[42], Line::Jump(3)));
+    assert!(rt; matches!(lines[43], Line::Label(3)));
     // lw x1, 0(x2)
     assert!(rt; are_words(&lines[44..45], &[0x0001_2083]));
     Ok(())
@@ -207,7 +205,7 @@ fn an_array_takes_the_bytes_of_its_elements(rt: HostRuntime) -> Result<(), Fail>
     assert!(rt; are_words(&lines[22..29], &words));
     // addi x5, x2, 68; sw x5, 4(x2)
     assert!(rt; are_words(&lines[29..31], &[0x0441_0293, 0x0051_2223]));
-    assert_eq!(rt; lines[31], Line::Label(1));
+    assert!(rt; matches!(lines[31], Line::Label(1)));
     // lw x1, 0(x2); lui x7, 0; addi x7, x7, 80; add x2, x2, x7; jalr x0, 0(x1)
     let end = [
         0x0001_2083,
@@ -235,10 +233,10 @@ fn a_choice_loads_what_was_read_from_a_local(rt: HostRuntime) -> Result<(), Fail
     // lw x5, 8(x2); sw x5, 4(x2); lw x5, 4(x2)
     let read = [0x0081_2283, 0x0051_2223, 0x0041_2283];
     assert!(rt; are_words(&lines[15..18], &read));
-    assert_eq!(rt; lines[18], Line::JumpIfZero(Register::TEMPORARY_0, 2));
-    assert_eq!(rt; lines[19], Line::Jump(3));
-    assert_eq!(rt; lines[20], Line::Label(2));
-    assert_eq!(rt; lines[21], Line::Label(3));
-    assert_eq!(rt; lines[22], Line::Label(1));
+    assert!(rt; matches!(lines[18], Line::JumpIfZero(register, 2) if register.number() == 5));
+    assert!(rt; matches!(lines[19], Line::Jump(3)));
+    assert!(rt; matches!(lines[20], Line::Label(2)));
+    assert!(rt; matches!(lines[21], Line::Label(3)));
+    assert!(rt; matches!(lines[22], Line::Label(1)));
     Ok(())
 }

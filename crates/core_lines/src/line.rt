@@ -3,7 +3,7 @@
 use rv32_isa::{Instr, Register};
 
 /// A line of code. A label is a number, which a `Label` line places.
-#[derive(Clone, Copy, PartialEq, Eq, Debug)]
+#[derive(Clone, Copy)]
 pub enum Line {
     /// An instruction as it is.
     Plain(Instr),

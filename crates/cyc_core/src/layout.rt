@@ -4,7 +4,7 @@ use crate::operation::Cell;
 use std::rc::Rc;
 
 /// A cell of an object.
-#[derive(Clone, Copy, PartialEq, Eq, Debug)]
+#[derive(Clone, Copy)]
 pub struct CellLayout {
     /// How many bytes of its object lie before it.
     pub offset: u32,

@@ -4,11 +4,11 @@ ghost use Rattle.std.specs.Prelude.{◌≡◌};
 ghost use Rattle.cyc_core.specs.Trees.{cell_bytes, cell_width};
 
 /// A temporary of a function: a word or a pointer, named by its number.
-#[derive(Clone, Copy, PartialEq, Eq, Debug)]
+#[derive(Clone, Copy)]
 pub struct Temporary(pub u32);
 
 /// A local: that of the block so many blocks out, with this number among the block's locals.
-#[derive(Clone, Copy, PartialEq, Eq, Debug)]
+#[derive(Clone, Copy)]
 pub struct Variable {
     /// How many blocks out the local's block is; 0 is the innermost one.
     pub out: u32,
@@ -17,7 +17,7 @@ pub struct Variable {
 }
 
 /// How wide a local, a global or a part of an object is.
-#[derive(Clone, Copy, PartialEq, Eq, Debug)]
+#[derive(Clone, Copy)]
 pub enum Width {
     /// One byte.
     Byte,
@@ -26,7 +26,7 @@ pub enum Width {
 }
 
 /// What a cell of a local, a global or a block is made for.
-#[derive(Clone, Copy, PartialEq, Eq, Debug)]
+#[derive(Clone, Copy)]
 pub enum Cell {
     /// A number of one byte.
     Byte,
@@ -64,7 +64,7 @@ impl Cell {
 }
 
 /// Where a part lies from a pointer on.
-#[derive(Clone, Copy, PartialEq, Eq, Debug)]
+#[derive(Clone, Copy)]
 pub struct Distance {
     /// How many cells of its object lie between.
     pub cells: u32,
@@ -91,7 +91,7 @@ impl Distance {
 }
 
 /// The temporaries of a value: one, or the three of a fat pointer, which are its first element, how many it has, and its index.
-#[derive(Clone, Copy, PartialEq, Eq, Debug)]
+#[derive(Clone, Copy)]
 pub enum Words {
     /// A value of one word.
     One(Temporary),
@@ -100,7 +100,7 @@ pub enum Words {
 }
 
 /// An operation on two words.
-#[derive(Clone, Copy, PartialEq, Eq, Debug)]
+#[derive(Clone, Copy)]
 pub enum Binary {
     /// The sum, modulo 2^32.
     Add,
@@ -143,7 +143,7 @@ pub enum Binary {
 }
 
 /// What is done in one go. The first temporary is the one that gets the result.
-#[derive(Clone, Copy, PartialEq, Eq, Debug)]
+#[derive(Clone, Copy)]
 pub enum Operation {
     /// The temporary gets the word.
     Constant(Temporary, u32),

@@ -3,6 +3,8 @@ use Rattle.std.specs.Prelude.{ℕ, ℤ, List, ◌++◌, codes}
 use Rattle.std.specs.Fmt.{decimal, signed_decimal}
 use Rattle.rv32_isa.specs.declared.instruction.Instr.{Instr}
 use Rattle.rv32_isa.specs.declared.instruction.Instr.TheVariants.{Lui, Auipc, Jal, Jalr, Beq, Bne, Blt, Bge, Bltu, Bgeu, Lb, Lh, Lw, Lbu, Lhu, Sb, Sh, Sw, Addi, Slti, Sltiu, Xori, Ori, Andi, Slli, Srli, Srai, Add, Sub, Sll, Slt, Sltu, Xor, Srl, Sra, Or, And, Fence, Ecall, Ebreak, Mul, Mulh, Mulhsu, Mulhu, Div, Divu, Rem, Remu}
+use Rattle.rv32_isa.specs.declared.text.Operands.{Operands}
+use Rattle.rv32_isa.specs.declared.text.Operands.TheVariants.{Upper, Jump, Address, Branch, Immediate, Shift, Bits, Registers, Nothing}
 
 -- a register by its number, as x0
 abbrev pub register_text : ℕ → List ℕ
@@ -31,6 +33,18 @@ upper_text name a n = name ++ codes " " ++ register_text a ++ codes ", " ++ deci
 -- a register and a distance, as in jal x1, 16
 abbrev pub jump_text : List ℕ → ℕ → ℤ → List ℕ
 jump_text name a z = name ++ codes " " ++ register_text a ++ codes ", " ++ signed_decimal z
+
+-- a name, and what stands behind it
+abbrev pub parts_text : List ℕ → Operands → List ℕ
+parts_text name (Upper rd n) = upper_text name rd n
+parts_text name (Jump rd z) = jump_text name rd z
+parts_text name (Address rd z base) = memory_text name rd z base
+parts_text name (Branch rs1 rs2 z) = signed_text name rs1 rs2 z
+parts_text name (Immediate rd rs1 z) = signed_text name rd rs1 z
+parts_text name (Shift rd rs1 n) = number_text name rd rs1 n
+parts_text name (Bits rd rs1 n) = number_text name rd rs1 n
+parts_text name (Registers rd rs1 rs2) = registers_text name rd rs1 rs2
+parts_text name Nothing = name
 
 -- the text of an instruction, in the table's order; a store's data register stands before its base
 abbrev pub instr_text : Instr → List ℕ

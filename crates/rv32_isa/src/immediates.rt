@@ -5,7 +5,7 @@ ghost use Rattle.rv32_isa.specs.Numbers.{signed, unsigned};
 use std::marker::Model;
 
 /// The immediate of a computation, a load, a store or `jalr`, -2048 to 2047.
-#[derive(Clone, Copy, PartialEq, Eq, Debug)]
+#[derive(Clone, Copy)]
 pub struct Signed12 {
     value: i32,
 }
@@ -77,7 +77,7 @@ impl Signed12 {
 }
 
 /// How far a branch goes in bytes, an even number from -4096 to 4094.
-#[derive(Clone, Copy, PartialEq, Eq, Debug)]
+#[derive(Clone, Copy)]
 pub struct BranchOffset {
     value: i32,
 }
@@ -153,7 +153,7 @@ impl BranchOffset {
 }
 
 /// How far a jump goes in bytes, an even number from -1048576 to 1048574.
-#[derive(Clone, Copy, PartialEq, Eq, Debug)]
+#[derive(Clone, Copy)]
 pub struct JumpOffset {
     value: i32,
 }

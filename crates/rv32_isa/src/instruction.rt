@@ -6,7 +6,7 @@ use crate::operands::{FenceBits, Register, ShiftAmount, Upper20};
 /// An instruction, with its operands in the order that its line names. rd is the register that
 /// it writes; rs1 and rs2 are those that it reads. Its text has an address as `imm(rs1)`, and a
 /// store's rs2 first.
-#[derive(Clone, Copy, PartialEq, Eq, Debug)]
+#[derive(Clone, Copy)]
 pub enum Instr {
     /// `lui rd, imm`: the upper 20 bits of rd are imm, the lower 12 are 0.
     Lui(Register, Upper20),

@@ -4,7 +4,7 @@ ghost use Rattle.std.specs.Prelude.{◌≡◌, ℕ, ◌<◌, ◌^◌, ◌↔◌,
 use std::marker::Model;
 
 /// One of the registers x0 to x31.
-#[derive(Clone, Copy, PartialEq, Eq, Debug)]
+#[derive(Clone, Copy)]
 pub struct Register {
     number: u8,
 }
@@ -111,7 +111,7 @@ impl Register {
 }
 
 /// The distance of a shift by a constant, 0 to 31.
-#[derive(Clone, Copy, PartialEq, Eq, Debug)]
+#[derive(Clone, Copy)]
 pub struct ShiftAmount {
     count: u8,
 }
@@ -157,7 +157,7 @@ impl ShiftAmount {
 }
 
 /// The upper 20 bits of a word.
-#[derive(Clone, Copy, PartialEq, Eq, Debug)]
+#[derive(Clone, Copy)]
 pub struct Upper20 {
     bits: u32,
 }
@@ -203,7 +203,7 @@ impl Upper20 {
 }
 
 /// The 12 upper bits of a fence, which are kept and ignored.
-#[derive(Clone, Copy, PartialEq, Eq, Debug)]
+#[derive(Clone, Copy)]
 pub struct FenceBits {
     bits: u32,
 }

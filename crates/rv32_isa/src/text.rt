@@ -1,10 +1,11 @@
 //! The text of instructions, as an assembler reads them.
-ghost use Rattle.std.specs.Prelude.{Some};
+ghost use Rattle.std.specs.Prelude.{◌≡◌, Some};
 ghost use Rattle.std.specs.Fmt.{DisplaysOnOk};
-ghost use Rattle.rv32_isa.specs.Text.{register_text, registers_text, number_text, signed_text, memory_text, upper_text, jump_text, instr_text};
+ghost use Rattle.rv32_isa.specs.Text.{register_text, registers_text, number_text, signed_text, memory_text, upper_text, jump_text, parts_text, instr_text};
 
+use crate::immediates::{BranchOffset, JumpOffset, Signed12};
 use crate::instruction::Instr;
-use crate::operands::{Register, ShiftAmount};
+use crate::operands::{FenceBits, Register, ShiftAmount, Upper20};
 use std::fmt;
 
 impl fmt::Display for Register {
@@ -38,18 +39,6 @@ fn write_number<W: fmt::Write>(
     ensures { DisplaysOnOk W.write_str_gives f.old result (Some (number_text name.now a b number)) f.new }
 {
     write!(f, "{name} {a}, {b}, {number}")
-}
-
-fn write_count<W: fmt::Write>(
-    f: &mut fmt::Formatter<W>,
-    name: &str,
-    a: Register,
-    b: Register,
-    count: ShiftAmount,
-) -> fmt::Result
-    ensures { DisplaysOnOk W.write_str_gives f.old result (Some (number_text name.now a b count)) f.new }
-{
-    write_number(f, name, a, b, count.count() as u32)
 }
 
 fn write_signed<W: fmt::Write>(
@@ -98,59 +87,100 @@ fn write_jump<W: fmt::Write>(
     write!(f, "{name} {a}, {offset}")
 }
 
+// What stands behind the name in the text of an instruction.
+enum Operands {
+    Upper(Register, Upper20),
+    Jump(Register, JumpOffset),
+    Address(Register, Signed12, Register),
+    Branch(Register, Register, BranchOffset),
+    Immediate(Register, Register, Signed12),
+    Shift(Register, Register, ShiftAmount),
+    Bits(Register, Register, FenceBits),
+    Registers(Register, Register, Register),
+    Nothing,
+}
+
+// The name of an instruction, and what stands behind it.
+fn parts(instr: Instr) -> (&'static str, Operands)
+    ensures { parts_text result.0.now result.1 ≡ instr_text instr }
+{
+    match instr {
+        Instr::Lui(rd, imm) => ("lui", Operands::Upper(rd, imm)),
+        Instr::Auipc(rd, imm) => ("auipc", Operands::Upper(rd, imm)),
+        Instr::Jal(rd, offset) => ("jal", Operands::Jump(rd, offset)),
+        Instr::Jalr(rd, rs1, imm) => ("jalr", Operands::Address(rd, imm, rs1)),
+        Instr::Beq(rs1, rs2, offset) => ("beq", Operands::Branch(rs1, rs2, offset)),
+        Instr::Bne(rs1, rs2, offset) => ("bne", Operands::Branch(rs1, rs2, offset)),
+        Instr::Blt(rs1, rs2, offset) => ("blt", Operands::Branch(rs1, rs2, offset)),
+        Instr::Bge(rs1, rs2, offset) => ("bge", Operands::Branch(rs1, rs2, offset)),
+        Instr::Bltu(rs1, rs2, offset) => ("bltu", Operands::Branch(rs1, rs2, offset)),
+        Instr::Bgeu(rs1, rs2, offset) => ("bgeu", Operands::Branch(rs1, rs2, offset)),
+        Instr::Lb(rd, rs1, imm) => ("lb", Operands::Address(rd, imm, rs1)),
+        Instr::Lh(rd, rs1, imm) => ("lh", Operands::Address(rd, imm, rs1)),
+        Instr::Lw(rd, rs1, imm) => ("lw", Operands::Address(rd, imm, rs1)),
+        Instr::Lbu(rd, rs1, imm) => ("lbu", Operands::Address(rd, imm, rs1)),
+        Instr::Lhu(rd, rs1, imm) => ("lhu", Operands::Address(rd, imm, rs1)),
+        Instr::Sb(rs1, rs2, imm) => ("sb", Operands::Address(rs2, imm, rs1)),
+        Instr::Sh(rs1, rs2, imm) => ("sh", Operands::Address(rs2, imm, rs1)),
+        Instr::Sw(rs1, rs2, imm) => ("sw", Operands::Address(rs2, imm, rs1)),
+        Instr::Addi(rd, rs1, imm) => ("addi", Operands::Immediate(rd, rs1, imm)),
+        Instr::Slti(rd, rs1, imm) => ("slti", Operands::Immediate(rd, rs1, imm)),
+        Instr::Sltiu(rd, rs1, imm) => ("sltiu", Operands::Immediate(rd, rs1, imm)),
+        Instr::Xori(rd, rs1, imm) => ("xori", Operands::Immediate(rd, rs1, imm)),
+        Instr::Ori(rd, rs1, imm) => ("ori", Operands::Immediate(rd, rs1, imm)),
+        Instr::Andi(rd, rs1, imm) => ("andi", Operands::Immediate(rd, rs1, imm)),
+        Instr::Slli(rd, rs1, count) => ("slli", Operands::Shift(rd, rs1, count)),
+        Instr::Srli(rd, rs1, count) => ("srli", Operands::Shift(rd, rs1, count)),
+        Instr::Srai(rd, rs1, count) => ("srai", Operands::Shift(rd, rs1, count)),
+        Instr::Add(rd, rs1, rs2) => ("add", Operands::Registers(rd, rs1, rs2)),
+        Instr::Sub(rd, rs1, rs2) => ("sub", Operands::Registers(rd, rs1, rs2)),
+        Instr::Sll(rd, rs1, rs2) => ("sll", Operands::Registers(rd, rs1, rs2)),
+        Instr::Slt(rd, rs1, rs2) => ("slt", Operands::Registers(rd, rs1, rs2)),
+        Instr::Sltu(rd, rs1, rs2) => ("sltu", Operands::Registers(rd, rs1, rs2)),
+        Instr::Xor(rd, rs1, rs2) => ("xor", Operands::Registers(rd, rs1, rs2)),
+        Instr::Srl(rd, rs1, rs2) => ("srl", Operands::Registers(rd, rs1, rs2)),
+        Instr::Sra(rd, rs1, rs2) => ("sra", Operands::Registers(rd, rs1, rs2)),
+        Instr::Or(rd, rs1, rs2) => ("or", Operands::Registers(rd, rs1, rs2)),
+        Instr::And(rd, rs1, rs2) => ("and", Operands::Registers(rd, rs1, rs2)),
+        Instr::Fence(rd, rs1, bits) => ("fence", Operands::Bits(rd, rs1, bits)),
+        Instr::Ecall => ("ecall", Operands::Nothing),
+        Instr::Ebreak => ("ebreak", Operands::Nothing),
+        Instr::Mul(rd, rs1, rs2) => ("mul", Operands::Registers(rd, rs1, rs2)),
+        Instr::Mulh(rd, rs1, rs2) => ("mulh", Operands::Registers(rd, rs1, rs2)),
+        Instr::Mulhsu(rd, rs1, rs2) => ("mulhsu", Operands::Registers(rd, rs1, rs2)),
+        Instr::Mulhu(rd, rs1, rs2) => ("mulhu", Operands::Registers(rd, rs1, rs2)),
+        Instr::Div(rd, rs1, rs2) => ("div", Operands::Registers(rd, rs1, rs2)),
+        Instr::Divu(rd, rs1, rs2) => ("divu", Operands::Registers(rd, rs1, rs2)),
+        Instr::Rem(rd, rs1, rs2) => ("rem", Operands::Registers(rd, rs1, rs2)),
+        Instr::Remu(rd, rs1, rs2) => ("remu", Operands::Registers(rd, rs1, rs2)),
+    }
+}
+
 impl fmt::Display for Instr {
     ghost output = { λ i. Some (instr_text i) };
 
     fn fmt<W: fmt::Write>(&self, f: &mut fmt::Formatter<W>) -> fmt::Result {
-        match *self {
-            Instr::Lui(rd, imm) => write_upper(f, "lui", rd, imm.bits()),
-            Instr::Auipc(rd, imm) => write_upper(f, "auipc", rd, imm.bits()),
-            Instr::Jal(rd, offset) => write_jump(f, "jal", rd, offset.value()),
-            Instr::Jalr(rd, rs1, imm) => write_memory(f, "jalr", rd, imm.value(), rs1),
-            Instr::Beq(rs1, rs2, offset) => write_signed(f, "beq", rs1, rs2, offset.value()),
-            Instr::Bne(rs1, rs2, offset) => write_signed(f, "bne", rs1, rs2, offset.value()),
-            Instr::Blt(rs1, rs2, offset) => write_signed(f, "blt", rs1, rs2, offset.value()),
-            Instr::Bge(rs1, rs2, offset) => write_signed(f, "bge", rs1, rs2, offset.value()),
-            Instr::Bltu(rs1, rs2, offset) => write_signed(f, "bltu", rs1, rs2, offset.value()),
-            Instr::Bgeu(rs1, rs2, offset) => write_signed(f, "bgeu", rs1, rs2, offset.value()),
-            Instr::Lb(rd, rs1, imm) => write_memory(f, "lb", rd, imm.value(), rs1),
-            Instr::Lh(rd, rs1, imm) => write_memory(f, "lh", rd, imm.value(), rs1),
-            Instr::Lw(rd, rs1, imm) => write_memory(f, "lw", rd, imm.value(), rs1),
-            Instr::Lbu(rd, rs1, imm) => write_memory(f, "lbu", rd, imm.value(), rs1),
-            Instr::Lhu(rd, rs1, imm) => write_memory(f, "lhu", rd, imm.value(), rs1),
-            Instr::Sb(rs1, rs2, imm) => write_memory(f, "sb", rs2, imm.value(), rs1),
-            Instr::Sh(rs1, rs2, imm) => write_memory(f, "sh", rs2, imm.value(), rs1),
-            Instr::Sw(rs1, rs2, imm) => write_memory(f, "sw", rs2, imm.value(), rs1),
-            Instr::Addi(rd, rs1, imm) => write_signed(f, "addi", rd, rs1, imm.value()),
-            Instr::Slti(rd, rs1, imm) => write_signed(f, "slti", rd, rs1, imm.value()),
-            Instr::Sltiu(rd, rs1, imm) => write_signed(f, "sltiu", rd, rs1, imm.value()),
-            Instr::Xori(rd, rs1, imm) => write_signed(f, "xori", rd, rs1, imm.value()),
-            Instr::Ori(rd, rs1, imm) => write_signed(f, "ori", rd, rs1, imm.value()),
-            Instr::Andi(rd, rs1, imm) => write_signed(f, "andi", rd, rs1, imm.value()),
-            Instr::Slli(rd, rs1, count) => write_count(f, "slli", rd, rs1, count),
-            Instr::Srli(rd, rs1, count) => write_count(f, "srli", rd, rs1, count),
-            Instr::Srai(rd, rs1, count) => write_count(f, "srai", rd, rs1, count),
-            Instr::Add(rd, rs1, rs2) => write_registers(f, "add", rd, rs1, rs2),
-            Instr::Sub(rd, rs1, rs2) => write_registers(f, "sub", rd, rs1, rs2),
-            Instr::Sll(rd, rs1, rs2) => write_registers(f, "sll", rd, rs1, rs2),
-            Instr::Slt(rd, rs1, rs2) => write_registers(f, "slt", rd, rs1, rs2),
-            Instr::Sltu(rd, rs1, rs2) => write_registers(f, "sltu", rd, rs1, rs2),
-            Instr::Xor(rd, rs1, rs2) => write_registers(f, "xor", rd, rs1, rs2),
-            Instr::Srl(rd, rs1, rs2) => write_registers(f, "srl", rd, rs1, rs2),
-            Instr::Sra(rd, rs1, rs2) => write_registers(f, "sra", rd, rs1, rs2),
-            Instr::Or(rd, rs1, rs2) => write_registers(f, "or", rd, rs1, rs2),
-            Instr::And(rd, rs1, rs2) => write_registers(f, "and", rd, rs1, rs2),
-            Instr::Fence(rd, rs1, bits) => write_number(f, "fence", rd, rs1, bits.bits()),
-            Instr::Ecall => f.write_str("ecall"),
-            Instr::Ebreak => f.write_str("ebreak"),
-            Instr::Mul(rd, rs1, rs2) => write_registers(f, "mul", rd, rs1, rs2),
-            Instr::Mulh(rd, rs1, rs2) => write_registers(f, "mulh", rd, rs1, rs2),
-            Instr::Mulhsu(rd, rs1, rs2) => write_registers(f, "mulhsu", rd, rs1, rs2),
-            Instr::Mulhu(rd, rs1, rs2) => write_registers(f, "mulhu", rd, rs1, rs2),
-            Instr::Div(rd, rs1, rs2) => write_registers(f, "div", rd, rs1, rs2),
-            Instr::Divu(rd, rs1, rs2) => write_registers(f, "divu", rd, rs1, rs2),
-            Instr::Rem(rd, rs1, rs2) => write_registers(f, "rem", rd, rs1, rs2),
-            Instr::Remu(rd, rs1, rs2) => write_registers(f, "remu", rd, rs1, rs2),
-        }
+        let (name, operands) = parts(*self);
+        write_parts(f, name, operands)
+    }
+}
+
+fn write_parts<W: fmt::Write>(
+    f: &mut fmt::Formatter<W>,
+    name: &str,
+    operands: Operands,
+) -> fmt::Result
+    ensures { DisplaysOnOk W.write_str_gives f.old result (Some (parts_text name.now operands)) f.new }
+{
+    match operands {
+        Operands::Upper(a, imm) => write_upper(f, name, a, imm.bits()),
+        Operands::Jump(a, offset) => write_jump(f, name, a, offset.value()),
+        Operands::Address(a, offset, base) => write_memory(f, name, a, offset.value(), base),
+        Operands::Branch(a, b, offset) => write_signed(f, name, a, b, offset.value()),
+        Operands::Immediate(a, b, imm) => write_signed(f, name, a, b, imm.value()),
+        Operands::Shift(a, b, count) => write_number(f, name, a, b, count.count() as u32),
+        Operands::Bits(a, b, bits) => write_number(f, name, a, b, bits.bits()),
+        Operands::Registers(a, b, c) => write_registers(f, name, a, b, c),
+        Operands::Nothing => f.write_str(name),
     }
 }

@@ -1,7 +1,11 @@
 // What converts to what, and types made of others.
 
-use crate::made_types::{THIN, pointer};
+use crate::made_types::Base::{Char, Int, Null};
+use crate::made_types::Of::{Plain, Under};
+use crate::made_types::{Of, THIN, made};
 use cyc_types::{BaseType, Broken, CType, Layer, RegionId};
+use std::alloc::AllocGlobal;
+use std::process::Abort;
 use std::test::Fail;
 
 #[test]
@@ -10,38 +14,57 @@ fn a_pointer_is_made_and_followed(rt: HostRuntime) -> Result<(), Fail> {
     assert!(rt; int.outer().is_none());
     let fat = int.under(THIN)?.under(Layer::Fat(RegionId::Level(3)))?;
     assert!(rt; matches!(fat.outer(), Some(Layer::Fat(RegionId::Level(3)))));
-    let thin = fat.into_pointee();
-    assert!(rt; thin.is_same(&pointer(rt.alloc(), BaseType::Int, THIN)?));
+    leads_to_int(&rt, fat.into_pointee())
+}
+
+fn leads_to_int(rt: &(impl Abort + AllocGlobal), thin: CType<'static>) -> Result<(), Fail> {
+    let want = made(rt.alloc(), Under(Int, THIN))?;
+    assert!(rt; thin.is_same(&want));
     let int = thin.into_pointee();
     assert!(rt; int.is_integer() && int.outer().is_none());
     Ok(())
 }
 
-#[test]
-fn integers_and_null_convert(rt: HostRuntime) -> Result<(), Fail> {
-    let char = CType::plain(rt.alloc(), BaseType::Char);
-    let int = CType::plain(rt.alloc(), BaseType::Int);
-    let null = CType::plain(rt.alloc(), BaseType::Null);
-    let thin = pointer(rt.alloc(), BaseType::Int, THIN)?;
-    let never_null = pointer(
-        rt.alloc(),
-        BaseType::Int,
-        Layer::Thin(false, RegionId::Heap),
-    )?;
-    assert_eq!(rt; char.conversion(&int, false), None);
-    assert_eq!(rt; int.conversion(&thin, false), Some(Broken::Typing));
-    assert_eq!(rt; null.conversion(&thin, false), None);
-    assert_eq!(rt; null.conversion(&never_null, false), Some(Broken::Typing));
+fn converts(
+    rt: &(impl Abort + AllocGlobal),
+    from: Of,
+    to: Of,
+    outlives: bool,
+    want: Option<Broken>,
+) -> Result<(), Fail> {
+    let from = made(rt.alloc(), from)?;
+    let to = made(rt.alloc(), to)?;
+    assert!(rt; from.conversion(&to, outlives) == want);
     Ok(())
 }
 
 #[test]
+fn integers_and_null_convert(rt: HostRuntime) -> Result<(), Fail> {
+    let never_null = Layer::Thin(false, RegionId::Heap);
+    converts(&rt, Plain(Char), Plain(Int), false, None)?;
+    converts(
+        &rt,
+        Plain(Int),
+        Under(Int, THIN),
+        false,
+        Some(Broken::Typing),
+    )?;
+    converts(&rt, Plain(Null), Under(Int, THIN), false, None)?;
+    converts(
+        &rt,
+        Plain(Null),
+        Under(Int, never_null),
+        false,
+        Some(Broken::Typing),
+    )
+}
+
+#[test]
 fn pointers_convert(rt: HostRuntime) -> Result<(), Fail> {
-    let thin = pointer(rt.alloc(), BaseType::Int, THIN)?;
-    let shorter = pointer(rt.alloc(), BaseType::Int, Layer::Fat(RegionId::Level(0)))?;
-    let alone = pointer(rt.alloc(), BaseType::Int, Layer::Unique(true))?;
-    assert_eq!(rt; thin.conversion(&shorter, true), None);
-    assert_eq!(rt; shorter.conversion(&thin, false), Some(Broken::Outlives));
-    assert_eq!(rt; alone.conversion(&thin, true), Some(Broken::Region));
-    Ok(())
+    let thin = Under(Int, THIN);
+    let shorter = Under(Int, Layer::Fat(RegionId::Level(0)));
+    let alone = Under(Int, Layer::Unique(true));
+    converts(&rt, thin, shorter, true, None)?;
+    converts(&rt, shorter, thin, false, Some(Broken::Outlives))?;
+    converts(&rt, alone, thin, true, Some(Broken::Region))
 }

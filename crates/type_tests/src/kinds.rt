@@ -1,7 +1,11 @@
 // Kinds of types.
 
-use crate::made_types::{THIN, pointer, structure, union_in};
+use crate::made_types::Base::{Char, Int, Key, Null, Struct, Union, Void};
+use crate::made_types::Of::{Plain, Under};
+use crate::made_types::{Base, Of, THIN, made, made_base};
 use cyc_types::{BaseType, CType, Layer, RegionId, Scalar};
+use std::alloc::AllocGlobal;
+use std::process::Abort;
 use std::test::Fail;
 
 // integer, NULL, union, key, void, testable, scalar, makeable, element
@@ -19,9 +23,9 @@ fn base_kinds(of: &BaseType) -> [bool; 9] {
     ]
 }
 
-// the same of a type, and whether it is a pointer
-fn kinds(of: &CType) -> ([bool; 9], bool) {
-    let kinds = [
+// the same of a type
+fn kinds(of: &CType) -> [bool; 9] {
+    [
         of.is_integer(),
         of.is_null(),
         of.is_union(),
@@ -31,8 +35,7 @@ fn kinds(of: &CType) -> ([bool; 9], bool) {
         of.is_scalar(),
         of.is_makeable(),
         of.is_element(),
-    ];
-    (kinds, of.is_pointer())
+    ]
 }
 
 const F: bool = false;
@@ -53,60 +56,76 @@ const STRUCT: [bool; 9] = [F, F, F, F, F, F, F, T, T];
 
 const POINTER: [bool; 9] = [F, F, F, F, F, T, T, T, T];
 
+fn has_base_kinds(rt: &(impl Abort + AllocGlobal), of: Base, want: [bool; 9]) -> Result<(), Fail> {
+    let base = made_base(rt.alloc(), of)?;
+    assert_eq!(rt; base_kinds(&base), want);
+    Ok(())
+}
+
+fn has_kinds(rt: &(impl Abort + AllocGlobal), of: Of, want: [bool; 9]) -> Result<(), Fail> {
+    let of = made(rt.alloc(), of)?;
+    assert_eq!(rt; kinds(&of), want);
+    assert!(rt; of.is_pointer() == (want == POINTER));
+    Ok(())
+}
+
 #[test]
 fn bases_have_their_kinds(rt: HostRuntime) -> Result<(), Fail> {
-    let shared = union_in(rt.alloc(), b"either", RegionId::Heap)?;
-    assert_eq!(rt; base_kinds(&BaseType::Char), INTEGER);
-    assert_eq!(rt; base_kinds(&BaseType::Null), NULL);
-    assert_eq!(rt; base_kinds(&shared), UNION);
-    assert_eq!(rt; base_kinds(&BaseType::Key(RegionId::Heap)), KEY);
-    assert_eq!(rt; base_kinds(&BaseType::Void), VOID);
-    assert_eq!(rt; base_kinds(&structure(rt.alloc(), b"pair")), STRUCT);
-    Ok(())
+    has_base_kinds(&rt, Char, INTEGER)?;
+    has_base_kinds(&rt, Null, NULL)?;
+    has_base_kinds(&rt, Union(b"either", RegionId::Heap), UNION)?;
+    has_base_kinds(&rt, Key(RegionId::Heap), KEY)?;
+    has_base_kinds(&rt, Void, VOID)?;
+    has_base_kinds(&rt, Struct(b"pair"), STRUCT)
 }
 
 #[test]
 fn types_have_their_kinds(rt: HostRuntime) -> Result<(), Fail> {
-    let null = CType::plain(rt.alloc(), BaseType::Null);
-    let shared = CType::plain(rt.alloc(), union_in(rt.alloc(), b"either", RegionId::Heap)?);
-    let key = CType::plain(rt.alloc(), BaseType::Key(RegionId::Level(0)));
-    let nothing = CType::plain(rt.alloc(), BaseType::Void);
-    assert_eq!(rt;
-        kinds(&CType::plain(rt.alloc(), BaseType::Int)),
-        (INTEGER, false)
-    );
-    assert_eq!(rt; kinds(&null), (NULL, false));
-    assert_eq!(rt; kinds(&shared), (UNION, false));
-    assert_eq!(rt; kinds(&key), (KEY, false));
-    assert_eq!(rt; kinds(&nothing), (VOID, false));
-    assert_eq!(rt;
-        kinds(&pointer(rt.alloc(), BaseType::Void, THIN)?),
-        (POINTER, true)
-    );
-    Ok(())
+    has_kinds(&rt, Plain(Int), INTEGER)?;
+    has_kinds(&rt, Plain(Null), NULL)?;
+    has_kinds(&rt, Plain(Union(b"either", RegionId::Heap)), UNION)?;
+    has_kinds(&rt, Plain(Key(RegionId::Level(0))), KEY)?;
+    has_kinds(&rt, Plain(Void), VOID)?;
+    has_kinds(&rt, Under(Void, THIN), POINTER)
+}
+
+fn is_copied_and_begins(rt: &(impl Abort + AllocGlobal), of: Layer, copied: bool, begins: bool) {
+    assert!(rt; of.is_copyable() == copied);
+    assert!(rt; of.has_beginning() == begins);
 }
 
 #[test]
 fn pointers_are_copied_and_begin(rt: HostRuntime) {
-    for (layer, copied, begins) in [
-        (Layer::default(), true, true),
-        (Layer::Thin(false, RegionId::Heap), true, false),
-        (Layer::Unique(true), false, true),
-    ] {
-        assert_eq!(rt; layer.is_copyable(), copied);
-        assert_eq!(rt; layer.has_beginning(), begins);
+    is_copied_and_begins(&rt, Layer::default(), true, true);
+    is_copied_and_begins(&rt, Layer::Thin(false, RegionId::Heap), true, false);
+    is_copied_and_begins(&rt, Layer::Unique(true), false, true);
+}
+
+// what the one cell of a type holds, if it has one
+fn cell_of(of: &CType) -> &'static str {
+    match of.scalar() {
+        Some(Scalar::Char) => "char",
+        Some(Scalar::Unique(false)) => "unique pointer, never null",
+        Some(Scalar::Union(_)) => "union",
+        Some(_) => "another",
+        None => "none",
     }
+}
+
+fn is_cell(rt: &(impl Abort + AllocGlobal), of: Of, want: &str) -> Result<(), Fail> {
+    let of = made(rt.alloc(), of)?;
+    assert!(rt; cell_of(&of) == want);
+    Ok(())
 }
 
 #[test]
 fn values_of_one_cell_are_scalars(rt: HostRuntime) -> Result<(), Fail> {
-    let char = CType::plain(rt.alloc(), BaseType::Char);
-    let alone = pointer(rt.alloc(), BaseType::Int, Layer::Unique(false))?;
-    let shared = CType::plain(rt.alloc(), union_in(rt.alloc(), b"either", RegionId::Heap)?);
-    let pair = CType::plain(rt.alloc(), structure(rt.alloc(), b"pair"));
-    assert!(rt; matches!(char.scalar(), Some(Scalar::Char)));
-    assert!(rt; matches!(alone.scalar(), Some(Scalar::Unique(false))));
-    assert!(rt; matches!(shared.scalar(), Some(Scalar::Union(_))));
-    assert!(rt; pair.scalar().is_none());
-    Ok(())
+    is_cell(&rt, Plain(Char), "char")?;
+    is_cell(
+        &rt,
+        Under(Int, Layer::Unique(false)),
+        "unique pointer, never null",
+    )?;
+    is_cell(&rt, Plain(Union(b"either", RegionId::Heap)), "union")?;
+    is_cell(&rt, Plain(Struct(b"pair")), "none")
 }

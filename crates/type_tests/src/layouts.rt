@@ -1,11 +1,12 @@
 // Where the cells of types lie.
 
-use crate::extents::{NAMES, member, mixed, tag_of, twice};
-use crate::made_types::{THIN, pointer, structure, union_in};
-use cyc_types::{
-    BaseType, CType, Cell, Layer, Layout, Member, RegionId, Scalar, SizeFault, Tables, Tag, layout,
-};
-use std::alloc::{AllocError, Global};
+use crate::extents::MIXED;
+use crate::made_types::Base::{Char, Int, Struct, Union, Unsigned, Void};
+use crate::made_types::Of::{Plain, Under};
+use crate::made_types::{FAT, Members, Of, THIN, add, made, of_repeated};
+use cyc_types::{CType, Cell, Layout, RegionId, Scalar, SizeFault, Tables, layout};
+use std::alloc::{AllocGlobal, Global};
+use std::process::Abort;
 use std::test::Fail;
 
 // whether cells lie so many bytes from the first, one by one
@@ -17,205 +18,177 @@ fn are_at(cells: &[Cell], offsets: &[u32]) -> bool {
             .all(|(cell, offset)| cell.offset == *offset)
 }
 
-// the size of a type, and to how many bytes it is aligned
-fn bytes(of: &Layout) -> (u32, u32) {
-    (of.extent.size(), of.extent.align())
+// what a type's first cell holds, if it has one
+fn first_of(of: &Layout) -> &'static str {
+    match of.cells.first().map(|cell| cell.scalar) {
+        Some(Scalar::Int) => "int",
+        Some(Scalar::Unsigned) => "unsigned",
+        Some(Scalar::Char) => "char",
+        Some(Scalar::Thin(_)) => "thin",
+        Some(Scalar::Fat) => "fat",
+        Some(Scalar::Union(b"either")) => "either",
+        Some(_) => "another",
+        None => "none",
+    }
 }
 
-// whether a type has cells at these offsets, so many bytes, and this alignment
+// a type, the offsets of its cells, its size and alignment, and what its first cell holds
+type Row<'r> = (Of, &'r [u32], (u32, u32), &'r str);
+
+// asserts that each type lies so
+fn lie(
+    rt: &(impl Abort + AllocGlobal),
+    tables: &Tables<'static>,
+    rows: &[Row<'_>],
+) -> Result<(), Fail> {
+    for (of, offsets, bytes, first) in rows {
+        let of = made(rt.alloc(), *of)?;
+        assert!(rt;
+            lies(rt.alloc(), tables, &of, offsets, *bytes, first),
+            "{first}"
+        );
+    }
+    Ok(())
+}
+
 fn lies<'p>(
     alloc: Global,
     tables: &Tables<'p>,
     of: &CType<'p>,
     offsets: &[u32],
     (size, align): (u32, u32),
+    first: &str,
 ) -> bool {
     match layout(alloc, of, tables) {
-        Ok(found) => are_at(&found.cells, offsets) && bytes(&found) == (size, align),
+        Ok(found) => {
+            are_at(&found.cells, offsets)
+                && (found.extent.size(), found.extent.align()) == (size, align)
+                && first_of(&found) == first
+        }
         Err(_) => false,
     }
-}
-
-// whether a type has this size, and so many cells
-fn has<'p>(alloc: Global, tables: &Tables<'p>, of: &CType<'p>, size: u32, cells: usize) -> bool {
-    match layout(alloc, of, tables) {
-        Ok(found) => found.cells.len() == cells && found.extent.size() == size,
-        Err(_) => false,
-    }
-}
-
-// what a type's first cell holds
-fn first<'p>(alloc: Global, tables: &Tables<'p>, of: &CType<'p>) -> Option<Scalar<'p>> {
-    match layout(alloc, of, tables) {
-        Ok(found) => found.cells.first().map(|cell| cell.scalar),
-        Err(_) => None,
-    }
-}
-
-// whether a type is refused for its size
-fn is_too_large<'p>(alloc: Global, tables: &Tables<'p>, of: &CType<'p>) -> bool {
-    matches!(layout(alloc, of, tables), Err(SizeFault::Size))
-}
-
-fn plain(alloc: Global, base: BaseType<'_>) -> CType<'_> {
-    CType::plain(alloc, base)
-}
-
-fn of_struct<'p>(alloc: Global, name: &'p [u8]) -> CType<'p> {
-    CType::plain(alloc, structure(alloc, name))
-}
-
-fn of_union<'p>(alloc: Global, name: &'p [u8]) -> Result<CType<'p>, AllocError> {
-    let base = union_in(alloc, name, RegionId::Heap)?;
-    Ok(CType::plain(alloc, base))
 }
 
 #[test]
 fn a_scalar_is_one_cell(rt: HostRuntime) -> Result<(), Fail> {
     let tables = Tables::new(rt.alloc());
-    let int = plain(rt.alloc(), BaseType::Int);
-    let unsigned = plain(rt.alloc(), BaseType::Unsigned);
-    let char = plain(rt.alloc(), BaseType::Char);
-    let void = plain(rt.alloc(), BaseType::Void);
-    assert!(rt; lies(rt.alloc(), &tables, &int, &[0], (4, 4)));
-    assert!(rt; lies(rt.alloc(), &tables, &unsigned, &[0], (4, 4)));
-    assert!(rt; lies(rt.alloc(), &tables, &char, &[0], (1, 1)));
-    assert!(rt; lies(rt.alloc(), &tables, &void, &[], (0, 1)));
-    assert!(rt;
-        matches!(
-            first(rt.alloc(), &tables, &unsigned),
-            Some(Scalar::Unsigned)
-        )
-    );
-    Ok(())
+    lie(
+        &rt,
+        &tables,
+        &[
+            (Plain(Int), &[0], (4, 4), "int"),
+            (Plain(Unsigned), &[0], (4, 4), "unsigned"),
+            (Plain(Char), &[0], (1, 1), "char"),
+            (Plain(Void), &[], (0, 1), "none"),
+            (Under(Char, THIN), &[0], (4, 4), "thin"),
+            (Under(Char, FAT), &[0], (12, 4), "fat"),
+        ],
+    )
 }
 
-#[test]
-fn a_pointer_is_one_cell(rt: HostRuntime) -> Result<(), Fail> {
-    let tables = Tables::new(rt.alloc());
-    let thin = pointer(rt.alloc(), BaseType::Char, THIN)?;
-    let fat = pointer(rt.alloc(), BaseType::Char, Layer::Fat(RegionId::Heap))?;
-    assert!(rt; lies(rt.alloc(), &tables, &thin, &[0], (4, 4)));
-    assert!(rt; lies(rt.alloc(), &tables, &fat, &[0], (12, 4)));
-    assert!(rt; matches!(first(rt.alloc(), &tables, &fat), Some(Scalar::Fat)));
-    Ok(())
-}
+const TWICE: Members = &[
+    (b"first", Plain(Struct(b"mixed"))),
+    (b"second", Plain(Struct(b"mixed"))),
+];
 
-// `struct outer { char a; struct mixed b; }`
-fn outer(alloc: Global) -> Result<Tag<'static>, AllocError> {
-    let members = vec![in alloc;
-        member(b"a", plain(alloc, BaseType::Char)),
-        member(b"b", of_struct(alloc, b"mixed")),
-    ]?;
-    Ok(tag_of(false, members))
-}
+const OUTER: Members = &[(b"a", Plain(Char)), (b"b", Plain(Struct(b"mixed")))];
 
 #[test]
 fn members_lie_in_order(rt: HostRuntime) -> Result<(), Fail> {
-    let mut tables = Tables::new(rt.alloc());
-    tables.add(b"mixed", mixed(rt.alloc())?)?;
-    tables.add(b"twice", twice(rt.alloc(), b"mixed")?)?;
-    tables.add(b"outer", outer(rt.alloc())?)?;
-    let inner = of_struct(rt.alloc(), b"mixed");
-    let both = of_struct(rt.alloc(), b"twice");
-    let outer = of_struct(rt.alloc(), b"outer");
-    assert!(rt; lies(rt.alloc(), &tables, &inner, &[0, 4, 8], (12, 4)));
-    assert!(rt; lies(rt.alloc(), &tables, &both, &[0, 4, 8, 12, 16, 20], (24, 4)));
-    assert!(rt; lies(rt.alloc(), &tables, &outer, &[0, 4, 8, 12], (16, 4)));
-    assert!(rt; matches!(first(rt.alloc(), &tables, &outer), Some(Scalar::Char)));
-    Ok(())
+    let tables = Tables::new(rt.alloc());
+    let tables = add(rt.alloc(), tables, b"mixed", (false, 0), MIXED)?;
+    let tables = add(rt.alloc(), tables, b"twice", (false, 0), TWICE)?;
+    let tables = add(rt.alloc(), tables, b"outer", (false, 0), OUTER)?;
+    lie(
+        &rt,
+        &tables,
+        &[
+            (Plain(Struct(b"mixed")), &[0, 4, 8], (12, 4), "char"),
+            (
+                Plain(Struct(b"twice")),
+                &[0, 4, 8, 12, 16, 20],
+                (24, 4),
+                "char",
+            ),
+            (Plain(Struct(b"outer")), &[0, 4, 8, 12], (16, 4), "char"),
+        ],
+    )
 }
 
-// `union either { char small; int ?large; }`
-fn either(alloc: Global) -> Result<Tag<'static>, AllocError> {
-    let large = pointer(alloc, BaseType::Int, Layer::Fat(RegionId::Heap))?;
-    let members = vec![in alloc;
-        member(b"small", plain(alloc, BaseType::Char)),
-        member(b"large", large),
-    ]?;
-    Ok(tag_of(true, members))
-}
+const EITHER: Members = &[(b"small", Plain(Char)), (b"large", Under(Int, FAT))];
 
-// `struct holder { char a; union either b; char c; }`
-fn holder(alloc: Global) -> Result<Tag<'static>, AllocError> {
-    let shared = of_union(alloc, b"either")?;
-    let members = vec![in alloc;
-        member(b"a", plain(alloc, BaseType::Char)),
-        member(b"b", shared),
-        member(b"c", plain(alloc, BaseType::Char)),
-    ]?;
-    Ok(tag_of(false, members))
-}
+const HOLDER: Members = &[
+    (b"a", Plain(Char)),
+    (b"b", Plain(Union(b"either", RegionId::Heap))),
+    (b"c", Plain(Char)),
+];
 
 #[test]
 fn a_union_is_one_cell(rt: HostRuntime) -> Result<(), Fail> {
-    let mut tables = Tables::new(rt.alloc());
-    tables.add(b"either", either(rt.alloc())?)?;
-    tables.add(b"holder", holder(rt.alloc())?)?;
-    let shared = of_union(rt.alloc(), b"either")?;
-    let holder = of_struct(rt.alloc(), b"holder");
-    assert!(rt; lies(rt.alloc(), &tables, &shared, &[0], (16, 4)));
-    assert!(rt; lies(rt.alloc(), &tables, &holder, &[0, 4, 20], (24, 4)));
-    assert!(rt;
-        matches!(
-            first(rt.alloc(), &tables, &shared),
-            Some(Scalar::Union(b"either"))
-        )
-    );
+    let tables = Tables::new(rt.alloc());
+    let tables = add(rt.alloc(), tables, b"either", (true, 0), EITHER)?;
+    let tables = add(rt.alloc(), tables, b"holder", (false, 0), HOLDER)?;
+    lie(
+        &rt,
+        &tables,
+        &[
+            (
+                Plain(Union(b"either", RegionId::Heap)),
+                &[0],
+                (16, 4),
+                "either",
+            ),
+            (Plain(Struct(b"holder")), &[0, 4, 20], (24, 4), "char"),
+        ],
+    )
+}
+
+// asserts that a type has this size, and so many cells
+fn has_cells(
+    rt: &(impl Abort + AllocGlobal),
+    tables: &Tables<'static>,
+    of: Of,
+    size: u32,
+    cells: usize,
+) -> Result<(), Fail> {
+    let of = made(rt.alloc(), of)?;
+    assert!(rt; counts(rt.alloc(), tables, &of) == Some((size, cells)));
     Ok(())
 }
 
-// a struct of one `int`
-fn one(alloc: Global) -> Result<Tag<'static>, AllocError> {
-    let members = vec![in alloc; member(b"only", plain(alloc, BaseType::Int))]?;
-    Ok(tag_of(false, members))
+fn counts<'p>(alloc: Global, tables: &Tables<'p>, of: &CType<'p>) -> Option<(u32, usize)> {
+    match layout(alloc, of, tables) {
+        Ok(found) => Some((found.extent.size(), found.cells.len())),
+        Err(_) => None,
+    }
 }
 
-// a struct of another and a `char`
-fn one_more<'p>(alloc: Global, name: &'p [u8]) -> Result<Tag<'p>, AllocError> {
-    let members = vec![in alloc;
-        member(b"most", of_struct(alloc, name)),
-        member(b"more", plain(alloc, BaseType::Char)),
-    ]?;
-    Ok(tag_of(false, members))
+// asserts that a type is refused for its size
+fn is_too_large(
+    rt: &(impl Abort + AllocGlobal),
+    tables: &Tables<'static>,
+    of: Of,
+) -> Result<(), Fail> {
+    let of = made(rt.alloc(), of)?;
+    assert!(rt; matches!(layout(rt.alloc(), &of, tables), Err(SizeFault::Size)));
+    Ok(())
 }
+
+const OVER: Members = &[(b"most", Plain(Struct(b"d10"))), (b"more", Plain(Char))];
 
 // `over` has the 4,096 bytes of the tenth, one more, and three behind it.
 #[test]
 fn no_layout_has_more_than_the_most_bytes(rt: HostRuntime) -> Result<(), Fail> {
-    let mut tables = Tables::new(rt.alloc());
-    tables.add(NAMES[0], one(rt.alloc())?)?;
-    for i in 1..11 {
-        tables.add(NAMES[i], twice(rt.alloc(), NAMES[i - 1])?)?;
-    }
-    tables.add(b"over", one_more(rt.alloc(), NAMES[10])?)?;
-    let most = of_struct(rt.alloc(), NAMES[10]);
-    let over = of_struct(rt.alloc(), b"over");
-    assert!(rt; has(rt.alloc(), &tables, &most, 4096, 1024));
-    assert!(rt; is_too_large(rt.alloc(), &tables, &over));
-    Ok(())
-}
-
-// a struct of eight members of one type
-fn eight_times<'p>(alloc: Global, name: &'p [u8]) -> Result<Tag<'p>, AllocError> {
-    let mut members: Vec<Member<'p>> = Vec::new(alloc);
-    for i in 0..8 {
-        members.push(member(NAMES[i], of_struct(alloc, name)))?;
-    }
-    Ok(tag_of(false, members))
+    let tables = of_repeated(rt.alloc(), 2)?;
+    let tables = add(rt.alloc(), tables, b"over", (false, 0), OVER)?;
+    has_cells(&rt, &tables, Plain(Struct(b"d10")), 4096, 1024)?;
+    is_too_large(&rt, &tables, Plain(Struct(b"over")))
 }
 
 // Each has eight of the one before it: the tenth would have 2 ^ 32 bytes, which is 0 where a sum wraps.
 #[test]
 fn no_size_wraps(rt: HostRuntime) -> Result<(), Fail> {
-    let mut tables = Tables::new(rt.alloc());
-    tables.add(NAMES[0], one(rt.alloc())?)?;
-    for i in 1..11 {
-        tables.add(NAMES[i], eight_times(rt.alloc(), NAMES[i - 1])?)?;
-    }
-    let fits = of_struct(rt.alloc(), NAMES[3]);
-    let wraps = of_struct(rt.alloc(), NAMES[10]);
-    assert!(rt; has(rt.alloc(), &tables, &fits, 2048, 512));
-    assert!(rt; is_too_large(rt.alloc(), &tables, &wraps));
-    Ok(())
+    let tables = of_repeated(rt.alloc(), 8)?;
+    has_cells(&rt, &tables, Plain(Struct(b"d3")), 2048, 512)?;
+    is_too_large(&rt, &tables, Plain(Struct(b"d10")))
 }

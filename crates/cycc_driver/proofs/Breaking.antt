@@ -9,11 +9,14 @@ use Rattle.check_faults.specs.declared.fault.FaultKind.{FaultKind}
 use Rattle.check_faults.specs.declared.fault.FaultKind.TheVariants as kind
 use Rattle.unique_flow.specs.CheckFault.{CheckFault}
 use Rattle.unique_flow.specs.CheckFault.TheVariants as check
+use Rattle.unique_flow.specs.Faults.{IsFirstFault}
+use Rattle.unique_flow.specs.declared.fault.FlowFault.{FlowFault}
+use Rattle.unique_flow.specs.declared.fault.FlowFault.TheVariants as flow
 use Rattle.cycc_driver.specs.declared.fault.Place.{Place}
 use Rattle.cycc_driver.specs.declared.fault.CompileFault.{CompileFault}
 use Rattle.cycc_driver.specs.Texts.{IsTextOf}
 use Rattle.cycc_driver.specs.Refusals.{IsBroken, IsRefusedFor}
-use Rattle.cycc_driver.specs.Refused.{form_of, IsOfChecking}
+use Rattle.cycc_driver.specs.Refused.{form_of, IsOfChecking, IsOfFlow}
 
 by_kind : (text : List ℕ) (k : FaultKind) (place : Place) → IsBroken text k place → IsRefusedFor (form_of k place) text
 by_kind text kind.Name place broken = broken
@@ -32,3 +35,17 @@ broken_text text program (check.Broken b) f first (place, is, there) spelled =
     subst (λ (x : CompileFault). IsRefusedFor x text) (sym is)
     (by_kind text b.kind place (record { program = program; spelled = spelled; at = b.at; first = first b refl; there = there }))
 broken_text text program check.Memory f first is spelled = subst (λ (x : CompileFault). IsRefusedFor x text) (sym is) tt
+
+-- and where it is one of flow
+pub flow_text : (text : List ℕ) (program : Program) (why : FlowFault) (f : CompileFault) → IsFirstFault why program → IsOfFlow text why f
+    → IsTextOf text program → IsRefusedFor f text
+flow_text text program (flow.Consumed at) f first (place, is, there) spelled =
+    subst (λ (x : CompileFault). IsRefusedFor x text) (sym is)
+    (record { program = program; spelled = spelled; at = at; first = first; there = there })
+flow_text text program (flow.Lent at) f first (place, is, there) spelled =
+    subst (λ (x : CompileFault). IsRefusedFor x text) (sym is)
+    (record { program = program; spelled = spelled; at = at; first = first; there = there })
+flow_text text program (flow.Copy at) f first (place, is, there) spelled =
+    subst (λ (x : CompileFault). IsRefusedFor x text) (sym is)
+    (record { program = program; spelled = spelled; at = at; first = first; there = there })
+flow_text text program flow.Memory f first is spelled = subst (λ (x : CompileFault). IsRefusedFor x text) (sym is) tt

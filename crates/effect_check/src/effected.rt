@@ -10,7 +10,7 @@ ghost use Rattle.accepted_programs.specs.Supported.{supported};
 use crate::fault::CheckFault;
 use check_faults::{Fault, Taken};
 use cyc_tree::Program;
-use region_types::{Typed, program_fault, supported};
+use region_types::{Typed, program_fault};
 use std::alloc::{AllocError, Global};
 use std::marker::Model;
 
@@ -66,26 +66,18 @@ pub fn effect_fault(
     program_fault(alloc, taken, program, false)
 }
 
-/// The same where the forms are taken that `supported` names.
-fn earliest_fault(alloc: Global, program: &Program) -> Result<Option<Fault>, AllocError>
-    ensures { IfOk result (λ f. faults_of f ≡ effect_fault supported program.now) }
-{
-    effect_fault(alloc, supported(), program)
-}
-
-/// Looks at a program's regions and effects. A program with a fault is refused with its earliest one, or for want of memory; one
-/// without a fault for want of memory alone.
-pub fn effects(alloc: Global, typed: Typed) -> Result<Effected, CheckFault>
+/// Answers a program that was looked at, unless it has a fault of regions and effects, or an earlier one. A program with a fault is
+/// refused with its earliest one, and one without a fault isn't refused: no memory is taken here.
+pub fn effects(_alloc: Global, typed: Typed) -> Result<Effected, CheckFault>
     // a program without a fault is answered as it is
     ensures ok { IfOk result (λ e. (e ≡ typed) × (effect_fault supported typed ≡ None)) }
     // a fault is the program's first
     ensures broken { (f : Broken_fault) → result ≡ Err (CheckFault.Broken f) → effect_fault supported typed ≡ Some (fault_of f) }
 {
-    match earliest_fault(alloc, typed.program()) {
-        Ok(None) => Ok(Effected {
+    match typed.effect_fault() {
+        None => Ok(Effected {
             program: typed.into_program(),
         }),
-        Ok(Some(fault)) => Err(CheckFault::Broken(fault)),
-        Err(_) => Err(CheckFault::Memory),
+        Some(fault) => Err(CheckFault::Broken(fault)),
     }
 }

@@ -1,7 +1,7 @@
--- The first fault of a program's names, types, regions and sizes, by the rules of `source_typing`, where the forms are taken that `supported` names.
+-- The first faults of a program, by the rules of `source_typing`, where the forms are taken that `supported` names.
 use Rattle.std.specs.Prelude.{◌≡◌, Option}
 use Rattle.cyc_tree.specs.Tree.{Program}
-use Rattle.source_typing.specs.Answers.{type_fault}
+use Rattle.source_typing.specs.Answers.{effect_fault, type_fault}
 use Rattle.accepted_programs.specs.Supported.{supported}
 use Rattle.check_faults.specs.Faults.{faults_of}
 use Rattle.check_faults.specs.declared.fault.Fault.{Fault}
@@ -10,3 +10,7 @@ use Rattle.check_faults.specs.declared.fault.Fault.{Fault}
 -- Type at its first token.
 abbrev pub IsTypeFault : Option Fault → Program → Type 0
 IsTypeFault found program = faults_of found ≡ type_fault supported program
+
+-- the same by all rules but those of flow
+abbrev pub IsEffectFault : Option Fault → Program → Type 0
+IsEffectFault found program = faults_of found ≡ effect_fault supported program

@@ -1,8 +1,10 @@
-//! Names, types and regions.
+//! Names, types, regions and effects.
 //!
-//! `typed` finds what breaks a rule of names, types, regions and sizes in a program, and `Typed::fault` answers the earliest such
-//! fault, without the rules on live regions and effects. The rules are those of `source_typing`, with the forms of the language that
-//! `supported` names; `type_fault` answers the same with any of them. `check_programs` finds the fault. Stands on both and on `cyc_tree`.
+//! `typed` finds what breaks a rule in a program, flow apart: `Typed::fault` answers the earliest fault of names, types, regions and
+//! sizes, without the rules on live regions and effects, and `Typed::effect_fault` the earliest one with these. The rules are those of
+//! `source_typing`, with the forms of the language that `supported` names; `type_fault` answers the first of the two with any of them.
+//! `check_programs` finds the faults. A program in which all these rules find no fault is gone over once: that it has none by fewer rules
+//! either is proved here (`proofs/EasedPrograms`). Stands on these and on `cyc_tree`.
 #![tactic(auto)]
 
 mod forms;

@@ -4,6 +4,7 @@ ghost use Rattle.std.specs.Prelude.{◌≡◌, IfOk};
 ghost use Rattle.source_typing.specs.Answers.{type_fault};
 ghost use Rattle.check_faults.specs.Faults.{faults_of};
 ghost use Rattle.check_faults.specs.Taken.{taken_of};
+ghost use Rattle.region_types.specs.Faults.{IsEffectFault, IsTypeFault};
 
 use crate::forms::supported;
 use crate::program::Typed;
@@ -24,11 +25,28 @@ pub fn type_fault(
     program_fault(alloc, taken, program, true)
 }
 
-/// Looks at a program's names, types, regions and sizes, where the forms are taken that `supported` names. Fails only where no host
-/// memory is left.
+/// The same where the forms are taken that `supported` names, and where this is the earliest fault by the rules on live regions and
+/// effects too: where these find none, the others find none.
+fn fault_without_effects(
+    alloc: Global,
+    program: &Program,
+    effect_fault: Option<Fault>,
+) -> Result<Option<Fault>, AllocError>
+    requires { IsEffectFault effect_fault program.now }
+    ensures { IfOk result (λ f. IsTypeFault f program.now) }
+{
+    match effect_fault {
+        None => Ok(None),
+        Some(_) => type_fault(alloc, supported(), program),
+    }
+}
+
+/// Looks at a program's names, types, regions, effects and sizes, where the forms are taken that `supported` names. A program without a
+/// fault is gone over once. Fails only where no host memory is left.
 pub fn typed(alloc: Global, program: &Program) -> Result<Typed, AllocError>
     ensures { IfOk result (λ t. t ≡ program.now) }
 {
-    let fault = type_fault(alloc, supported(), program)?;
-    Ok(Typed::new(program.clone()?, fault))
+    let effect_fault = program_fault(alloc, supported(), program, false)?;
+    let fault = fault_without_effects(alloc, program, effect_fault)?;
+    Ok(Typed::new(program.clone()?, fault, effect_fault))
 }

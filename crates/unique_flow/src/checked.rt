@@ -1,20 +1,62 @@
 // The last of the checks: flow.
 
-ghost use Rattle.std.specs.Prelude.{◌≡◌, IfOk, IfErr};
+ghost use Rattle.std.specs.Prelude.{◌≡◌, IfOk, IfErr, true};
+ghost use Rattle.source_typing.specs.Answers.{first_fault};
+ghost use Rattle.source_typing.specs.Faults.{is_of_flow};
 ghost use Rattle.accepted_programs.specs.Accepted.{IsAccepted};
+ghost use Rattle.accepted_programs.specs.Supported.{supported};
+ghost use Rattle.check_faults.specs.Faults.{fault_of, faults_of, number_of};
+ghost use Rattle.unique_flow.specs.Faults.{IsAs, IsFirstFault, IsOfFlowIfSome};
 
 use crate::fault::FlowFault;
 use accepted_programs::Checked;
+use check_faults::{Fault, FaultKind};
 use effect_check::Effected;
-use std::alloc::Global;
+use flow_check::flow_fault;
+use region_types::supported;
+use std::alloc::{AllocError, Global};
 
-/// Looks at a program's flow. As yet each program that comes here is accepted, and no memory is taken.
-#[tactic(auto, using(accepted_programs::proofs::NoFlow::first_is_of_effects))]
-pub fn flow(_alloc: Global, effected: Effected) -> Result<Checked, FlowFault>
+/// The earliest fault of a program whose names, types, regions, effects and sizes have none: it is one of flow. Fails only where no host
+/// memory is left.
+fn first_of_flow(alloc: Global, effected: &Effected) -> Result<Option<Fault>, AllocError>
+    ensures first { IfOk result (λ f. faults_of f ≡ first_fault supported effected.now) }
+    ensures of_flow { IfOk result (λ f. IsOfFlowIfSome (faults_of f)) }
+{
+    flow_fault(alloc, supported(), effected.program())
+}
+
+/// A fault of flow as it is answered.
+fn refused(fault: Fault) -> FlowFault
+    requires { is_of_flow (number_of fault.kind) ≡ true }
+    ensures { IsAs result (fault_of fault) }
+{
+    match fault.kind {
+        FaultKind::Consumed => FlowFault::Consumed(fault.at),
+        FaultKind::Lent => FlowFault::Lent(fault.at),
+        FaultKind::Copy => FlowFault::Copy(fault.at),
+        // the others are no faults of flow
+        FaultKind::Name
+        | FaultKind::Typing
+        | FaultKind::Region
+        | FaultKind::Outlives
+        | FaultKind::Effect
+        | FaultKind::Size => unreachable!(),
+    }
+}
+
+/// Looks at a program's flow. A program with a fault is refused with its earliest one, or for want of memory; one without a fault for
+/// want of memory alone.
+pub fn flow(alloc: Global, effected: Effected) -> Result<Checked, FlowFault>
     // the program is answered as it is
     ensures same { IfOk result (λ c. c ≡ effected) }
     // an accepted program is refused only for want of memory
     ensures exact { IsAccepted effected → IfErr result (λ fault. fault ≡ FlowFault.Memory) }
+    // a fault is the program's first
+    ensures broken { IfErr result (λ fault. IsFirstFault fault effected) }
 {
-    Ok(Checked::new(effected.into_program()))
+    match first_of_flow(alloc, &effected) {
+        Ok(None) => Ok(Checked::new(effected.into_program())),
+        Ok(Some(fault)) => Err(refused(fault)),
+        Err(_) => Err(FlowFault::Memory),
+    }
 }

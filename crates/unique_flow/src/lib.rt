@@ -1,9 +1,8 @@
 //! Unique pointers, and the programs that are accepted.
 //!
 //! `flow` answers the earliest fault of flow, or the program as `Checked`: nothing in it breaks a
-//! rule. No form that flow is judged for is supported yet, so it finds no fault: that there is none is a law of
-//! `accepted_programs`. `flow_fault` answers the earliest fault of flow where any forms of the language are taken; `flow_check` finds
-//! it. Stands on these and on `effect_check`.
+//! rule. `flow_fault` answers the earliest fault of flow where any forms of the language are taken; `flow_check` finds
+//! both. That flow has no faults but Consumed, Lent and Copy is proved here. Stands on these and on `effect_check`.
 #![tactic(auto)]
 
 mod checked;

@@ -1,0 +1,9 @@
+mod EasedPhrases
+mod EasedForms
+mod EasedExpressions
+mod EasedDeclarations
+mod EasedStatements
+mod EasedHeads
+mod EasedGlobals
+mod EasedTables
+mod EasedPrograms

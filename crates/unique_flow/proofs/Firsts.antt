@@ -1,0 +1,38 @@
+-- The first fault of a program in which the rules before flow find none.
+use Rattle.std.proofs.Common.{◌≡◌, false, true, Bool, Option, Some, None, List, [], ◌++◌, sym, subst, ap, ap₂, ◌∙◌}
+use Rattle.cyc_tree.specs.Tree.{Program}
+use Rattle.source_typing.proofs.Inversion.{none_of_both}
+use Rattle.source_typing.proofs.TakenItems.{none_is}
+use Rattle.source_typing.specs.Answers.{effect_fault, first_fault}
+use Rattle.source_typing.specs.Faults.{Fault, earliest, is_of_flow}
+use Rattle.source_typing.specs.Left.{flow_faults}
+use Rattle.source_typing.specs.Programs.{typing_faults}
+use Rattle.source_typing.specs.Taken.{constant_forms, only_taken}
+use Rattle.accepted_programs.specs.Supported.{supported}
+use Rattle.check_faults.specs.Faults.{faults_of, fault_of}
+use Rattle.check_faults.specs.declared.fault.Fault as code
+use Rattle.unique_flow.specs.Faults.{IsAs, IsFirstFault, IsOfFlowIfSome}
+use Rattle.unique_flow.specs.declared.fault.FlowFault.{FlowFault}
+use Rattle.unique_flow.specs.declared.fault.FlowFault.TheVariants as flow
+use Rattle.unique_flow.proofs.FlowStatements.{earliest_flow, program_flow}
+
+-- it is the earliest one of flow
+pub first_is_of_flow : (p : Program) → effect_fault supported p ≡ None → earliest (flow_faults (only_taken supported p)) ≡ first_fault supported p
+first_is_of_flow p none =
+    let forms = constant_forms supported p in
+    let typing = typing_faults false (only_taken supported p) in
+    let all = none_of_both forms typing (none_is (forms ++ typing) none) in
+    sym (ap₂ (λ (fs gs : List Fault). earliest (fs ++ (gs ++ flow_faults (only_taken supported p)))) all.0 all.1)
+
+-- and so is what is found, if there is one
+pub found_flow : (found : Option code.Fault) (p : Program) → faults_of found ≡ earliest (flow_faults (only_taken supported p))
+    → IsOfFlowIfSome (faults_of found)
+found_flow found p e =
+    subst IsOfFlowIfSome (sym e) (earliest_flow (flow_faults (only_taken supported p)) (program_flow (only_taken supported p)))
+
+-- a fault as it is answered
+pub first_as : (w : FlowFault) (f : Fault) (p : Program) → IsAs w f → first_fault supported p ≡ Some f → IsFirstFault w p
+first_as (flow.Consumed at) f p same e = e ∙ ap (λ (g : Fault). Some g) same
+first_as (flow.Lent at) f p same e = e ∙ ap (λ (g : Fault). Some g) same
+first_as (flow.Copy at) f p same e = e ∙ ap (λ (g : Fault). Some g) same
+first_as flow.Memory f p same e = absurd same

@@ -1,0 +1,3 @@
+mod FlowExpressions
+mod FlowStatements
+mod Firsts

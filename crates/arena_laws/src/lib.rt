@@ -3,8 +3,9 @@
 //!
 //! specs/Lawful has what any lawful store may do, specs/Laws the same with Full exactly where the
 //! counts of pages say so. `refused_by_count` and `live_blocks` are laws on lists of calls, and
-//! `room_for` and `class_for` say how many bytes a block takes. Who stands on this crate meets no
-//! store. Stands on nothing but `thiserror`.
+//! `room_for` and `class_for` say how many bytes a block takes. `BASE` is the arena's first address,
+//! and `PAGE` the bytes of a page. Who stands on this crate meets no store. Stands on nothing but
+//! `thiserror`.
 #![tactic(auto)]
 
 mod laws;
@@ -16,5 +17,5 @@ mod standing;
 pub use laws::{live_blocks, refused_by_count};
 pub use owner::Owner;
 pub use refusal::StoreRefusal;
-pub use sizes::{class_for, room_for};
+pub use sizes::{BASE, PAGE, class_for, room_for};
 pub use standing::Standing;

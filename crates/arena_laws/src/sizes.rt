@@ -1,7 +1,13 @@
-// The rooms that blocks take.
+// Where the arena begins, how large a page is, and the rooms that blocks take.
 
 ghost use Rattle.std.specs.Prelude.{◌≡◌, ◌<◌, ◌≤◌};
 ghost use Rattle.arena_laws.specs.Counts.{class_of, room_of};
+
+/// The arena's first address.
+pub const BASE: u32 = 0x1000_0000;
+
+/// The bytes of a page of the arena.
+pub const PAGE: u32 = 4096;
 
 /// The bytes of a region's block, for so many that are asked for, up to 4,096: rounded up to 8, and 8
 /// for none. Above 4,096 there is no block, and the answer is 0.

@@ -3,7 +3,7 @@
 use cyc_types::RegionId;
 
 /// What a call takes for its region variables that nothing fixes: the region of the innermost `rnew` around.
-#[derive(Clone, Copy, Debug)]
+#[derive(Clone, Copy)]
 pub enum Enclosing {
     /// That of a handle, or the heap where there is no `rnew`.
     In(RegionId),

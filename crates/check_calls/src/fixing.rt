@@ -19,7 +19,7 @@ use cyc_types::{BaseType, CType, Layer, RegionId};
 use std::alloc::{AllocError, Global};
 
 /// What a region variable is fixed to.
-#[derive(Clone, Copy, Debug)]
+#[derive(Clone, Copy)]
 pub(crate) enum Fixed {
     /// A region.
     Is(RegionId),
@@ -28,7 +28,7 @@ pub(crate) enum Fixed {
 }
 
 /// What a region variable is fixed to, and where the argument stands that fixes it.
-#[derive(Clone, Copy, Debug)]
+#[derive(Clone, Copy)]
 pub(crate) struct Fixing {
     pub is: Fixed,
     pub at: u32,

@@ -16,7 +16,7 @@ use check_scopes::{Named, Signature};
 use cyc_types::{Tables, Tag};
 
 /// What is called.
-#[derive(Clone, Copy, Debug)]
+#[derive(Clone, Copy)]
 pub enum Target<'a, 'p> {
     /// A function that every program has, with so many parameters.
     Builtin(u32),

@@ -36,7 +36,7 @@ use smallvec::SmallVec;
 use std::alloc::{AllocError, Global};
 
 /// A member of a union that a value is made of.
-#[derive(Clone, Copy, Debug)]
+#[derive(Clone, Copy)]
 pub struct UnionMember<'a, 'p> {
     /// The union's name, as it was declared.
     pub text: &'p [u8],

@@ -18,7 +18,7 @@ use check_scopes::{Named, Scope};
 use std::alloc::{AllocError, Global};
 
 /// What is around an expression within a larger one.
-#[derive(Clone, Copy, Debug)]
+#[derive(Clone, Copy)]
 pub struct Around<'a> {
     /// The innermost `rnew`.
     pub enclosing: Enclosing,

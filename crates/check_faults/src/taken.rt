@@ -5,7 +5,7 @@ ghost use Rattle.source_typing.specs.Taken.{thin_pointers, whole};
 ghost use Rattle.check_faults.specs.Taken.{taken_of};
 
 /// Which forms of the language are taken beside integers and thin pointers.
-#[derive(Clone, Copy, Debug)]
+#[derive(Clone, Copy)]
 pub struct Taken {
     /// Structs, and their members.
     pub structs: bool,

@@ -5,7 +5,7 @@ ghost use Rattle.std.specs.Prelude.{◌≡◌};
 use crate::fault::{Fault, sooner};
 
 /// What a phrase is, where `T` is what is known of one in order.
-#[derive(Debug, Drop)]
+#[derive(Drop)]
 pub enum Verdict<T> {
     /// At fault; this is the fault that is answered.
     Wrong(Fault),

@@ -15,11 +15,8 @@ use crate::prefix::contents;
 use crate::value::{Value, fitting, plain, refused};
 use check_faults::{FaultKind, Verdict};
 use check_scopes::Scope;
-use cyc_types::{BaseType, CType, Layer, RegionId};
+use cyc_types::{BaseType, CType, Layer, MOST_BYTES, RegionId};
 use std::alloc::{AllocError, Global};
-
-/// The most bytes of a string, with its final 0.
-const MOST_BYTES: usize = 4096;
 
 /// A subscript of a fat pointer or an array, whose region has to be live, by an integer.
 #[tactic(auto, using(crate::proofs::Indexing::indexed_is))]
@@ -48,7 +45,7 @@ pub fn counted<'p>(alloc: Global, at: u32, operand: &Value) -> Verdict<Value<'p>
 pub fn string<'p>(alloc: Global, at: u32, bytes: &[u8]) -> Result<Verdict<Value<'p>>, AllocError>
     ensures { IfOk result (λ v. short_of value_of v ≡ shortened (string at bytes.now)) }
 {
-    if bytes.len() < MOST_BYTES {
+    if bytes.len() < MOST_BYTES as usize {
         let character = CType::plain(alloc, BaseType::Char);
         Ok(plain(at, character.under(Layer::Fat(RegionId::Heap))?))
     } else {

@@ -18,7 +18,7 @@ use cyc_types::{BaseType, CType, Layer, RegionId};
 use std::alloc::AllocError;
 
 /// Where a value is made.
-#[derive(Clone, Copy, Debug)]
+#[derive(Clone, Copy)]
 pub enum Goal {
     /// In a region.
     To(RegionId),

@@ -13,7 +13,7 @@ use check_faults::{Fault, FaultKind, Verdict};
 use cyc_types::{CType, RegionId};
 
 /// Where a place is.
-#[derive(Clone, Copy, Debug)]
+#[derive(Clone, Copy)]
 pub enum Seat {
     /// The expression is no place.
     Nowhere,
@@ -24,7 +24,7 @@ pub enum Seat {
 }
 
 /// An expression in order: its first token, its type, and where it is a place.
-#[derive(Debug, Drop)]
+#[derive(Drop)]
 pub struct Value<'p> {
     pub at: u32,
     pub of: CType<'p>,

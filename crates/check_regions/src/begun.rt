@@ -4,7 +4,7 @@ ghost use Rattle.std.specs.Prelude.{◌≡◌};
 ghost use Rattle.check_regions.specs.Begun.{begins_live, is_over_heap, is_over_later};
 
 /// How a region name began, the heap apart.
-#[derive(Clone, Copy, Debug, Default)]
+#[derive(Clone, Copy, Default)]
 pub enum Begun {
     /// A region variable of the function.
     Variable {

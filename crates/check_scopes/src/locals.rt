@@ -10,7 +10,7 @@ use std::alloc::{AllocError, Global};
 use std::marker::Model;
 
 /// What a local is.
-#[derive(Debug, Drop)]
+#[derive(Drop)]
 pub enum What<'p> {
     /// A variable of a type, in a region.
     Variable(CType<'p>, RegionId),

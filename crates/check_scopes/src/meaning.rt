@@ -3,7 +3,7 @@
 use cyc_types::{CType, RegionId};
 
 /// A function whose head has no fault: what it takes and gives, by its region variables, which are the first levels.
-#[derive(Debug, Drop)]
+#[derive(Drop)]
 pub struct Signature<'p> {
     /// How many region variables it has.
     pub regions: u32,
@@ -18,7 +18,7 @@ pub struct Signature<'p> {
 }
 
 /// What a name means that no local hides.
-#[derive(Debug, Drop)]
+#[derive(Drop)]
 pub enum Meaning<'p> {
     /// A variable of a type, in a region.
     Variable(CType<'p>, RegionId),

@@ -16,7 +16,7 @@ use cyc_types::{CType, RegionId, Tables};
 use std::alloc::AllocError;
 
 /// What a name means where it is used.
-#[derive(Clone, Copy, Debug)]
+#[derive(Clone, Copy)]
 pub enum Named<'a, 'p> {
     /// A variable of a type, in a region.
     Variable(&'a CType<'p>, RegionId),

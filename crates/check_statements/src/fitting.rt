@@ -20,10 +20,7 @@ use check_faults::{Fault, FaultKind, Taken, Verdict};
 use check_scopes::{Named, Scope};
 use check_types::{TagName, type_tag};
 use cyc_tree::TypeName;
-use cyc_types::{BaseType, CType, Tables};
-
-/// The most bytes that a variable may have.
-const MOST_BYTES: u64 = 4096;
+use cyc_types::{BaseType, CType, MOST_BYTES, Tables};
 
 /// What a name means where a tag is wanted, by what it means in scope.
 fn tag_name(named: Option<Named<'_, '_>>) -> TagName
@@ -91,7 +88,8 @@ fn is_sized(tables: &Tables, of: &CType, count: Option<u32>) -> bool
 {
     match (tables.extent(of), count) {
         (Some(_), None) => true,
-        (Some(extent), Some(count)) => u64::from(count) * u64::from(extent.size()) <= MOST_BYTES,
+        (Some(extent), Some(count)) => u64::from(count) * u64::from(extent.size())
+            <= u64::from(MOST_BYTES),
         (None, None) => false,
         (None, Some(count)) => count == 0,
     }

@@ -18,7 +18,7 @@ use std::alloc::{AllocError, Global};
 pub type WrittenArguments = SmallVec<Option<RegionId>, 2>;
 
 /// A type that is no pointer, as a text writes it.
-#[derive(Debug, Drop)]
+#[derive(Drop)]
 pub enum WrittenBase<'p> {
     Int,
     Unsigned,

@@ -8,7 +8,7 @@ ghost use Rattle.check_types.specs.Settling.{layer_from, outer_found};
 use cyc_types::{Layer, RegionId};
 
 /// A pointer as a text writes it, without the type that it leads to. None: its region is missing.
-#[derive(Clone, Copy, Debug)]
+#[derive(Clone, Copy)]
 pub enum WrittenLayer {
     /// To one object; whether it may be `NULL`.
     Thin(bool, Option<RegionId>),

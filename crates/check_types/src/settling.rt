@@ -20,7 +20,7 @@ use std::alloc::{AllocError, Global};
 pub type WrittenLayers = SmallVec<WrittenLayer, 2>;
 
 /// A type as a text writes it: a base, and the pointers to it from the base outwards.
-#[derive(Debug, Drop)]
+#[derive(Drop)]
 pub struct WrittenType<'p> {
     pub base: WrittenBase<'p>,
     pub layers: WrittenLayers,

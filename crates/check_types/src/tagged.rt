@@ -32,7 +32,7 @@ use cyc_types::CType;
 use std::alloc::{AllocError, Global};
 
 /// What a name means where the tag of a struct or union is wanted.
-#[derive(Clone, Copy, Debug)]
+#[derive(Clone, Copy)]
 pub enum TagName {
     /// Nothing.
     NoName,

@@ -1,14 +1,16 @@
 //! The command line of `cycc`.
 //!
-//! `command_of` reads the words into a `Command`, or gives the text to be shown: help where it was asked for, else what
-//! is wrong with the words. Stands on `clap`.
+//! `words_of` takes the words of the program, and `command_of` reads them into a `Command`, or gives the text to be shown:
+//! help where it was asked for, else what is wrong with the words. Stands on `clap`.
 #![tactic(auto)]
 
 mod command;
 mod commands;
+mod given;
 pub mod status;
 mod texts;
 mod words;
 
 pub use command::{Command, Pages};
+pub use given::{shown, shown_error, words_of};
 pub use words::command_of;

@@ -7,7 +7,7 @@ use crate::value::Value;
 use cyc_core::{Cell, Width};
 
 /// A count or an index: a word, or nothing as yet.
-#[derive(Clone, Copy, PartialEq, Eq, Debug)]
+#[derive(Clone, Copy)]
 pub enum Bound {
     /// Nothing as yet.
     Blank,
@@ -54,7 +54,7 @@ pub fn keeps(part: u32, value: Value) -> bool
 }
 
 /// What a cell holds, part by part.
-#[derive(Clone, Copy, PartialEq, Eq, Debug)]
+#[derive(Clone, Copy)]
 pub enum Held {
     /// A number of one byte.
     Byte(Value),

@@ -10,7 +10,7 @@ use cyc_core::Width;
 use std::alloc::{AllocError, Global};
 
 /// What has objects.
-#[derive(Clone, Copy, PartialEq, Eq, Debug)]
+#[derive(Clone, Copy)]
 pub enum Area {
     /// The program with its globals, and the heap, whose blocks come behind them.
     Globals,
@@ -23,7 +23,7 @@ pub enum Area {
 }
 
 /// Where a pointer leads.
-#[derive(Clone, Copy, PartialEq, Eq, Debug)]
+#[derive(Clone, Copy)]
 pub struct Place {
     /// What has the object.
     pub area: Area,
@@ -36,7 +36,7 @@ pub struct Place {
 }
 
 /// What a temporary or a cell holds.
-#[derive(Clone, Copy, PartialEq, Eq, Debug)]
+#[derive(Clone, Copy)]
 pub enum Value {
     /// Nothing as yet.
     Blank,
@@ -51,7 +51,7 @@ pub enum Value {
 }
 
 /// A cell of an object.
-#[derive(Clone, Copy, PartialEq, Eq, Debug)]
+#[derive(Clone, Copy)]
 pub struct Slot {
     /// How many bytes of the object lie before it.
     pub offset: u32,

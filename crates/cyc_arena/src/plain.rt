@@ -10,8 +10,8 @@ ghost use Rattle.cyc_arena.specs.Plain.{byte_at, holdings_of, standing_at};
 ghost use Rattle.raw_pages.specs.Raw.{is_no_page_count, is_pages_fault};
 
 use crate::store::BlockStore;
-use crate::tables::{BASE, PAGE, PAGE_LIMIT, clear, fill, find, left_in, standing_of, takes};
-use arena_laws::{Owner, Standing, StoreRefusal, class_for, room_for};
+use crate::tables::{PAGE_LIMIT, clear, fill, find, left_in, standing_of, takes};
+use arena_laws::{BASE, Owner, PAGE, Standing, StoreRefusal, class_for, room_for};
 use raw_pages::PagesFault;
 use std::alloc::Global;
 use std::marker::Model;

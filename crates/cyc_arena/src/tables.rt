@@ -4,16 +4,10 @@ ghost use Rattle.std.specs.Prelude.{◌≡◌, ◌+◌, ◌-◌, ◌≤◌, ◌<
 ghost use Rattle.arena_laws.specs.Lawful.{takes_blocks};
 ghost use Rattle.cyc_arena.specs.Plain.{Finds, IsCleared, filled, left_of, standing_at};
 
-use arena_laws::Standing;
-
-/// The arena's first address.
-pub(crate) const BASE: u32 = 0x1000_0000;
+use arena_laws::{PAGE, Standing};
 
 /// The most pages of a store.
 pub(crate) const PAGE_LIMIT: u32 = 4096;
-
-/// The bytes of a page.
-pub(crate) const PAGE: u32 = 4096;
 
 // the first place with this word
 pub(crate) fn find(words: &[u32], word: u32) -> Option<usize>

@@ -3,7 +3,7 @@ use Rattle.std.specs.Prelude.{◌≡◌, ℕ, ◌<◌, ◌≤◌, ◌⊎◌, Lis
 use Rattle.std.specs.Io.KnownBytes.{Appends, Consumes, IsAtEnd}
 use Rattle.cyc_words.specs.Events.{AreBytes, output, ByteRead}
 use Rattle.cyc_words.specs.Words.{word}
-use Rattle.rv32_machine.specs.State.{State, Areas, Stop, Over}
+use Rattle.rv32_machine.specs.State.{State, Areas, Stop, Over, Runs}
 use Rattle.rv32_machine.specs.Step.{step, Asks}
 use Rattle.arena_laws.specs.Lawful.{Answer}
 use Rattle.rv32_machine.specs.Run.{Run, run_steps, from}
@@ -22,15 +22,15 @@ Written ending.StepLimit old new bytes = Appends old new bytes
 Written (ending.Fault fault) old new bytes = Appends old new bytes
 Written ending.ReadFault old new bytes = Appends old new bytes
 
--- The run in which so many of at most `limit` steps have left the machine, and why it ended there. A read fault leaves the machine waiting, by one step more, so
--- that another run reads again; at a step limit another run goes on. A write fault before a read leaves it waiting too.
+-- The run in which so many of at most `limit` steps have left the machine, and why it ended there. At a step limit the machine has made all the steps that were
+-- allowed and runs on. A read fault leaves it waiting, by one step more, so that another run reads again. A write fault before a read leaves it waiting too.
 abbrev pub EndsAs : Ending → Areas → (limit count : ℕ) → (left : Run) → (now : State) → Type 0
 EndsAs (ending.Ended status) n limit count left now = (now ≡ left.state) × (left.state.mode ≡ Over (Stop.Ended (word status)))
 EndsAs (ending.Raised kind) n limit count left now = (now ≡ left.state) × (left.state.mode ≡ Over (Stop.Raised kind))
 EndsAs ending.Exhausted n limit count left now = (now ≡ left.state) × (left.state.mode ≡ Over Stop.Exhausted)
 EndsAs ending.HostMemory n limit count left now = (now ≡ left.state) × (left.state.mode ≡ Over Stop.Lacking)
 EndsAs (ending.Fault fault) n limit count left now = (now ≡ left.state) × (left.state.mode ≡ Over (Stop.Fault fault))
-EndsAs ending.StepLimit n limit count left now = (now ≡ left.state) × (count ≡ limit)
+EndsAs ending.StepLimit n limit count left now = (now ≡ left.state) × (count ≡ limit) × (0 < limit → left.state.mode ≡ Runs)
 EndsAs ending.ReadFault n limit count left now =
     (count < limit) × ((now ≡ (step n (left.answers 0) left.state).state) × ((step n (left.answers 0) left.state).shown ≡ Asks))
 EndsAs ending.WriteFault n limit count left now = (now ≡ left.state) ⊎ ((count < limit) × (now ≡ (step n (left.answers 0) left.state).state))

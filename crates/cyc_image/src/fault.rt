@@ -33,15 +33,22 @@ impl fmt::Display for ImageFault {
     ghost output = { λ fault. Some (image_fault_name fault) };
 
     fn fmt<W: fmt::Write>(&self, f: &mut fmt::Formatter<W>) -> fmt::Result {
-        match self {
-            ImageFault::Short => write!(f, "Short"),
-            ImageFault::Magic => write!(f, "Magic"),
-            ImageFault::Version => write!(f, "Version"),
-            ImageFault::Limit => write!(f, "Limit"),
-            ImageFault::Entry => write!(f, "Entry"),
-            ImageFault::Trailing => write!(f, "Trailing"),
-            ImageFault::Memory => write!(f, "Memory"),
-        }
+        f.write_str(name_of(*self))
+    }
+}
+
+// The name of a fault.
+fn name_of(fault: ImageFault) -> &'static str
+    ensures { result.now ≡ image_fault_name fault }
+{
+    match fault {
+        ImageFault::Short => "Short",
+        ImageFault::Magic => "Magic",
+        ImageFault::Version => "Version",
+        ImageFault::Limit => "Limit",
+        ImageFault::Entry => "Entry",
+        ImageFault::Trailing => "Trailing",
+        ImageFault::Memory => "Memory",
     }
 }
 

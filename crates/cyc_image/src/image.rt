@@ -6,7 +6,7 @@ ghost use Rattle.cyc_image.specs.Format.{Fits};
 use std::marker::Model;
 
 /// An image: its parts are within the limits.
-#[derive(Debug, Drop)]
+#[derive(Drop)]
 pub struct Image {
     pub(crate) entry: u32,
     pub(crate) code: Vec<u8>,

@@ -16,7 +16,7 @@ use std::alloc::AllocError;
 pub type RegionArguments = SmallVec<RegionId, 2>;
 
 /// A type that is no pointer.
-#[derive(Debug, Drop)]
+#[derive(Drop)]
 pub enum BaseType<'p> {
     Int,
     Unsigned,

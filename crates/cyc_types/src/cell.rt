@@ -9,7 +9,7 @@ use crate::scalar::Scalar;
 use std::alloc::AllocError;
 
 /// One cell of a type: where it lies, and what it holds.
-#[derive(Clone, Copy, Debug)]
+#[derive(Clone, Copy)]
 pub struct Cell<'p> {
     /// So many bytes from the type's first.
     pub offset: u32,
@@ -17,7 +17,7 @@ pub struct Cell<'p> {
 }
 
 /// The cells of a type in order, its size and its alignment.
-#[derive(Debug, Drop)]
+#[derive(Drop)]
 pub struct Layout<'p> {
     pub cells: Vec<Cell<'p>>,
     pub extent: Extent,

@@ -16,7 +16,7 @@ use crate::layer::Layer;
 use crate::likeness::Likeness;
 
 /// The rule that a conversion breaks.
-#[derive(Clone, Copy, PartialEq, Eq, Debug)]
+#[derive(Clone, Copy, PartialEq, Eq)]
 pub enum Broken {
     /// The types are different.
     Typing,

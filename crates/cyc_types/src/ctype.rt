@@ -17,7 +17,7 @@ use std::alloc::AllocError;
 pub type Layers = SmallVec<Layer, 2>;
 
 /// A type: a base, and the pointers to it from the base outwards.
-#[derive(Debug, Drop)]
+#[derive(Drop)]
 pub struct CType<'p> {
     pub base: BaseType<'p>,
     pub layers: Layers,

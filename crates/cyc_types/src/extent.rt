@@ -2,11 +2,11 @@
 
 ghost use Rattle.std.specs.Prelude.{◌≤◌};
 
-/// The most bytes that a type may have.
-const MOST_BYTES: u32 = 4096;
+/// The most bytes that a type, a variable or a string may have.
+pub const MOST_BYTES: u32 = 4096;
 
 /// To how many bytes something is aligned: 1 or 4.
-#[derive(Clone, Copy, PartialEq, Eq, Debug)]
+#[derive(Clone, Copy)]
 pub enum Alignment {
     Byte,
     Word,
@@ -38,7 +38,7 @@ impl Alignment {
 }
 
 /// How many bytes a type has, at most 4,096, and how they are aligned.
-#[derive(Clone, Copy, Debug)]
+#[derive(Clone, Copy)]
 pub struct Extent {
     size: u32,
     align: Alignment,

@@ -9,7 +9,7 @@ use crate::likeness::Likeness;
 use crate::region::RegionId;
 
 /// A pointer, without the type that it leads to.
-#[derive(Clone, Copy, Debug)]
+#[derive(Clone, Copy)]
 pub enum Layer {
     /// To one object in a region; whether it may be `NULL`.
     Thin(bool, RegionId),

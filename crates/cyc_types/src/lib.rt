@@ -28,7 +28,7 @@ pub use cell::{Cell, Layout};
 pub use conversion::Broken;
 pub use copies::is_copyable;
 pub use ctype::{CType, Layers};
-pub use extent::{Alignment, Extent};
+pub use extent::{Alignment, Extent, MOST_BYTES};
 pub use fault::{SizeFault, TableFault};
 pub use layer::Layer;
 pub use laying::layout;

@@ -5,7 +5,7 @@ ghost use Rattle.source_typing.specs.Regions.{same_id, is_heap};
 ghost use Rattle.cyc_types.specs.Regions.{region_of};
 
 /// A region's name in a function: the heap, or how many names were declared before it.
-#[derive(Clone, Copy, Debug, Default)]
+#[derive(Clone, Copy, Default)]
 pub enum RegionId {
     #[default]
     Heap,

@@ -10,7 +10,7 @@ use crate::ctype::CType;
 use crate::layer::Layer;
 
 /// What one cell holds, without what a pointer leads to.
-#[derive(Clone, Copy, Debug)]
+#[derive(Clone, Copy)]
 pub enum Scalar<'p> {
     Int,
     Unsigned,

@@ -4,14 +4,14 @@ use crate::ctype::CType;
 use crate::extent::Extent;
 
 /// A member of a struct or union. Its type isn't known where it is at fault.
-#[derive(Debug, Drop)]
+#[derive(Drop)]
 pub struct Member<'p> {
     pub name: &'p [u8],
     pub of: Option<CType<'p>>,
 }
 
 /// A struct or union.
-#[derive(Debug, Drop)]
+#[derive(Drop)]
 pub struct Tag<'p> {
     pub is_union: bool,
     /// How many items stand before it.
@@ -24,7 +24,7 @@ pub struct Tag<'p> {
 }
 
 /// A struct or union, with what was found of it when it was declared.
-#[derive(Debug, Drop)]
+#[derive(Drop)]
 pub struct Known<'p> {
     pub tag: Tag<'p>,
     /// Whether all members are copied.

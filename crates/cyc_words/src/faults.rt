@@ -1,6 +1,6 @@
 // Why a run stops early.
 
-ghost use Rattle.std.specs.Prelude.{Some};
+ghost use Rattle.std.specs.Prelude.{◌≡◌, Some};
 ghost use Rattle.cyc_words.specs.Faults.{kind_name, machine_fault_name};
 
 use std::fmt;
@@ -19,10 +19,17 @@ impl fmt::Display for Kind {
     ghost output = { λ kind. Some (kind_name kind) };
 
     fn fmt<W: fmt::Write>(&self, f: &mut fmt::Formatter<W>) -> fmt::Result {
-        match self {
-            Kind::NullException => write!(f, "Null_Exception"),
-            Kind::ArrayBounds => write!(f, "Array_bounds"),
-        }
+        f.write_str(name_of_kind(*self))
+    }
+}
+
+// The name of what is raised.
+fn name_of_kind(kind: Kind) -> &'static str
+    ensures { result.now ≡ kind_name kind }
+{
+    match kind {
+        Kind::NullException => "Null_Exception",
+        Kind::ArrayBounds => "Array_bounds",
     }
 }
 
@@ -46,12 +53,19 @@ impl fmt::Display for MachineFault {
     ghost output = { λ fault. Some (machine_fault_name fault) };
 
     fn fmt<W: fmt::Write>(&self, f: &mut fmt::Formatter<W>) -> fmt::Result {
-        match self {
-            MachineFault::Illegal => write!(f, "Illegal"),
-            MachineFault::Access => write!(f, "Access"),
-            MachineFault::Misaligned => write!(f, "Misaligned"),
-            MachineFault::Break => write!(f, "Break"),
-            MachineFault::BadCall => write!(f, "BadCall"),
-        }
+        f.write_str(name_of_fault(*self))
+    }
+}
+
+// The name of a fault.
+fn name_of_fault(fault: MachineFault) -> &'static str
+    ensures { result.now ≡ machine_fault_name fault }
+{
+    match fault {
+        MachineFault::Illegal => "Illegal",
+        MachineFault::Access => "Access",
+        MachineFault::Misaligned => "Misaligned",
+        MachineFault::Break => "Break",
+        MachineFault::BadCall => "BadCall",
     }
 }

@@ -5,7 +5,7 @@ use Rattle.cyc_image.specs.declared.fault.ImageFault.{ImageFault}
 use Rattle.cyc_image.specs.declared.fault.ImageFault.TheVariants as image
 use Rattle.cyc_image.specs.Format.{Contents, IsImage, IsShort, RefusedAsMagic, RefusedAsVersion, RefusedAsLimit, RefusedAsEntry, RefusedAsTrailing}
 use Rattle.cyc_tree.specs.Tree.{Program}
-use Rattle.arena_laws.specs.Holdings.{Holdings}
+use Rattle.arena_laws.specs.Holdings.{fresh}
 use Rattle.rv32_machine.specs.Arrays.{Arrays, IsStart, areas_of, state_of}
 use Rattle.rv32_machine.specs.State.{State}
 use Rattle.cyc_host.specs.declared.ending.Ending.{Ending}
@@ -85,10 +85,11 @@ pub record IsUnloaded (bytes : List ℕ) (status : ℕ) : Type 0 where
 pub record HasExecuted (bytes : List ℕ) (steps : ℕ) (reader_old reader_new writer_old writer_new : Option (List ℕ)) (status : ℕ) : Type 0 where
   pub parts : Contents
   pub image : IsImage bytes parts
-  pub start : Arrays
-  pub holdings : Holdings
+  -- the store was just made, with the image's pages, and all its bytes are 0
   pub arena : ℕ → ℕ
-  pub starts : IsStart parts holdings arena start
+  pub blank : (at : ℕ) → arena at ≡ 0
+  pub start : Arrays
+  pub starts : IsStart parts (fresh parts.pages) arena start
   pub end : State
   pub why : Ending
   pub hosted : IsHosted why (areas_of start) steps (state_of start) end reader_old reader_new writer_old writer_new

@@ -12,5 +12,5 @@ mod sources;
 
 pub use answering::{answer, longest_file};
 pub use cycc_driver::Counted;
-pub use lines::{ended, refused};
+pub use lines::{ended, printed, refused};
 pub use result::Answer;

@@ -96,27 +96,30 @@ module _ (n : Areas) (program : Program) (input : List ℕ) (r : Run) (fuel : �
 
 -- a run that was stopped at the step limit runs on: it did so many steps, or it is at its start
 runs_on : (n : Areas) (r : Run) (steps count : ℕ) (end : State) → r.state.mode ≡ Runs → EndsAs ending.StepLimit n steps count (run_steps n count r) end
-    → (0 < steps → end.mode ≡ Runs) → (run_steps n count r).state.mode ≡ Runs
-runs_on n r steps count end starts at goes_on =
-    ⊎_elim (λ some. ap (λ (x : State). x.mode) (sym at.0) ∙ goes_on some)
+    → (run_steps n count r).state.mode ≡ Runs
+runs_on n r steps count end starts at =
+    ⊎_elim (λ some. at.2 some)
     (λ none. let zero_steps : count ≡ 0 = omega (arith, none, at.1) in ap (λ k. (run_steps n k r).state.mode) zero_steps ∙ starts)
     (cases_lt 0 steps)
 
--- a run of the image of a text, from its start on
+-- a run of the image of a text, from its start on, over a store whose bytes are 0
 pub text_run : (text bytes : List ℕ) (pages steps : ℕ) (why : Ending) (made : IsTextImage text pages bytes) (arena : ℕ → ℕ)
-    (start : Arrays) → ((at : ℕ) → arena at < 256) → IsStart made.parts (fresh pages) arena start → (end : State) → {reader_old reader_new writer_old writer_new : Option (List ℕ)}
+    (start : Arrays) → ((at : ℕ) → arena at ≡ 0) → IsStart made.parts (fresh pages) arena start → (end : State) → {reader_old reader_new writer_old writer_new : Option (List ℕ)}
     → IsHosted why (areas_of start) steps (state_of start) end reader_old reader_new writer_old writer_new
-    → (why ≡ ending.StepLimit → 0 < steps → end.mode ≡ Runs)
     → IsTextRun text pages steps why reader_old reader_new writer_old writer_new
-text_run text bytes pages steps why made arena start small starts end {reader_old} {reader_new} {writer_old} {writer_new} hosted goes_on =
+text_run text bytes pages steps why made arena start blank starts end {reader_old} {reader_new} {writer_old} {writer_new} hosted =
     let n = areas_of start in
     let s = state_of start in
     let h = hosted in
     let r = from s h.input h.answers in
     let with_its : IsStart made.parts (fresh made.parts.pages) arena start =
     subst (λ (k : ℕ). IsStart made.parts (fresh k) arena start) (sym made.as_asked) starts in
+    let small : (at : ℕ) → arena at < 256 = λ at. let zero = blank at in omega (arith, zero) in
     let does = made.implemented arena start small with_its h.input h.bytes in
     let agrees = does.each_run h.answers h.count in
+    let at_limit : why ≡ ending.StepLimit → EndsAs ending.StepLimit n steps h.count (run_steps n h.count r) end =
+    λ same. subst (λ (w : Ending). EndsAs w n steps h.count (run_steps n h.count r) end) same h.ends in
+    let stays : why ≡ ending.StepLimit → (run_steps n h.count r).state.mode ≡ Runs = λ same. runs_on n r steps h.count end starts.runs (at_limit same) in
     record {
       program = made.program;
       accepted = made.accepted;
@@ -124,18 +127,17 @@ text_run text bytes pages steps why made arena start small starts end {reader_ol
       as_asked = made.as_asked;
       implemented = made.implemented;
       arena = arena;
+      blank = blank;
       start = start;
       starts = starts;
       end = end;
       hosted = hosted;
+      goes_on = λ same. ap (λ (x : State). x.mode) (at_limit same).0 ∙ stays same;
       ends = ends n made.program h.input (run_steps n h.count r) agrees.0 writer_old writer_new why steps h.count end agrees.1 h.ends h.written;
-      limit = λ more none fuel count over reached within at_limit.
-          let at : EndsAs ending.StepLimit n steps h.count (run_steps n h.count r) end =
-          subst (λ (w : Ending). EndsAs w n steps h.count (run_steps n h.count r) end) at_limit h.ends in
+      limit = λ more none fuel count over reached within is_limit.
           let longer = from s (h.input ++ more) h.answers in
           let same = same_state n h.count s h.input h.answers more none in
           let later : steps < count = runs_before n count steps longer (meaning_of made.program (h.input ++ more)) fuel over (reached h.answers)
-          (ap (λ k. (run_steps n k longer).state.mode) (sym at.1) ∙ ap (λ (x : State). x.mode) same
-          ∙ runs_on n r steps h.count end starts.runs at (goes_on at_limit)) in
+          (ap (λ k. (run_steps n k longer).state.mode) (sym (at_limit is_limit).1) ∙ ap (λ (x : State). x.mode) same ∙ stays is_limit) in
           omega (arith, later, within);
     }

@@ -9,7 +9,7 @@ use Rattle.cyc_image.specs.Format.{Contents, IsImage, code_limit}
 use Rattle.rv32_machine.specs.Arrays.{Arrays, IsStart, areas_of, state_of}
 use Rattle.arena_laws.specs.Holdings.{fresh}
 use Rattle.arena_laws.specs.Lawful.{Answer}
-use Rattle.rv32_machine.specs.State.{State, Areas}
+use Rattle.rv32_machine.specs.State.{State, Areas, Runs}
 use Rattle.rv32_machine.specs.Run.{run_steps, from}
 use Rattle.rv32_machine.specs.Implements.{Implements, Reaches, IsCut, IsRefused, HasNoFrame, active_after}
 use Rattle.cyc_host.specs.declared.ending.Ending.{Ending}
@@ -97,11 +97,15 @@ pub record IsTextRun (text : List ℕ) (pages steps : ℕ) (why : Ending) (reade
   pub parts : Contents
   pub as_asked : parts.pages ≡ pages
   pub implemented : IsImplementedBy program parts
+  -- the store was just made, and all its bytes are 0
   pub arena : ℕ → ℕ
+  pub blank : (at : ℕ) → arena at ≡ 0
   pub start : Arrays
   pub starts : IsStart parts (fresh pages) arena start
   pub end : State
   pub hosted : IsHosted why (areas_of start) steps (state_of start) end reader_old reader_new writer_old writer_new
+  -- at the step limit, also after no step, the machine runs on
+  pub goes_on : why ≡ ending.StepLimit → end.mode ≡ Runs
   -- what is written, on the bytes that the reader gave, is the program's, and the ending is its
   pub ends : EndsAsProgram why (areas_of start) program hosted.input writer_old writer_new
   -- The step limit isn't what ended it where enough steps were given: where, on some input that begins with what was read, and is that where its

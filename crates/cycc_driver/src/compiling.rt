@@ -15,15 +15,13 @@ use crate::fault::{CompileFault, Place, of_checking, of_flow, of_lexing, of_pars
 use cyc_core::Program as Core;
 use cyc_image::{Parts, write};
 use cyc_lexer::tokens;
+use cyc_meaning::lower;
 use cyc_parser::parse;
 use cyc_tree::Program;
-use unique_flow::effects;
-use cyc_meaning::lower;
-use unique_flow::typed;
 use rv32_layout::{PlaceFault, data, place};
 use rv32_select::select;
 use std::alloc::Global;
-use unique_flow::{Checked, flow};
+use unique_flow::{Checked, effects, flow, typed};
 
 /// The program that a text spells.
 fn parsed(alloc: Global, text: &[u8]) -> Result<Program, CompileFault>

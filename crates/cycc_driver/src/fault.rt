@@ -9,11 +9,10 @@ ghost use Rattle.cycc_driver.specs.Refused.{IsOfLexing, IsOfParsing, IsOfCheckin
 use check_faults::FaultKind;
 use cyc_lexer::{LexFault, place_of};
 use cyc_parser::ParseFault;
-use unique_flow::CheckFault;
 use std::alloc::AllocError;
 use std::error::Error;
 use std::fmt;
-use unique_flow::FlowFault;
+use unique_flow::{CheckFault, FlowFault};
 
 /// A place in a text: the line and the column, from 1 on, of a byte.
 #[derive(Clone, Copy, PartialEq, Eq, Debug)]

@@ -5,14 +5,14 @@
 #![tactic(auto)]
 
 use command_line::status::{FILE_FAULT, MEMORY, SUCCESS, usage_status};
-use command_line::{Command, command_of};
-use cycc_answer::longest_file;
+use command_line::{Command, command_of, shown, shown_error, words_of};
+use cycc_answer::{Counted, longest_file, printed};
 pub use cycc_answer::{Answer, answer};
-use cycc_answer::Counted;
+use std::alloc::AllocError;
 use std::fs::File;
 use std::io::Read;
 use std::process::ExitCode;
-use std::{env, fs, io};
+use std::{fs, io};
 
 /// The bytes of a file, so many at most.
 fn bytes_of(rt: &HostRuntime, path: &str, most: u64) -> io::Result<Vec<u8>> {
@@ -26,15 +26,20 @@ fn is_memory(error: &io::Error) -> bool {
     error.kind() == io::ErrorKind::OutOfMemory
 }
 
+/// Says that no host memory is left, and answers the status.
+fn out_of_memory(rt: &HostRuntime) -> u8 {
+    let _ = eprintln!(rt; "out of memory");
+    MEMORY
+}
+
 /// What is said where a file can't be read or written, and the status.
 fn file_fault(rt: &HostRuntime, what: &str, path: &str, error: &io::Error) -> u8 {
     if is_memory(error) {
-        let _ = eprintln!(rt; "out of memory");
-        MEMORY
-    } else {
-        let _ = eprintln!(rt; "cannot {what} {path}");
-        FILE_FAULT
+        return out_of_memory(rt);
     }
+    let path = shown(path);
+    let _ = eprintln!(rt; "cannot {what} {path}");
+    FILE_FAULT
 }
 
 /// Writes OUT, and answers the status.
@@ -59,8 +64,7 @@ fn answered(rt: &HostRuntime, command: &Command<'_>, file: &[u8]) -> u8 {
         &mut faults,
     );
     let Ok(answer) = answer else {
-        let _ = eprintln!(rt; "out of memory");
-        return MEMORY;
+        return out_of_memory(rt);
     };
     match (&answer.image, command) {
         (Some(image), Command::Compile { output, .. }) => written(rt, output, image.as_slice()),
@@ -68,14 +72,24 @@ fn answered(rt: &HostRuntime, command: &Command<'_>, file: &[u8]) -> u8 {
     }
 }
 
+/// Shows help, or what is wrong with the words, and answers the status. Help that can't be written is a write fault.
+fn explained(rt: &HostRuntime, text: &str, status: u8) -> u8 {
+    if status == SUCCESS {
+        let succeeded = print!(rt; "{text}").is_ok();
+        return printed(succeeded, &mut rt.stderr());
+    }
+    let _ = eprint!(rt; "{text}");
+    status
+}
+
 /// Answers the words of the command line with a status.
-fn run(rt: &HostRuntime) -> io::Result<u8> {
-    let words: Vec<String> = env::args(rt)?.collect(rt.alloc())?;
+fn run(rt: &HostRuntime) -> Result<u8, AllocError> {
+    let words = words_of(rt)?;
     let command = match command_of(rt.alloc(), words.as_slice()) {
         Ok(command) => command,
         Err(error) => {
-            error.print(rt)?;
-            return Ok(usage_status(&error));
+            let text = shown_error(rt.alloc(), &error)?;
+            return Ok(explained(rt, text.as_str(), usage_status(&error)));
         }
     };
     let path = command.input();
@@ -88,7 +102,6 @@ fn run(rt: &HostRuntime) -> io::Result<u8> {
 fn main(rt: HostRuntime) -> ExitCode {
     match run(&rt) {
         Ok(status) => ExitCode::from(status),
-        Err(error) if is_memory(&error) => ExitCode::from(MEMORY),
-        Err(_) => ExitCode::from(FILE_FAULT),
+        Err(AllocError) => ExitCode::from(out_of_memory(&rt)),
     }
 }

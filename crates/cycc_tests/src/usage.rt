@@ -1,7 +1,8 @@
 // The words of the command line.
 
-use command_line::command_of;
 use command_line::status::usage_status;
+use command_line::{command_of, shown, shown_error, words_of};
+use std::env::{Env, FillError};
 use std::test::Fail;
 
 /// Words, and the command that they are.
@@ -88,5 +89,83 @@ fn help_names_statuses_and_faults(rt: HostRuntime) -> Result<(), Fail> {
         let help = format!(in alloc; "{error}")?;
         assert!(rt; help.as_str().contains(wanted), "{line}");
     }
+    Ok(())
+}
+
+/// The words that a system gives.
+#[derive(Clone, Copy)]
+struct Given<'a> {
+    words: &'a [&'a [u8]],
+}
+
+impl Env for Given<'_> {
+    fn arg(&self, i: usize, buf: &mut [u8]) -> Result<usize, FillError> {
+        let Some(word) = self.words.get(i) else {
+            return Err(FillError::NotPresent);
+        };
+        let length = word.len();
+        if buf.len() < length {
+            return Err(FillError::TooLong);
+        }
+        buf[..length].copy_from_slice(word);
+        Ok(length)
+    }
+
+    fn var(&self, _name: &str, _buf: &mut [u8]) -> Result<usize, FillError> {
+        Err(FillError::NotPresent)
+    }
+
+    fn var_at(&self, _i: usize, _buf: &mut [u8]) -> Result<usize, FillError> {
+        Err(FillError::NotPresent)
+    }
+}
+
+#[test]
+fn a_path_that_is_no_text_is_shown_and_marked(rt: HostRuntime) -> Result<(), Fail> {
+    let alloc = rt.alloc();
+    let given: [&[u8]; 3] = [b"cycc", b"check", b"f\xff.cyc"];
+    let system = Given {
+        words: given.as_slice(),
+    };
+    let words = words_of(&(system, alloc))?;
+    let command = command_of(alloc, words.as_slice())?;
+    assert_eq!(rt; command.input(), "f\u{FFFD}.cyc\0");
+    assert_eq!(rt; shown(command.input()), "f\u{FFFD}.cyc");
+    Ok(())
+}
+
+#[test]
+fn words_that_are_no_text_are_usage(rt: HostRuntime) -> Result<(), Fail> {
+    let alloc = rt.alloc();
+    let given: [[&[u8]; 4]; 3] = [
+        [b"cycc", b"run", b"a", b"--pages=1\xff"],
+        [b"cycc", b"run", b"a", b"--ending\xff"],
+        [b"cycc", b"check\xff", b"a", b"b"],
+    ];
+    for words in given.iter() {
+        let system = Given {
+            words: words.as_slice(),
+        };
+        let words = words_of(&(system, alloc))?;
+        let error = command_of(alloc, words.as_slice()).err().ok_or("taken")?;
+        assert_eq!(rt; usage_status(&error), 9);
+        let text = shown_error(alloc, &error)?;
+        assert!(rt; text.as_str().contains('\u{FFFD}'), "{error}");
+        assert!(rt; !text.as_str().contains('\0'), "{error}");
+    }
+    Ok(())
+}
+
+#[test]
+fn long_words_are_whole(rt: HostRuntime) -> Result<(), Fail> {
+    let alloc = rt.alloc();
+    let long = vec![in alloc; b'a'; 1000]?;
+    let given: [&[u8]; 3] = [b"cycc", b"check", long.as_slice()];
+    let system = Given {
+        words: given.as_slice(),
+    };
+    let words = words_of(&(system, alloc))?;
+    let command = command_of(alloc, words.as_slice())?;
+    assert_eq!(rt; command.input().as_bytes(), long.as_slice());
     Ok(())
 }

@@ -5,8 +5,7 @@
 #![tactic(auto)]
 
 use command_line::command_of;
-use cycc_answer::answer;
-use cycc_answer::Counted;
+use cycc_answer::{Counted, answer};
 use std::fs::File;
 use std::io;
 use std::io::{ErrorKind, Read};

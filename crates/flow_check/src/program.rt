@@ -14,8 +14,7 @@ ghost use Rattle.check_functions.specs.Bodies.{KnowsNames};
 use crate::function::function_flow;
 use check_faults::{Fault, Taken, sooner};
 use check_functions::Names;
-use check_programs::{Structs, next_index, program_names};
-use check_programs::judged_tags;
+use check_programs::{Structs, judged_tags, next_index, program_names};
 use cyc_tree::{Item, Program};
 use std::alloc::{AllocError, Global};
 

@@ -22,7 +22,7 @@ pub struct Passed {
 }
 
 /// The state of a local where it begins.
-#[derive(Clone, Copy, PartialEq, Eq, Debug)]
+#[derive(Clone, Copy)]
 pub enum Begun {
     Plain,
     Held,

@@ -9,7 +9,7 @@ use crate::passed::{Begun, Passed};
 use std::alloc::{AllocError, Global};
 
 /// A local that is lent until the end of the block.
-#[derive(Clone, Copy, Debug)]
+#[derive(Clone, Copy)]
 pub struct Loan {
     /// Where the declaration begins.
     pub at: u32,

@@ -8,7 +8,7 @@ ghost use Rattle.flow_effects.specs.Touches.{caused_of, effect_of, idle_touch, j
 use check_faults::{Fault, sooner};
 
 /// What a phrase does to the state of a local that can't be copied.
-#[derive(Clone, Copy, PartialEq, Eq, Debug)]
+#[derive(Clone, Copy)]
 pub enum Effect {
     Keeps,
     /// Left held, unless it is lent.
@@ -20,7 +20,7 @@ pub enum Effect {
 }
 
 /// The earliest fault that a local causes, for each state that it may be in before the phrase.
-#[derive(Clone, Copy, Debug)]
+#[derive(Clone, Copy)]
 pub struct Caused {
     pub plain: Option<Fault>,
     pub held: Option<Fault>,
@@ -29,14 +29,14 @@ pub struct Caused {
 }
 
 /// What a phrase does to one local, and the faults that this causes.
-#[derive(Clone, Copy, Debug)]
+#[derive(Clone, Copy)]
 pub struct Touch {
     pub effect: Effect,
     pub caused: Caused,
 }
 
 /// How what is done to a local by one phrase is joined to what is done to it by another one.
-#[derive(Clone, Copy, PartialEq, Eq, Debug)]
+#[derive(Clone, Copy)]
 pub enum How {
     /// One after the other.
     Turn,

@@ -13,7 +13,7 @@ use crate::passed::Passed;
 use std::alloc::{AllocError, Global};
 
 /// How an expression is used.
-#[derive(Clone, Copy, PartialEq, Eq, Debug)]
+#[derive(Clone, Copy)]
 pub enum Usage {
     /// Given away.
     Value,

@@ -6,7 +6,7 @@ ghost use Rattle.lower_checks.specs.declared.fault.LowerFault.TheVariants.{Memor
 use std::alloc::AllocError;
 
 /// Why a program has no Core.
-#[derive(Clone, Copy, PartialEq, Eq, Debug)]
+#[derive(Clone, Copy)]
 pub enum LowerFault {
     /// It has something else than functions, globals and locals of integers, of structs, of pointers to these and of arrays
     /// of them.

@@ -16,7 +16,7 @@ use cyc_core::{Temporary, Width, Words};
 use cyc_tree::{Base, Pointer, RegionName, Sign, TypeName};
 
 /// Whether what a pointer leads to is owned by it alone.
-#[derive(Clone, Copy, PartialEq, Eq, Debug)]
+#[derive(Clone, Copy)]
 pub enum Owner {
     /// No.
     Shared,

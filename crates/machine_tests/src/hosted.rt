@@ -7,9 +7,10 @@ use cyc_image::{Parts, load, write};
 use cyc_words::{Counted, Input, Kind, MachineFault, Output};
 use rv32_isa::decode;
 use rv32_machine::Machine;
-use std::alloc::Global;
+use std::alloc::{AllocGlobal, Global};
 use std::io;
 use std::io::{Error, ErrorKind, Read, Write};
+use std::process::Abort;
 use std::test::Fail;
 
 // gives one byte at a call and the end after the last one; fails at the call of that number, and where it is asked for
@@ -205,26 +206,61 @@ fn the_words_are_what_their_texts_say(rt: HostRuntime) -> Result<(), Fail> {
     check_texts(rt.alloc(), &prints(PAGE, MORE))
 }
 
-#[test]
-fn an_echo_writes_what_it_reads(rt: HostRuntime) -> Result<(), Fail> {
-    let mut machine = machine_of(rt.alloc(), &ECHO)?;
-    let mut reader = Script::new(b"hello", 0);
-    let mut writer = Tape::plain();
-    let ending = run(&mut machine, &mut reader, &mut writer, 1000);
-    assert_eq!(rt; ending, Ending::Ended(0));
-    assert_eq!(rt; writer.get_ref().written.as_slice(), b"hello".as_slice());
-    assert_eq!(rt; (reader.get_ref().calls, writer.get_ref().calls), (6, 5));
+// asserts what was written, how often each device was called, and how many faults each counts
+fn leaves(
+    rt: &(impl Abort + AllocGlobal),
+    reader: &Counted<Script>,
+    writer: &Counted<Tape>,
+    written: &[u8],
+    calls: (u16, u16),
+    faults: (u64, u64),
+) {
+    assert!(rt; writer.get_ref().written.as_slice() == written);
+    assert!(rt; (reader.get_ref().calls, writer.get_ref().calls) == calls);
+    assert!(rt; (reader.faults(), writer.faults()) == faults);
+}
+
+// runs these words with this input, whose read of that number fails, and asserts how the run ends and what it leaves
+fn check_run(
+    rt: &(impl Abort + AllocGlobal),
+    words: &[Word],
+    (bytes, fails_at): (&'static [u8], u16),
+    tape: Counted<Tape>,
+    ending: Ending,
+    (written, calls, faults): (&[u8], (u16, u16), (u64, u64)),
+) -> Result<(), Fail> {
+    let mut machine = machine_of(rt.alloc(), words)?;
+    let mut reader = Script::new(bytes, fails_at);
+    let mut writer = tape;
+    assert!(rt; run(&mut machine, &mut reader, &mut writer, 1000) == ending);
+    leaves(rt, &reader, &writer, written, calls, faults);
     Ok(())
 }
 
 #[test]
+fn an_echo_writes_what_it_reads(rt: HostRuntime) -> Result<(), Fail> {
+    let left = (b"hello".as_slice(), (6, 5), (0, 0));
+    check_run(
+        &rt,
+        &ECHO,
+        (b"hello", 0),
+        Tape::plain(),
+        Ending::Ended(0),
+        left,
+    )
+}
+
+#[test]
 fn after_the_end_nothing_is_read(rt: HostRuntime) -> Result<(), Fail> {
-    let mut machine = machine_of(rt.alloc(), &TWICE)?;
-    let mut reader = Script::new(b"", 0);
-    let ending = run(&mut machine, &mut reader, &mut Tape::plain(), 1000);
-    assert_eq!(rt; ending, Ending::Ended(-1));
-    assert_eq!(rt; reader.get_ref().calls, 1);
-    Ok(())
+    let left = (b"".as_slice(), (1, 0), (0, 0));
+    check_run(
+        &rt,
+        &TWICE,
+        (b"", 0),
+        Tape::plain(),
+        Ending::Ended(-1),
+        left,
+    )
 }
 
 #[test]
@@ -232,13 +268,10 @@ fn a_run_goes_on_after_a_failed_read(rt: HostRuntime) -> Result<(), Fail> {
     let mut machine = machine_of(rt.alloc(), &ECHO)?;
     let mut reader = Script::new(b"hello", 3);
     let mut writer = Tape::plain();
-    let first = run(&mut machine, &mut reader, &mut writer, 1000);
-    assert_eq!(rt; first, Ending::ReadFault);
-    assert_eq!(rt; writer.get_ref().written.as_slice(), b"he".as_slice());
-    let second = run(&mut machine, &mut reader, &mut writer, 1000);
-    assert_eq!(rt; second, Ending::Ended(0));
-    assert_eq!(rt; writer.get_ref().written.as_slice(), b"hello".as_slice());
-    assert_eq!(rt; (reader.faults(), writer.faults()), (1, 0));
+    assert!(rt; run(&mut machine, &mut reader, &mut writer, 1000) == Ending::ReadFault);
+    leaves(&rt, &reader, &writer, b"he", (3, 2), (1, 0));
+    assert!(rt; run(&mut machine, &mut reader, &mut writer, 1000) == Ending::Ended(0));
+    leaves(&rt, &reader, &writer, b"hello", (7, 5), (1, 0));
     Ok(())
 }
 
@@ -247,91 +280,72 @@ fn a_run_goes_on_after_each_step(rt: HostRuntime) -> Result<(), Fail> {
     let mut machine = machine_of(rt.alloc(), &ECHO)?;
     let mut reader = Script::new(b"hi", 0);
     let mut writer = Tape::plain();
-    assert_eq!(rt;
-        run(&mut machine, &mut reader, &mut writer, 0),
-        Ending::StepLimit
-    );
+    assert!(rt; run(&mut machine, &mut reader, &mut writer, 0) == Ending::StepLimit);
     // the byte that is asked for at the last step is answered
-    assert_eq!(rt;
-        run(&mut machine, &mut reader, &mut writer, 2),
-        Ending::StepLimit
-    );
-    assert_eq!(rt; (machine.pc(), machine.reg(10)), (0x0001_0008, 104));
-    for _ in 0..15 {
+    assert!(rt; run(&mut machine, &mut reader, &mut writer, 2) == Ending::StepLimit);
+    assert!(rt; (machine.pc(), machine.reg(10)) == (0x0001_0008, 104));
+    for step in 0..17 {
         let ending = run(&mut machine, &mut reader, &mut writer, 1);
-        assert_eq!(rt; ending, Ending::StepLimit);
+        let limit = step < 15;
+        assert!(rt;
+            ending
+                == if limit {
+                    Ending::StepLimit
+                } else {
+                    Ending::Ended(0)
+                }
+        );
     }
-    for _ in 0..2 {
-        let ending = run(&mut machine, &mut reader, &mut writer, 1);
-        assert_eq!(rt; ending, Ending::Ended(0));
-    }
-    assert_eq!(rt; writer.get_ref().written.as_slice(), b"hi".as_slice());
+    assert!(rt; writer.get_ref().written.as_slice() == b"hi".as_slice());
     Ok(())
 }
 
 #[test]
 fn a_writer_may_take_one_byte_at_a_call(rt: HostRuntime) -> Result<(), Fail> {
-    let mut machine = machine_of(rt.alloc(), &prints(FIVE, SAME))?;
-    let mut writer = Tape::new(1, 0, Stumble::Fails);
-    let ending = run(&mut machine, &mut Script::new(b"", 0), &mut writer, 1000);
-    assert_eq!(rt; ending, Ending::Ended(65));
-    assert_eq!(rt; writer.get_ref().written.as_slice(), b"AAAAA".as_slice());
-    assert_eq!(rt; writer.get_ref().calls, 5);
-    Ok(())
+    let words = prints(FIVE, SAME);
+    let tape = Tape::new(1, 0, Stumble::Fails);
+    let left = (b"AAAAA".as_slice(), (0, 5), (0, 0));
+    check_run(&rt, &words, (b"", 0), tape, Ending::Ended(65), left)
 }
 
 #[test]
 fn a_failed_write_takes_the_place_of_an_ending(rt: HostRuntime) -> Result<(), Fail> {
+    let words = prints(FIVE, SAME);
     for stumble in [Stumble::TakesNothing, Stumble::Fails] {
-        let mut machine = machine_of(rt.alloc(), &prints(FIVE, SAME))?;
-        let mut writer = Tape::new(1, 3, stumble);
-        let ending = run(&mut machine, &mut Script::new(b"", 0), &mut writer, 1000);
-        assert_eq!(rt; ending, Ending::WriteFault);
-        assert_eq!(rt; writer.get_ref().written.as_slice(), b"AA".as_slice());
-        assert_eq!(rt; (writer.get_ref().calls, writer.faults()), (3, 1));
+        let tape = Tape::new(1, 3, stumble);
+        let left = (b"AA".as_slice(), (0, 3), (0, 1));
+        check_run(&rt, &words, (b"", 0), tape, Ending::WriteFault, left)?;
     }
     Ok(())
 }
+
+// what a device had written before the call of that number
+const BEFORE: [(u16, &'static [u8]); 3] = [(1, b""), (2, b"h"), (3, b"he")];
 
 #[test]
 fn after_a_failed_read_no_device_is_called(rt: HostRuntime) -> Result<(), Fail> {
-    for call in 1..4 {
-        let mut machine = machine_of(rt.alloc(), &ECHO)?;
-        let mut reader = Script::new(b"hello", call);
-        let mut writer = Tape::plain();
-        let ending = run(&mut machine, &mut reader, &mut writer, 1000);
-        assert_eq!(rt; ending, Ending::ReadFault);
-        let before = call - 1;
-        assert_eq!(rt;
-            writer.get_ref().written.as_slice(),
-            &b"hello"[..usize::from(before)]
-        );
-        assert_eq!(rt;
-            (reader.get_ref().calls, writer.get_ref().calls),
-            (call, before)
-        );
-        assert_eq!(rt; (reader.faults(), writer.faults()), (1, 0));
+    for (call, written) in BEFORE {
+        let left = (written, (call, call - 1), (1, 0));
+        check_run(
+            &rt,
+            &ECHO,
+            (b"hello", call),
+            Tape::plain(),
+            Ending::ReadFault,
+            left,
+        )?;
     }
     Ok(())
 }
 
+// What was gathered is written before the next byte is read.
 #[test]
 fn after_a_failed_write_no_device_is_called(rt: HostRuntime) -> Result<(), Fail> {
     for stumble in [Stumble::TakesNothing, Stumble::Fails] {
-        for call in 1..4 {
-            let mut machine = machine_of(rt.alloc(), &ECHO)?;
-            let mut reader = Script::new(b"hello", 0);
-            let mut writer = Tape::new(8192, call, stumble);
-            let ending = run(&mut machine, &mut reader, &mut writer, 1000);
-            assert_eq!(rt; ending, Ending::WriteFault);
-            let before = usize::from(call - 1);
-            assert_eq!(rt; writer.get_ref().written.as_slice(), &b"hello"[..before]);
-            // what was gathered is written before the next byte is read
-            assert_eq!(rt;
-                (reader.get_ref().calls, writer.get_ref().calls),
-                (call, call)
-            );
-            assert_eq!(rt; (reader.faults(), writer.faults()), (0, 1));
+        for (call, written) in BEFORE {
+            let tape = Tape::new(8192, call, stumble);
+            let left = (written, (call, call), (0, 1));
+            check_run(&rt, &ECHO, (b"hello", 0), tape, Ending::WriteFault, left)?;
         }
     }
     Ok(())
@@ -342,45 +356,61 @@ fn without_steps_nothing_is_read(rt: HostRuntime) -> Result<(), Fail> {
     let mut machine = machine_of(rt.alloc(), &TWICE)?;
     let mut reader = Script::new(b"x", 1);
     let mut writer = Tape::plain();
-    let mut endings = [Ending::StepLimit; 4];
-    for (place, steps) in [0, 2, 0, 1].into_iter().enumerate() {
-        endings[place] = run(&mut machine, &mut reader, &mut writer, steps);
-    }
     let limit = Ending::StepLimit;
     // a byte is wanted at the second step, and again from then on
-    assert_eq!(rt; endings, [limit, Ending::ReadFault, limit, limit]);
-    assert_eq!(rt; (reader.get_ref().calls, machine.reg(10)), (2, 120));
+    for (steps, ending) in [(0, limit), (2, Ending::ReadFault), (0, limit), (1, limit)] {
+        assert!(rt; run(&mut machine, &mut reader, &mut writer, steps) == ending);
+    }
+    assert!(rt; (reader.get_ref().calls, machine.reg(10)) == (2, 120));
     Ok(())
 }
 
 #[test]
 fn what_is_gathered_is_written_at_each_ending(rt: HostRuntime) -> Result<(), Fail> {
     let mut writer = Tape::plain();
-    let mut raises = machine_of(rt.alloc(), &RAISES)?;
-    let raised = run(&mut raises, &mut Script::new(b"", 0), &mut writer, 1000);
-    assert_eq!(rt; raised, Ending::Raised(Kind::ArrayBounds));
-    assert_eq!(rt; writer.get_ref().written.as_slice(), b"A".as_slice());
-    let mut stops = machine_of(rt.alloc(), &RAISES[..3])?;
-    let fault = run(&mut stops, &mut Script::new(b"", 0), &mut writer, 1000);
-    assert_eq!(rt; fault, Ending::Fault(MachineFault::Access));
-    assert_eq!(rt; writer.get_ref().written.as_slice(), b"AA".as_slice());
+    let raised = Ending::Raised(Kind::ArrayBounds);
+    writes_more(&rt, &RAISES, &mut writer, raised, b"A")?;
+    let fault = Ending::Fault(MachineFault::Access);
+    writes_more(&rt, &RAISES[..3], &mut writer, fault, b"AA")
+}
+
+// asserts how these words end, and what the writer has written then
+fn writes_more(
+    rt: &(impl Abort + AllocGlobal),
+    words: &[Word],
+    writer: &mut Counted<Tape>,
+    ending: Ending,
+    written: &[u8],
+) -> Result<(), Fail> {
+    let mut machine = machine_of(rt.alloc(), words)?;
+    assert!(rt; run(&mut machine, &mut Script::new(b"", 0), writer, 1000) == ending);
+    assert!(rt; writer.get_ref().written.as_slice() == written);
+    Ok(())
+}
+
+// asserts that the first write fails where so many bytes are still to be put out, this one among them, and how many writes there
+// are where none fails
+fn check_writes(
+    rt: &(impl Abort + AllocGlobal),
+    words: &[Word],
+    left: u32,
+    writes: u16,
+) -> Result<(), Fail> {
+    let mut machine = machine_of(rt.alloc(), words)?;
+    let mut torn = Tape::new(8192, 1, Stumble::Fails);
+    let fault = run(&mut machine, &mut Script::new(b"", 0), &mut torn, 100_000);
+    assert!(rt; fault == Ending::WriteFault && machine.reg(5) == left);
+    let mut again = machine_of(rt.alloc(), words)?;
+    let mut tape = Tape::plain();
+    let whole = run(&mut again, &mut Script::new(b"", 0), &mut tape, 100_000);
+    assert!(rt; whole == Ending::Ended(65) && tape.get_ref().calls == writes);
+    assert!(rt; tape.get_ref().written.len() as u32 + 1 == 4096 + left);
     Ok(())
 }
 
 #[test]
 fn output_is_written_at_the_4096th_byte(rt: HostRuntime) -> Result<(), Fail> {
-    // how many bytes are still to be put out, this one among them, when the first write fails; and how many writes there are
-    for (second, left, writes) in [(LESS, 0, 1), (SAME, 1, 1), (MORE, 2, 2)] {
-        let words = prints(PAGE, second);
-        let mut machine = machine_of(rt.alloc(), &words)?;
-        let mut torn = Tape::new(8192, 1, Stumble::Fails);
-        let fault = run(&mut machine, &mut Script::new(b"", 0), &mut torn, 100_000);
-        assert_eq!(rt; (fault, machine.reg(5)), (Ending::WriteFault, left));
-        let mut again = machine_of(rt.alloc(), &words)?;
-        let mut tape = Tape::plain();
-        let whole = run(&mut again, &mut Script::new(b"", 0), &mut tape, 100_000);
-        assert_eq!(rt; (whole, tape.get_ref().calls), (Ending::Ended(65), writes));
-        assert_eq!(rt; tape.get_ref().written.len() as u32 + 1, 4096 + left);
-    }
-    Ok(())
+    check_writes(&rt, &prints(PAGE, LESS), 0, 1)?;
+    check_writes(&rt, &prints(PAGE, SAME), 1, 1)?;
+    check_writes(&rt, &prints(PAGE, MORE), 2, 2)
 }

@@ -111,12 +111,18 @@ Fault(BadCall) at 10010 with 1 <- 00900893 00000073 00A00893 00000073 00000073
 Fault(BadCall) at 10014 with 1 <- 00900893 00000073 00A00893 00000073 00C00893 00000073
 Ended(1) at 10014 with 1 <- 00900893 00000073 00C00893 00000073 00000893 00000073";
 
-// runs each image of a table, looks at where it stopped, and steps it again
-fn check_stops(alloc: Global, table: &str) -> Result<(), Fail> {
+// the same of images that ask for a frame: as long as the stack, which fits, of one byte more, and of the most bytes
+const FRAME_STOPS: &str = "\
+Fault(BadCall) at 10008 with 100000 <- 00D00893 00100537 00000073
+Exhausted at 1000c with 100001 <- 00D00893 00100537 00150513 00000073
+Exhausted at 10008 with ffffffff <- 00D00893 FFF00513 00000073";
+
+// runs each image of a table, of so many pages, looks at where it stopped, and steps it again
+fn check_stops(alloc: Global, pages: u32, table: &str) -> Result<(), Fail> {
     for line in table.lines() {
         let (wanted, text) = line.split_once(" <- ").ok_or("no words")?;
         let words = words_of(alloc, text)?;
-        let mut machine = machine_of(alloc, &words, b"")?;
+        let mut machine = machine_over(alloc, &words, b"", pages)?;
         for _ in 0..2 {
             let event = event_of(&mut machine);
             let (pc, number) = (machine.pc(), machine.reg(10));
@@ -132,47 +138,66 @@ fn check_stops(alloc: Global, table: &str) -> Result<(), Fail> {
 
 #[test]
 fn a_stop_is_before_the_instruction(rt: HostRuntime) -> Result<(), Fail> {
-    check_stops(rt.alloc(), STOPS)
+    check_stops(rt.alloc(), 1, STOPS)
 }
 
 #[test]
 fn no_access_leaves_the_arena(rt: HostRuntime) -> Result<(), Fail> {
-    check_stops(rt.alloc(), ARENA_STOPS)
+    check_stops(rt.alloc(), 1, ARENA_STOPS)
 }
 
 #[test]
 fn calls_out_of_order_stop(rt: HostRuntime) -> Result<(), Fail> {
-    check_stops(rt.alloc(), CALL_STOPS)
+    check_stops(rt.alloc(), 1, CALL_STOPS)
 }
 
 #[test]
+fn a_frame_is_refused_where_it_does_not_fit(rt: HostRuntime) -> Result<(), Fail> {
+    check_stops(rt.alloc(), 1, FRAME_STOPS)
+}
+
+// region_new, and again, and a third time
+#[test]
 fn a_store_of_one_page_has_no_second_region(rt: HostRuntime) -> Result<(), Fail> {
-    // region_new, and again, and a third time
-    let words = [0x0040_0893, 0x0000_0073, 0x0000_0073, 0x0000_0073];
-    for (pages, refused_at) in [(1, BASE + 8), (2, BASE + 12)] {
-        let mut machine = machine_over(rt.alloc(), &words, b"", pages)?;
-        for _ in 0..2 {
-            assert_eq!(rt; event_of(&mut machine), Event::Exhausted);
-            assert_eq!(rt; (machine.pc(), machine.reg(10)), (refused_at, pages));
+    let one = "Exhausted at 10008 with 1 <- 00400893 00000073 00000073 00000073";
+    let two = "Exhausted at 1000c with 2 <- 00400893 00000073 00000073 00000073";
+    check_stops(rt.alloc(), 1, one)?;
+    check_stops(rt.alloc(), 2, two)
+}
+
+// runs an image with this data until it stops, and looks at how, and at what registers have then
+fn check_registers(
+    alloc: Global,
+    words: &str,
+    data: &[u8],
+    stop: Event,
+    wanted: &[(u32, u32)],
+) -> Result<(), Fail> {
+    let words = words_of(alloc, words)?;
+    let mut machine = machine_of(alloc, &words, data)?;
+    if event_of(&mut machine) != stop {
+        return Err(Fail::new("another stop"));
+    }
+    for (register, value) in wanted {
+        if machine.reg(*register) != *value {
+            let told = format!(in alloc; "x{register}")?;
+            return Err(Fail::from(told.as_str()));
         }
     }
     Ok(())
 }
 
+// A region, a block of 8 bytes in it, whose address goes to x5, and 0x12345000 stored there; the region is freed, and the next one
+// made; then bytes 0 to 2 of what stands there go to x12 to x14, and byte 4 to x15.
+const GRANTS: &str =
+    "00400893 00000073 00050313 00500893 00800593 00000073 00050293 123453B7 0072A023 00030513 \
+00600893 00000073 00400893 00000073 0002C603 0012C683 0022C703 0042C783 00100073";
+
 #[test]
 fn grants_and_frees_change_no_byte(rt: HostRuntime) -> Result<(), Fail> {
-    // a region, a block of 8 bytes in it, whose address goes to x5, and 0x12345000 stored there; the region is freed, and the
-    // next one made; then bytes 0 to 2 of what stands there go to x12 to x14, and byte 4 to x15
-    let text =
-        "00400893 00000073 00050313 00500893 00800593 00000073 00050293 123453B7 0072A023 00030513 00600893 00000073 \
-00400893 00000073 0002C603 0012C683 0022C703 0042C783 00100073";
-    let words = words_of(rt.alloc(), text)?;
-    let mut machine = machine_of(rt.alloc(), &words, b"")?;
-    assert_eq!(rt; event_of(&mut machine), Event::Fault(MachineFault::Break));
-    for (register, value) in [(12, 0), (13, 0x50), (14, 0x34), (15, 0)] {
-        assert_eq!(rt; machine.reg(register), value, "x{register}");
-    }
-    Ok(())
+    let stop = Event::Fault(MachineFault::Break);
+    let wanted = [(12, 0), (13, 0x50), (14, 0x34), (15, 0)];
+    check_registers(rt.alloc(), GRANTS, b"", stop, &wanted)
 }
 
 #[test]
@@ -191,47 +216,22 @@ fn where_memory_lacks_the_store_comes_back(rt: HostRuntime) -> Result<(), Fail> 
     let mut store = PlainStore::new(rt.alloc(), image.pages())?;
     assert!(rt; store.store8(0x1000_0000, 7));
     match Machine::new(rt.alloc(), &image, store) {
-        Ok(machine) => assert_eq!(rt; (machine.pc(), machine.reg(2)), (BASE, 0x0050_0000)),
+        Ok(machine) => assert!(rt; (machine.pc(), machine.reg(2)) == (BASE, 0x0050_0000)),
         // as under rt try --test --fail-alloc
-        Err(back) => assert_eq!(rt; back.load8(0x1000_0000), Some(7)),
+        Err(back) => assert!(rt; back.load8(0x1000_0000) == Some(7)),
     }
-    Ok(())
-}
-
-#[test]
-fn a_frame_is_refused_where_it_does_not_fit(rt: HostRuntime) -> Result<(), Fail> {
-    // addi x17, x0, 13; lui x10, 256 (a frame as long as the stack, which fits); ecall
-    let mut fits = machine_of(rt.alloc(), &[0x00D0_0893, 0x0010_0537, 0x0000_0073], b"")?;
-    assert_eq!(rt; event_of(&mut fits), Event::Fault(MachineFault::BadCall));
-    // addi x10, x10, 1 between them: one byte more
-    let words = [0x00D0_0893, 0x0010_0537, 0x0015_0513, 0x0000_0073];
-    let mut refused = machine_of(rt.alloc(), &words, b"")?;
-    for _ in 0..2 {
-        assert_eq!(rt; event_of(&mut refused), Event::Exhausted);
-        assert_eq!(rt; (refused.pc(), refused.reg(10)), (BASE + 12, 0x0010_0001));
-    }
-    // addi x10, x0, -1
-    let mut most = machine_of(rt.alloc(), &[0x00D0_0893, 0xFFF0_0513, 0x0000_0073], b"")?;
-    assert_eq!(rt; event_of(&mut most), Event::Exhausted);
     Ok(())
 }
 
 #[test]
 fn a_program_ends_with_its_status(rt: HostRuntime) -> Result<(), Fail> {
     let mut machine = machine_of(rt.alloc(), &[0x0000_0893, 0x0070_0513, 0x0000_0073], b"")?;
-    assert_eq!(rt; machine.step(), Event::Next);
-    assert_eq!(rt; machine.step(), Event::Next);
-    assert_eq!(rt; machine.step(), Event::Ended(7));
-    assert_eq!(rt; machine.step(), Event::Ended(7));
-    assert_eq!(rt; machine.pc(), BASE + 8);
-    assert_eq!(rt;
-        (machine.reg(10), machine.reg(2), machine.reg(32)),
-        (7, 0x0050_0000, 0)
-    );
-
-    // a branch that is not taken
-    let mut other = machine_of(rt.alloc(), &[0x0000_1163, 0x0000_0893, 0x0000_0073], b"")?;
-    assert_eq!(rt; event_of(&mut other), Event::Ended(0));
+    assert!(rt; machine.step() == Event::Next);
+    assert!(rt; machine.step() == Event::Next);
+    assert!(rt; machine.step() == Event::Ended(7));
+    assert!(rt; machine.step() == Event::Ended(7));
+    assert!(rt; machine.pc() == BASE + 8);
+    assert!(rt; (machine.reg(10), machine.reg(2), machine.reg(32)) == (7, 0x0050_0000, 0));
     Ok(())
 }
 
@@ -241,42 +241,31 @@ fn a_getchar_waits_for_its_answer(rt: HostRuntime) -> Result<(), Fail> {
     let words = [0x0020_0893, 0x0000_0073, 0x0000_0073];
     let mut machine = machine_of(rt.alloc(), &words, b"")?;
     assert!(rt; !machine.give(Some(1)));
-    assert_eq!(rt; event_of(&mut machine), Event::Get);
-    assert_eq!(rt; machine.step(), Event::Get);
-    assert_eq!(rt; machine.pc(), BASE + 4);
+    assert!(rt; event_of(&mut machine) == Event::Get);
+    assert!(rt; machine.step() == Event::Get);
+    assert!(rt; machine.pc() == BASE + 4);
     assert!(rt; machine.give(Some(200)));
-    assert_eq!(rt; (machine.pc(), machine.reg(10)), (BASE + 8, 200));
+    assert!(rt; (machine.pc(), machine.reg(10)) == (BASE + 8, 200));
     assert!(rt; !machine.give(None));
-    assert_eq!(rt; machine.step(), Event::Get);
+    assert!(rt; machine.step() == Event::Get);
     assert!(rt; machine.give(None));
-    assert_eq!(rt; machine.reg(10), 0xFFFF_FFFF);
+    assert!(rt; machine.reg(10) == 0xFFFF_FFFF);
     Ok(())
 }
 
+// lui x1, 512, and then lb, lh, lbu, lhu and lw from the data
 #[test]
 fn loads_extend_the_sign(rt: HostRuntime) -> Result<(), Fail> {
-    // lui x1, 512, and then lb, lh, lbu, lhu and lw from the data
-    let words = [
-        0x0020_00B7,
-        0x0000_8103,
-        0x0000_9183,
-        0x0000_C203,
-        0x0000_D283,
-        0x0000_A303,
-    ];
-    let data = [0x80, 0x81, 0x82, 0x83];
-    let mut machine = machine_of(rt.alloc(), &words, &data)?;
-    assert_eq!(rt; event_of(&mut machine), Event::Fault(MachineFault::Access));
-    for (register, value) in [
+    let words = "002000B7 00008103 00009183 0000C203 0000D283 0000A303";
+    let wanted = [
         (2, 0xFFFF_FF80),
         (3, 0xFFFF_8180),
         (4, 0x80),
         (5, 0x8180),
         (6, 0x8382_8180),
-    ] {
-        assert_eq!(rt; machine.reg(register), value, "x{register}");
-    }
-    Ok(())
+    ];
+    let stop = Event::Fault(MachineFault::Access);
+    check_registers(rt.alloc(), words, &[0x80, 0x81, 0x82, 0x83], stop, &wanted)
 }
 
 #[test]
@@ -291,8 +280,8 @@ fn stores_are_loaded_again(rt: HostRuntime) -> Result<(), Fail> {
         0x0001_2023,
     ];
     let mut machine = machine_of(rt.alloc(), &words, b"")?;
-    assert_eq!(rt; event_of(&mut machine), Event::Fault(MachineFault::Access));
-    assert_eq!(rt; (machine.reg(3), machine.pc()), (0xFF00, BASE + 20));
+    assert!(rt; event_of(&mut machine) == Event::Fault(MachineFault::Access));
+    assert!(rt; (machine.reg(3), machine.pc()) == (0xFF00, BASE + 20));
     Ok(())
 }
 
@@ -308,9 +297,9 @@ fn putchar_and_raise(rt: HostRuntime) -> Result<(), Fail> {
         0x0000_0073,
     ];
     let mut machine = machine_of(rt.alloc(), &words, b"")?;
-    assert_eq!(rt; event_of(&mut machine), Event::Put(65));
-    assert_eq!(rt; machine.reg(10), 65);
-    assert_eq!(rt; event_of(&mut machine), Event::Raised(Kind::ArrayBounds));
-    assert_eq!(rt; machine.pc(), BASE + 20);
+    assert!(rt; event_of(&mut machine) == Event::Put(65));
+    assert!(rt; machine.reg(10) == 65);
+    assert!(rt; event_of(&mut machine) == Event::Raised(Kind::ArrayBounds));
+    assert!(rt; machine.pc() == BASE + 20);
     Ok(())
 }

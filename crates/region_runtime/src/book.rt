@@ -9,6 +9,7 @@ ghost use Rattle.region_runtime.specs.Headers.{word_in, owner_of, newest_of, cou
 ghost use Rattle.region_runtime.specs.Pool.{counts_of, last_of, left_of, changed_words, is_taken_by, standing_by};
 ghost use Rattle.region_runtime.specs.Steps.{next_page, seen, with_first, with_freed, with_heap_page, with_newest, with_page, with_taken, with_word, without_page};
 
+use arena_laws::{BASE, PAGE};
 use raw_pages::RawPages;
 
 /// The field of the next page on a chain.
@@ -34,12 +35,6 @@ pub(crate) const HEAP: u32 = 4097;
 
 /// The owner of pages got by `take_page`.
 pub(crate) const TAKEN: u32 = 4098;
-
-/// The bytes of a page.
-pub(crate) const PAGE: u32 = 4096;
-
-/// The arena's first address.
-pub(crate) const BASE: u32 = 0x1000_0000;
 
 /// The pages with their headers, and what is known of them beside: the first page of the chain of
 /// freed pages and how many it has, how many pages were ever used, the heap's last page and one, and

@@ -9,11 +9,11 @@ ghost use Rattle.raw_pages.specs.Raw.{is_no_page_count, is_pages_fault};
 ghost use Rattle.region_runtime.specs.Calls.{Gets, said_address, said_done, said_handle, tags_set, tags_with, tags_without, word_seen, words_set};
 ghost use Rattle.region_runtime.specs.Pool.{AreApart, byte_at, changed_words, held, is_free_field, is_taken, tag_of, word_of};
 
-use crate::book::{BASE, Book, OWNER, PAGE, TAKEN, USED};
+use crate::book::{Book, OWNER, TAKEN, USED};
 use crate::handle::Handle;
 use crate::refusal::Refusal;
 use crate::walk::is_held;
-use arena_laws::room_for;
+use arena_laws::{BASE, PAGE, room_for};
 use raw_pages::{PagesFault, RawPages};
 use std::alloc::Global;
 use std::marker::Model;

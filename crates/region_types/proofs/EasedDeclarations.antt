@@ -95,7 +95,7 @@ set_eased g t x v =
     let type = set_type g t v in
     let faults = set_faults g v type in
     let with_type = λ (u : Verdict StaticType). declared (set_faults (eased g) v u ++ second g x)
-        (with_local x (what_after (set_faults (eased g) v u) (what_of g.frame None u)) (eased g)) in
+    (with_local x (what_after (set_faults (eased g) v u) (what_of g.frame None u)) (eased g)) in
     let with_faults = λ (fs : List Fault). declared (fs ++ second g x) (with_local x (what_after fs (what_of g.frame None type)) (eased g)) in
     ap with_type (set_same g t v) ∙ ap with_faults (faults_same g v type)
     ∙ ap (declared (faults ++ second g x)) (local_eased x (what_after faults (what_of g.frame None type)) g)

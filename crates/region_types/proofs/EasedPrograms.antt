@@ -53,11 +53,11 @@ found_same [] (m ∷ h) k x = absurd k
 found_same (n ∷ g) [] k x = absurd k
 found_same (n ∷ g) (m ∷ h) k x =
     subst (λ (y : List ℕ). AreSame (if bytes_eq n.name x then Some n.entry else find g x) (if bytes_eq y x then Some m.entry else find h x)) k.0
-    (by (bytes_eq n.name x))
+    (by (bytes_eq n.name x) (found_same g h k.1.1 x))
   where
-    by : (b : Bool) → AreSame (if b then Some n.entry else find g x) (if b then Some m.entry else find h x)
-    by true = same_entry n.entry m.entry k.1.0
-    by false = found_same g h k.1.1 x
+    by : (b : Bool) → AreSame (find g x) (find h x) → AreSame (if b then Some n.entry else find g x) (if b then Some m.entry else find h x)
+    by true others = same_entry n.entry m.entry k.1.0
+    by false others = others
 
 same_tags : (p : Program) → SameTags (builtins (entries (judged_tags p))) (tables_of false p)
 same_tags p =

@@ -5,6 +5,8 @@ ghost use Rattle.rv32_machine.specs.State.{is_within};
 ghost use Rattle.rv32_machine.specs.Arrays.{stack_length};
 ghost use Rattle.rv32_machine.specs.Places.{Locates};
 
+use arena_laws::{BASE, PAGE};
+
 /// Where the code begins.
 pub const CODE_BASE: u32 = 0x0001_0000;
 
@@ -19,12 +21,6 @@ pub const STACK_LENGTH: u32 = 0x0010_0000;
 
 /// Where the stack ends.
 pub const STACK_END: u32 = STACK_BASE + STACK_LENGTH;
-
-/// Where the arena begins.
-pub const ARENA_BASE: u32 = 0x1000_0000;
-
-/// The bytes of a page of the arena.
-pub const PAGE: u32 = 4096;
 
 /// The area that an address lies in, and its offset there.
 #[derive(Clone, Copy)]
@@ -73,7 +69,7 @@ pub fn locate(code: usize, statics: usize, pages: u32, at: u32, width: usize) ->
     if let Some(offset) = offset_in(CODE_BASE, code, at, width) {
         return Some(Place::Code(offset));
     }
-    if offset_in(ARENA_BASE, (pages * PAGE) as usize, at, width).is_some() {
+    if offset_in(BASE, (pages * PAGE) as usize, at, width).is_some() {
         return Some(Place::Arena);
     }
     None

@@ -10,7 +10,8 @@ use Rattle.core_lines.specs.Lines.{code_length}
 use Rattle.core_lines.specs.Frames.{environment_code, prologue_code, epilogue_code}
 use Rattle.core_lines.specs.Homes.{saved_by, saved_slot}
 use Rattle.core_lines.specs.Choosing.{far}
-use Rattle.core_lines.specs.Selected.{frame_bytes, around, labels_within, statements_code, function_code, functions_code, program_code, offsets_from, datum_locals}
+use Rattle.core_lines.specs.Selected.{frame_bytes, around, labels_within, statements_code, function_code, functions_code, program_code}
+use Rattle.core_lines.specs.Selected.{offsets_from, datum_locals}
 use Rattle.core_lines.proofs.Access.{length_of_both}
 use Rattle.rv32_select.specs.Beginning.{leads_to_code, begins_within}
 
@@ -43,7 +44,8 @@ first_leads : (statics : List ℕ) (number next : ℕ) (f : Function) (rest : Li
 first_leads statics number next f rest =
     let bytes = frame_bytes f in
     let body = prologue_code bytes f.passed (saved_slot f) (saved_by f) f.parameters ++
-        statements_code bytes (around far statics next f) (next + 1) number number f.body ++ (Label next ∷ []) ++ epilogue_code bytes (saved_slot f) (saved_by f) in
+    statements_code bytes (around far statics next f) (next + 1) number number f.body ++ (Label next ∷ []) ++
+    epilogue_code bytes (saved_slot f) (saved_by f) in
     let some : 0 < code_length (body ++ rest) = omega (arith, length_of_both body rest) in
     grind (arith, nat_tests)
 

@@ -1,5 +1,5 @@
 -- The lines of a function, and of those behind it.
-use Rattle.std.proofs.Common.{◌≡◌, ℕ, ◌+◌, List, [], ◌∷◌, ◌++◌, refl, sym, ap, ◌∙◌}
+use Rattle.std.proofs.Common.{◌≡◌, ℕ, ◌+◌, List, [], ◌∷◌, ◌++◌, sym, ap, ◌∙◌}
 use Rattle.std.proofs.lemmas.List.{append_assoc}
 use Rattle.core_meaning.specs.Core.{Function}
 use Rattle.core_lines.specs.declared.line.Line.{Line}
@@ -27,7 +27,8 @@ module _ (statics : List ℕ) (number next : ℕ) (f : Function) where
       let prologue = prologue_code size f.passed 0 [] f.parameters in
       let body = plain_codes v (next + 1) number number f.body in
       let p' : begun ≡ labelled ++ prologue =
-      p ∙ ap (λ x. labelled ++ prologue_code x u.passed 0 [] f.parameters) b ∙ ap (λ (x : Surroundings). labelled ++ prologue_code size x.passed 0 [] f.parameters) a in
+      p ∙ ap (λ x. labelled ++ prologue_code x u.passed 0 [] f.parameters) b ∙
+      ap (λ (x : Surroundings). labelled ++ prologue_code size x.passed 0 [] f.parameters) a in
       let s' : inside ≡ begun ++ body =
       s ∙ ap (λ (x : Surroundings). begun ++ plain_codes x first number number f.body) a ∙ ap (λ x. begun ++ plain_codes v x number number f.body) n in
       let one = p' ∙ behind before label labelled prologue l in

@@ -49,14 +49,14 @@ use Rattle.core_meaning.specs.Core.{
   MoreStatements,
   Function,
 }
-use Rattle.core_lines.specs.declared.line.Line.{Line}
 use Rattle.core_lines.specs.declared.line.Line.TheVariants.{Jump, Label}
 use Rattle.core_lines.specs.Frames.{prologue_code, leave_code, epilogue_code}
 use Rattle.core_lines.specs.Homes.{home_registers, eligible_of, home_for, homes_from, homes_in, some_of, saved_by, saved_slot}
 use Rattle.core_lines.specs.Choosing.{far, held_behind, held_behind_all, choice_code}
-use Rattle.core_lines.specs.Selected.{first_of, rest_of, shrink, shrunk, homes_here, homes_after, names_after, names_after_all, shrunk_in, shrunk_of, placed_body}
+use Rattle.core_lines.specs.Selected.{first_of, rest_of, shrink, shrunk, homes_here, homes_after, names_after, names_after_all, shrunk_in, shrunk_of}
 use Rattle.core_lines.specs.Selected.{Surroundings, offsets_from, end_from, nth, nth_block, local_offset, local_home, get_code, put_code, operation_code}
-use Rattle.core_lines.specs.Selected.{labels_in, labels_of, within_block, naming, holding, statement_code, statements_code, frame_bytes, slots_of, around, function_code}
+use Rattle.core_lines.specs.Selected.{labels_in, labels_of, within_block, naming, holding, statement_code, statements_code, placed_body, frame_bytes}
+use Rattle.core_lines.specs.Selected.{slots_of, around, function_code}
 use Rattle.cyc_core.specs.declared.program.Function as code
 use Rattle.cyc_core.specs.Trees.{body_tree, function_tree}
 use Rattle.rv32_select.specs.Plain.{plain, plain_block, plain_code, plain_codes}

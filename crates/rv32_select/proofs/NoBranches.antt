@@ -1,5 +1,5 @@
 -- In the lines of a program in which each label may be out of a branch's reach, no jump on zero is a branch alone.
-use Rattle.std.proofs.Common.{◌≡◌, ℕ, suc, ◌+◌, Bool, true, List, [], ◌∷◌, ◌++◌, None, Option, length, refl, sym, subst}
+use Rattle.std.proofs.Common.{◌≡◌, ℕ, ◌+◌, Bool, true, List, [], ◌∷◌, ◌++◌, None, Option, length, refl, sym, subst}
 use Rattle.std.proofs.lemmas.Bool.{false≢true}
 use Rattle.core_meaning.specs.Core.{
   Statement,
@@ -22,11 +22,12 @@ use Rattle.core_meaning.specs.Core.{
 use Rattle.core_lines.specs.declared.line.Line.{Line}
 use Rattle.core_lines.specs.declared.line.Line.TheVariants.{Plain, Label, Jump, JumpIfZero, BranchIfZero, CallTo}
 use Rattle.core_lines.specs.Relaxed.{targets}
-use Rattle.core_lines.specs.Frames.{environment_code, prologue_code, epilogue_code}
+use Rattle.core_lines.specs.Frames.{call_code, return_code, prologue_code, epilogue_code}
 use Rattle.core_lines.specs.Homes.{saved_by, saved_slot}
 use Rattle.core_lines.specs.Choosing.{far, held_behind, held_behind_all, held_or_loaded, choice_code}
-use Rattle.core_lines.specs.Selected.{Surroundings, operation_code, labels_in, labels_of, labels_within, holding, naming, names_after, names_after_all, within_block}
-use Rattle.core_lines.specs.Selected.{statement_code, statements_code, frame_bytes, around, function_code, functions_code, program_code, offsets_from, datum_locals}
+use Rattle.core_lines.specs.Selected.{Surroundings, operation_code, labels_in, labels_of, labels_within, holding, naming, names_after, names_after_all}
+use Rattle.core_lines.specs.Selected.{within_block, statement_code, statements_code, frame_bytes, around, function_code, functions_code, program_code}
+use Rattle.core_lines.specs.Selected.{offsets_from, datum_locals}
 use Rattle.core_lines.proofs.NoTargets.{operation_none, held_none, call_none, return_none, prologue_none, epilogue_none}
 use Rattle.rv32_select.specs.Beginning.{are_long}
 
@@ -83,11 +84,12 @@ mutual
       both (statements_code bytes u (next + 1) next again body) (Label next ∷ []) (codes_long bytes u (next + 1) next again body all) refl
   code_long bytes u next out again Break all = refl
   code_long bytes u next out again Continue all = refl
-  code_long bytes u next out again (Call results f arguments) all = none_long _ (call_none u.passed results f arguments)
-  code_long bytes u next out again (Return values) all = none_long _ (return_none u.passed values u.exit)
+  code_long bytes u next out again (Call results f arguments) all = none_long (call_code u.passed results f arguments) (call_none u.passed results f arguments)
+  code_long bytes u next out again (Return values) all = none_long (return_code u.passed values u.exit) (return_none u.passed values u.exit)
   code_long bytes u next out again (Raise kind) all = refl
 
-  codes_long : (bytes : ℕ) (u : Surroundings) (next out again : ℕ) (ss : Statements) → u.wide ≡ far → are_long (statements_code bytes u next out again ss) ≡ true
+  codes_long : (bytes : ℕ) (u : Surroundings) (next out again : ℕ) (ss : Statements) → u.wide ≡ far
+      → are_long (statements_code bytes u next out again ss) ≡ true
   codes_long bytes u next out again NoStatements all = refl
   codes_long bytes u next out again (MoreStatements s ss) all =
       let later = holding (held_behind s) (naming (names_after s u.names) u) in

@@ -129,7 +129,8 @@ fn put_function(
         out: number,
         again: number,
     };
-    let free = put_statements(lines, place, following(next)?, ways, &function.body)?;
+    let first = following(next)?;
+    let free = put_statements(lines, place, first, ways, &function.body)?;
     put_lines(lines, &[Line::Label(next)])?;
     put_leave(lines, bytes)?;
     Ok(free)

@@ -127,11 +127,7 @@ fn put_values(lines: &mut Vec<Line>, place: &Place, value: Option<Words>) -> Res
 }
 
 /// Appends a return, with what temporaries hold where it has a value: it goes on at the function's end.
-fn put_return(
-    lines: &mut Vec<Line>,
-    place: &Place,
-    value: Option<Words>,
-) -> Result<(), AllocError>
+fn put_return(lines: &mut Vec<Line>, place: &Place, value: Option<Words>) -> Result<(), AllocError>
     ensures { OnOk result (lines.new.items ≡ lines.old.items ++ return_code place.now.passed (optional_tree value) place.now.exit) }
 {
     put_values(lines, place, value)?;

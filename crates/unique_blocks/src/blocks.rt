@@ -17,15 +17,9 @@ use crate::refusal::UniqueRefusal;
 use crate::slots::{
     CLASS, NEXT, cut, first_vacant, forget_pages, give_slot, is_set, set_next, take_slot, word,
 };
-use arena_laws::class_for;
+use arena_laws::{BASE, PAGE, class_for};
 use region_runtime::{Handle, Pool, Refusal};
 use std::marker::Model;
-
-/// The arena's first address.
-const BASE: u32 = 0x1000_0000;
-
-/// The bytes of a page.
-const PAGE: u32 = 4096;
 
 /// A pool with unique blocks. `held` is what it holds, by the laws of every store; `tag_of` the tag
 /// of each live region, and `byte_at` the byte at each address, which nothing but `store8` changes.

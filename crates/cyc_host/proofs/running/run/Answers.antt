@@ -1,4 +1,4 @@
-use Rattle.std.proofs.Common.{[], refl, sym, subst, false, ◌∙◌, inl, inr, arith, rules}
+use Rattle.std.proofs.Common.{[], refl, sym, subst, false, ◌∙◌, inl, inr, arith, rules, ⊎_elim}
 use Rattle.std.proofs.lemmas.Int.{to_z-of_z}
 use mir.Val.{SFits}
 use mir.Syntax.{w32}
@@ -105,7 +105,7 @@ returns-clause-hosted g c =
     let seen = arrays g.S.BlockStore.holdings g.S.BlockStore.byte_at in
     let i = c.steps.invariant in
     hosted i.progress c.finish-2.result _ _ _ (λ k. Refuses) (omega arith) c.finish-2.ensures.written
-    (either_end ending.StepLimit _ _ _ _ _ c.finish-2.ensures.same (refl, omega arith))
+    (either_end ending.StepLimit _ _ _ _ _ c.finish-2.ensures.same (refl, omega arith, λ some. ⊎_elim (λ none. absurd (omega (arith, none, some))) (λ runs. runs) i.going))
 
 pub steps-preserved : goal.steps-preserved
 steps-preserved g c =

@@ -1,4 +1,4 @@
-use Rattle.std.proofs.Common.{◌≡◌, ℕ, ◌<◌, inl, inr, sym, ap, ◌∙◌, subst, arith}
+use Rattle.std.proofs.Common.{◌≡◌, ℕ, inl, inr, sym, ap, ◌∙◌, subst}
 use Rattle.arena_laws.specs.Holdings.{Holdings, fresh}
 use Rattle.cyc_image.specs.Format.{Contents, IsImage}
 use Rattle.rv32_machine.specs.Arrays.{IsStart, arrays, state_of}
@@ -16,10 +16,10 @@ returns-clause-run g c =
     let start = arrays holdings_of (λ s. byte_at s.bytes) c.in-Ok-new-2.machine in
     let end = arrays holdings_of (λ s. byte_at s.bytes) c.run.new.machine in
     let arena = byte_at c.in-Ok-new.store.bytes in
-    let small : (at : ℕ) → arena at < 256 = λ at. let zero = ap (λ (f : ℕ → ℕ). f at) c.in-Ok-new.ensures.zeros in omega (arith, zero) in
+    let blank : (at : ℕ) → arena at ≡ 0 = λ at. ap (λ (f : ℕ → ℕ). f at) c.in-Ok-new.ensures.zeros in
     let with_parts : IsStart made.parts (holdings_of c.in-Ok-new.store) arena start =
     subst (λ parts. IsStart parts (holdings_of c.in-Ok-new.store) arena start) same c.in-Ok-new-2.ensures.starts in
     let starts : IsStart made.parts (fresh c.args.limits.pages) arena start =
     subst (λ (h : Holdings). IsStart made.parts h arena start) c.in-Ok-new.ensures.made with_parts in
-    text_run c.args.text.now c.in_ok-bytes.bytes.items c.args.limits.pages c.args.limits.steps c.run.result made arena start small starts (state_of end)
-    c.run.ensures.hosted c.run.ensures.goes_on
+    text_run c.args.text.now c.in_ok-bytes.bytes.items c.args.limits.pages c.args.limits.steps c.run.result made arena start blank starts (state_of end)
+    c.run.ensures.hosted

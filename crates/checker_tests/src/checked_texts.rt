@@ -2,89 +2,39 @@
 
 use check_faults::{Fault, Taken};
 use check_programs::program_fault;
-use cyc_lexer::{LexFault, place_of, tokens};
-use cyc_parser::{ParseFault, parse};
-use cyc_tree::Program;
-use flow_check::flow_fault;
+use cyc_lexer::{place_of, tokens};
+use cyc_parser::parse;
 use std::alloc::{AllocError, Global};
-use std::process::Abort;
 use std::test::Fail;
 
-/// The rules that are looked at.
-#[derive(Clone, Copy, Debug)]
-pub enum Rules {
-    /// All but those of flow.
-    Whole,
-    /// The same without those on live regions and effects.
-    Lenient,
-    /// Those of flow alone.
-    Flow,
-}
-
-/// The bytes of a text in which `$` is a line's end.
-fn bytes_of(alloc: Global, text: &str) -> Result<Vec<u8>, AllocError> {
-    let mut bytes = Vec::new(alloc);
-    for byte in text.bytes() {
-        bytes.push(if byte == b'$' { b'\n' } else { byte })?;
-    }
-    Ok(bytes)
-}
-
-/// A fault with its line and column.
-fn placed(alloc: Global, text: &[u8], at: u32, fault: &str) -> Result<String, Fail> {
-    let (line, column) = place_of(text, at);
-    Ok(format!(in alloc; "{line}:{column}: {fault}")?)
-}
-
-/// The first fault of a program by these rules.
-fn fault_by(alloc: Global, program: &Program, rules: Rules) -> Result<Option<Fault>, AllocError> {
-    match rules {
-        Rules::Whole => program_fault(alloc, Taken::whole(), program, false),
-        Rules::Lenient => program_fault(alloc, Taken::whole(), program, true),
-        Rules::Flow => flow_fault(alloc, Taken::whole(), program),
-    }
-}
-
-/// What is answered on a program of this text: `accepted`, or its first fault.
-fn program_answer(
-    alloc: Global,
-    text: &[u8],
-    program: &Program,
-    rules: Rules,
-) -> Result<String, Fail> {
-    match fault_by(alloc, program, rules)? {
-        Some(fault) => {
-            let kind = format!(in alloc; "{kind}", kind = fault.kind)?;
-            placed(alloc, text, fault.at, kind.as_str())
-        }
-        None => Ok(String::from_str(alloc, "accepted")?),
-    }
-}
-
-/// What is answered on a text: `accepted`, or the first fault of its tokens or its grammar, or by the rules that are looked at.
-fn answer_on(alloc: Global, text: &[u8], rules: Rules) -> Result<String, Fail> {
-    let tokens = match tokens(alloc, text) {
-        Ok(tokens) => tokens,
-        Err(LexFault::Lex(at)) => return placed(alloc, text, at, "Lex"),
-        Err(LexFault::Memory) => return Err(Fail::new("out of memory")),
+/// A fault with its line and column, or `accepted`.
+fn placed(alloc: Global, text: &[u8], fault: Option<Fault>) -> Result<String, AllocError> {
+    let Some(Fault { kind, at }) = fault else {
+        return String::from_str(alloc, "accepted");
     };
-    match parse(alloc, &tokens) {
-        Ok(program) => program_answer(alloc, text, &program, rules),
-        Err(ParseFault::Parse(at)) => placed(alloc, text, at, "Parse"),
-        Err(ParseFault::TooDeep(at)) => placed(alloc, text, at, "TooDeep"),
-        Err(ParseFault::Memory) => Err(Fail::new("out of memory")),
+    let (line, column) = place_of(text, at);
+    format!(in alloc; "{line}:{column}: {kind}")
+}
+
+/// The first fault of a text by all rules but those of flow, with or without those on live regions and effects.
+fn fault_of(alloc: Global, text: &[u8], lenient: bool) -> Result<Option<Fault>, Fail> {
+    let tokens = tokens(alloc, text)?;
+    let program = parse(alloc, &tokens)?;
+    Ok(program_fault(alloc, Taken::whole(), &program, lenient)?)
+}
+
+/// Refuses what is answered on a text where it isn't what is wanted.
+fn expect(alloc: Global, text: &[u8], lenient: bool, wanted: &str) -> Result<(), Fail> {
+    let found = placed(alloc, text, fault_of(alloc, text, lenient)?)?;
+    if found.as_str() == wanted {
+        Ok(())
+    } else {
+        Err(Fail::new(format_args!("found {found}, not {wanted}")))
     }
 }
 
-/// Asserts what is answered on a text, in which `$` is a line's end.
-pub fn expect_answer(
-    rt: &(impl Abort + AllocGlobal),
-    text: &str,
-    rules: Rules,
-    wanted: &str,
-) -> Result<(), Fail> {
-    let bytes = bytes_of(rt.alloc(), text)?;
-    let found = answer_on(rt.alloc(), &bytes, rules)?;
-    assert_eq!(rt; found.as_str(), wanted, "{rules:?}: {text}");
-    Ok(())
+/// Refuses what is answered on a text, with and without the rules on live regions and effects, where it isn't what is wanted.
+pub fn expect_answer(alloc: Global, text: String, wanted: &str) -> Result<(), Fail> {
+    expect(alloc, text.as_bytes(), false, wanted)?;
+    expect(alloc, text.as_bytes(), true, wanted)
 }

@@ -1,6 +1,6 @@
 // Programs at the limits of sizes.
 
-use crate::checked_texts::{Rules, expect_answer};
+use crate::checked_texts::expect_answer;
 use std::alloc::{AllocError, Global};
 use std::test::Fail;
 
@@ -9,8 +9,7 @@ fn numbered(alloc: Global, count: u32, parts: [&str; 4]) -> Result<String, Alloc
     let [start, before, after, end] = parts;
     let mut text = String::from_str(alloc, start)?;
     for number in 0..count {
-        let part = format!(in alloc; "{before}{number}{after}")?;
-        text.push_str(part.as_str())?;
+        write!(text, "{before}{number}{after}")?;
     }
     text.push_str(end)?;
     Ok(text)
@@ -32,33 +31,50 @@ accepted <- 255 <- ~char a~[4096]; ~char b[4072]; char ?s = \"a\"; int main() { 
 accepted <- 255 <- ~char a~[4096]; ~char b[4072]; int main() { putchar(\"abc\"[1]); return \"abc\"[0] + \"abcdefg\"[1]; }
 1:4290: Size <- 255 <- ~char a~[4096]; ~char b[4072]; int main() { putchar(\"abc\"[1]); return \"abc\"[0] + \"abcdefgh\"[1]; }";
 
+/// The four parts of a text.
+fn parts_of(text: &str) -> Option<[&str; 4]> {
+    let (start, rest) = text.split_once('~')?;
+    let (before, rest) = rest.split_once('~')?;
+    let (after, end) = rest.split_once('~')?;
+    Some([start, before, after, end])
+}
+
+/// Does a line of the table.
+fn expect_line(alloc: Global, line: &str) -> Result<(), Fail> {
+    let (wanted, line) = line.split_once(" <- ").ok_or("no count")?;
+    let (count, parts) = line.split_once(" <- ").ok_or("no parts")?;
+    let parts = parts_of(parts).ok_or("not four parts")?;
+    let text = numbered(alloc, count.parse()?, parts)?;
+    expect_answer(alloc, text, wanted)
+}
+
 #[test]
 fn sizes_have_their_limits(rt: HostRuntime) -> Result<(), Fail> {
-    let alloc = rt.alloc();
     for line in SIZES.lines() {
-        let (wanted, line) = line.split_once(" <- ").ok_or("no count")?;
-        let (count, parts) = line.split_once(" <- ").ok_or("no parts")?;
-        let parts: Vec<&str> = parts.split('~').collect(alloc)?;
-        let parts = parts.as_slice().try_into()?;
-        let text = numbered(alloc, count.parse()?, parts)?;
-        expect_answer(&rt, text.as_str(), Rules::Whole, wanted)?;
-        expect_answer(&rt, text.as_str(), Rules::Lenient, wanted)?;
+        expect_line(rt.alloc(), line)?;
     }
     Ok(())
+}
+
+/// A text with a string of so many characters between these two.
+fn with_string(alloc: Global, before: &str, count: u32, after: &str) -> Result<String, AllocError> {
+    let mut text = String::from_str(alloc, before)?;
+    for _ in 0..count {
+        text.push('a')?;
+    }
+    text.push_str(after)?;
+    Ok(text)
 }
 
 /// With its final 0 a string has at most 4,096 bytes.
 #[test]
 fn strings_have_their_limit(rt: HostRuntime) -> Result<(), Fail> {
     let alloc = rt.alloc();
-    let mut bytes = String::new(alloc);
-    for _ in 0..4095 {
-        bytes.push('a')?;
-    }
-    let text = format!(in alloc; "int main() {{ return \"{bytes}\"[0]; }}")?;
-    expect_answer(&rt, text.as_str(), Rules::Whole, "accepted")?;
-    let text = format!(in alloc; "int main() {{ return \"{bytes}a\"[0]; }}")?;
-    expect_answer(&rt, text.as_str(), Rules::Whole, "1:21: Size")?;
-    let text = format!(in alloc; "char ?s = \"{bytes}a\"; int main() {{ return 0; }}")?;
-    expect_answer(&rt, text.as_str(), Rules::Whole, "1:11: Size")
+    let (before, after) = ("int main() { return \"", "\"[0]; }");
+    let text = with_string(alloc, before, 4095, after)?;
+    expect_answer(alloc, text, "accepted")?;
+    let text = with_string(alloc, before, 4096, after)?;
+    expect_answer(alloc, text, "1:21: Size")?;
+    let text = with_string(alloc, "char ?s = \"", 4096, "\"; int main() { return 0; }")?;
+    expect_answer(alloc, text, "1:11: Size")
 }

@@ -1,7 +1,7 @@
 // Evaluations of programs of Core with arrays and fat pointers.
 
 use crate::objects::{member, pair};
-use crate::pointers::{address, ending_of, load, put, run, store};
+use crate::pointers::{address, expect_ending, load, put, run, store};
 use crate::programs::{constant, function, give, program};
 use crate::regions::word;
 use core_eval::EvalEnding;
@@ -62,8 +62,7 @@ fn elements_of_a_global_array_are_reached(rt: HostRuntime) -> Result<(), Fail> {
     ]?;
     let mut whole = program(alloc, vec![in alloc; function(alloc, 0, main)]?);
     whole.globals.push(Datum::Whole(pair(alloc)?, 3))?;
-    assert_eq!(rt; ending_of(alloc, &whole), EvalEnding::Ended(123));
-    Ok(())
+    expect_ending(alloc, whole, EvalEnding::Ended(123))
 }
 
 // a pointer goes on below 2^25 bytes, whether or not an object is there, and no further where none is; no byte has a number over 2^32 - 1
@@ -84,7 +83,7 @@ fn no_element_is_too_far(rt: HostRuntime) -> Result<(), Fail> {
         ]?;
         let mut whole = program(alloc, vec![in alloc; function(alloc, 0, main)]?);
         whole.globals.push(Datum::Whole(pair(alloc)?, 3))?;
-        assert_eq!(rt; ending_of(alloc, &whole), ending);
+        expect_ending(alloc, whole, ending)?;
     }
     Ok(())
 }
@@ -105,7 +104,7 @@ fn what_is_gone_is_not_known(rt: HostRuntime) -> Result<(), Fail> {
             give(1),
         ]?;
         let whole = program(alloc, vec![in alloc; function(alloc, 0, main)]?);
-        assert_eq!(rt; ending_of(alloc, &whole), ending);
+        expect_ending(alloc, whole, ending)?;
     }
     Ok(())
 }
@@ -181,12 +180,11 @@ fn a_fat_pointer_is_three_words(rt: HostRuntime) -> Result<(), Fail> {
         (Some(passed), None, EvalEnding::Stuck),
     ] {
         let whole = with_fat(alloc, returned, to)?;
-        assert_eq!(rt; ending_of(alloc, &whole), ending);
+        expect_ending(alloc, whole, ending)?;
     }
     let main = vec![in alloc; constant(0, 1), Statement::Return(Some(passed))]?;
     let whole = program(alloc, vec![in alloc; function(alloc, 0, main)]?);
-    assert_eq!(rt; ending_of(alloc, &whole), EvalEnding::Stuck);
-    Ok(())
+    expect_ending(alloc, whole, EvalEnding::Stuck)
 }
 
 // `int main() { pair a[2]; .. return a[1].second; }`, where so many elements are cleared
@@ -215,7 +213,7 @@ fn an_array_is_cleared(rt: HostRuntime) -> Result<(), Fail> {
         (3, EvalEnding::Stuck),
     ] {
         let whole = with_cleared(alloc, &layout, count)?;
-        assert_eq!(rt; ending_of(alloc, &whole), ending);
+        expect_ending(alloc, whole, ending)?;
     }
     Ok(())
 }

@@ -1,6 +1,6 @@
 // Evaluations of programs of Core with objects of many cells.
 
-use crate::pointers::{address, ending_of, run};
+use crate::pointers::{address, expect_ending, run};
 use crate::programs::{constant, function, give, program};
 use core_eval::EvalEnding;
 use cyc_core::{
@@ -79,10 +79,9 @@ fn a_whole_object_is_copied_and_cleared(rt: HostRuntime) -> Result<(), Fail> {
         &layout,
         Statement::Copy(second, first, layout.clone()?),
     )?;
-    assert_eq!(rt; ending_of(alloc, &copied), EvalEnding::Ended(256));
+    expect_ending(alloc, copied, EvalEnding::Ended(256))?;
     let cleared = with_pairs(alloc, &layout, Statement::Clear(first, layout.clone()?, 1))?;
-    assert_eq!(rt; ending_of(alloc, &cleared), EvalEnding::Ended(0));
-    Ok(())
+    expect_ending(alloc, cleared, EvalEnding::Ended(0))
 }
 
 // no object is copied to itself, none is read where it has no member, and no pointer goes further than an object's bytes
@@ -97,7 +96,7 @@ fn what_objects_cannot_do_is_stuck(rt: HostRuntime) -> Result<(), Fail> {
         run(Operation::Offset(second, first, 0, 0x0200_0000)),
     ] {
         let whole = with_pairs(alloc, &layout, then)?;
-        assert_eq!(rt; ending_of(alloc, &whole), EvalEnding::Stuck);
+        expect_ending(alloc, whole, EvalEnding::Stuck)?;
     }
     Ok(())
 }

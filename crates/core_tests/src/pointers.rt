@@ -10,10 +10,20 @@ use std::alloc::{AllocError, Global};
 use std::test::Fail;
 
 // how a program ends with some units of fuel and no input
-pub fn ending_of(alloc: Global, program: &Program) -> EvalEnding {
+fn ending_of(alloc: Global, program: &Program) -> EvalEnding {
     let mut reader = Counted::new(b"".as_slice());
     let mut writer = Counted::new(Vec::new(alloc));
     evaluate_core(alloc, program, &mut reader, &mut writer, 10)
+}
+
+// Refuses a program that doesn't end so. It takes the program, since one that a test keeps is proved to be let go at each of its checks.
+pub fn expect_ending(alloc: Global, program: Program, wanted: EvalEnding) -> Result<(), Fail> {
+    let found = ending_of(alloc, &program);
+    if found == wanted {
+        Ok(())
+    } else {
+        Err(Fail::new(format_args!("found {found:?}, not {wanted:?}")))
+    }
 }
 
 pub fn run(operation: Operation) -> Statement {
@@ -90,8 +100,7 @@ fn a_callee_stores_to_a_local_of_its_caller(rt: HostRuntime) -> Result<(), Fail>
     let mut whole = in_block(alloc, body)?;
     let set = vec![in alloc; constant(1, 7), store(0, 1), Statement::Return(None)]?;
     whole.functions.push(function(alloc, 1, set))?;
-    assert_eq!(rt; ending_of(alloc, &whole), EvalEnding::Ended(8));
-    Ok(())
+    expect_ending(alloc, whole, EvalEnding::Ended(8))
 }
 
 // a pointer to a local whose block is over may be tested for NULL, and no more
@@ -113,7 +122,7 @@ fn a_local_is_gone_with_its_block(rt: HostRuntime) -> Result<(), Fail> {
             Statement::Block(again, second),
         ]?;
         let whole = program(alloc, vec![in alloc; function(alloc, 0, main)]?);
-        assert_eq!(rt; ending_of(alloc, &whole), ending);
+        expect_ending(alloc, whole, ending)?;
     }
     Ok(())
 }
@@ -129,17 +138,13 @@ fn null_is_no_place(rt: HostRuntime) -> Result<(), Fail> {
         (give(0), EvalEnding::Stuck),
     ] {
         let whole = in_block(alloc, vec![in alloc; null(0), operation, give(1)]?)?;
-        assert_eq!(rt; ending_of(alloc, &whole), ending);
+        expect_ending(alloc, whole, ending)?;
     }
     let these = vec![in alloc; constant(1, 5), give(1)]?;
     let those = vec![in alloc; Statement::Raise(Kind::NullException)]?;
     let choice = Statement::If(Temporary(0), these, those);
     let whole = in_block(alloc, vec![in alloc; null(0), choice]?)?;
-    assert_eq!(rt;
-        ending_of(alloc, &whole),
-        EvalEnding::Raised(Kind::NullException)
-    );
-    Ok(())
+    expect_ending(alloc, whole, EvalEnding::Raised(Kind::NullException))
 }
 
 // `int *kept; int main() { int a; int b; kept = &a; *kept = 9; return a; }`, where `kept` was NULL before
@@ -170,7 +175,7 @@ fn a_global_keeps_a_pointer(rt: HostRuntime) -> Result<(), Fail> {
         ]?;
         let mut whole = in_block(alloc, body)?;
         whole.globals.push(Datum::Null)?;
-        assert_eq!(rt; ending_of(alloc, &whole), ending);
+        expect_ending(alloc, whole, ending)?;
     }
     Ok(())
 }
@@ -186,7 +191,7 @@ fn pointers_to_two_locals_differ(rt: HostRuntime) -> Result<(), Fail> {
     ] {
         let body = vec![in alloc; address(0, 0), second, same(2, 0, 1), give(2)]?;
         let whole = in_block(alloc, body)?;
-        assert_eq!(rt; ending_of(alloc, &whole), ending);
+        expect_ending(alloc, whole, ending)?;
     }
     Ok(())
 }

@@ -1,6 +1,6 @@
 // Evaluations of programs of Core with regions.
 
-use crate::pointers::{ending_of, load, run, store};
+use crate::pointers::{expect_ending, load, run, store};
 use crate::programs::{constant, function, give, program};
 use core_eval::EvalEnding;
 use cyc_core::{Cell, CellLayout, Layout, Operation, Program, Statement, Temporary};
@@ -69,7 +69,7 @@ fn a_block_is_freed_with_its_region(rt: HostRuntime) -> Result<(), Fail> {
         (heap, load(1, 3), free(), EvalEnding::Stuck),
     ] {
         let whole = with_block(alloc, handle, first, second)?;
-        assert_eq!(rt; ending_of(alloc, &whole), ending);
+        expect_ending(alloc, whole, ending)?;
     }
     Ok(())
 }
@@ -91,7 +91,7 @@ fn a_block_has_its_words_alone(rt: HostRuntime) -> Result<(), Fail> {
         ),
     ] {
         let whole = with_block(alloc, lexical, first, second)?;
-        assert_eq!(rt; ending_of(alloc, &whole), ending);
+        expect_ending(alloc, whole, ending)?;
     }
     Ok(())
 }

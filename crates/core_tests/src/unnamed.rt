@@ -1,7 +1,7 @@
 // Evaluations of programs of Core with unnamed values of functions.
 
 use crate::objects::{member, pair};
-use crate::pointers::{address, ending_of, run};
+use crate::pointers::{address, expect_ending, run};
 use crate::programs::{constant, function, give, program};
 use core_eval::EvalEnding;
 use cyc_core::{
@@ -72,8 +72,7 @@ fn a_struct_goes_through_an_unnamed_value(rt: HostRuntime) -> Result<(), Fail> {
         Statement::Block(locals, body),
     ]?;
     let whole = two_functions(alloc, &layout, main, Vec::new(alloc))?;
-    assert_eq!(rt; ending_of(alloc, &whole), EvalEnding::Ended(256));
-    Ok(())
+    expect_ending(alloc, whole, EvalEnding::Ended(256))
 }
 
 // a callee stores to its caller's unnamed pair, and to its own, which is another
@@ -98,7 +97,7 @@ fn each_call_has_its_own(rt: HostRuntime) -> Result<(), Fail> {
             Statement::Return(None),
         ]?;
         let whole = two_functions(alloc, &layout, main, second)?;
-        assert_eq!(rt; ending_of(alloc, &whole), ending);
+        expect_ending(alloc, whole, ending)?;
     }
     Ok(())
 }
@@ -125,7 +124,7 @@ fn an_unnamed_value_is_gone_with_its_call(rt: HostRuntime) -> Result<(), Fail> {
         ]?;
         let second = vec![in alloc; own_address(1, 0), store(1, 0, Width::Word), give(1)]?;
         let whole = two_functions(alloc, &layout, main, second)?;
-        assert_eq!(rt; ending_of(alloc, &whole), ending);
+        expect_ending(alloc, whole, ending)?;
     }
     Ok(())
 }
@@ -144,7 +143,7 @@ fn what_unnamed_values_cannot_do_is_stuck(rt: HostRuntime) -> Result<(), Fail> {
             give(1),
         ]?;
         let whole = two_functions(alloc, &layout, main, Vec::new(alloc))?;
-        assert_eq!(rt; ending_of(alloc, &whole), EvalEnding::Stuck);
+        expect_ending(alloc, whole, EvalEnding::Stuck)?;
     }
     Ok(())
 }

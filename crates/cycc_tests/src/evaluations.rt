@@ -100,26 +100,58 @@ fn outcome_of(
     })
 }
 
+// what an evaluation has to come to
+#[derive(Clone, Copy, Debug)]
+struct Wanted {
+    ending: EvalEnding,
+    written: &'static str,
+    calls: (u16, u16),
+    faults: (u64, u64),
+}
+
+fn expect(outcome: Outcome, wanted: Wanted) -> Result<(), Fail> {
+    if outcome.ending == wanted.ending
+        && outcome.written.as_slice() == wanted.written.as_bytes()
+        && outcome.calls == wanted.calls
+        && outcome.faults == wanted.faults
+    {
+        Ok(())
+    } else {
+        Err(Fail::new(format_args!("not {wanted:?}")))
+    }
+}
+
 // a byte is read, and then each is written before the next is read: a unit for the first read, and three for each turn
 const ECHO: &str =
     "int main() { int c = getchar(); while (c >= 0) { putchar(c); c = getchar(); } return 7; }";
 
 #[test]
 fn an_echo_writes_what_it_reads(rt: HostRuntime) -> Result<(), Fail> {
-    let outcome = outcome_of(rt.alloc(), ECHO, b"hello", (0, 0), 1000)?;
-    assert_eq!(rt; outcome.ending, EvalEnding::Ended(7));
-    assert_eq!(rt; outcome.written.as_slice(), b"hello".as_slice());
-    assert_eq!(rt; (outcome.calls, outcome.faults), ((6, 5), (0, 0)));
-    Ok(())
+    let wanted = Wanted {
+        ending: EvalEnding::Ended(7),
+        written: "hello",
+        calls: (6, 5),
+        faults: (0, 0),
+    };
+    expect(
+        outcome_of(rt.alloc(), ECHO, b"hello", (0, 0), 1000)?,
+        wanted,
+    )
 }
 
 #[test]
 fn all_is_written_before_a_read_that_fails(rt: HostRuntime) -> Result<(), Fail> {
     for (reads, writes, written) in [(1, 0, ""), (2, 1, "h"), (3, 2, "he")] {
-        let outcome = outcome_of(rt.alloc(), ECHO, b"hello", (reads, 0), 1000)?;
-        assert_eq!(rt; outcome.ending, EvalEnding::ReadFault);
-        assert_eq!(rt; outcome.written.as_slice(), written.as_bytes());
-        assert_eq!(rt; (outcome.calls, outcome.faults), ((reads, writes), (1, 0)));
+        let wanted = Wanted {
+            ending: EvalEnding::ReadFault,
+            written,
+            calls: (reads, writes),
+            faults: (1, 0),
+        };
+        expect(
+            outcome_of(rt.alloc(), ECHO, b"hello", (reads, 0), 1000)?,
+            wanted,
+        )?;
     }
     Ok(())
 }
@@ -127,21 +159,39 @@ fn all_is_written_before_a_read_that_fails(rt: HostRuntime) -> Result<(), Fail> 
 #[test]
 fn nothing_is_read_after_a_write_that_fails(rt: HostRuntime) -> Result<(), Fail> {
     for (calls, written) in [(1, ""), (2, "h"), (3, "he")] {
-        let outcome = outcome_of(rt.alloc(), ECHO, b"hello", (0, calls), 1000)?;
-        assert_eq!(rt; outcome.ending, EvalEnding::WriteFault);
-        assert_eq!(rt; outcome.written.as_slice(), written.as_bytes());
-        assert_eq!(rt; (outcome.calls, outcome.faults), ((calls, calls), (0, 1)));
+        let wanted = Wanted {
+            ending: EvalEnding::WriteFault,
+            written,
+            calls: (calls, calls),
+            faults: (0, 1),
+        };
+        expect(
+            outcome_of(rt.alloc(), ECHO, b"hello", (0, calls), 1000)?,
+            wanted,
+        )?;
     }
     Ok(())
 }
 
 #[test]
 fn nothing_is_done_without_its_unit(rt: HostRuntime) -> Result<(), Fail> {
-    for (fuel, reads, written) in [(0, 0, ""), (1, 1, ""), (2, 1, ""), (3, 1, "h"), (4, 2, "h")] {
-        let outcome = outcome_of(rt.alloc(), ECHO, b"hello", (0, 0), fuel)?;
-        assert_eq!(rt; outcome.ending, EvalEnding::Running);
-        assert_eq!(rt; outcome.written.as_slice(), written.as_bytes());
-        assert_eq!(rt; outcome.calls.0, reads);
+    for (fuel, reads, writes, written) in [
+        (0, 0, 0, ""),
+        (1, 1, 0, ""),
+        (2, 1, 0, ""),
+        (3, 1, 1, "h"),
+        (4, 2, 1, "h"),
+    ] {
+        let wanted = Wanted {
+            ending: EvalEnding::Running,
+            written,
+            calls: (reads, writes),
+            faults: (0, 0),
+        };
+        expect(
+            outcome_of(rt.alloc(), ECHO, b"hello", (0, 0), fuel)?,
+            wanted,
+        )?;
     }
     Ok(())
 }
@@ -149,9 +199,11 @@ fn nothing_is_done_without_its_unit(rt: HostRuntime) -> Result<(), Fail> {
 #[test]
 fn after_the_end_nothing_is_read(rt: HostRuntime) -> Result<(), Fail> {
     let text = "int main() { getchar(); putchar(65); return getchar(); }";
-    let outcome = outcome_of(rt.alloc(), text, b"", (0, 0), 1000)?;
-    assert_eq!(rt; outcome.ending, EvalEnding::Ended(-1));
-    assert_eq!(rt; outcome.written.as_slice(), b"A".as_slice());
-    assert_eq!(rt; outcome.calls, (1, 1));
-    Ok(())
+    let wanted = Wanted {
+        ending: EvalEnding::Ended(-1),
+        written: "A",
+        calls: (1, 1),
+        faults: (0, 0),
+    };
+    expect(outcome_of(rt.alloc(), text, b"", (0, 0), 1000)?, wanted)
 }

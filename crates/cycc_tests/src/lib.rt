@@ -1,13 +1,10 @@
-//! Tests of whole texts and whole commands: what no clause of the crates below says.
+//! Tests of commands that need more than a text: failing readers and writers, made images, large texts that are made by a rule,
+//! the words of the command line. All that a text and its answer say stands in the cases of `case_runs`.
 //!
 //! A crate with tests is proved twice, so those of the crates that take long stand here, where nothing
 //! else is proved.
 #![tactic(auto)]
 
-#[cfg(test)]
-mod array_cases;
-#[cfg(test)]
-mod command_cases;
 #[cfg(test)]
 mod commands;
 #[cfg(test)]
@@ -15,24 +12,10 @@ mod devices;
 #[cfg(test)]
 mod evaluations;
 #[cfg(test)]
-mod faults;
-#[cfg(test)]
-mod function_cases;
-#[cfg(test)]
 mod images;
 #[cfg(test)]
 mod large_texts;
 #[cfg(test)]
 mod limits;
-#[cfg(test)]
-mod manual_cases;
-#[cfg(test)]
-mod parameter_cases;
-#[cfg(test)]
-mod pointer_cases;
-#[cfg(test)]
-mod region_cases;
-#[cfg(test)]
-mod struct_cases;
 #[cfg(test)]
 mod usage;

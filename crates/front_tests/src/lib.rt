@@ -1,4 +1,5 @@
-//! Tests of texts up to their trees: tokens, programs, refusals, nesting.
+//! Tests of texts up to their trees that need more than a text: what a tree holds, how deep it nests, what bytes a token has. Which tokens a
+//! text has, and whether it is a program, stands in the cases of `case_runs`, by its commands `tokens` and `parse`.
 //!
 //! A crate with tests is proved twice, so those of the crates that take long stand here, where nothing
 //! else is proved.
@@ -11,8 +12,4 @@ mod made_trees;
 #[cfg(test)]
 mod nested_texts;
 #[cfg(test)]
-mod parsed_texts;
-#[cfg(test)]
 mod parsed_trees;
-#[cfg(test)]
-mod refused_texts;

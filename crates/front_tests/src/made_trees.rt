@@ -49,28 +49,53 @@ fn main_of(alloc: Global, statement: Statement) -> Result<Item, AllocError> {
     }))
 }
 
-#[test]
-fn of_programs(rt: HostRuntime) -> Result<(), Fail> {
-    let alloc = rt.alloc();
-    assert_eq!(rt; nesting(&Program::new(alloc, Vec::new(alloc))?), 0);
-    let global = Item::Global(cyc_tree::Global {
+// The nesting of a program of these items.
+fn nesting_of(alloc: Global, items: Vec<Item>) -> Result<u32, AllocError> {
+    Ok(nesting(&Program::new(alloc, items)?))
+}
+
+// `int x;`
+fn global(alloc: Global) -> Result<Item, AllocError> {
+    Ok(Item::Global(cyc_tree::Global {
         of: int(alloc),
         name: name(alloc, "x")?,
         initial: Initial::None,
-    });
-    // the statement alone
-    let empty = main_of(alloc, Statement::Empty(0))?;
-    assert_eq!(rt;
-        nesting(&Program::new(alloc, vec![in alloc; empty, global]?)?),
-        1
-    );
-    // what contains `2`: the block, the `return`, the sum, the call, the argument, and as unary expressions `-2` and `2`
+    }))
+}
+
+// `int main() { { return (1) + f(-2); ; } }`
+fn returning(alloc: Global) -> Result<Item, AllocError> {
     let returns = BlockItem::Execute(Statement::Return(0, Some(sum(alloc)?)));
     let empty = BlockItem::Execute(Statement::Empty(0));
-    let block = Statement::Block(0, vec![in alloc; returns, empty]?);
-    let program = Program::new(alloc, vec![in alloc; main_of(alloc, block)?]?)?;
-    assert_eq!(rt; nesting(&program), 7);
+    main_of(alloc, Statement::Block(0, vec![in alloc; returns, empty]?))
+}
+
+#[test]
+fn of_programs(rt: HostRuntime) -> Result<(), Fail> {
+    let alloc = rt.alloc();
+    let nothing = nesting_of(alloc, Vec::new(alloc))?;
+    // the statement alone
+    let empty = main_of(alloc, Statement::Empty(0))?;
+    let statement = nesting_of(alloc, vec![in alloc; empty, global(alloc)?]?)?;
+    // what contains `2`: the block, the `return`, the sum, the call, the argument, and as unary expressions `-2` and `2`
+    let block = nesting_of(alloc, vec![in alloc; returning(alloc)?]?)?;
+    assert_eq!(rt; (nothing, statement, block), (0, 1, 7));
     Ok(())
+}
+
+// Whether a local has the place of its type, and its name.
+fn local_is_placed(local: &Declaration) -> bool {
+    local.place() == 12 && local.local().text.as_slice() == b"x".as_slice()
+}
+
+// Whether a statement has the place 7.
+fn is_at_seven(statement: &Statement) -> bool {
+    statement.place() == 7
+}
+
+// Whether a program has one item, which begins it.
+fn has_one_item(program: &Program) -> bool {
+    program.items().len() == 1 && program.items()[0].place() == 0
 }
 
 #[test]
@@ -79,12 +104,10 @@ fn of_parts(rt: HostRuntime) -> Result<(), Fail> {
     let mut of = int(alloc);
     of.at = 12;
     let local = Declaration::Local(of, name(alloc, "x")?, Initializer::None);
-    assert_eq!(rt; local.place(), 12);
-    assert_eq!(rt; local.local().text.as_slice(), b"x".as_slice());
+    assert!(rt; local_is_placed(&local));
     let run = Statement::Run(Expression::Null(7));
-    assert_eq!(rt; run.place(), 7);
+    assert!(rt; is_at_seven(&run));
     let program = Program::new(alloc, vec![in alloc; main_of(alloc, run)?]?)?;
-    assert_eq!(rt; program.items().len(), 1);
-    assert_eq!(rt; program.items()[0].place(), 0);
+    assert!(rt; has_one_item(&program));
     Ok(())
 }

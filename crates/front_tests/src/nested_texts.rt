@@ -1,8 +1,9 @@
 // How deep a program may nest, and where a deeper one is refused.
 
-use crate::parsed_texts::fault_of;
+use crate::lexed_texts::expect;
+use cyc_lexer::tokens;
+use cyc_parser::{ParseFault, parse};
 use std::alloc::{AllocError, Global};
-use std::process::Abort;
 use std::test::Fail;
 
 // A text so many times.
@@ -14,24 +15,31 @@ fn repeated(alloc: Global, text: &str, count: u32) -> Result<String, AllocError>
     Ok(whole)
 }
 
+// What the text is refused with, if it is.
+fn fault_of(alloc: Global, text: &[u8]) -> Result<Option<ParseFault>, Fail> {
+    let tokens = tokens(alloc, text)?;
+    Ok(parse(alloc, &tokens).err())
+}
+
 // What the text is refused with prints so.
-fn expect_fault(rt: &(impl Abort + AllocGlobal), text: &str, fault: &str) -> Result<(), Fail> {
-    let found = fault_of(rt.alloc(), text)?;
-    let found = format!(in rt.alloc(); "{found:?}")?;
-    assert_eq!(rt; found.as_str(), fault, "at {text}");
-    Ok(())
+fn expect_fault(alloc: Global, text: String, fault: &str) -> Result<(), Fail> {
+    let found = fault_of(alloc, text.as_bytes())?;
+    expect(format!(in alloc; "{found:?}")?, fault)
+}
+
+// In the braces of `main`, so many times the first, and then the second.
+fn opened(alloc: Global, opening: &str, count: u32, rest: &str) -> Result<String, AllocError> {
+    let openings = repeated(alloc, opening, count)?;
+    format!(in alloc; "int main() {{ {openings}{rest}")
 }
 
 // A line has four parts with a `$` between them. In the braces of `main`, the first so many times as the
 // second says and then the third are refused with the fourth.
-fn expect_nested(rt: &(impl Abort + AllocGlobal), line: &str) -> Result<(), Fail> {
-    let parts: Vec<&str> = line.split('$').collect(rt.alloc())?;
-    let [opening, count, rest, fault] = parts.as_slice() else {
-        return Err(Fail::new("not four parts"));
-    };
-    let openings = repeated(rt.alloc(), opening, count.parse()?)?;
-    let text = format!(in rt.alloc(); "int main() {{ {openings}{rest}")?;
-    expect_fault(rt, text.as_str(), fault)
+fn expect_nested(alloc: Global, line: &str) -> Result<(), Fail> {
+    let (opening, line) = line.split_once('$').ok_or("no count")?;
+    let (count, line) = line.split_once('$').ok_or("no rest")?;
+    let (rest, fault) = line.split_once('$').ok_or("no fault")?;
+    expect_fault(alloc, opened(alloc, opening, count.parse()?, rest)?, fault)
 }
 
 // A statement in `main` has the nesting 1, its expression 2, and that one's unary expression 3.
@@ -54,7 +62,7 @@ if (a) ; else $254$return 1; }$Some(TooDeep(3576))";
 #[test]
 fn nesting(rt: HostRuntime) -> Result<(), Fail> {
     for line in NESTED.lines() {
-        expect_nested(&rt, line)?;
+        expect_nested(rt.alloc(), line)?;
     }
     Ok(())
 }
@@ -73,7 +81,7 @@ f(a).b->c;$2000$a; }$None";
 #[test]
 fn chains(rt: HostRuntime) -> Result<(), Fail> {
     for line in CHAINS.lines() {
-        expect_nested(&rt, line)?;
+        expect_nested(rt.alloc(), line)?;
     }
     Ok(())
 }
@@ -84,17 +92,29 @@ const PARENTHESES: &str = "return $1$; }$None
 return ($1$); }$Some(TooDeep(147))
 return ($$$Some(Parse(147))";
 
+// What stands round 126 parentheses, in `main`.
+fn in_parentheses(
+    alloc: Global,
+    before: &str,
+    middle: &str,
+    after: &str,
+) -> Result<String, AllocError> {
+    let opened = repeated(alloc, "(", 126)?;
+    let closed = repeated(alloc, ")", 126)?;
+    format!(in alloc; "int main() {{ {before}{opened}{middle}{closed}{after}")
+}
+
+fn expect_parentheses(alloc: Global, line: &str) -> Result<(), Fail> {
+    let (before, line) = line.split_once('$').ok_or("no middle")?;
+    let (middle, line) = line.split_once('$').ok_or("no end")?;
+    let (after, fault) = line.split_once('$').ok_or("no fault")?;
+    expect_fault(alloc, in_parentheses(alloc, before, middle, after)?, fault)
+}
+
 #[test]
 fn parentheses(rt: HostRuntime) -> Result<(), Fail> {
-    let opened = repeated(rt.alloc(), "(", 126)?;
-    let closed = repeated(rt.alloc(), ")", 126)?;
     for line in PARENTHESES.lines() {
-        let parts: Vec<&str> = line.split('$').collect(rt.alloc())?;
-        let [before, middle, after, fault] = parts.as_slice() else {
-            return Err(Fail::new("not four parts"));
-        };
-        let text = format!(in rt.alloc(); "int main() {{ {before}{opened}{middle}{closed}{after}")?;
-        expect_fault(&rt, text.as_str(), fault)?;
+        expect_parentheses(rt.alloc(), line)?;
     }
     Ok(())
 }

@@ -1,5 +1,6 @@
 // What is read of a text: how expressions are grouped, and the parts of the other forms.
 
+use crate::lexed_texts::expect;
 use cyc_lexer::tokens;
 use cyc_parser::parse;
 use cyc_tree::{
@@ -88,30 +89,40 @@ a <= b > c$(a LessEqual b Greater c)
 !a = b || c$((Not a) = (b || c))
 ~a * &b$((Complement a) Multiply (AddressOf b))";
 
+// The groups of an expression.
+fn groups_of(alloc: Global, text: &str) -> Result<String, Fail> {
+    let text = format!(in alloc; "int main() {{ {text}; }}")?;
+    let program = program_of(alloc, text.as_str())?;
+    let mut found = String::new(alloc);
+    if let Some(Statement::Run(expression)) = first_statement(&program) {
+        write_groups(expression, &mut found)?;
+    }
+    Ok(found)
+}
+
 #[test]
 fn groups(rt: HostRuntime) -> Result<(), Fail> {
     for line in GROUPS.lines() {
         let (text, groups) = line.split_once('$').ok_or("no `$`")?;
-        let text = format!(in rt.alloc(); "int main() {{ {text}; }}")?;
-        let program = program_of(rt.alloc(), text.as_str())?;
-        let Some(Statement::Run(expression)) = first_statement(&program) else {
-            return Err(Fail::new("no expression"));
-        };
-        let mut found = String::new(rt.alloc());
-        write_groups(expression, &mut found)?;
-        assert_eq!(rt; found.as_str(), groups);
+        expect(groups_of(rt.alloc(), text)?, groups)?;
     }
     Ok(())
+}
+
+// Whether the first `if` has no `else`, and the one in it has.
+fn inner_has_else(program: &Program) -> bool {
+    match first_statement(program) {
+        Some(Statement::If(13, _, body)) => matches!(&**body, Statement::IfElse(20, _, _, _)),
+        _ => false,
+    }
 }
 
 // An `else` belongs to the nearest `if`.
 #[test]
 fn nearest_if(rt: HostRuntime) -> Result<(), Fail> {
-    let program = program_of(rt.alloc(), "int main() { if (a) if (b) c; else d; }")?;
-    let Some(Statement::If(13, _, body)) = first_statement(&program) else {
-        return Err(Fail::new("the first `if` has an `else`"));
-    };
-    assert!(rt; matches!(&**body, Statement::IfElse(20, _, _, _)));
+    let text = "int main() { if (a) if (b) c; else d; }";
+    let is_right = inner_has_else(&program_of(rt.alloc(), text)?);
+    assert!(rt; is_right);
     Ok(())
 }
 
@@ -125,88 +136,119 @@ fn suffixed(program: &Program) -> Option<(&Expression, &[Suffix])> {
     }
 }
 
+fn is_union_value(program: &Program) -> bool {
+    matches!(
+        suffixed(program),
+        Some((
+            Expression::MakeUnion(_, _, _),
+            [Suffix::Dot(_), Suffix::Index(_), Suffix::Arrow(_)]
+        ))
+    )
+}
+
+fn is_variable(program: &Program) -> bool {
+    matches!(
+        suffixed(program),
+        Some((Expression::Variable(_), [Suffix::Dot(_), Suffix::Dot(_)]))
+    )
+}
+
 // `Id . Id (` makes a union value, and else a `.` is a suffix.
 #[test]
 fn members(rt: HostRuntime) -> Result<(), Fail> {
-    let program = program_of(rt.alloc(), "int main() { T.a(b).c[d]->e; }")?;
-    assert!(rt;
-        matches!(
-            suffixed(&program),
-            Some((
-                Expression::MakeUnion(_, _, _),
-                [Suffix::Dot(_), Suffix::Index(_), Suffix::Arrow(_)]
-            ))
-        )
-    );
-    let program = program_of(rt.alloc(), "int main() { a.b.c; }")?;
-    assert!(rt;
-        matches!(
-            suffixed(&program),
-            Some((Expression::Variable(_), [Suffix::Dot(_), Suffix::Dot(_)]))
-        )
-    );
+    let text = "int main() { T.a(b).c[d]->e; }";
+    let makes = is_union_value(&program_of(rt.alloc(), text)?);
+    let text = "int main() { a.b.c; }";
+    let names = is_variable(&program_of(rt.alloc(), text)?);
+    assert!(rt; makes && names);
     Ok(())
+}
+
+// Whether there are two clauses, of which the second is `default`.
+fn has_two_clauses(program: &Program) -> bool {
+    let Some(Statement::Switch(13, _, clauses)) = first_statement(program) else {
+        return false;
+    };
+    match clauses.as_slice() {
+        [first, second] => {
+            (first.at == 26 && first.body.len() == 2)
+                && (second.at == 51 && second.body.is_empty())
+                && matches!(second.pattern, Pattern::Default)
+        }
+        _ => false,
+    }
 }
 
 #[test]
 fn clauses(rt: HostRuntime) -> Result<(), Fail> {
     let text = "int main() { switch (u) { case {.a = x}: x; break; default: } }";
-    let program = program_of(rt.alloc(), text)?;
-    let Some(Statement::Switch(13, _, clauses)) = first_statement(&program) else {
-        return Err(Fail::new("no `switch`"));
-    };
-    let [first, second] = clauses.as_slice() else {
-        return Err(Fail::new("not two clauses"));
-    };
-    assert!(rt; first.at == 26 && first.body.len() == 2);
-    assert!(rt; second.at == 51 && second.body.is_empty());
-    assert!(rt; matches!(second.pattern, Pattern::Default));
+    let is_right = has_two_clauses(&program_of(rt.alloc(), text)?);
+    assert!(rt; is_right);
     Ok(())
 }
 
 const POINTERS: &str =
     "[Pointer { sign: Nullable, region: Some(Heap(6)) }, Pointer { sign: Fat, region: Some(Unique(14)) }, Pointer { sign: NotNull, region: Some(Named(Name { at: 18, text: [114] })) }, Pointer { sign: Fat, region: None }, Pointer { sign: Nullable, region: None }, Pointer { sign: NotNull, region: None }]";
 
+// The pointers of a program's first global.
+fn pointers_of(alloc: Global, text: &str) -> Result<String, Fail> {
+    let program = program_of(alloc, text)?;
+    match program.items().first() {
+        Some(Item::Global(global)) => {
+            Ok(format!(in alloc; "{:?}", global.of.pointers.as_slice())?)
+        }
+        _ => Ok(String::new(alloc)),
+    }
+}
+
+fn is_minus_five(program: &Program) -> bool {
+    match program.items().first() {
+        Some(Item::Global(global)) => {
+            matches!(
+                global.initial,
+                Initial::Constant(Constant::Negative(42, 5, true))
+            )
+        }
+        _ => false,
+    }
+}
+
 #[test]
 fn pointers(rt: HostRuntime) -> Result<(), Fail> {
-    let program = program_of(rt.alloc(), "char *`H *@fat`U @`r ?*@thin*@notnull x = -5u;")?;
-    let Some(Item::Global(global)) = program.items().first() else {
-        return Err(Fail::new("no global"));
-    };
-    let found = format!(in rt.alloc(); "{:?}", global.of.pointers.as_slice())?;
-    assert_eq!(rt; found.as_str(), POINTERS);
-    assert!(rt;
-        matches!(
-            global.initial,
-            Initial::Constant(Constant::Negative(42, 5, true))
-        )
-    );
+    let text = "char *`H *@fat`U @`r ?*@thin*@notnull x = -5u;";
+    expect(pointers_of(rt.alloc(), text)?, POINTERS)?;
+    let is_right = is_minus_five(&program_of(rt.alloc(), text)?);
+    assert!(rt; is_right);
     Ok(())
 }
 
 // Each line has an item, the function, and behind a `$` how many parameters, regions in its effect and
-// bounds it has.
-const SIGNATURES: &str = "int f() { }$0 None 0
-int f(void) { }$0 None 0
-int f(void v) { }$1 None 0
-int f(void *p, int x) { }$2 None 0
-int f(; {}) { }$0 Some(0) 0
-int f(int x; {`r, `s} : `r > `s, `s > `t) { { } }$1 Some(2) 2";
+// bounds it has, and that one byte, its last brace, stands at its end.
+const SIGNATURES: &str = "int f() { }$0 None 0 1
+int f(void) { }$0 None 0 1
+int f(void v) { }$1 None 0 1
+int f(void *p, int x) { }$2 None 0 1
+int f(; {}) { }$0 Some(0) 0 1
+int f(int x; {`r, `s} : `r > `s, `s > `t) { { } }$1 Some(2) 2 1";
+
+// The signature of the text's first item, and how many bytes stand behind it.
+fn signature_of(alloc: Global, text: &str) -> Result<String, Fail> {
+    let program = program_of(alloc, text)?;
+    let Some(Item::Function(function)) = program.items().first() else {
+        return Ok(String::new(alloc));
+    };
+    let parameters = function.parameters.len();
+    let effect = function.effect.as_ref().map(|regions| regions.len());
+    let bounds = function.bounds.len();
+    let behind = text.len().saturating_sub(function.end as usize);
+    Ok(format!(in alloc; "{parameters} {effect:?} {bounds} {behind}")?)
+}
 
 #[test]
 fn signatures(rt: HostRuntime) -> Result<(), Fail> {
     for line in SIGNATURES.lines() {
         let (text, signature) = line.split_once('$').ok_or("no `$`")?;
-        let program = program_of(rt.alloc(), text)?;
-        let Some(Item::Function(function)) = program.items().first() else {
-            return Err(Fail::new("no function"));
-        };
-        let parameters = function.parameters.len();
-        let effect = function.effect.as_ref().map(|regions| regions.len());
-        let bounds = function.bounds.len();
-        let found = format!(in rt.alloc(); "{parameters} {effect:?} {bounds}")?;
-        assert_eq!(rt; found.as_str(), signature, "at {text}");
-        assert_eq!(rt; function.end as usize + 1, text.len(), "at {text}");
+        expect(signature_of(rt.alloc(), text)?, signature)?;
     }
     Ok(())
 }

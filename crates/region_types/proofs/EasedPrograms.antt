@@ -8,8 +8,8 @@ use Rattle.source_typing.proofs.TakenItems.{none_is}
 use Rattle.source_typing.specs.Answers.{effect_fault, type_fault}
 use Rattle.source_typing.specs.Faults.{Fault, earliest, type_rule}
 use Rattle.source_typing.specs.Functions.{function_faults}
-use Rattle.source_typing.specs.Programs.{all_tag_faults, builtins, entries, faults_with, item_faults, items_from, judged_tags, main_found, second_names, size_faults}
-use Rattle.source_typing.specs.Programs.{tables_of, typing_faults}
+use Rattle.source_typing.specs.Programs.{all_tag_faults, builtins, entries, faults_with, item_faults, items_from, judged_tags, main_found}
+use Rattle.source_typing.specs.Programs.{second_names, size_faults, tables_of, typing_faults}
 use Rattle.source_typing.specs.Scope.{at_item}
 use Rattle.source_typing.specs.Tables.{Entry, OfBuiltin, OfFunction, OfOther, OfTag, OfValue, Tables, Tag, as_tag, find}
 use Rattle.source_typing.specs.Taken.{Taken, constant_forms, only_taken}

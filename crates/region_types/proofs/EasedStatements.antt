@@ -127,7 +127,8 @@ mutual
       (statement_clean body (in_a_loop g) reached all.1)
   statement_clean (Statement.Switch at e cs) g reached none =
       let inner = clauses_faults (in_a_switch g) reached (chosen (judge g e)) cs in
-      let clean = (none_of_both (faults_of (judge g e)) inner (own_is (faults_of (after (judge g e) (switched g at cs))) (faults_of (judge g e) ++ inner) none).1).0 in
+      let own = faults_of (after (judge g e) (switched g at cs)) in
+      let clean = (none_of_both (faults_of (judge g e)) inner (own_is own (faults_of (judge g e) ++ inner) none).1).0 in
       switch_clean g at cs (judge g e) (judge (eased g) e) inner (clauses_faults (in_a_switch (eased g)) reached (chosen (judge (eased g) e)) cs)
       (judge_stays e g)
       (λ h. ap (λ v. clauses_faults (in_a_switch (eased g)) reached (chosen v) cs) (stays_is (judge g e) (judge (eased g) e) (judge_stays e g) clean)
@@ -150,7 +151,8 @@ mutual
       both_none (statement_faults (eased g) reached s) (items_faults (eased g) falls others) (statement_clean s g reached all.0)
       (items_clean others g falls all.1)
 
-  clauses_clean : (cs : Clauses) (g : Env) (reached : Bool) (c : Option Chosen) → clauses_faults g reached c cs ≡ [] → clauses_faults (eased g) reached c cs ≡ []
+  clauses_clean : (cs : Clauses) (g : Env) (reached : Bool) (c : Option Chosen) → clauses_faults g reached c cs ≡ []
+      → clauses_faults (eased g) reached c cs ≡ []
   clauses_clean NoClauses g reached c none = refl
   clauses_clean (MoreClauses at pattern body others) g reached c none =
       let end = test (not (reached && (ways_of_items body).falls)) type_rule at in

@@ -1,0 +1,133 @@
+//! Does the cases of files, and prints each that differs from what it expects, and how many there are.
+//!
+//! The words of its command line are the files, in the folder that it runs in: the folder `data`, whose files docs/TESTS.md
+//! describes. A case gives a source, commands on it, and what each of them has to answer: what `cycc` answers, by `cycc_answer`,
+//! or the tokens, the grammar or the rules of the whole language alone.
+#![tactic(auto)]
+
+mod answers;
+mod cases;
+mod differences;
+mod rules;
+mod texts;
+
+use crate::answers::{Found, answer_to};
+use crate::cases::{Case, Part};
+use crate::differences::{Difference, is_as_wanted};
+use crate::texts::{bytes_of, plain_bytes};
+use std::fs::File;
+use std::io::Read;
+use std::process::ExitCode;
+use std::{env, io};
+
+/// The most bytes that are read of a file.
+const MOST: u64 = 1048577;
+
+/// How many cases were done, and how many of them differ.
+#[derive(Clone, Copy)]
+struct Count {
+    cases: u64,
+    different: u64,
+}
+
+/// The bytes of a file.
+fn file_bytes(rt: &HostRuntime, path: &str) -> io::Result<Vec<u8>> {
+    let mut bytes = Vec::new(rt.alloc());
+    File::open(rt, path)?.take(MOST).read_to_end(&mut bytes)?;
+    Ok(bytes)
+}
+
+/// The bytes of a case's source: the file that it names, or what it gives.
+fn source_of(rt: &HostRuntime, case: Case<'_>) -> io::Result<Vec<u8>> {
+    if let Some(part) = case.part("file") {
+        return file_bytes(rt, part.text);
+    }
+    if let Some(part) = case.part("source") {
+        return Ok(plain_bytes(rt.alloc(), part)?);
+    }
+    Ok(bytes_of(rt.alloc(), case.part("bytes"))?)
+}
+
+/// What a command answers to a case.
+fn answered(rt: &HostRuntime, command: &str, case: Case<'_>) -> io::Result<Found> {
+    let source = source_of(rt, case)?;
+    let input = bytes_of(rt.alloc(), case.part("input"))?;
+    answer_to(rt.alloc(), command, &source, &input)
+}
+
+/// Whether a command answers to a case what it expects. Where it doesn't, that is printed.
+fn holds(rt: &HostRuntime, command: &str, head: Case<'_>, case: Case<'_>) -> io::Result<bool> {
+    let found = answered(rt, command, case)?;
+    let holds = is_as_wanted(rt.alloc(), &found, head, case)?;
+    if !holds {
+        let difference = Difference {
+            case,
+            command,
+            found: &found,
+        };
+        println!(rt; "{difference}")?;
+    }
+    Ok(holds)
+}
+
+/// Whether each command of a case answers what it expects, and there is one, and no part that means nothing.
+fn is_right(rt: &HostRuntime, head: Case<'_>, case: Case<'_>) -> io::Result<bool> {
+    let named = if case.part("command").is_some() {
+        case
+    } else {
+        head
+    };
+    let mut is_right = named.part("command").is_some() && case.is_known() && head.is_known();
+    for text in named.parts.split("\n-- ") {
+        let part = Part::of(text);
+        if part.key == "command" && !holds(rt, part.text, head, case)? {
+            is_right = false;
+        }
+    }
+    Ok(is_right)
+}
+
+/// Does the cases of a file's text.
+fn do_cases(rt: &HostRuntime, path: &str, text: &str, count: Count) -> io::Result<Count> {
+    let mut count = count;
+    let mut pieces = text.split("\n== ");
+    let head = Case::of(pieces.next().unwrap_or(""));
+    for piece in pieces {
+        let case = Case::of(piece);
+        count.cases = count.cases.saturating_add(1);
+        if !is_right(rt, head, case)? {
+            count.different = count.different.saturating_add(1);
+            let name = case.name;
+            println!(rt; "{path}: {name}: differs")?;
+        }
+    }
+    Ok(count)
+}
+
+/// Does the cases of a file.
+fn do_file(rt: &HostRuntime, path: &str, count: Count) -> io::Result<Count> {
+    let mut text = String::new(rt.alloc());
+    File::open(rt, path)?.take(MOST).read_to_string(&mut text)?;
+    do_cases(rt, path, text.as_str(), count)
+}
+
+/// Does the cases of the files that the command line names.
+fn do_files(rt: &HostRuntime) -> io::Result<()> {
+    let paths: Vec<String> = env::args(rt)?.collect(rt.alloc())?;
+    let mut count = Count {
+        cases: 0,
+        different: 0,
+    };
+    for path in paths.iter().skip(1) {
+        count = do_file(rt, path.as_str(), count)?;
+    }
+    let Count { cases, different } = count;
+    println!(rt; "{cases} cases, {different} differ")
+}
+
+fn main(rt: HostRuntime) -> ExitCode {
+    match do_files(&rt) {
+        Ok(()) => ExitCode::SUCCESS,
+        Err(_) => ExitCode::FAILURE,
+    }
+}

@@ -1,0 +1,137 @@
+// What the tokens, the grammar and the rules of the whole language say of a source, whatever the compiler takes of it.
+
+use crate::answers::Found;
+use check_faults::{Fault, Taken};
+use check_programs::program_fault;
+use command_line::status::{REFUSED, SUCCESS};
+use cyc_lexer::{LexFault, Token, place_of, tokens};
+use cyc_parser::{ParseFault, parse};
+use cyc_tree::Program;
+use flow_check::flow_fault;
+use std::alloc::{AllocError, Global};
+
+/// Why a source is no program: what is wrong, and where; or want of memory.
+#[derive(Clone, Copy)]
+enum Refusal {
+    At(u32, &'static str),
+    Memory,
+}
+
+impl From<LexFault> for Refusal {
+    fn from(fault: LexFault) -> Refusal {
+        match fault {
+            LexFault::Lex(at) => Refusal::At(at, "Lex"),
+            LexFault::Memory => Refusal::Memory,
+        }
+    }
+}
+
+impl From<ParseFault> for Refusal {
+    fn from(fault: ParseFault) -> Refusal {
+        match fault {
+            ParseFault::Parse(at) => Refusal::At(at, "Parse"),
+            ParseFault::TooDeep(at) => Refusal::At(at, "TooDeep"),
+            ParseFault::Memory => Refusal::Memory,
+        }
+    }
+}
+
+/// That a source is accepted.
+fn accepted(alloc: Global) -> Result<Found, AllocError> {
+    let mut found = Found::nothing(alloc, SUCCESS);
+    found.written.extend_from_slice(b"accepted\n")?;
+    Ok(found)
+}
+
+/// That a source is refused, with this line.
+fn refused_with(alloc: Global, line: &str) -> Result<Found, AllocError> {
+    let mut found = Found::nothing(alloc, REFUSED);
+    found.said.extend_from_slice(line.as_bytes())?;
+    Ok(found)
+}
+
+/// That a source is refused.
+fn refused(alloc: Global, source: &[u8], refusal: Refusal) -> Result<Found, AllocError> {
+    let Refusal::At(at, name) = refusal else {
+        return Err(AllocError);
+    };
+    let (line, column) = place_of(source, at);
+    let line = format!(in alloc; "IN:{line}:{column}: {name}\n")?;
+    refused_with(alloc, line.as_str())
+}
+
+/// The kinds of tokens, in one line, with spaces between them: nothing where there are none.
+fn kinds(alloc: Global, tokens: &[Token<'_>]) -> Result<Found, AllocError> {
+    let mut kinds = String::new(alloc);
+    let last = tokens.len().saturating_sub(1);
+    for (number, token) in tokens.iter().enumerate() {
+        let kind = token.kind;
+        let end = if number == last { '\n' } else { ' ' };
+        write!(kinds, "{kind:?}{end}")?;
+    }
+    let mut found = Found::nothing(alloc, SUCCESS);
+    found.written = kinds.into_bytes();
+    Ok(found)
+}
+
+/// The kinds of a source's tokens, or where it has none.
+pub fn tokens_found(alloc: Global, source: &[u8]) -> Result<Found, AllocError> {
+    match tokens(alloc, source) {
+        Ok(tokens) => kinds(alloc, &tokens),
+        Err(fault) => refused(alloc, source, Refusal::from(fault)),
+    }
+}
+
+/// The program that a source spells.
+fn program_of(alloc: Global, source: &[u8]) -> Result<Program, Refusal> {
+    let tokens = tokens(alloc, source)?;
+    Ok(parse(alloc, &tokens)?)
+}
+
+/// Whether a source spells a program, or where it spells none.
+pub fn program_found(alloc: Global, source: &[u8]) -> Result<Found, AllocError> {
+    match program_of(alloc, source) {
+        Ok(_) => accepted(alloc),
+        Err(refusal) => refused(alloc, source, refusal),
+    }
+}
+
+/// The text of a program's first fault, or of there being none.
+fn verdict(alloc: Global, source: &[u8], fault: Option<Fault>) -> Result<String, AllocError> {
+    let Some(Fault { kind, at }) = fault else {
+        return String::from_str(alloc, "accepted");
+    };
+    let (line, column) = place_of(source, at);
+    format!(in alloc; "IN:{line}:{column}: {kind}")
+}
+
+/// What all rules say of a program; and besides, where that is something else, what they say without those on live regions and effects.
+fn judged(alloc: Global, source: &[u8], program: &Program) -> Result<Found, AllocError> {
+    let whole = program_fault(alloc, Taken::whole(), program, false)?;
+    let lenient = program_fault(alloc, Taken::whole(), program, true)?;
+    let first = match whole {
+        Some(_) => whole,
+        None => flow_fault(alloc, Taken::whole(), program)?,
+    };
+    if first.is_none() && lenient.is_none() {
+        return accepted(alloc);
+    }
+    let line = verdict(alloc, source, first)?;
+    if lenient == whole {
+        let line = format!(in alloc; "{line}\n")?;
+        return refused_with(alloc, line.as_str());
+    }
+    let other = verdict(alloc, source, lenient)?;
+    let lines = format!(in alloc;
+        "{line}\nwithout the rules on live regions and effects: {other}\n"
+    )?;
+    refused_with(alloc, lines.as_str())
+}
+
+/// What the rules of the whole language say of a source.
+pub fn faults_found(alloc: Global, source: &[u8]) -> Result<Found, AllocError> {
+    match program_of(alloc, source) {
+        Ok(program) => judged(alloc, source, &program),
+        Err(refusal) => refused(alloc, source, refusal),
+    }
+}

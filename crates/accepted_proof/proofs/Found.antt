@@ -25,8 +25,8 @@ use Rattle.source_typing.specs.Verdicts.{Of}
 use Rattle.source_typing.proofs.Inversion.{none_of_both}
 use Rattle.accepted_proof.specs.Good.{AllGood, BodiesJudged}
 use Rattle.accepted_proof.proofs.Globals.{GlobalGood, counted_shape, shape_here}
-use Rattle.accepted_proof.proofs.GoodFunctions.{FunctionGood, function_good}
-use Rattle.accepted_proof.proofs.GoodTables.{AreHeaded}
+use Rattle.accepted_proof.proofs.good.Functions.{FunctionGood, function_good}
+use Rattle.accepted_proof.proofs.good.Tables.{AreHeaded}
 use Rattle.accepted_proof.proofs.AlignedTables.{AreAligned, beginning_same, same_tags}
 use Rattle.accepted_proof.proofs.Heads.{head_same}
 use Rattle.accepted_proof.proofs.Named.{StructKnown}

@@ -33,8 +33,8 @@ use Rattle.source_typing.specs.Written.{RegionNamed, Spot, spots_of, written}
 use Rattle.source_typing.proofs.Inversion.{none_of_both}
 use Rattle.accepted_proof.specs.Good.{NamesBelow, Surely}
 use Rattle.accepted_proof.proofs.Constants.{InitialGood, initial_good}
-use Rattle.accepted_proof.proofs.GoodLocals.{IsFitting, fitting_is}
-use Rattle.accepted_proof.proofs.GoodTypes.{IsWritten, KnowsTags, in_scope_good}
+use Rattle.accepted_proof.proofs.good.Locals.{IsFitting, fitting_is}
+use Rattle.accepted_proof.proofs.good.Types.{IsWritten, KnowsTags, in_scope_good}
 use Rattle.accepted_proof.proofs.HeadTypes.{GivesNothing, GivesObject, ObjectGood, PlainGood, alone_good}
 use Rattle.accepted_proof.proofs.Sure.{surely_after, surely_also, surely_is}
 

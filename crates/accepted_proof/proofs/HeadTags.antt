@@ -22,9 +22,9 @@ use Rattle.source_typing.specs.Written.{Found, RegionNamed, Spot, all_found, arg
 use Rattle.source_typing.specs.Written.{spot, spots_of, tag_of, type_built, with_arguments, written_on}
 use Rattle.source_typing.proofs.Inversion.{both_none, none_of_both}
 use Rattle.accepted_proof.specs.Good.{NamesBelow}
-use Rattle.accepted_proof.proofs.GoodLocals.{FilledIfSome, filled_object}
+use Rattle.accepted_proof.proofs.good.Locals.{FilledIfSome, filled_object}
 use Rattle.accepted_proof.proofs.FoundRegions.{base_arguments, spots_found}
-use Rattle.accepted_proof.proofs.GoodTypes.{KnowsTags, MeansKnown, PointedIfSome, struct_pointed, pointers_shared}
+use Rattle.accepted_proof.proofs.good.Types.{KnowsTags, MeansKnown, PointedIfSome, struct_pointed, pointers_shared}
 use Rattle.accepted_proof.proofs.MemberTypes.{AreMembersTaken}
 
 -- ---- entries of one kind

@@ -23,9 +23,9 @@ use Rattle.source_typing.specs.Verdicts.{after, if_fits}
 use Rattle.source_typing.specs.Written.{Found, Is, IsUnique, Missing, RegionNamed, Spot, base_spots, find_region, spot, spots_of, written, written_with}
 use Rattle.accepted_proof.specs.Good.{NamesBelow, Surely}
 use Rattle.accepted_proof.proofs.FoundRegions.{AreAllFound, AreArguments, FoundBelow, base_arguments}
-use Rattle.accepted_proof.proofs.GoodTypes.{IsWritten, KnowsTags, RegionBelow, WritesNothing, WritesObject, in_scope_good}
-use Rattle.accepted_proof.proofs.GoodTypes.{pointers_shared, written_good}
-use Rattle.accepted_proof.proofs.GoodLocals.{IsFilled, object_settled}
+use Rattle.accepted_proof.proofs.good.Types.{IsWritten, KnowsTags, RegionBelow, WritesNothing, WritesObject, in_scope_good}
+use Rattle.accepted_proof.proofs.good.Types.{pointers_shared, written_good}
+use Rattle.accepted_proof.proofs.good.Locals.{IsFilled, object_settled}
 use Rattle.accepted_proof.proofs.Sure.{surely_after, surely_also}
 
 -- ---- more region names

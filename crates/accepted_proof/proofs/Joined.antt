@@ -7,11 +7,11 @@ use Rattle.source_typing.specs.Programs.{tables_of}
 use Rattle.accepted_programs.specs.Supported.{supported}
 use Rattle.accepted_proof.specs.Good.{BodiesJudged}
 use Rattle.accepted_proof.specs.Laws.{AcceptedAreJudged, AcceptedAreLowerable, AcceptedAreNeverStuck, AcceptedHaveMain}
-use Rattle.accepted_proof.proofs.GoodBodies.{bodies_judged}
-use Rattle.accepted_proof.proofs.GoodExpressions.{expressions_judged}
-use Rattle.accepted_proof.proofs.LoweredPrograms as lowered
+use Rattle.accepted_proof.proofs.good.Bodies.{bodies_judged}
+use Rattle.accepted_proof.proofs.good.Expressions.{expressions_judged}
+use Rattle.accepted_proof.proofs.lowered.Programs as lowered
 use Rattle.accepted_proof.proofs.Programs as programs
-use Rattle.accepted_proof.proofs.SizedGlobals.{AreSized}
+use Rattle.accepted_proof.proofs.lowered.SizedGlobals.{AreSized}
 
 bodies : BodiesJudged
 bodies = bodies_judged expressions_judged

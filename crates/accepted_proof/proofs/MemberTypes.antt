@@ -24,7 +24,7 @@ use Rattle.source_typing.specs.Verdicts.{Faulty, Of, Verdict, after, faults_of, 
 use Rattle.source_typing.specs.Written.{Found, all_found, spots_of, tag_of, written, written_on}
 use Rattle.source_typing.proofs.Inversion.{none_of_both}
 use Rattle.accepted_proof.specs.Good.{NamesBelow, Surely}
-use Rattle.accepted_proof.proofs.GoodTypes.{IsWritten, KnowsTags, MeansKnown, in_scope_good}
+use Rattle.accepted_proof.proofs.good.Types.{IsWritten, KnowsTags, MeansKnown, in_scope_good}
 use Rattle.accepted_proof.proofs.HeadTypes.{GivesNothing, GivesObject, ObjectGood, PlainGood, alone_good}
 use Rattle.accepted_proof.proofs.Sure.{surely_after, surely_is}
 

@@ -6,7 +6,7 @@ use Rattle.cyc_tree.specs.Tree.{Item}
 use Rattle.source_typing.specs.Programs.{Judged, builtins, entries, named}
 use Rattle.source_typing.specs.Tables.{Named, OfBuiltin, OfOther, OfTag, Tables, Tag, find}
 use Rattle.accepted_proof.specs.Good.{IsGoodTag}
-use Rattle.accepted_proof.proofs.GoodTypes.{IsKnownEntry, KnowsTags, MeansKnown}
+use Rattle.accepted_proof.proofs.good.Types.{IsKnownEntry, KnowsTags, MeansKnown}
 
 -- a struct without fault, by the entry that it has
 pub record StructKnown (s : tree.Structure) (n : Named) : Type 0 where

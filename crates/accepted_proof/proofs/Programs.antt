@@ -48,10 +48,10 @@ use Rattle.accepted_proof.proofs.AlignedTables.{AreAligned, tables_aligned}
 use Rattle.accepted_proof.proofs.Found.{AllKnown, FunctionFound, ValueFound, all_known, find_function, find_value, globals_judged}
 use Rattle.accepted_proof.proofs.Found.{no_builtin}
 use Rattle.accepted_proof.proofs.Globals.{counted_shape}
-use Rattle.accepted_proof.proofs.GoodNames.{MeansGood, found_good}
-use Rattle.accepted_proof.proofs.GoodFunctions.{FunctionNamed, function_is, function_judged}
-use Rattle.accepted_proof.proofs.GoodTables.{AreHeaded, IsClean, all_headed, is_clean_program, tables_good}
-use Rattle.accepted_proof.proofs.GoodTypes.{KnowsTags}
+use Rattle.accepted_proof.proofs.good.Names.{MeansGood, found_good}
+use Rattle.accepted_proof.proofs.good.Functions.{FunctionNamed, function_is, function_judged}
+use Rattle.accepted_proof.proofs.good.Tables.{AreHeaded, IsClean, all_headed, is_clean_program, tables_good}
+use Rattle.accepted_proof.proofs.good.Types.{KnowsTags}
 use Rattle.accepted_proof.proofs.Named.{builtins_known, entries_known}
 use Rattle.accepted_proof.proofs.Main.{MainHere, find_main, number_below}
 

@@ -19,7 +19,7 @@ use Rattle.source_meaning.specs.Shapes.{
   settled_by,
   shared_owner,
 }
-use Rattle.source_lowering.proofs.WrittenTypes.{first_shared}
+use Rattle.source_lowering.proofs.statements.WrittenTypes.{first_shared}
 
 -- no pointer of these is unique; an owner may be left open
 abbrev pub IsOpen : Shape → Type 0

@@ -9,8 +9,8 @@ use Rattle.source_lowering.specs.Lowerable.{AreStructs}
 use Rattle.source_meaning.specs.Places.{or_else}
 use Rattle.source_meaning.specs.Programs.{layout_of, structs_from}
 use Rattle.source_meaning.specs.Shapes.{Layout, Part, has_tag, part_of}
-use Rattle.type_proof.proofs.Layouts.{same_text}
-use Rattle.type_proof.proofs.Members.{members_known}
+use Rattle.type_proof.proofs.invariant.Layouts.{same_text}
+use Rattle.type_proof.proofs.expressions.Members.{members_known}
 use Rattle.type_proof.specs.Flat.{Declared}
 use Rattle.type_proof.specs.Structs.{AreInOrder, AreLaidOut, AreMembers, declares}
 use Rattle.source_typing.specs.Declarations.{tag_earlier}
@@ -26,11 +26,11 @@ use Rattle.source_typing.specs.Tags.{tag_faults, tag_parts, tag_scope}
 use Rattle.type_proof.specs.Judged.{safe_forms}
 use Rattle.source_typing.proofs.Entries.{entries_more, find_both, judged_name}
 use Rattle.source_typing.proofs.Inversion.{none_of_both, test_is}
-use Rattle.accepted_proof.proofs.GoodTypes.{KnowsTags, MeansKnown}
+use Rattle.accepted_proof.proofs.good.Types.{KnowsTags, MeansKnown}
 use Rattle.accepted_proof.proofs.HeadTags.{TablesAlike}
-use Rattle.accepted_proof.proofs.LaidStructs.{AllReached, StructsLaid, other_laid, struct_laid}
-use Rattle.accepted_proof.proofs.LoweredTypes.{TagsThere}
-use Rattle.accepted_proof.proofs.StructSizes.{AreOnce, same_parts}
+use Rattle.accepted_proof.proofs.lowered.LaidStructs.{AllReached, StructsLaid, other_laid, struct_laid}
+use Rattle.accepted_proof.proofs.lowered.Types.{TagsThere}
+use Rattle.accepted_proof.proofs.lowered.StructSizes.{AreOnce, same_parts}
 use Rattle.accepted_proof.proofs.MemberTypes.{EarlierDeclared, MembersGood, members_are_taken, members_good}
 use Rattle.accepted_proof.proofs.Named.{AreNamed, IsNamed, StructKnown, builtins_known, named_known}
 use Rattle.accepted_proof.proofs.TagOrder.{AreSorted, IsSorted, StructTaken, TagClean, first_known}

@@ -22,8 +22,8 @@ use Rattle.accepted_proof.proofs.AlignedTables.{layouts_same, tables_aligned}
 use Rattle.accepted_proof.proofs.Named.{AreNamed, builtins_known}
 use Rattle.accepted_proof.proofs.TagOrder.{AreSorted, all_sorted, bare_known, first_alike}
 use Rattle.accepted_proof.proofs.Tags.{behind_builtins, first_tables, judged_list, tags_are}
-use Rattle.accepted_proof.proofs.LaidStructs.{AllReached, bare_there, tag_stays}
-use Rattle.accepted_proof.proofs.StructSizes.{bare_once, builtins_meant, named_once}
+use Rattle.accepted_proof.proofs.lowered.LaidStructs.{AllReached, bare_there, tag_stays}
+use Rattle.accepted_proof.proofs.lowered.StructSizes.{bare_once, builtins_meant, named_once}
 use Rattle.accepted_proof.proofs.StructTags.{Outcome, Unseen, all_steps, in_tables}
 
 -- tags that are found among the items

@@ -19,7 +19,7 @@ use Rattle.source_typing.specs.Written.{RegionNamed, find_region}
 use Rattle.source_typing.proofs.Entries.{judged_name}
 use Rattle.source_typing.proofs.Inversion.{both_none, none_of_both, own_is}
 use Rattle.accepted_proof.specs.Good.{NamesBelow}
-use Rattle.accepted_proof.proofs.GoodTypes.{IsKnownEntry, KnowsTags}
+use Rattle.accepted_proof.proofs.good.Types.{IsKnownEntry, KnowsTags}
 use Rattle.accepted_proof.proofs.HeadTags.{AreAlike, TablesAlike, heads_clean, own_first}
 use Rattle.accepted_proof.proofs.MemberTypes.{AreMembersTaken, members_are_taken}
 use Rattle.accepted_proof.proofs.Named.{named_known}

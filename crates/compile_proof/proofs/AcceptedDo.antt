@@ -3,7 +3,7 @@ use Rattle.std.specs.Prelude.{false}
 use Rattle.compile_proof.specs.Laws.{AllAcceptedDo}
 use Rattle.source_lowering.specs.Lowerable.{IsLowerable}
 use Rattle.accepted_programs.specs.Supported.{supported}
-use Rattle.accepted_proof.proofs.GoodTables.{no_typing_faults}
+use Rattle.accepted_proof.proofs.good.Tables.{no_typing_faults}
 use Rattle.accepted_proof.proofs.Joined as joined
 use Rattle.source_meaning.specs.Programs.{world_of}
 use Rattle.compile_proof.proofs.Data.{data_plain}

@@ -23,12 +23,12 @@ use Rattle.source_meaning.specs.Programs.{global_shape}
 use Rattle.core_meaning.specs.Memory.{Layout, PartShape, Word, Null, shape_in}
 use Rattle.core_lines.specs.Layouts.{IsNothing, IsZero}
 use Rattle.core_lines.specs.Statics.{IsPlain, IsPlainDatum, ArePlainData}
-use Rattle.core_lines.proofs.DataBytes.{one_part_plain, zero_plain}
+use Rattle.core_lines.proofs.memory.DataBytes.{one_part_plain, zero_plain}
 use Rattle.source_lowering.specs.Programs.{word_in, constant_word, constant_content, initial_content, first_content, begun_datum, global_datum, data_of}
 use Rattle.source_lowering.specs.Layouts.{local_of}
 use Rattle.source_lowering.specs.Lowerable.{AreStructs, IsObject, IsVariable, TakesGlobal, TakesProgram}
 use Rattle.source_lowering.specs.Taken.{IsIntegerShape, TakesConstant}
-use Rattle.source_lowering.proofs.WrittenTypes.{object_settled}
+use Rattle.source_lowering.proofs.statements.WrittenTypes.{object_settled}
 use Rattle.source_lowering.proofs.Programs.{global_variable}
 use Rattle.compile_proof.proofs.Layouts.{variable_layout}
 

@@ -36,9 +36,9 @@ use Rattle.source_typing.specs.Scope.{at_item}
 use Rattle.source_typing.specs.Tables.{Tables}
 use Rattle.accepted_programs.specs.Supported.{supported}
 use Rattle.source_typing.proofs.Inversion.{test_is, none_of_both}
-use Rattle.accepted_proof.proofs.GoodTables.{IsClean, is_clean_program}
+use Rattle.accepted_proof.proofs.good.Tables.{IsClean, is_clean_program}
 use Rattle.accepted_proof.proofs.Joined.{sized}
-use Rattle.accepted_proof.proofs.SizedGlobals.{AreSized}
+use Rattle.accepted_proof.proofs.lowered.SizedGlobals.{AreSized}
 
 -- ---- the rule on sizes
 

@@ -15,7 +15,7 @@ use Rattle.core_lines.specs.Running.{named, core_meaning, IsNeverStuck}
 use Rattle.core_lines.proofs.DoesAsCore.{does_as_core}
 use Rattle.source_lowering.specs.Programs.{program_code}
 use Rattle.source_lowering.specs.Lowerable.{IsLowerable}
-use Rattle.source_lowering.proofs.Relations.{SameEvent, BothVisible, BothCalled, BothReturned, SameEvents, SameOutcome}
+use Rattle.source_lowering.specs.Simulation.{SameEvent, BothVisible, BothCalled, BothReturned, SameEvents, SameOutcome}
 use Rattle.source_lowering.proofs.Programs.{programs_same}
 use Rattle.compile_proof.specs.Promise.{meaning_of, name_in, names_of, DoesAsSource, AreNamedApart, frame_bound_of}
 use Rattle.compile_proof.proofs.Selectable.{selectable}

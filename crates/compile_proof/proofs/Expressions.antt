@@ -64,8 +64,8 @@ use Rattle.source_lowering.specs.Lowerable.{
   TakesMade,
 }
 use Rattle.source_lowering.proofs.Structs.{struct_made}
-use Rattle.source_lowering.proofs.Integers.{value_taken, taken_target}
-use Rattle.source_lowering.proofs.EachCall.{AllValues, call_values}
+use Rattle.source_lowering.proofs.values.Integers.{value_taken, taken_target}
+use Rattle.source_lowering.proofs.expressions.EachCall.{AllValues, call_values}
 use Rattle.compile_proof.specs.Naming.{CodeNames}
 use Rattle.compile_proof.proofs.Naming.{both_name, all_name}
 use Rattle.compile_proof.proofs.StaticShapes.{place_target, shape_taken}

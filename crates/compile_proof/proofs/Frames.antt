@@ -29,17 +29,17 @@ use Rattle.core_meaning.specs.Core.{
 use Rattle.core_lines.specs.Selected.{frame_bytes}
 use Rattle.core_lines.specs.Bounds as frames
 use Rattle.core_lines.specs.Running.{AreBounded}
-use Rattle.core_lines.proofs.Locals.{frame_spares}
+use Rattle.core_lines.proofs.homes.Locals.{frame_spares}
 use Rattle.source_lowering.specs.Programs.{function_code, program_code}
 use Rattle.source_lowering.specs.Lowerable.{IsLowerable}
 use Rattle.source_lowering.specs.Bounds as source
 use Rattle.source_lowering.specs.Bounds.{frame_bound}
-use Rattle.source_lowering.proofs.Names.{IsRoutine}
-use Rattle.source_lowering.proofs.Bounded.{frame_bounded}
+use Rattle.source_lowering.proofs.expressions.Names.{IsRoutine}
+use Rattle.source_lowering.proofs.bounds.Bounded.{frame_bounded}
 use Rattle.source_lowering.proofs.Programs.{routines_are}
 use Rattle.compile_proof.specs.Promise.{name_in, names_of, AreNamedApart, bound_in, frame_bound_of}
 use Rattle.compile_proof.proofs.Selectable.{code_of}
-use Rattle.type_proof.proofs.Layouts.{same_text}
+use Rattle.type_proof.proofs.invariant.Layouts.{same_text}
 
 -- ---- both count the words of locals alike
 

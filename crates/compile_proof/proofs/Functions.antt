@@ -52,16 +52,16 @@ use Rattle.source_lowering.specs.Lowerable.{
   TakesItems,
   TakesProgram,
 }
-use Rattle.source_lowering.proofs.Integers.{value_object, object_target, taken_target}
-use Rattle.source_lowering.proofs.Names.{AreObjectNames, AreParameters, IsPlainWorld, IsRoutine}
-use Rattle.source_lowering.proofs.ObjectShapes.{object_named}
-use Rattle.source_lowering.proofs.Blocks.{objects_outward}
-use Rattle.source_lowering.proofs.EachDeclaration.{shape_object}
-use Rattle.source_lowering.proofs.WrittenTypes.{object_settled}
-use Rattle.source_lowering.proofs.WholeObjects.{item_objects}
+use Rattle.source_lowering.proofs.values.Integers.{value_object, object_target, taken_target}
+use Rattle.source_lowering.proofs.expressions.Names.{AreObjectNames, AreParameters, IsPlainWorld, IsRoutine}
+use Rattle.source_lowering.proofs.memory.ObjectShapes.{object_named}
+use Rattle.source_lowering.proofs.statements.Blocks.{objects_outward}
+use Rattle.source_lowering.proofs.statements.EachDeclaration.{shape_object}
+use Rattle.source_lowering.proofs.statements.WrittenTypes.{object_settled}
+use Rattle.source_lowering.proofs.bounds.WholeObjects.{item_objects}
 use Rattle.source_lowering.proofs.Programs.{global_variable}
-use Rattle.source_lowering.proofs.Heap.{laid_out_as}
-use Rattle.source_lowering.proofs.PartCosts.{results_many}
+use Rattle.source_lowering.proofs.regions.Heap.{laid_out_as}
+use Rattle.source_lowering.proofs.bounds.PartCosts.{results_many}
 use Rattle.compile_proof.specs.Naming.{AreNaming, CodeNames}
 use Rattle.compile_proof.proofs.Naming.{both_name, all_name}
 use Rattle.compile_proof.proofs.Layouts.{object_layout, variable_layout}

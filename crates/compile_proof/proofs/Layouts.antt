@@ -9,8 +9,8 @@ use Rattle.core_lines.specs.Statics.{AreCellsJoined, cells_end}
 use Rattle.source_lowering.specs.Layouts.{pieces_of, part_shape_of, cell_parts, padding, next_at, padded, layout_of, local_of, placed_of, extent_of}
 use Rattle.source_lowering.specs.Lowered.{width_of}
 use Rattle.source_lowering.specs.Lowerable.{IsValueShape, IsObject, IsVariable, AreStructs}
-use Rattle.source_lowering.proofs.StructCells.{shapes_in, AreValueShapes, HasCells, object_cells}
-use Rattle.source_lowering.proofs.Ordered.{bytes_taken, AreOrdered, AreEven, IsOrdered, object_ordered}
+use Rattle.source_lowering.proofs.memory.StructCells.{shapes_in, AreValueShapes, HasCells, object_cells}
+use Rattle.source_lowering.proofs.memory.Ordered.{bytes_taken, AreOrdered, AreEven, IsOrdered, object_ordered}
 use Rattle.compile_proof.proofs.Tiles.{
   Tile,
   AllTile,

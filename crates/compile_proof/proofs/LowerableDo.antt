@@ -5,7 +5,7 @@ use Rattle.source_meaning.specs.Programs.{world_of}
 use Rattle.core_lines.specs.Choosing.{far}
 use Rattle.source_lowering.specs.Programs.{program_code}
 use Rattle.source_lowering.specs.Lowerable.{IsLowerable}
-use Rattle.source_lowering.proofs.Bounded.{code_bounded}
+use Rattle.source_lowering.proofs.bounds.Bounded.{code_bounded}
 use Rattle.compile_proof.specs.Promise.{AreNamedApart, LowerableDoes}
 use Rattle.compile_proof.proofs.DoesAsSource.{does_as_source}
 use Rattle.compile_proof.proofs.Lengths.{lines_within}

@@ -6,8 +6,8 @@ use Rattle.core_meaning.specs.Core.{Statement}
 use Rattle.source_lowering.specs.Members.{words_in}
 use Rattle.source_lowering.specs.Lowered.{stores_code, values_by, copied_code, word_member_code, member_code, request_code, new_code_by}
 use Rattle.source_lowering.specs.Lowerable.{IsObject, AreStructs, IsStructShape, TakesMember}
-use Rattle.source_lowering.proofs.Integers.{object_target}
-use Rattle.source_lowering.proofs.WholeObjects.{struct_object}
+use Rattle.source_lowering.proofs.values.Integers.{object_target}
+use Rattle.source_lowering.proofs.bounds.WholeObjects.{struct_object}
 use Rattle.compile_proof.specs.Naming.{CodeNames}
 use Rattle.compile_proof.proofs.Naming.{both_name}
 use Rattle.compile_proof.proofs.Layouts.{object_layout}

@@ -25,7 +25,7 @@ use Rattle.source_typing.specs.Programs.{
 }
 use Rattle.source_typing.proofs.Inversion.{test_is, none_of_both}
 use Rattle.compile_proof.specs.Promise.{AreNamedApart}
-use Rattle.type_proof.proofs.Layouts.{same_text}
+use Rattle.type_proof.proofs.invariant.Layouts.{same_text}
 
 -- ---- names that were seen
 

@@ -57,7 +57,7 @@ use Rattle.source_lowering.specs.Programs.{
   statement_passes,
   passed_by,
 }
-use Rattle.source_lowering.proofs.Costs.{max_first, max_second}
+use Rattle.source_lowering.proofs.bounds.Costs.{max_first, max_second}
 use Rattle.compile_proof.specs.Naming.{NamesIn, IsNaming, AreNaming, CodeNames}
 
 -- ---- code that is put together

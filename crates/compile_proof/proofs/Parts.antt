@@ -45,7 +45,7 @@ use Rattle.source_lowering.specs.Lowered.{
   call_code,
 }
 use Rattle.source_lowering.specs.Lowerable.{IsTarget, AreStructs, TakesPrefix, TakesPointer}
-use Rattle.source_lowering.proofs.Names.{AreObjectNames, IsPlainWorld}
+use Rattle.source_lowering.proofs.expressions.Names.{AreObjectNames, IsPlainWorld}
 use Rattle.compile_proof.specs.Naming.{NamesIn, CodeNames}
 use Rattle.compile_proof.proofs.Naming.{both_name, all_name}
 use Rattle.compile_proof.proofs.Pointers.{loads_names, stores_names, check_names, bounds_names, reached_names, element_names, reach_names}

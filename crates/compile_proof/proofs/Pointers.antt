@@ -35,7 +35,7 @@ use Rattle.source_lowering.specs.Lowered.{
 }
 use Rattle.source_lowering.specs.Members.{all_of, bounds_code, raised, reached_code, element_code, index_code}
 use Rattle.source_lowering.specs.Lowerable.{IsTarget, IsObject, AreStructs}
-use Rattle.source_lowering.proofs.Integers.{object_target}
+use Rattle.source_lowering.proofs.values.Integers.{object_target}
 use Rattle.compile_proof.specs.Naming.{AreNaming, CodeNames}
 use Rattle.compile_proof.proofs.Naming.{both_name}
 use Rattle.compile_proof.proofs.StaticShapes.{target_small}

@@ -9,7 +9,7 @@ use Rattle.core_meaning.specs.Core.{Function}
 use Rattle.core_lines.specs.Selectable.{IsSelectableIn, IsSelectable, scope_of}
 use Rattle.source_lowering.specs.Programs.{body_code, function_code, data_of, program_code}
 use Rattle.source_lowering.specs.Lowerable.{IsLowerable}
-use Rattle.source_lowering.proofs.Names.{IsPlainWorld, IsRoutine, AreRoutines}
+use Rattle.source_lowering.proofs.expressions.Names.{IsPlainWorld, IsRoutine, AreRoutines}
 use Rattle.source_lowering.proofs.Programs.{routines_are, world_plain}
 use Rattle.compile_proof.proofs.Naming.{have_lines}
 use Rattle.compile_proof.proofs.Parts.{GlobalsLie}

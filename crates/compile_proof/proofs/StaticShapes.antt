@@ -43,10 +43,10 @@ use Rattle.source_lowering.specs.Lowered.{
 }
 use Rattle.source_lowering.specs.Lowerable.{IsTarget, IsVariable, AreStructs, Takes, TakesPlace, TakesSuffixes, TakesMembers, TakesLinks, TakesNew}
 use Rattle.source_lowering.proofs.Structs.{struct_made}
-use Rattle.source_lowering.proofs.Integers.{IsTaken, target_taken, object_target}
-use Rattle.source_lowering.proofs.Places.{pointee_taken}
-use Rattle.source_lowering.proofs.Forms.{operator_taken}
-use Rattle.source_lowering.proofs.Names.{AreObjectNames, AreGlobals, IsPlainWorld, FoundFunction, find_function}
+use Rattle.source_lowering.proofs.values.Integers.{IsTaken, target_taken, object_target}
+use Rattle.source_lowering.proofs.expressions.Places.{pointee_taken}
+use Rattle.source_lowering.proofs.expressions.Forms.{operator_taken}
+use Rattle.source_lowering.proofs.expressions.Names.{AreObjectNames, AreGlobals, IsPlainWorld, FoundFunction, find_function}
 
 -- ---- sizes
 

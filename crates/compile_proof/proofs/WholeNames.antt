@@ -8,7 +8,7 @@ use Rattle.source_lowering.specs.Lowered.{Named, expression_code, expression_val
 use Rattle.source_lowering.specs.Whole.{makes_struct, is_made, whole_values, whole_code, assigned_code, assigned_values, dropped_code, dropped_values, run_code, run_values}
 use Rattle.source_lowering.specs.Programs.{source_code}
 use Rattle.source_lowering.specs.Lowerable.{AreStructs, Takes, TakesWhole, TakesAssigned, TakesDropped, TakesCalled, TakesRun}
-use Rattle.source_lowering.proofs.WholeObjects.{unmade_place}
+use Rattle.source_lowering.proofs.bounds.WholeObjects.{unmade_place}
 use Rattle.compile_proof.specs.Naming.{CodeNames}
 use Rattle.compile_proof.proofs.Naming.{both_name}
 use Rattle.compile_proof.proofs.Layouts.{object_layout}

@@ -12,11 +12,11 @@ use Rattle.core_meaning.specs.Meaning as core
 use Rattle.core_lines.specs.Choosing.{held_behind_all}
 use Rattle.core_lines.specs.Selected.{around, statements_code}
 use Rattle.core_lines.proofs.Forms.{Does}
-use Rattle.core_lines.proofs.FineHomes.{fine_homes}
-use Rattle.core_lines.proofs.Relations.{World, IsInOrder}
-use Rattle.core_lines.proofs.Bodies.{activation}
-use Rattle.core_lines.proofs.Locals.{as_many_offsets, offset_below, frame_bounded, frame_has_all, highest_of_above}
-use Rattle.core_lines.proofs.EachOperation.{DataSmall}
+use Rattle.core_lines.proofs.homes.FineHomes.{fine_homes}
+use Rattle.core_lines.proofs.memory.Relations.{World, IsInOrder}
+use Rattle.core_lines.proofs.frames.Bodies.{activation}
+use Rattle.core_lines.proofs.homes.Locals.{as_many_offsets, offset_below, frame_bounded, frame_has_all, highest_of_above}
+use Rattle.core_lines.proofs.operations.EachOperation.{DataSmall}
 use Rattle.core_lines.proofs.EachStatement.{statements_do}
 use Rattle.core_lines.proofs.Programs.{IsOfProgram, FunctionsDo, program_does_as_core}
 use Rattle.core_lines.proofs.EachFunction.{function_does}

@@ -13,16 +13,16 @@ use Rattle.core_lines.specs.Selectable.{IsSelectableIn}
 use Rattle.core_lines.specs.Homes.{saved_by, saved_slot}
 use Rattle.core_lines.specs.declared.line.Line.{Line}
 use Rattle.core_lines.specs.declared.line.Line.TheVariants.{Label}
-use Rattle.core_lines.proofs.Relations.{EndsThere, World, IsInOrder, Has, Waiting, At, Goes, active_of}
-use Rattle.core_lines.proofs.Moving.{goes_stuck}
-use Rattle.core_lines.proofs.Access.{length_of_both, behind}
-use Rattle.core_lines.proofs.Passing.{has_first, has_second}
-use Rattle.core_lines.proofs.Bodies.{activation, with_config, GoesFrom, goes_any, BodyGoes, FunctionDoes}
+use Rattle.core_lines.proofs.memory.Relations.{EndsThere, World, IsInOrder, Has, Waiting, At, Goes, active_of}
+use Rattle.core_lines.proofs.memory.Moving.{goes_stuck}
+use Rattle.core_lines.proofs.memory.Access.{length_of_both, behind}
+use Rattle.core_lines.proofs.frames.Passing.{has_first, has_second}
+use Rattle.core_lines.proofs.frames.Bodies.{activation, with_config, GoesFrom, goes_any, BodyGoes, FunctionDoes}
 use Rattle.core_lines.proofs.Forms.{Does}
 use Rattle.core_lines.proofs.Programs.{IsAtCode}
 use Rattle.std.proofs.Common.{◌*◌}
 use Rattle.core_lines.specs.Selected.{offsets_from, own_end, placed_body, slots_of}
-use Rattle.core_lines.proofs.Locals.{offsets_lie, highest_of_above, frame_has_all}
+use Rattle.core_lines.proofs.homes.Locals.{offsets_lie, highest_of_above, frame_has_all}
 
 -- what is asked of the statements of a function, where calls with less fuel do as Core and the frame is no larger than the stack
 abbrev pub BodyDoes : (w : World) → IsInOrder w → ℕ → ℕ → Function → Type 0

@@ -12,18 +12,18 @@ use Rattle.core_lines.specs.Selected.{offsets_from, end_from, highest, highest_o
 use Rattle.core_lines.specs.Selected.{nth_block, shrunk, shrunk_in, shrunk_of, homes_here, homes_after, names_after, names_after_all}
 use Rattle.core_lines.specs.Homes.{is_home}
 use Rattle.core_lines.specs.Selectable.{HasLinesIn, HaveLinesIn, AreBelow}
-use Rattle.core_lines.proofs.Relations.{Inside, EndsThere, home_of, active_of, World, IsInOrder, Has, Waiting, Place}
-use Rattle.core_lines.proofs.Access.{behind, length_of_both}
-use Rattle.core_lines.proofs.Passing.{has_first, has_second, AreWithin}
-use Rattle.core_lines.proofs.Bodies.{with_config, GoesFrom, from_same, goes_any, BodyGoes, call_goes, return_goes}
+use Rattle.core_lines.proofs.memory.Relations.{Inside, EndsThere, home_of, active_of, World, IsInOrder, Has, Waiting, Place}
+use Rattle.core_lines.proofs.memory.Access.{behind, length_of_both}
+use Rattle.core_lines.proofs.frames.Passing.{has_first, has_second, AreWithin}
+use Rattle.core_lines.proofs.frames.Bodies.{with_config, GoesFrom, from_same, goes_any, BodyGoes, call_goes, return_goes}
 use Rattle.core_lines.proofs.Forms.{Does, does_any, within_block, break_does, nothing_does, sequence_does, block_does, jump_goes, choice_goes, loop_goes}
-use Rattle.core_lines.proofs.Laying.{NestFits}
-use Rattle.core_lines.proofs.Locals.{shrunk_layouts, as_many_shrunk, offsets_lie, as_many_offsets, end_above, offset_below, highest_of_above, both_below}
-use Rattle.core_lines.proofs.Nests.{BlocksAre}
-use Rattle.core_lines.proofs.Fine.{FitsIn, IsFine, AreFine, tiny, fit}
-use Rattle.core_lines.proofs.Raising.{raise_goes}
+use Rattle.core_lines.proofs.memory.Laying.{NestFits}
+use Rattle.core_lines.proofs.homes.Locals.{shrunk_layouts, as_many_shrunk, offsets_lie, as_many_offsets, end_above, offset_below, highest_of_above, both_below}
+use Rattle.core_lines.proofs.homes.Nests.{BlocksAre}
+use Rattle.core_lines.proofs.homes.Fine.{FitsIn, IsFine, AreFine, tiny, fit}
+use Rattle.core_lines.proofs.operations.Raising.{raise_goes}
 use Rattle.core_lines.proofs.Tests.{tests_and_jumps}
-use Rattle.core_lines.proofs.EachOperation.{DataSmall, OwnSmall, surrounding, scoped, operation_goes}
+use Rattle.core_lines.proofs.operations.EachOperation.{DataSmall, OwnSmall, surrounding, scoped, operation_goes}
 
 -- what is so of where a statement stands: the blocks around it, where the next one's locals would begin, and the bytes of the frame
 pub record IsAround (w : World) (x : Waiting) (ns : List ℕ) (oss hss : List (List ℕ)) (low bytes : ℕ) : Type 0 where

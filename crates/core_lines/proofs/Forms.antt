@@ -14,16 +14,16 @@ use Rattle.core_lines.specs.declared.line.Line.TheVariants.{Jump}
 use Rattle.core_lines.specs.Lines.{code_length}
 use Rattle.std.specs.Prelude.{length}
 use Rattle.core_lines.specs.Selected.{shrunk}
-use Rattle.core_lines.proofs.Saving.{HomesFit}
-use Rattle.core_lines.proofs.Relations.{Inside, AreHomes}
-use Rattle.core_lines.proofs.Relations.{World, IsInOrder, Has, Waiting, Place, Leads, Goes, At, Returning, active_of}
-use Rattle.core_lines.proofs.Moving.{Comes, goes_from, goes_as, goes_stuck, leads_from, fewer}
-use Rattle.core_lines.proofs.Access.{length_of_both, behind}
-use Rattle.core_lines.proofs.Passing.{has_first, has_second}
-use Rattle.core_lines.proofs.Bodies.{with_config, IsIn, GoesFrom, from_same, GoesHolding, goes_any, GoesReturning}
-use Rattle.core_lines.proofs.Registers.{AtHolding, at_any}
-use Rattle.core_lines.proofs.Laying.{AreTiny, LaidOut, NestFits, enters_block}
-use Rattle.core_lines.proofs.Zones.{leaves_block, leaves_block_returning}
+use Rattle.core_lines.proofs.homes.Saving.{HomesFit}
+use Rattle.core_lines.proofs.memory.Relations.{Inside, AreHomes}
+use Rattle.core_lines.proofs.memory.Relations.{World, IsInOrder, Has, Waiting, Place, Leads, Goes, At, Returning, active_of}
+use Rattle.core_lines.proofs.memory.Moving.{Comes, goes_from, goes_as, goes_stuck, leads_from, fewer}
+use Rattle.core_lines.proofs.memory.Access.{length_of_both, behind}
+use Rattle.core_lines.proofs.frames.Passing.{has_first, has_second}
+use Rattle.core_lines.proofs.frames.Bodies.{with_config, IsIn, GoesFrom, from_same, GoesHolding, goes_any, GoesReturning}
+use Rattle.core_lines.proofs.operations.Registers.{AtHolding, at_any}
+use Rattle.core_lines.proofs.memory.Laying.{AreTiny, LaidOut, NestFits, enters_block}
+use Rattle.core_lines.proofs.memory.Zones.{leaves_block, leaves_block_returning}
 use Rattle.core_meaning.specs.Steps.{LoopTurn, stuck}
 use Rattle.step_trees.specs.Trees.{Turns}
 
@@ -255,7 +255,7 @@ at_config w x outer c d mem place s temps blocks own a = record {
     back_place = f.back_place;
     returns_to = f.returns_to;
     temps = λ t less. f.temps t less ∙ ap (λ g. g t) temps;
-    blocks = subst (λ ks. Rattle.core_lines.proofs.Relations.BlocksLie a.maps a.frame.at x.nest ks a.frame.zones) blocks f.blocks;
+    blocks = subst (λ ks. Rattle.core_lines.proofs.memory.Relations.BlocksLie a.maps a.frame.at x.nest ks a.frame.zones) blocks f.blocks;
     own = f.own ∙ own;
     own_high = f.own_high;
     own_based = subst (λ k. (o y : ℕ) → slice_get x.unnamed o ≡ Some y → a.maps.base (Rattle.core_meaning.specs.Memory.Own k) o ≡ Some
@@ -287,7 +287,7 @@ returning_config w x outer c d mem values s temps blocks own a = record {
     back_place = f.back_place;
     returns_to = f.returns_to;
     temps = λ t less. f.temps t less ∙ ap (λ g. g t) temps;
-    blocks = subst (λ ks. Rattle.core_lines.proofs.Relations.BlocksLie a.maps a.frame.at x.nest ks a.frame.zones) blocks f.blocks;
+    blocks = subst (λ ks. Rattle.core_lines.proofs.memory.Relations.BlocksLie a.maps a.frame.at x.nest ks a.frame.zones) blocks f.blocks;
     own = f.own ∙ own;
     own_high = f.own_high;
     own_based = subst (λ k. (o y : ℕ) → slice_get x.unnamed o ≡ Some y → a.maps.base (Rattle.core_meaning.specs.Memory.Own k) o ≡ Some

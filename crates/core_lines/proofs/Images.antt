@@ -10,7 +10,7 @@ use Rattle.core_lines.specs.Lines.{HasLines, IsPlace}
 use Rattle.core_lines.specs.Selected.{rounded, end_from, datum_locals}
 use Rattle.core_lines.specs.Statics.{zeros, datum_bytes, data_bytes, ArePlainData}
 use Rattle.core_lines.specs.Running.{Begins, data_end}
-use Rattle.core_lines.proofs.DataBytes.{zeros_length, datum_length, has_bytes, data_shown}
+use Rattle.core_lines.proofs.memory.DataBytes.{zeros_length, datum_length, has_bytes, data_shown}
 
 -- the data's bytes are as many as its objects take
 pub data_length : (low : ℕ) (ds : List Datum) → ArePlainData ds → low + length (data_bytes low ds) ≡ end_from low (datum_locals ds)

@@ -12,13 +12,13 @@ use Rattle.core_lines.specs.Frames.{is_short, lower_of, word_code}
 use Rattle.core_lines.specs.Selected.{further_code}
 use Rattle.core_lines.specs.Lies.{Maps, Shows, Points}
 use Rattle.core_lines.specs.Homes.{stays}
-use Rattle.core_lines.proofs.Relations.{World, IsInOrder, Has, Waiting}
-use Rattle.core_lines.proofs.Moving.{Comes, comes_then, comes_as}
-use Rattle.core_lines.proofs.Words.{short_word}
-use Rattle.core_lines.proofs.Slots.{Kept, set_here, set_there}
-use Rattle.core_lines.proofs.Passing.{has_first, has_second}
-use Rattle.core_lines.proofs.Registers.{InRegister, in_turn, puts}
-use Rattle.core_lines.proofs.Operations.{Having, Here, With, loading, saving, loads_into, then_saves, word_into}
+use Rattle.core_lines.proofs.memory.Relations.{World, IsInOrder, Has, Waiting}
+use Rattle.core_lines.proofs.memory.Moving.{Comes, comes_then, comes_as}
+use Rattle.core_lines.proofs.memory.Words.{short_word}
+use Rattle.core_lines.proofs.memory.Slots.{Kept, set_here, set_there}
+use Rattle.core_lines.proofs.frames.Passing.{has_first, has_second}
+use Rattle.core_lines.proofs.operations.Registers.{InRegister, in_turn, puts}
+use Rattle.core_lines.proofs.operations.Operations.{Having, Here, With, loading, saving, loads_into, then_saves, word_into}
 
 module _ (w : World) (order : IsInOrder w) (x : Waiting) (outer : List Waiting) (mem : Memory) where
   -- what held before x7 got a word

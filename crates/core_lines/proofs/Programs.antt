@@ -41,12 +41,12 @@ use Rattle.core_lines.specs.Lines.{code_length}
 use Rattle.core_lines.specs.Selected.{frame_bytes, too_many, slots_of, own_end, placed_body, datum_locals, function_code, functions_code, program_code, labels_within}
 use Rattle.core_lines.specs.Selectable.{AreLayouts, HaveLayouts, IsSelectable}
 use Rattle.core_lines.specs.Running.{AreBounded, Begins, DoesAsCore, data_offsets, data_end}
-use Rattle.core_lines.proofs.Relations.{World, IsInOrder, Has}
-use Rattle.core_lines.proofs.Access.{behind, first_lines, other_lines}
-use Rattle.core_lines.proofs.Passing.{has_first, has_second}
-use Rattle.core_lines.proofs.Locals.{offsets_lie, end_above, highest_of_above, top_of, frame_even, frame_has_all}
-use Rattle.core_lines.proofs.Bodies.{FunctionDoes}
-use Rattle.core_lines.proofs.Start.{IsStart, program_does}
+use Rattle.core_lines.proofs.memory.Relations.{World, IsInOrder, Has}
+use Rattle.core_lines.proofs.memory.Access.{behind, first_lines, other_lines}
+use Rattle.core_lines.proofs.frames.Passing.{has_first, has_second}
+use Rattle.core_lines.proofs.homes.Locals.{offsets_lie, end_above, highest_of_above, top_of, frame_even, frame_has_all}
+use Rattle.core_lines.proofs.frames.Bodies.{FunctionDoes}
+use Rattle.core_lines.proofs.memory.Start.{IsStart, program_does}
 
 -- ---- frames
 

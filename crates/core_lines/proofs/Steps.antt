@@ -24,9 +24,9 @@ use Rattle.rv32_machine.specs.Audit.{IsLawful, AccessIsLawful, DecodedIsLawful, 
 use Rattle.rv32_machine.proofs.Bytes.{within_both}
 use Rattle.core_lines.specs.Lines.{HasInstr}
 use Rattle.core_lines.specs.Machines.{Machine, Store, state_of}
-use Rattle.core_lines.proofs.Relations.{Moves}
-use Rattle.core_lines.proofs.Moving.{by_one, bare}
-use Rattle.core_lines.proofs.Bytes.{word_from_bytes}
+use Rattle.core_lines.proofs.memory.Relations.{Moves}
+use Rattle.core_lines.proofs.memory.Moving.{by_one, bare}
+use Rattle.core_lines.proofs.memory.Bytes.{word_from_bytes}
 
 -- a machine that runs, at a place of the code
 abbrev pub state_at : ℕ → (ℕ → ℕ) → (ℕ → ℕ) → Store → Machine

@@ -18,15 +18,15 @@ use Rattle.core_lines.specs.Lines.{code_length}
 use Rattle.core_lines.specs.Frames.{environment_code}
 use Rattle.core_lines.specs.Lies.{Maps, Shows}
 use Rattle.core_lines.specs.Running.{core_run}
-use Rattle.core_lines.proofs.Relations.{World, IsInOrder, Has, Waiting, At, Leads, Goes}
-use Rattle.core_lines.proofs.Moving.{Comes, comes_then, comes_as, leads_from, lawful_alike}
+use Rattle.core_lines.proofs.memory.Relations.{World, IsInOrder, Has, Waiting, At, Leads, Goes}
+use Rattle.core_lines.proofs.memory.Moving.{Comes, comes_then, comes_as, leads_from, lawful_alike}
 use Rattle.core_lines.proofs.Steps.{state_at, step_is, is_lawful, following_is}
-use Rattle.core_lines.proofs.Access.{written_out, length_of_both}
-use Rattle.core_lines.proofs.Passing.{has_first, has_second}
-use Rattle.core_lines.proofs.Homes.{set_stays}
-use Rattle.core_lines.proofs.Registers.{AtWith, InRegister, elsewhere, at_with, puts, saves_temp}
-use Rattle.core_lines.proofs.Operations.{having, loading, saving, loads_into}
-use Rattle.core_lines.proofs.Showing.{shown_first, Shows_then, leads_shown}
+use Rattle.core_lines.proofs.memory.Access.{written_out, length_of_both}
+use Rattle.core_lines.proofs.frames.Passing.{has_first, has_second}
+use Rattle.core_lines.proofs.homes.Homes.{set_stays}
+use Rattle.core_lines.proofs.operations.Registers.{AtWith, InRegister, elsewhere, at_with, puts, saves_temp}
+use Rattle.core_lines.proofs.operations.Operations.{having, loading, saving, loads_into}
+use Rattle.core_lines.proofs.memory.Showing.{shown_first, Shows_then, leads_shown}
 
 module _ (w : World) (order : IsInOrder w) (x : Waiting) (outer : List Waiting) (mem : Memory) where
   -- the number of a call into x17

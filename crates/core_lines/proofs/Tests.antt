@@ -16,18 +16,18 @@ use Rattle.core_lines.specs.declared.line.Line.TheVariants.{Jump, JumpIfZero, Br
 use Rattle.core_lines.specs.Machines.{Machine, state_of}
 use Rattle.core_lines.specs.Lines.{HasInstr, code_length, offset_to}
 use Rattle.core_lines.specs.Lies.{Maps, Shows}
-use Rattle.core_lines.proofs.Relations.{Moves, World, IsInOrder, Has, Waiting, At}
-use Rattle.core_lines.proofs.Moving.{Reach, Comes, comes_then, comes_as}
-use Rattle.core_lines.proofs.Words.{offset_joined}
+use Rattle.core_lines.proofs.memory.Relations.{Moves, World, IsInOrder, Has, Waiting, At}
+use Rattle.core_lines.proofs.memory.Moving.{Reach, Comes, comes_then, comes_as}
+use Rattle.core_lines.proofs.memory.Words.{offset_joined}
 use Rattle.core_lines.proofs.Steps.{state_at, is_in_code, goes_to, passes}
-use Rattle.core_lines.proofs.Access.{written_out, length_of_both}
-use Rattle.core_lines.proofs.Passing.{has_first, has_second}
-use Rattle.core_lines.proofs.Registers.{AtWith, AtHolding, InRegister, elsewhere, at_with, at_of, at_any}
+use Rattle.core_lines.proofs.memory.Access.{written_out, length_of_both}
+use Rattle.core_lines.proofs.frames.Passing.{has_first, has_second}
+use Rattle.core_lines.proofs.operations.Registers.{AtWith, AtHolding, InRegister, elsewhere, at_with, at_of, at_any}
 use Rattle.core_lines.specs.Frames.{load_code, slot_of}
 use Rattle.core_lines.specs.Choosing.{jump_if_zero, held_or_loaded, choice_code}
-use Rattle.core_lines.proofs.Bodies.{with_config}
+use Rattle.core_lines.proofs.frames.Bodies.{with_config}
 use Rattle.core_lines.proofs.Forms.{Tested, Fails, Holds, Neither, Jumps}
-use Rattle.core_lines.proofs.Operations.{loads_into}
+use Rattle.core_lines.proofs.operations.Operations.{loads_into}
 
 -- ---- what a test holds
 

@@ -19,7 +19,7 @@ use Rattle.cyc_host.specs.Hosted.{Written, EndsAs, IsHosted}
 use Rattle.compile_proof.specs.Promise.{meaning_of, frame_bound_of}
 use Rattle.cycc_driver.specs.Outcome.{WantsRoom, WritesBeginning, WritesAll, EndsAsProgram, IsTextImage, IsTextRun}
 use Rattle.cycc_driver.proofs.Longer.{same_state, runs_before}
-use Rattle.core_lines.proofs.Whole.{cut_begins}
+use Rattle.core_lines.proofs.memory.Whole.{cut_begins}
 
 -- ---- output
 

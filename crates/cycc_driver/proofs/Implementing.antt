@@ -24,7 +24,7 @@ use Rattle.accepted_programs.proofs.Accepted.{no_faults}
 use Rattle.cycc_driver.proofs.Small.{code_small, data_small, each_small, memory_small}
 use Rattle.cycc_driver.specs.Outcome.{IsCode, IsImplementedBy, IsTextImage}
 use Rattle.cycc_driver.specs.Texts.{IsAcceptedAs}
-use Rattle.core_lines.proofs.Access.{of_words}
+use Rattle.core_lines.proofs.memory.Access.{of_words}
 
 -- What the layers promise of a program: the bytes are its lines', a machine with them has the lines, and the data are its globals'.
 pub record AreLayers (program : Program) (code statics : List ℕ) : Type 0 where

@@ -9,7 +9,7 @@ use Rattle.core_meaning.specs.Core as core
 use Rattle.source_lowering.specs.Programs.{function_code, program_code}
 use Rattle.source_lowering.specs.Bounds.{FramesFit, core_bound, frame_bound}
 use Rattle.source_lowering.proofs.Programs.{programs_same}
-use Rattle.source_lowering.proofs.Bounded.{code_bounded, program_frames_bounded}
+use Rattle.source_lowering.proofs.bounds.Bounded.{code_bounded, program_frames_bounded}
 use Rattle.token_proof.proofs.ProgramSizes.{tokens_pay}
 use Rattle.accepted_programs.specs.Accepted.{IsAccepted}
 use Rattle.lower_checks.specs.Promise.{IsLoweringOf}

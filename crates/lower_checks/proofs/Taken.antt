@@ -8,10 +8,10 @@ use Rattle.source_meaning.specs.Steps.{World}
 use Rattle.source_lowering.specs.Lowered.{Named}
 use Rattle.source_lowering.specs.Programs.{block_shapes, local_shape, named_here}
 use Rattle.source_lowering.specs.Lowerable.{AreWords, IsObject, TakesItems}
-use Rattle.source_lowering.proofs.EachDeclaration.{shape_object}
-use Rattle.source_lowering.proofs.Integers.{value_object}
-use Rattle.source_lowering.proofs.ObjectShapes.{object_named}
-use Rattle.source_lowering.proofs.WrittenTypes.{value_settled}
+use Rattle.source_lowering.proofs.statements.EachDeclaration.{shape_object}
+use Rattle.source_lowering.proofs.values.Integers.{value_object}
+use Rattle.source_lowering.proofs.memory.ObjectShapes.{object_named}
+use Rattle.source_lowering.proofs.statements.WrittenTypes.{value_settled}
 use Rattle.lower_checks.specs.Structs.{AreVariables}
 use Rattle.lower_checks.specs.Views.{shape_tree}
 use Rattle.lower_checks.specs.declared.shape.Shape as code_shape

@@ -18,7 +18,7 @@ ghost use Rattle.source_lowering.specs.Lowered.{
 };
 ghost use Rattle.source_lowering.specs.Members.{words_in};
 ghost use Rattle.source_lowering.specs.Lowerable.{Takes, TakesPlace, TakesSuffixes};
-ghost use Rattle.source_lowering.proofs.Indices.{TakesIndices};
+ghost use Rattle.source_lowering.proofs.expressions.Indices.{TakesIndices};
 ghost use Rattle.lower_checks.specs.Reaching.{
   IsLeftAt,
   TakesSuffixed,

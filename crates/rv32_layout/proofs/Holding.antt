@@ -15,7 +15,7 @@ use Rattle.rv32_machine.proofs.Bytes.{in_code}
 use Rattle.core_lines.specs.declared.line.Line.{Line}
 use Rattle.core_lines.specs.declared.line.Line.TheVariants.{Plain, Label, Jump, JumpIfZero, BranchIfZero, CallTo}
 use Rattle.core_lines.specs.Lines.{size_of, code_length, instructions_of, labels_placed, AreOnce, HasInstr, HasInstrs, StandsAt, HasLines, IsPlace}
-use Rattle.core_lines.proofs.Access.{length_of_both}
+use Rattle.core_lines.proofs.memory.Access.{length_of_both}
 use Rattle.cyc_image.specs.Format.{code_limit, u32_bytes}
 use Rattle.core_lines.specs.Relaxed.{place_of}
 use Rattle.rv32_layout.specs.Placed.{IsWord, AreWords, ArePlaced, instructions_from}

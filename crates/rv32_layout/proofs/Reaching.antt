@@ -6,7 +6,7 @@ use Rattle.std.proofs.lemmas.Bool.Decides.{nat_tests}
 use Rattle.core_lines.specs.declared.line.Line.{Line}
 use Rattle.core_lines.specs.declared.line.Line.TheVariants.{Plain, Label, Jump, JumpIfZero, BranchIfZero, CallTo}
 use Rattle.core_lines.specs.Lines.{code_length, size_of}
-use Rattle.core_lines.proofs.Access.{of_words}
+use Rattle.core_lines.proofs.memory.Access.{of_words}
 use Rattle.cyc_image.specs.Format.{code_limit}
 use Rattle.rv32_select.specs.Beginning.{first_target, leads_to_code, leads_if_some, begins_within, are_long}
 use Rattle.core_lines.specs.Relaxed.{place_of}

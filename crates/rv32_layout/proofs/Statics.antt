@@ -11,7 +11,7 @@ use Rattle.cyc_core.specs.Trees.{layout_tree, part_first, datum_tree}
 use Rattle.core_lines.specs.Selected.{rounded}
 use Rattle.core_lines.specs.Layouts.{IsNothing}
 use Rattle.core_lines.specs.Statics.{zeros, element_bytes, datum_bytes, data_bytes, AreCellsJoined, cells_end, IsPlainDatum, ArePlainData}
-use Rattle.core_lines.proofs.DataBytes.{zeros_length, one_part_plain, zero_plain}
+use Rattle.core_lines.proofs.memory.DataBytes.{zeros_length, one_part_plain, zero_plain}
 use Rattle.rv32_layout.specs.Sizes.{cells_size, datum_size}
 use Rattle.rv32_layout.proofs.Cells.{begins_with_nothing}
 use Rattle.rv32_layout.proofs.Elements.{elements_are_zeros}

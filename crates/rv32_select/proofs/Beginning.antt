@@ -12,7 +12,7 @@ use Rattle.core_lines.specs.Homes.{saved_by, saved_slot}
 use Rattle.core_lines.specs.Choosing.{far}
 use Rattle.core_lines.specs.Selected.{frame_bytes, around, labels_within, statements_code, function_code, functions_code, program_code}
 use Rattle.core_lines.specs.Selected.{offsets_from, datum_locals}
-use Rattle.core_lines.proofs.Access.{length_of_both}
+use Rattle.core_lines.proofs.memory.Access.{length_of_both}
 use Rattle.rv32_select.specs.Beginning.{leads_to_code, begins_within}
 
 -- there is code where a label leads to it

@@ -1,7 +1,7 @@
 -- The greatest of several offsets, whichever are compared first.
 use Rattle.std.proofs.Common.{◌≡◌, ℕ, ◌≤◌, arith}
 use Rattle.core_lines.specs.Selected.{greater}
-use Rattle.core_lines.proofs.Locals.{greater_below, greater_left, greater_right}
+use Rattle.core_lines.proofs.homes.Locals.{greater_below, greater_left, greater_right}
 
 pub greater_joined : (a b c : ℕ) → greater (greater a b) c ≡ greater a (greater b c)
 greater_joined a b c =

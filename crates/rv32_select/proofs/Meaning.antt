@@ -8,7 +8,7 @@ use Rattle.core_lines.specs.Selected.{program_code}
 use Rattle.core_lines.specs.Selectable.{IsSelectable}
 use Rattle.core_lines.specs.Running.{DoesAsCore}
 use Rattle.core_lines.proofs.DoesAsCore.{does_as_core}
-use Rattle.core_lines.proofs.LabelsOnce.{program_labels_once}
+use Rattle.core_lines.proofs.labels.LabelsOnce.{program_labels_once}
 
 pub lines_once : (p : Program) (lines : List Line) → lines ≡ program_code far p → AreOnce (labels_placed lines)
 lines_once p lines is = subst (λ ls. AreOnce (labels_placed ls)) (sym is) (program_labels_once far p)

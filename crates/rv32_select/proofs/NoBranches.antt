@@ -28,7 +28,7 @@ use Rattle.core_lines.specs.Choosing.{far, held_behind, held_behind_all, held_or
 use Rattle.core_lines.specs.Selected.{Surroundings, operation_code, labels_in, labels_of, labels_within, holding, naming, names_after, names_after_all}
 use Rattle.core_lines.specs.Selected.{within_block, statement_code, statements_code, frame_bytes, around, function_code, functions_code, program_code}
 use Rattle.core_lines.specs.Selected.{offsets_from, datum_locals}
-use Rattle.core_lines.proofs.NoTargets.{operation_none, held_none, call_none, return_none, prologue_none, epilogue_none}
+use Rattle.core_lines.proofs.labels.NoTargets.{operation_none, held_none, call_none, return_none, prologue_none, epilogue_none}
 use Rattle.rv32_select.specs.Beginning.{are_long}
 
 both : (first second : List Line) → are_long first ≡ true → are_long second ≡ true → are_long (first ++ second) ≡ true

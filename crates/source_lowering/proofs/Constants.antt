@@ -33,15 +33,15 @@ use Rattle.core_meaning.specs.Steps as core_steps
 use Rattle.source_lowering.specs.Programs.{word_in, constant_word, constant_content}
 use Rattle.source_lowering.specs.Taken.{IsIntegerShape, IsNullable, TakesConstant}
 use Rattle.source_lowering.specs.Lowerable.{IsObject, TakesGlobal, TakesProgram}
-use Rattle.source_lowering.proofs.Relations.{at, Leads, Shown, Agree, Later, AreLed, Same, nothing, VariableLeads}
-use Rattle.source_lowering.proofs.Keeping.{later_self, all_led_later, m_written}
-use Rattle.source_lowering.proofs.CellParts.{agree_shown, later_shown}
-use Rattle.source_lowering.proofs.Operators.{modulo_small}
-use Rattle.source_lowering.proofs.Integers.{limit, word_shown, integer_word}
-use Rattle.source_lowering.proofs.ValueCells.{IsCell, cell_of, CellAt, cell_there, cell_writes}
-use Rattle.source_lowering.proofs.WrittenTypes.{object_settled}
-use Rattle.source_lowering.proofs.ObjectShapes.{object_leads}
-use Rattle.source_lowering.proofs.Heap.{constant_is_value, constant_contents, word_contents, IsStored, AreStored}
+use Rattle.source_lowering.specs.Simulation.{at, Leads, Shown, SameMemory, Grown, AreLed, Same, nothing, VariableLeads}
+use Rattle.source_lowering.proofs.memory.Keeping.{later_self, all_led_later, m_written}
+use Rattle.source_lowering.proofs.memory.CellParts.{agree_shown, later_shown}
+use Rattle.source_lowering.proofs.values.Operators.{modulo_small}
+use Rattle.source_lowering.proofs.values.Integers.{limit, word_shown, integer_word}
+use Rattle.source_lowering.proofs.memory.ValueCells.{IsCell, cell_of, CellAt, cell_there, cell_writes}
+use Rattle.source_lowering.proofs.statements.WrittenTypes.{object_settled}
+use Rattle.source_lowering.proofs.memory.ObjectShapes.{object_leads}
+use Rattle.source_lowering.proofs.regions.Heap.{constant_is_value, constant_contents, word_contents, IsStored, AreStored}
 
 -- ---- the value of a constant
 
@@ -128,13 +128,13 @@ constant_converted w (Constant.Null at) s h = null_converted w at s h
 
 -- what comes after the globals: memories that agree, where the globals lie
 pub record Begins (w : World) (fs : Program) (n : ℕ) (c : core.Memory) (s : source.Memory → steps.Step) (k : core_steps.Step) : Type 0 where
-  pub go : (m : source.Memory) → Agree w m c → AreLed w m c w.globals → Same w fs n (s m) k
+  pub go : (m : source.Memory) → SameMemory w m c → AreLed w m c w.globals → Same w fs n (s m) k
 
 -- one global's constant is stored
 one_stored : (w : World) (fs : Program) (n : ℕ) (initial : Initial) (shape : Shape) (i : ℕ) (m : source.Memory) (c : core.Memory)
-    (s : Unit {0} → source.Memory → steps.Step) (k : core_steps.Step) → TakesGlobal shape initial → IsObject w.structs shape → Agree w m c
+    (s : Unit {0} → source.Memory → steps.Step) (k : core_steps.Step) → TakesGlobal shape initial → IsObject w.structs shape → SameMemory w m c
     → VariableLeads w m c (global_shape initial shape) (heap_spot i) → IsStored c initial shape i
-    → ((m' : source.Memory) → Agree w m' c → Later nothing m c m' c → Same w fs n (s tt m') k) → Same w fs n (global_stored w initial shape (heap_spot i) s m) k
+    → ((m' : source.Memory) → SameMemory w m' c → Grown nothing m c m' c → Same w fs n (s tt m') k) → Same w fs n (global_stored w initial shape (heap_spot i) s m) k
 one_stored w fs n Initial.Unset shape i m c s k h object agree leads part go = go m agree (later_self nothing m c)
 one_stored w fs n (Initial.Elements count) shape i m c s k h object agree leads part go = go m agree (later_self nothing m c)
 one_stored w fs n (Initial.Given constant) shape i m c s k h object agree leads part go =
@@ -157,7 +157,7 @@ one_stored w fs n (Initial.Given constant) shape i m c s k h object agree leads 
     here = cell_there w m c (heap_spot i) 0 shape one leads_to
 
 pub globals_same : (w : World) (fs : Program) (n : ℕ) (items : List Item) (i : ℕ) (m : source.Memory) (c : core.Memory)
-    (s : Unit {0} → source.Memory → steps.Step) (k : core_steps.Step) → TakesProgram w items → Agree w m c → AreLed w m c w.globals
+    (s : Unit {0} → source.Memory → steps.Step) (k : core_steps.Step) → TakesProgram w items → SameMemory w m c → AreLed w m c w.globals
     → AreLed w m c (globals_from items i) → AreStored c items i
     → Begins w fs n c (s tt) k → Same w fs n (globals_stored w items i s m) k
 globals_same w fs n [] i m c s k h agree led here stored begins = begins.go m agree led

@@ -50,18 +50,18 @@ use Rattle.core_meaning.specs.Meaning.{passed_in}
 use Rattle.source_lowering.specs.Lowered.{number_of, all_of}
 use Rattle.source_lowering.specs.Members.{all_words}
 use Rattle.source_lowering.specs.Programs.{no_regions, locals_of, block_shapes, end_code, body_code, function_code, routine_values}
-use Rattle.source_lowering.proofs.Relations.{Shown, Agree, Later, AreLed, Same, Next, BothCalled, BothReturned, Bound, nothing}
-use Rattle.source_lowering.proofs.Keeping.{later_on, all_led_later, IsLess, later_less}
+use Rattle.source_lowering.specs.Simulation.{Shown, SameMemory, Grown, AreLed, Same, Next, BothCalled, BothReturned, Bound, nothing}
+use Rattle.source_lowering.proofs.memory.Keeping.{later_on, all_led_later, IsLess, later_less}
 use Rattle.source_lowering.proofs.Runs.{stuck_same, says_same}
-use Rattle.source_lowering.proofs.Integers.{IsTaken, word_shown}
-use Rattle.source_lowering.proofs.Names.{IsRoutine, IsPlainWorld}
-use Rattle.source_lowering.proofs.Entering.{source_in, entered_later}
-use Rattle.source_lowering.proofs.Owning.{own_gone, gone_later, gone_agree, own_later, own_agree, own_made, own_live, own_counted}
-use Rattle.source_lowering.proofs.Calls.{AllGiven, ResultIs, Returning, EntersAs, CallsAs, called_before}
-use Rattle.source_lowering.proofs.Blocks.{result_later, entered_fits, next_out, after_out, ways_out, HasOwn}
-use Rattle.source_lowering.proofs.EachExpression.{Known}
-use Rattle.source_lowering.proofs.Numbered.{AreNumbered}
-use Rattle.source_lowering.proofs.EachStatement.{given_later, body_same}
+use Rattle.source_lowering.proofs.values.Integers.{IsTaken, word_shown}
+use Rattle.source_lowering.proofs.expressions.Names.{IsRoutine, IsPlainWorld}
+use Rattle.source_lowering.proofs.memory.Entering.{source_in, entered_later}
+use Rattle.source_lowering.proofs.memory.Owning.{own_gone, gone_later, gone_agree, own_later, own_agree, own_made, own_live, own_counted}
+use Rattle.source_lowering.proofs.expressions.Calls.{AllGiven, ResultIs, Returning, EntersAs, CallsAs, called_before}
+use Rattle.source_lowering.proofs.statements.Blocks.{result_later, entered_fits, next_out, after_out, ways_out, HasOwn}
+use Rattle.source_lowering.proofs.expressions.EachExpression.{Known}
+use Rattle.source_lowering.proofs.expressions.Numbered.{AreNumbered}
+use Rattle.source_lowering.proofs.statements.EachStatement.{given_later, body_same}
 
 -- ---- the numbers of functions
 
@@ -87,8 +87,8 @@ ended f number own k = λ exit. meaning.falls_to exit (meaning.statements (all_o
 -- a return, with a result
 returned_same : (w : World) (fs : Program) (n number own : ℕ) (f : Routine) (m0 : source.Memory) (c0 : core.Memory)
     (s : List Scalar → source.Memory → steps.Step) (k : List Content → core.Memory → core_steps.Step) (m : source.Memory) (c : Config) (vs : List Scalar)
-    (xs : List Content) → c0.calls ≤ own → slice_get w.functions number ≡ Some f → Returning w fs n m0 c0 f.result s k → Agree w m c.memory
-    → Later (called_before m0 c0) m0 c0 m c.memory → ResultIs w m c.memory f.result vs xs
+    (xs : List Content) → c0.calls ≤ own → slice_get w.functions number ≡ Some f → Returning w fs n m0 c0 f.result s k → SameMemory w m c.memory
+    → Grown (called_before m0 c0) m0 c0 m c.memory → ResultIs w m c.memory f.result vs xs
     → Same w fs n (Says (events.Returned f.name) (s vs m)) (meaning.left number own k (core_steps.Returns xs) c)
 returned_same w fs n number own f m0 c0 s k m c vs xs first numbered goes a l r =
     let c' : core.Memory = own_gone c.memory own in
@@ -101,7 +101,7 @@ returned_same w fs n number own f m0 c0 s k m c vs xs first numbered goes a l r 
 -- the end of a body without `return`
 end_same : (w : World) (fs : Program) (n number own : ℕ) (f : Routine) (m0 : source.Memory) (c0 : core.Memory) (s : List Scalar → source.Memory → steps.Step)
     (k : List Content → core.Memory → core_steps.Step) (m : source.Memory) (c : Config) → c0.calls ≤ own → slice_get w.functions number ≡ Some f → IsRoutine w f
-    → Returning w fs n m0 c0 f.result s k → Agree w m c.memory → Later (called_before m0 c0) m0 c0 m c.memory
+    → Returning w fs n m0 c0 f.result s k → SameMemory w m c.memory → Grown (called_before m0 c0) m0 c0 m c.memory
     → Same w fs n (left_by f s steps.Falls m) (ended f number own k core_steps.Falls c)
 end_same w fs n number own f m0 c0 s k m c first numbered routine goes a l = by f.result refl routine.result
   where
@@ -154,9 +154,9 @@ end_same w fs n number own f m0 c0 s k m c first numbered routine goes a l = by 
 -- the body's block, from memories that agree
 entered_same : (w : World) (fs : Program) (n number : ℕ) (f : Routine) (vss : List (List Scalar)) (m : source.Memory)
     (c : core.Memory) (c0 : Config) (s : List Scalar → source.Memory → steps.Step) (k : List Content → core.Memory → core_steps.Step)
-    → IsPlainWorld w → CallsAs w fs n → slice_get w.functions number ≡ Some f → IsRoutine w f → Agree w m c0.memory → AreLed w m c0.memory w.globals
+    → IsPlainWorld w → CallsAs w fs n → slice_get w.functions number ≡ Some f → IsRoutine w f → SameMemory w m c0.memory → AreLed w m c0.memory w.globals
     → AllGiven w m c0.memory (part_shapes f.parameters) vss 0 c0.temps → c0.blocks ≡ []
-    → HasOwn w c0 c.calls (routine_values w f) → Later (called_before m c) m c m c0.memory
+    → HasOwn w c0 c.calls (routine_values w f) → Grown (called_before m c) m c m c0.memory
     → Returning w fs n m c f.result s k
     → Same w fs n (in_block (λ frame. with_arguments f.parameters vss (meaning_of.block_items f.body) (record {
       world = w;
@@ -216,7 +216,7 @@ entered_same w fs n number f vss m c c0 s k plain calls numbered routine agree l
     less : IsLess (called_before m c) inside_bound
     less = record { frames = omega arith; standing = omega arith; kept = λ k i h. h }
 
-    on : (m' : source.Memory) (c' : Config) → Later inside_bound m c0.memory m' c'.memory → Later (called_before m c) m c m' c'.memory
+    on : (m' : source.Memory) (c' : Config) → Grown inside_bound m c0.memory m' c'.memory → Grown (called_before m c) m c m' c'.memory
     on m' c' l = later_on (called_before m c) m m m' c c0.memory c'.memory later
         (later_less inside_bound (called_before m c) m m' c0.memory c'.memory less l)
 

@@ -69,27 +69,27 @@ use Rattle.source_lowering.specs.Lowerable.{
   TakesProgram,
   IsLowerable,
 }
-use Rattle.source_lowering.proofs.Relations.{
+use Rattle.source_lowering.specs.Simulation.{
   AnInteger,
   ANull,
   APointer,
   AFatNull,
   AFat,
   Shown,
-  Agree,
+  SameMemory,
   AreLed,
   AValue,
   SameOutcome,
   Same,
 }
 use Rattle.source_lowering.proofs.Runs.{stuck_same, stops_same}
-use Rattle.source_lowering.proofs.Integers.{IsTaken, value_taken}
-use Rattle.source_lowering.proofs.Names.{AreGlobals, AreParameters, IsRoutine, AreRoutines, IsPlainWorld, FoundFunction, find_function}
-use Rattle.source_lowering.proofs.Calls.{AllGiven, NoResult, ResultIs, EntersAs}
-use Rattle.source_lowering.proofs.WrittenTypes.{object_settled, value_settled}
-use Rattle.source_lowering.proofs.ObjectShapes.{object_named}
+use Rattle.source_lowering.proofs.values.Integers.{IsTaken, value_taken}
+use Rattle.source_lowering.proofs.expressions.Names.{AreGlobals, AreParameters, IsRoutine, AreRoutines, IsPlainWorld, FoundFunction, find_function}
+use Rattle.source_lowering.proofs.expressions.Calls.{AllGiven, NoResult, ResultIs, EntersAs}
+use Rattle.source_lowering.proofs.statements.WrittenTypes.{object_settled, value_settled}
+use Rattle.source_lowering.proofs.memory.ObjectShapes.{object_named}
 use Rattle.source_lowering.proofs.Functions.{enters_always}
-use Rattle.source_lowering.proofs.Heap.{heap_of, heap_agrees, heap_stored, heap_led}
+use Rattle.source_lowering.proofs.regions.Heap.{heap_of, heap_agrees, heap_stored, heap_led}
 use Rattle.source_lowering.proofs.Constants.{globals_same}
 
 -- ---- a program of words
@@ -210,7 +210,7 @@ stuck_entered : (w : World) (fs : Program) (n : ℕ) (name : List ℕ) (result :
 stuck_entered w fs n name result p ps body m k = record { at = λ j h input bytes. inl refl }
 
 main_by : (w : World) (fs : Program) (n : ℕ) (f : Routine) (ps : List Part) (m : source.Memory) (c : core_memory.Memory) → f.parameters ≡ ps → IsRoutine w f
-    → EntersAs w fs n → Agree w m c → AreLed w m c w.globals → slice_get w.functions (number_of w.functions (codes "main")) ≡ Some f
+    → EntersAs w fs n → SameMemory w m c → AreLed w m c w.globals → slice_get w.functions (number_of w.functions (codes "main")) ≡ Some f
     → Same w fs n (entered f w [] status m) (meaning.called fs.functions (record { function = number_of w.functions (codes "main"); arguments = [] })
     meaning.status_of c)
 main_by w fs n f [] m c e routine enters agree led numbered =
@@ -224,7 +224,7 @@ main_by w fs n f (p ∷ ps) m c e routine enters agree led numbered =
     (meaning.called fs.functions (record { function = number_of w.functions (codes "main"); arguments = [] }) meaning.status_of c)) (sym e)
     (stuck_entered w fs n f.name f.result p ps f.body m _)
 
-main_same : (w : World) (fs : Program) (n : ℕ) (m : source.Memory) (c : core_memory.Memory) → IsPlainWorld w → EntersAs w fs n → Agree w m c
+main_same : (w : World) (fs : Program) (n : ℕ) (m : source.Memory) (c : core_memory.Memory) → IsPlainWorld w → EntersAs w fs n → SameMemory w m c
     → AreLed w m c w.globals
     → Same w fs n ((need (function_of w.functions (codes "main")) >>= λ f. entered f w []) status m) (meaning.called fs.functions
     (record { function = number_of w.functions (codes "main"); arguments = [] }) meaning.status_of c)

@@ -15,7 +15,7 @@ use Rattle.core_meaning.specs.Steps as core_steps
 use Rattle.core_meaning.specs.Steps.{Config, Exit}
 use Rattle.core_meaning.specs.Meaning as meaning
 use Rattle.source_lowering.specs.Lowered.{put}
-use Rattle.source_lowering.proofs.Relations.{SameEvent, BothVisible, SameOutcome, IsByte, Same}
+use Rattle.source_lowering.specs.Simulation.{SameEvent, BothVisible, SameOutcome, IsByte, Same}
 
 -- what holds of the outcomes at so much fuel
 abbrev Alike : World → Program → ℕ → List ℕ → steps.Step → core_steps.Step → Type 0

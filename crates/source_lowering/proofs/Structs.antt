@@ -37,17 +37,7 @@ use Rattle.source_meaning.specs.Sizes.{
 }
 use Rattle.source_meaning.specs.Placing.{Placed, moved, placed_by, all_placed, struct_placed}
 use Rattle.source_lowering.specs.Lowerable.{IsObject, AreObjects, HasMember, IsStruct, AreStructs}
-
--- ---- what a shape is made of, by the structs that are declared
-
-abbrev pub cells_in : List Layout → Shape → List Shape
-cells_in structs s = cells_by (struct_cells structs) s
-
-abbrev pub placed_in : List Layout → List Layout → Shape → List Placed
-placed_in unions structs s = placed_by (struct_placed unions structs) s
-
-abbrev pub extent_in : List Layout → List Layout → Shape → Extent
-extent_in unions structs s = extent_by (struct_extent unions structs) (union_extent unions) s
+pub use Rattle.source_lowering.specs.ObjectCells.{cells_in, placed_in, extent_in}
 
 -- another struct's tag is another
 other_tag : (structs : List Layout) (tag new : List ℕ) → has_tag structs tag ≡ true → has_tag structs new ≡ false → bytes_eq new tag ≡ false

@@ -9,3 +9,5 @@ pub mod Whole
 pub mod Lowerable
 pub mod Bounds
 pub mod Agreeing
+pub mod Simulation
+pub mod ObjectCells

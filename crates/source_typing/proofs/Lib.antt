@@ -14,31 +14,4 @@ pub mod TakenOperands
 pub mod NoStrings
 pub mod RegionNames
 pub mod NamedBelow
-mod SampleTrees
-mod AcceptedSamples1
-mod AcceptedSamples2
-mod NameSamples
-mod TypeSamples1
-mod TypeSamples2
-mod RegionSamples
-mod OutlivesSamples
-mod EffectSamples
-mod ConsumedSamples1
-mod ConsumedSamples2
-mod LentSamples
-mod SizeSamples
-mod TagSamples
-mod TakenSamples
-mod ArraySamples
-mod TotalSamples
-mod FormSamples1
-mod FormSamples2
-mod FormSamples3
-mod FormSamples4
-mod PhaseSamples
-mod ProgramSamples1
-mod ProgramSamples2
-mod MakingSamples1
-mod MakingSamples2
-mod CopySamples1
-mod CopySamples2
+mod samples

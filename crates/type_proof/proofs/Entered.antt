@@ -22,32 +22,32 @@ use Rattle.source_meaning.specs.Calls.{truth}
 use Rattle.source_meaning.specs.Expressions.{sense}
 use Rattle.type_proof.specs.Flat.{Tables, flat}
 use Rattle.source_typing.specs.Named.{TypesBelow}
-use Rattle.type_proof.proofs.Facts.{at_region, same_here}
-use Rattle.type_proof.proofs.Invariant as invariant
-use Rattle.type_proof.proofs.Invariant.{RunType, heap, Owner, Nobody, Flying, Reached, Ghost, HaveTypes, Inv, Grows}
-use Rattle.type_proof.proofs.Values.{Carries, values_kept}
-use Rattle.type_proof.proofs.Moves.{passing}
-use Rattle.type_proof.proofs.Growth.{grows_trans}
-use Rattle.type_proof.proofs.Runs.{Safe, Runs, safe_says, safe_less}
-use Rattle.type_proof.proofs.After.{After, flying, grows_base}
-use Rattle.type_proof.proofs.Scopes.{above_scope, block_ghost, block_memory, runs_block}
-use Rattle.type_proof.proofs.Arguments.{Flown, bound_all, runs_arguments}
-use Rattle.type_proof.proofs.Layouts.{agrees}
-use Rattle.type_proof.proofs.Names.{NameOf}
-use Rattle.type_proof.proofs.Scenes.{Alike, Globals, Scene, scene_later}
+use Rattle.type_proof.proofs.invariant.Facts.{at_region, same_here}
+use Rattle.type_proof.proofs.invariant.Invariant as invariant
+use Rattle.type_proof.proofs.invariant.Invariant.{RunType, heap, Owner, Nobody, Flying, Reached, Ghost, HaveTypes, Inv, Grows}
+use Rattle.type_proof.proofs.invariant.Values.{Carries, values_kept}
+use Rattle.type_proof.proofs.invariant.Moves.{passing}
+use Rattle.type_proof.proofs.invariant.Growth.{grows_trans}
+use Rattle.type_proof.proofs.invariant.Runs.{Safe, Runs, safe_says, safe_less}
+use Rattle.type_proof.proofs.invariant.After.{After, flying, grows_base}
+use Rattle.type_proof.proofs.invariant.Scopes.{above_scope, block_ghost, block_memory, runs_block}
+use Rattle.type_proof.proofs.invariant.Arguments.{Flown, bound_all, runs_arguments}
+use Rattle.type_proof.proofs.invariant.Layouts.{agrees}
+use Rattle.type_proof.proofs.invariant.Names.{NameOf}
+use Rattle.type_proof.proofs.invariant.Scenes.{Alike, Globals, Scene, scene_later}
 use Rattle.type_proof.proofs.Entries.{Function, Enters, Invokes}
-use Rattle.type_proof.proofs.Surroundings.{surrounds_loop}
-use Rattle.type_proof.proofs.Flows.{WaysStand, ReturnOk, Turning}
-use Rattle.type_proof.proofs.Ways.{head_leaves, turn_goes}
-use Rattle.type_proof.proofs.Unreached.{items_fall_nowhere}
-use Rattle.type_proof.proofs.Standing as standing
-use Rattle.type_proof.proofs.Standing.{Standing}
-use Rattle.type_proof.proofs.Statements.{condition_tells}
+use Rattle.type_proof.proofs.statements.Surroundings.{surrounds_loop}
+use Rattle.type_proof.proofs.statements.Flows.{WaysStand, ReturnOk, Turning}
+use Rattle.type_proof.proofs.statements.Ways.{head_leaves, turn_goes}
+use Rattle.type_proof.proofs.statements.Unreached.{items_fall_nowhere}
+use Rattle.type_proof.proofs.invariant.Standing as standing
+use Rattle.type_proof.proofs.invariant.Standing.{Standing}
+use Rattle.type_proof.proofs.statements.Statements.{condition_tells}
 use Rattle.flow_summaries.specs.Statements.{exits_of}
 use Rattle.flow_summaries.proofs.Statements.{exits_told}
-use Rattle.type_proof.proofs.Blocks.{items_leave, statement_leaves}
-use Rattle.type_proof.proofs.Parameters.{landing, inv_landed, grows_landed, flown_moved, with_all, beginning, all_shaped, types_alike, types_up, AllBound, all_bound}
-use Rattle.type_proof.proofs.Functions.{FunctionJudged, Sources, entry_scope, entry_names, count_is, variables_alike, surrounds_entry, scene_entry}
+use Rattle.type_proof.proofs.statements.Blocks.{items_leave, statement_leaves}
+use Rattle.type_proof.proofs.statements.Parameters.{landing, inv_landed, grows_landed, flown_moved, with_all, beginning, all_shaped, types_alike, types_up, AllBound, all_bound}
+use Rattle.type_proof.proofs.statements.Functions.{FunctionJudged, Sources, entry_scope, entry_names, count_is, variables_alike, surrounds_entry, scene_entry}
 
 module _ (n : ℕ) (d : Tables) (world : World) (tables : typing.Tables) (sources : Sources d world tables) (invokes : Invokes n d world tables)
     (turns : Turning n d world tables) (x : List ℕ) (s : Signature) (F : Function world x s) (judged : FunctionJudged world tables x s F)

@@ -17,17 +17,17 @@ use Rattle.source_typing.specs.Moves.{Use}
 use Rattle.source_typing.specs.States.{States}
 use Rattle.type_proof.specs.Flat.{Tables, flat}
 pub use Rattle.type_proof.specs.Entries.{IsObjectType, IsPlain, AreObjects, Function, Structure, Builtin, PlainEntry, PlainTables}
-use Rattle.type_proof.proofs.Invariant.{RunType, heap, Ghost, HaveTypes, Known, Inv}
-use Rattle.type_proof.proofs.Growth.{grows_trans}
-use Rattle.type_proof.proofs.Runs.{Runs}
-use Rattle.type_proof.proofs.After.{After, flying, grows_base}
-use Rattle.type_proof.proofs.Arguments.{Flown}
-use Rattle.type_proof.proofs.Names.{NameOf, AllBelow, NamesOk, AllStand, AllOrdered}
-use Rattle.type_proof.proofs.Scenes.{Globals, Scene, scene_later, stands_kept}
-use Rattle.type_proof.proofs.Sound.{GivesBy}
-use Rattle.type_proof.proofs.Words.{object_twice, plain_twice}
-use Rattle.type_proof.proofs.Fixed.{argument_below}
-use Rattle.type_proof.proofs.Calling.{AllPass, all_values, all_passed}
+use Rattle.type_proof.proofs.invariant.Invariant.{RunType, heap, Ghost, HaveTypes, Known, Inv}
+use Rattle.type_proof.proofs.invariant.Growth.{grows_trans}
+use Rattle.type_proof.proofs.invariant.Runs.{Runs}
+use Rattle.type_proof.proofs.invariant.After.{After, flying, grows_base}
+use Rattle.type_proof.proofs.invariant.Arguments.{Flown}
+use Rattle.type_proof.proofs.invariant.Names.{NameOf, AllBelow, NamesOk, AllStand, AllOrdered}
+use Rattle.type_proof.proofs.invariant.Scenes.{Globals, Scene, scene_later, stands_kept}
+use Rattle.type_proof.proofs.invariant.Sound.{GivesBy}
+use Rattle.type_proof.proofs.expressions.Words.{object_twice, plain_twice}
+use Rattle.type_proof.proofs.expressions.Fixed.{argument_below}
+use Rattle.type_proof.proofs.expressions.Calling.{AllPass, all_values, all_passed}
 
 -- ---- types
 

@@ -6,8 +6,8 @@ use Rattle.source_meaning.specs.Memory.{Region, Frame, Born, Object, Live, Close
 use Rattle.source_meaning.specs.Programs.{heap_alone}
 use Rattle.source_meaning.proofs.Cases.{region_is}
 use Rattle.type_proof.specs.Flat.{Tables}
-use Rattle.type_proof.proofs.Facts.{if_cases, at_region}
-use Rattle.type_proof.proofs.Invariant.{heap, Nobody, Ghost, ByScope, Known, Inv}
+use Rattle.type_proof.proofs.invariant.Facts.{if_cases, at_region}
+use Rattle.type_proof.proofs.invariant.Invariant.{heap, Nobody, Ghost, ByScope, Known, Inv}
 
 abbrev pub first_ghost : Ghost
 first_ghost = record { types = λ s. None; above = λ q r. same_region q heap && same_region r heap; owner = λ r. Nobody; keyed = λ r. false }

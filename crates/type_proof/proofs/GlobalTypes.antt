@@ -14,7 +14,7 @@ use Rattle.source_typing.specs.Tables.{parts_in, begins}
 use Rattle.source_typing.specs.Types.{StaticType, Int, Unsigned, Char, Void, Null, Thin, Fat, Unique, Handle, Key, Struct, Union, shape_of}
 use Rattle.type_proof.specs.Entries.{IsObjectType, PlainTables}
 use Rattle.type_proof.specs.Programs.{IsNumber, IsNullConstant, IsFirst, InitialJudged, GlobalJudged, GlobalsJudged}
-use Rattle.type_proof.proofs.Layouts.{same_text}
+use Rattle.type_proof.proofs.invariant.Layouts.{same_text}
 
 -- ---- whether two types have one shape
 

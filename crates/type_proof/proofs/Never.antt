@@ -19,16 +19,16 @@ use Rattle.source_typing.specs.Tables.{What, OfValue, Stored, Arrayed, Counter, 
 use Rattle.source_typing.specs.Types.{Int, Unsigned, Char, Void, Null, Thin, Fat, Unique, Handle, Key, Struct, Union, StaticType, shape_of}
 use Rattle.type_proof.specs.Flat.{Tables, flat}
 pub use Rattle.type_proof.specs.Programs.{GlobalFound, ArrayFound, MainFound, ProgramJudged}
-use Rattle.type_proof.proofs.Invariant.{heap, Ghost, Laid, AllLaid, HaveTypes, Inv}
-use Rattle.type_proof.proofs.Runs.{Safe, Runs, not_stuck}
-use Rattle.type_proof.proofs.After.{flying}
-use Rattle.type_proof.proofs.Layouts.{Structs}
-use Rattle.type_proof.proofs.Names.{NameOf, Below, AllStand, AllOrdered}
-use Rattle.type_proof.proofs.Births.{known_live}
-use Rattle.type_proof.proofs.Scenes.{BoundAs, LaidAs, Globals}
-use Rattle.type_proof.proofs.Integers.{IsWord, word_of}
+use Rattle.type_proof.proofs.invariant.Invariant.{heap, Ghost, Laid, AllLaid, HaveTypes, Inv}
+use Rattle.type_proof.proofs.invariant.Runs.{Safe, Runs, not_stuck}
+use Rattle.type_proof.proofs.invariant.After.{flying}
+use Rattle.type_proof.proofs.invariant.Layouts.{Structs}
+use Rattle.type_proof.proofs.invariant.Names.{NameOf, Below, AllStand, AllOrdered}
+use Rattle.type_proof.proofs.invariant.Births.{known_live}
+use Rattle.type_proof.proofs.invariant.Scenes.{BoundAs, LaidAs, Globals}
+use Rattle.type_proof.proofs.expressions.Integers.{IsWord, word_of}
 use Rattle.type_proof.proofs.Entries.{run_type, Enters, Invokes}
-use Rattle.type_proof.proofs.Functions.{Sources}
+use Rattle.type_proof.proofs.statements.Functions.{Sources}
 use Rattle.type_proof.proofs.Entered.{runs_entered, all_fuel}
 use Rattle.type_proof.proofs.First.{first_ghost, first_inv}
 use Rattle.std.proofs.lemmas.Slice.Eq.{bytes_eq-Decides}
@@ -191,11 +191,11 @@ module _ (p : Program) (tables : typing.Tables) (judged : ProgramJudged p tables
       → Runs n (need (function_of world.functions (codes "main")) >>= λ f. entered f world [] >>= one >>= integer) m (λ status m'. Unit {0})
   runs_main n w m i each =
       let main : MainFound world tables = judged.main in
-      let fuel : Invokes n d world tables × Rattle.type_proof.proofs.Flows.Turning n d world tables = all_fuel d world tables sources n in
+      let fuel : Invokes n d world tables × Rattle.type_proof.proofs.statements.Flows.Turning n d world tables = all_fuel d world tables sources n in
       let runs = runs_entered n d world tables sources fuel.0 fuel.1 (codes "main") main.signature main.function
       (judged.functions (codes "main") main.signature main.function main.found) (λ a. heap) 0 0 w m [] (omega arith) i (all_globals w each)
       (heap_enters d main.signature w m i)
-      (subst (λ (ts : List StaticType). Rattle.type_proof.proofs.Arguments.Flown d w 0 [] (map run_type ts)) (sym main.types) tt) in
+      (subst (λ (ts : List StaticType). Rattle.type_proof.proofs.invariant.Arguments.Flown d w 0 [] (map run_type ts)) (sym main.types) tt) in
       subst (λ (o : Option Routine). Runs n (need o >>= λ f. entered f world [] >>= one >>= integer) m (λ status m'. Unit {0})) (sym main.function.found)
       (record {
         by = λ next q. runs.by (λ us. (one us >>= integer) next) (λ us m1 y.

@@ -33,19 +33,19 @@ pub use Rattle.type_proof.specs.Programs.{IsNumber, IsNullConstant, IsFirst, Ini
 use Rattle.source_typing.specs.Tables as typing
 use Rattle.source_typing.specs.Tables.{What, OfValue, find, has_beginning}
 use Rattle.type_proof.specs.Entries.{IsObjectType, IsWordType}
-use Rattle.type_proof.proofs.Facts.{at_spot, same_at}
-use Rattle.type_proof.proofs.Invariant.{RunType, heap, Flying, Kept, Reached, Ghost, Laid, AllLaid, HasType, Inv}
-use Rattle.type_proof.proofs.Values.{laid_kept, all_laid_kept}
-use Rattle.type_proof.proofs.Layouts.{Structs, agrees, all_begin, cells_begin}
-use Rattle.type_proof.proofs.Rows.{laid_all}
-use Rattle.type_proof.proofs.Runs.{Runs}
-use Rattle.type_proof.proofs.Cells.{cell, typed_is, seen, runs_write}
-use Rattle.type_proof.proofs.Objects.{filled, inv_filled}
-use Rattle.type_proof.proofs.Names.{NameOf}
-use Rattle.type_proof.proofs.Sound.{shape_renamed}
+use Rattle.type_proof.proofs.invariant.Facts.{at_spot, same_at}
+use Rattle.type_proof.proofs.invariant.Invariant.{RunType, heap, Flying, Kept, Reached, Ghost, Laid, AllLaid, HasType, Inv}
+use Rattle.type_proof.proofs.invariant.Values.{laid_kept, all_laid_kept}
+use Rattle.type_proof.proofs.invariant.Layouts.{Structs, agrees, all_begin, cells_begin}
+use Rattle.type_proof.proofs.invariant.Rows.{laid_all}
+use Rattle.type_proof.proofs.invariant.Runs.{Runs}
+use Rattle.type_proof.proofs.invariant.Cells.{cell, typed_is, seen, runs_write}
+use Rattle.type_proof.proofs.invariant.Objects.{filled, inv_filled}
+use Rattle.type_proof.proofs.invariant.Names.{NameOf}
+use Rattle.type_proof.proofs.invariant.Sound.{shape_renamed}
 use Rattle.type_proof.proofs.Entries.{run_type}
 use Rattle.type_proof.proofs.GlobalTypes.{held_type, GlobalsTyped}
-use Rattle.type_proof.proofs.Begun.{Typed, cells_typed, begun_slice, array_begins}
+use Rattle.type_proof.proofs.statements.Begun.{Typed, cells_typed, begun_slice, array_begins}
 
 -- ---- the memory before a global is stored, and after
 

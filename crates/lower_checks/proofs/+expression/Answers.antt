@@ -43,7 +43,7 @@ use Rattle.source_lowering.specs.Lowered.{
   word_code,
 }
 use Rattle.source_lowering.specs.Lowerable.{Takes, TakesAll, TakesLinks, TakesMade, TakesPlace}
-use Rattle.source_lowering.proofs.Indices.{TakesIndices, indices_taken}
+use Rattle.source_lowering.proofs.expressions.Indices.{TakesIndices, indices_taken}
 use Rattle.source_lowering.specs.Members.{words_in}
 use Rattle.lower_checks.specs.Reaching.{IsLeftAt, Place, TakesSuffixed, further_place, indices_code, indices_in, place_at_once, reached_place, suffixed_left}
 use Rattle.lower_checks.specs.Structs.{HaveRoom, room_tree}

@@ -4,8 +4,8 @@ use Rattle.cyc_tree.specs.View.{declaration_tree, type_tree}
 use Rattle.source_meaning.specs.Shapes.{settled, written}
 use Rattle.source_meaning.specs.Programs.{world_of}
 use Rattle.source_lowering.specs.Lowerable.{IsVariable, TakesDeclaration}
-use Rattle.source_lowering.proofs.ObjectShapes.{object_named}
-use Rattle.source_lowering.proofs.WrittenTypes.{object_settled}
+use Rattle.source_lowering.proofs.memory.ObjectShapes.{object_named}
+use Rattle.source_lowering.proofs.statements.WrittenTypes.{object_settled}
 use Rattle.lower_checks.specs.Visible.{names_of}
 use Rattle.lower_checks.proofs.declaration.lower_declaration.Goals as goal
 

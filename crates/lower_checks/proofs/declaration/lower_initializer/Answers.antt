@@ -3,7 +3,7 @@ use Rattle.cyc_tree.specs.View.{type_tree, expression_tree}
 use Rattle.source_meaning.specs.Shapes.{Shape}
 use Rattle.source_meaning.specs.Programs.{world_of}
 use Rattle.source_lowering.specs.Lowerable.{IsObject, TakesValue}
-use Rattle.source_lowering.proofs.WrittenTypes.{object_settled}
+use Rattle.source_lowering.proofs.statements.WrittenTypes.{object_settled}
 use Rattle.lower_checks.specs.Visible.{names_of}
 use Rattle.lower_checks.proofs.declaration.lower_initializer.Goals as goal
 

@@ -3,7 +3,7 @@ use Rattle.cyc_tree.specs.View.{expression_tree}
 use Rattle.source_meaning.specs.Programs.{world_of}
 use Rattle.source_lowering.specs.Lowerable.{TakesPlace}
 use Rattle.source_lowering.specs.Whole.{is_made}
-use Rattle.source_lowering.proofs.WholeObjects.{unmade_place}
+use Rattle.source_lowering.proofs.bounds.WholeObjects.{unmade_place}
 use Rattle.lower_checks.specs.Visible.{names_of}
 use Rattle.lower_checks.proofs.declaration.lower_source.Goals as goal
 

@@ -3,7 +3,7 @@ use Rattle.cyc_tree.specs.View.{function_tree as source_tree}
 use Rattle.source_meaning.specs.Programs.{world_of, routine_of}
 use Rattle.source_lowering.specs.Programs.{parameter_names, routine_values}
 use Rattle.source_lowering.specs.Lowerable.{AreObjects}
-use Rattle.source_lowering.proofs.WholeObjects.{item_objects}
+use Rattle.source_lowering.proofs.bounds.WholeObjects.{item_objects}
 use Rattle.lower_checks.specs.Views.{shape_tree}
 use Rattle.lower_checks.proofs.function.lower_function.Goals as goal
 

@@ -5,7 +5,7 @@ use Rattle.source_meaning.specs.Shapes.{Shape, settled, written}
 use Rattle.source_meaning.specs.Programs.{world_of}
 use Rattle.source_lowering.specs.Programs.{global_datum}
 use Rattle.source_lowering.specs.Lowerable.{IsObject, TakesGlobal}
-use Rattle.source_lowering.proofs.WrittenTypes.{object_settled}
+use Rattle.source_lowering.proofs.statements.WrittenTypes.{object_settled}
 use Rattle.lower_checks.specs.Views.{stored_tree, written_shape}
 use Rattle.lower_checks.proofs.Taken.{array_global, one_global}
 use Rattle.lower_checks.proofs.program.lower_global.Goals as goal

@@ -1,4 +1,4 @@
-use Rattle.source_lowering.proofs.Bounded.{code_bounded}
+use Rattle.source_lowering.proofs.bounds.Bounded.{code_bounded}
 use Rattle.source_lowering.proofs.laws.code_is_bounded.Goals as goal
 
 pub returns : goal.returns

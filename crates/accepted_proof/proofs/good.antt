@@ -1,0 +1,12 @@
+pub mod Scopes
+pub mod Types
+pub mod Locals
+pub mod Functions
+pub mod Tables
+pub mod Names
+pub mod Operators
+pub mod Places
+pub mod Makings
+pub mod Expressions
+pub mod Declarations
+pub mod Bodies

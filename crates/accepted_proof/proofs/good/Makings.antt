@@ -1,0 +1,93 @@
+-- Makings are at fault or in order, where their handles and what they make are.
+use Rattle.std.proofs.Common.{◌≡◌, ℕ, Bool, true, false, List, refl}
+use Rattle.cyc_tree.specs.Tree.{Expression, One}
+use Rattle.source_typing.specs.Expressions.{judge, judge_made_in}
+use Rattle.source_typing.specs.Faults.{Fault}
+use Rattle.source_typing.specs.Making.{Goal, NoHandle, To, ToUnique, goal_of, handled, handled_of, inside, live_goal, made, made_to, with_goal}
+use Rattle.source_typing.specs.Regions.{Region}
+use Rattle.source_typing.specs.Scope.{Env, Nowhere, Value, is_live}
+use Rattle.source_typing.specs.Types.{Char, Fat, Handle, Int, Key, Null, StaticType, Struct, Thin, Union, Unique, Unsigned, Void, is_makeable}
+use Rattle.source_typing.specs.Verdicts.{Faulty, Of, Unjudged, Verdict}
+use Rattle.std.proofs.lemmas.Bool.{false≢true}
+use Rattle.type_proof.specs.Entries.{IsObjectType}
+use Rattle.source_typing.specs.Named.{Below, TypeBelow}
+use Rattle.accepted_proof.specs.Good.{IsGoodValue, IsValueType, Surely}
+use Rattle.accepted_proof.proofs.good.Places.{valued}
+use Rattle.accepted_proof.proofs.Sure.{surely_after, surely_fits}
+
+module _ (g : Env) where
+  -- what is made is an object
+  makeable_object : (t : StaticType) → IsValueType t → is_makeable t ≡ true → IsObjectType t
+  makeable_object Void h e = absurd (false≢true e)
+  makeable_object Null h e = absurd (false≢true e)
+  makeable_object Int h e = h
+  makeable_object Unsigned h e = h
+  makeable_object Char h e = h
+  makeable_object (Thin n r t) h e = h
+  makeable_object (Fat r t) h e = h
+  makeable_object (Unique n t) h e = h
+  makeable_object (Handle r) h e = h
+  makeable_object (Key r) h e = h
+  makeable_object (Struct tag rs) h e = h
+  makeable_object (Union tag rs) h e = h
+
+  made_below : (at : ℕ) (r : Region) (v : Value) → IsGoodValue g v → Below g.regions.count r → Surely (λ w. IsGoodValue g w) (made at (To r) v)
+  made_below at r v h b =
+      surely_fits (λ w. IsGoodValue g w) (is_makeable v.type) at v.type (made_to at (To r))
+      (λ e. valued g (record { at = at; type = Thin false r v.type; seat = Nowhere })
+      (record { type = makeable_object v.type h.type e; below = (b, h.below); nowhere = refl }))
+
+  -- a handle of a region that is live, and so in scope; or no handle
+  abbrev pub IsGoal : Goal → Type 0
+  IsGoal (To r) = Below g.regions.count r
+  IsGoal ToUnique = ⊥
+  IsGoal NoHandle = Unit {0}
+
+  live_good : (b : Bool) (at : ℕ) (r : Region) → Below g.regions.count r → Surely (λ x. IsGoal x) (live_goal b at r)
+  live_good true at r h = h
+  live_good false at r h = tt
+
+  handled_good : (at : ℕ) (t : StaticType) → TypeBelow g.regions.count t → Surely (λ x. IsGoal x) (handled_of g at t)
+  handled_good at Int h = tt
+  handled_good at Unsigned h = tt
+  handled_good at Char h = tt
+  handled_good at Void h = tt
+  handled_good at Null h = tt
+  handled_good at (Thin n r t) h = tt
+  handled_good at (Fat r t) h = tt
+  handled_good at (Unique n t) h = tt
+  handled_good at (Handle r) h = live_good (is_live g r) at r h
+  handled_good at (Key r) h = tt
+  handled_good at (Struct tag rs) h = tt
+  handled_good at (Union tag rs) h = tt
+
+  -- where the handle is none, or at fault, so is the making, whether or not its operand is judged
+  made_nowhere : (at : ℕ) (v : Verdict Value) → Surely (λ w. IsGoodValue g w) (with_goal at (Of NoHandle) v (made at))
+  made_nowhere at Unjudged = tt
+  made_nowhere at (Faulty f fs) = tt
+  made_nowhere at (Of v) = surely_fits (λ w. IsGoodValue g w) (is_makeable v.type) at v.type (made_to at NoHandle) (λ e. tt)
+
+  made_faulty : (at : ℕ) (f : Fault) (fs : List Fault) (v : Verdict Value) → Surely (λ w. IsGoodValue g w) (with_goal at (Faulty f fs) v (made at))
+  made_faulty at f fs (Faulty c cs) = tt
+  made_faulty at f fs Unjudged = tt
+  made_faulty at f fs (Of v) = tt
+
+  pub made_there : (at : ℕ) (r : Region) (v : Verdict Value) → Surely (λ w. IsGoodValue g w) v → Below g.regions.count r
+      → Surely (λ w. IsGoodValue g w) (with_goal at (Of (To r)) v (made at))
+  made_there at r (Faulty c cs) h b = tt
+  made_there at r Unjudged h b = absurd h
+  made_there at r (Of v) h b = made_below at r v h b
+
+  -- its operand is judged in the region of the handle
+  pub made_good : (at : ℕ) (goal : Verdict Goal) (e : Expression) → Surely (λ x. IsGoal x) goal
+      → ((r : Region) → Below g.regions.count r → Surely (λ w. IsGoodValue g w) (judge (inside (Of (To r)) g) e))
+      → Surely (λ w. IsGoodValue g w) (judge_made_in g at goal (One e))
+  made_good at (Faulty f fs) e h k = made_faulty at f fs (judge (inside (Faulty f fs) g) e)
+  made_good at Unjudged e h k = absurd h
+  made_good at (Of (To r)) e h k = made_there at r (judge (inside (Of (To r)) g) e) (k r h) h
+  made_good at (Of ToUnique) e h k = absurd h
+  made_good at (Of NoHandle) e h k = made_nowhere at (judge (inside (Of NoHandle) g) e)
+
+  pub handle_good : (e : Expression) → Surely (λ v. IsGoodValue g v) (judge g e) → Surely (λ x. IsGoal x) (goal_of false g (judge g e))
+  handle_good e h =
+      surely_after (λ v. IsGoodValue g v) (λ x. IsGoal x) (judge g e) (handled g) h (λ v k. handled_good v.at v.type k.below)

@@ -1,0 +1,200 @@
+-- Names and calls where all is known of each name in scope.
+use Rattle.std.proofs.Common.{◌≡◌, ℕ, zero, suc, Bool, true, false, Option, Some, None, List, [], ◌∷◌, refl, sym, ap, subst}
+use Rattle.std.specs.Prelude.{bytes_eq, if◌then◌else◌, length, map, nat_eq, replicate, ◌++◌, ◌&&◌}
+use Rattle.type_proof.specs.Entries.{AreObjects, IsObjectType, IsPlain}
+use Rattle.source_typing.specs.Named.{AllBelow, TypeBelow}
+use Rattle.source_typing.specs.Calls.{
+  Target,
+  ToBuiltin,
+  ToFunction,
+  ToStruct,
+  all_convert,
+  all_known,
+  all_live,
+  all_ordered,
+  arguments_converted,
+  arguments_counted,
+  arguments_fit,
+  builtin_parameters,
+  call_entered,
+  called,
+  if_all_known,
+  part_types,
+  target,
+  target_of_tag,
+  typed_result,
+}
+use Rattle.source_typing.specs.Faults.{effect_rule, outlives_rule, test}
+use Rattle.source_typing.specs.Fixing.{Fit, all_fits, first_fit, fixed_from, fixed_known, fixed_one, is_found, more}
+use Rattle.source_typing.specs.Regions.{Level, Region, same_id}
+use Rattle.source_typing.specs.Scope.{Enclosing, Env, InRegion, Nowhere, Value, value}
+use Rattle.source_typing.specs.Tables.{Arrayed, Counter, Entry, OfBuiltin, OfFunction, OfOther, OfTag, OfValue, Stored, Tables, Unknown, argument, find}
+use Rattle.source_typing.specs.Types.{Char, Fat, Handle, Int, Key, Null, StaticType, Struct, Thin, Union, Unique, Unsigned, Void, renamed}
+use Rattle.source_typing.specs.Verdicts.{Faulty, Of, Unjudged, Verdict}
+use Rattle.source_typing.specs.Written.{Found, Is, IsUnique, Missing, if_sound}
+use Rattle.type_proof.proofs.expressions.Fixed.{EnclosingBelow, ValuesBelow, fixed_within, plain_below}
+use Rattle.type_proof.proofs.expressions.Words.{plain_renamed}
+use Rattle.accepted_proof.specs.Good.{AllGood, IsAround, IsGoodEntry, IsGoodSignature, IsGoodTag, IsValueType, SeatBelow, Surely}
+use Rattle.accepted_proof.proofs.Sure.{surely_after, surely_both, surely_since, surely_unless}
+
+-- ---- what a name means
+
+abbrev pub MeansGood : ℕ → Option Entry → Type 0
+MeansGood count None = Unit {0}
+MeansGood count (Some e) = IsGoodEntry count e
+
+pub found_good : (count : ℕ) (g : Tables) (x : List ℕ) → AllGood count g → MeansGood count (find g x)
+found_good count [] x h = tt
+found_good count (n ∷ ns) x h = by (bytes_eq n.name x) (found_good count ns x h.1)
+  where
+    by : (b : Bool) → MeansGood count (find ns x) → MeansGood count (if b then Some n.entry else find ns x)
+    by true k = h.0
+    by false k = k
+
+-- a place of an object
+pub record IsGoodPlace (count : ℕ) (v : Value) : Type 0 where
+  pub type : IsObjectType v.type
+  pub below : TypeBelow count v.type
+  pub seat : SeatBelow count v.seat
+
+-- ---- what is called
+
+abbrev pub IsGoodTarget : Target → Type 0
+IsGoodTarget (ToBuiltin n) = Unit {0}
+IsGoodTarget (ToStruct t) = IsGoodTag t
+IsGoodTarget (ToFunction s) = IsGoodSignature s
+
+pub target_judged : (count at : ℕ) (e : Option Entry) → MeansGood count e → Surely (λ u. IsGoodTarget u) (target at e)
+target_judged count at None h = tt
+target_judged count at (Some (OfBuiltin n)) h = tt
+target_judged count at (Some (OfFunction s)) h = subst (λ b. Surely (λ u. IsGoodTarget u) (if_sound b (Of (ToFunction s)))) (sym h.sound) h
+target_judged count at (Some (OfTag t)) h =
+    subst (λ b. Surely (λ u. IsGoodTarget u) (target_of_tag b t at)) (sym h.no_union)
+    (subst (λ b. Surely (λ u. IsGoodTarget u) (if_sound b (Of (ToStruct t)))) (sym h.sound) h)
+target_judged count at (Some (OfValue (Stored t r))) h = tt
+target_judged count at (Some (OfValue (Arrayed t r))) h = tt
+target_judged count at (Some (OfValue Counter)) h = absurd h
+target_judged count at (Some (OfValue Unknown)) h = absurd h
+target_judged count at (Some OfOther) h = absurd h
+
+-- ---- regions in place of region variables
+
+abbrev Any : {A : Type 0} → A → Type 0
+Any a = Unit {0}
+
+-- a region variable stands for a region, or it can't
+one_fixed : (r : Region) (at : ℕ) (fs : List Fit) (k : ℕ) → Surely (λ (r : Region). Any r) (fixed_one (InRegion r) at (first_fit fs k))
+one_fixed r at [] k = tt
+one_fixed r at (f ∷ fs) k = by (same_id f.of (Level k)) f.is (one_fixed r at fs k)
+  where
+    by : (b : Bool) (i : Found) → Surely (λ (r : Region). Any r) (fixed_one (InRegion r) at (first_fit fs k))
+        → Surely (λ (r : Region). Any r) (fixed_one (InRegion r) at (if b && is_found i then Some (record f { is = i }) else first_fit fs k))
+    by true (Is q) l = tt
+    by true IsUnique l = tt
+    by true Missing l = l
+    by false i l = l
+
+all_fixed : (r : Region) (at : ℕ) (fs : List Fit) (k n : ℕ) → Surely (λ (rs : List Region). Any rs) (fixed_from (InRegion r) at fs k n)
+all_fixed r at fs k zero = tt
+all_fixed r at fs k (suc n) =
+    surely_both (λ (r : Region). Any r) (λ (rs : List Region). Any rs) (λ (rs : List Region). Any rs) (fixed_one (InRegion r) at (first_fit fs k))
+    (fixed_from (InRegion r) at fs (suc k) n) more (one_fixed r at fs k) (all_fixed r at fs (suc k) n) (λ r rs a b. tt)
+
+-- ---- arguments
+
+abbrev some_types : List StaticType → List (Option StaticType)
+some_types ts = map (λ (t : StaticType). Some t) ts
+
+all_are_known : (ts : List StaticType) → all_known (some_types ts) ≡ true
+all_are_known [] = refl
+all_are_known (t ∷ ts) = all_are_known ts
+
+-- Arguments fit parameters that are objects, and the region variables then stand for regions in scope; or they are at fault.
+pub arguments_judged : (g : Env) (at n : ℕ) (ts : List StaticType) (vs : List Value) → IsAround g.regions.count g.enclosing → AreObjects ts
+    → ValuesBelow g.regions.count vs → Surely (λ (rs : List Region). AllBelow g.regions.count rs) (arguments_fit g at n (some_types ts) vs)
+arguments_judged g at n ts vs e w h = by (nat_eq (length (some_types ts)) (length vs))
+  where
+    fits : List Fit
+    fits = all_fits (some_types ts) vs
+
+    fixed : Surely (λ (rs : List Region). AllBelow g.regions.count rs) (fixed_from g.enclosing at fits 0 n)
+    fixed =
+        surely_since (λ (rs : List Region). Any rs) (λ (rs : List Region). AllBelow g.regions.count rs) (fixed_from g.enclosing at fits 0 n)
+        (subst (λ (i : Enclosing). Surely (λ (rs : List Region). Any rs) (fixed_from i at fits 0 n)) (sym e.is) (all_fixed e.region at fits 0 n))
+        (λ rs is k. fixed_within g.regions.count at n g.enclosing ts vs rs
+        (subst (λ (i : Enclosing). EnclosingBelow g.regions.count i) (sym e.is) e.below) w h is)
+
+    converted : (some : List (Option Region)) (v : Verdict (List Region)) → Surely (λ (rs : List Region). AllBelow g.regions.count rs) v
+        → Surely (λ (rs : List Region). AllBelow g.regions.count rs) (arguments_converted g some (some_types ts) vs v)
+    converted some (Faulty f fs) k = tt
+    converted some Unjudged k = absurd k
+    converted some (Of rs) k =
+        surely_unless (λ (qs : List Region). AllBelow g.regions.count qs) (all_convert g rs (some_types ts) vs) (if_all_known (all_known (some_types ts)) rs)
+        (λ none. subst (λ b. Surely (λ (qs : List Region). AllBelow g.regions.count qs) (if_all_known b rs)) (sym (all_are_known ts)) k)
+
+    by : (b : Bool) → Surely (λ (rs : List Region). AllBelow g.regions.count rs) (arguments_counted b g at n (some_types ts) vs)
+    by true = converted (fixed_known g.enclosing at fits 0 n) (fixed_from g.enclosing at fits 0 n) fixed
+    by false = tt
+
+-- ---- what a call gives
+
+-- a value that is no place
+pub record IsGoodResult (count : ℕ) (v : Value) : Type 0 where
+  pub type : IsValueType v.type
+  pub below : TypeBelow count v.type
+  pub nowhere : v.seat ≡ Nowhere
+
+pub plain_value : (t : StaticType) → IsPlain t → IsValueType t
+plain_value Int h = tt
+plain_value Unsigned h = tt
+plain_value Char h = tt
+plain_value Void h = tt
+plain_value Null h = tt
+plain_value (Thin n r t) h = h
+plain_value (Fat r t) h = h
+plain_value (Unique n t) h = absurd h
+plain_value (Handle r) h = tt
+plain_value (Key r) h = absurd h
+plain_value (Struct tag rs) h = h
+plain_value (Union tag rs) h = absurd h
+
+-- the functions that every program has take integers
+builtins_are : (n : ℕ) → some_types (replicate n Int) ≡ builtin_parameters n
+builtins_are zero = refl
+builtins_are (suc n) = ap (λ (ps : List (Option StaticType)). Some Int ∷ ps) (builtins_are n)
+
+builtins_objects : (n : ℕ) → AreObjects (replicate n Int)
+builtins_objects zero = tt
+builtins_objects (suc n) = (tt, builtins_objects n)
+
+-- the result's type speaks of regions where the call is
+result_judged : (count at : ℕ) (rs : List Region) (t : StaticType) → IsPlain t → AllBelow count rs
+    → Surely (λ v. IsGoodResult count v) (typed_result at rs (Some t))
+result_judged count at rs t p h = record {
+  type = plain_value (renamed (argument rs) t) (plain_renamed (argument rs) t p);
+  below = plain_below count rs t p h;
+  nowhere = refl;
+}
+
+pub called_judged : (g : Env) (at : ℕ) (u : Target) (vs : List Value) → IsAround g.regions.count g.enclosing → IsGoodTarget u
+    → ValuesBelow g.regions.count vs → Surely (λ v. IsGoodResult g.regions.count v) (called g at u vs)
+called_judged g at (ToStruct t) vs e h below =
+    surely_after (λ (rs : List Region). AllBelow g.regions.count rs) (λ v. IsGoodResult g.regions.count v)
+    (arguments_fit g at t.regions (part_types t.parts) vs) (λ rs. value at (Struct t.text rs))
+    (subst (λ (ps : List (Option StaticType)). Surely (λ (rs : List Region). AllBelow g.regions.count rs) (arguments_fit g at t.regions ps vs))
+    (sym h.parts) (arguments_judged g at t.regions h.types vs e h.objects below))
+    (λ rs k. record { type = tt; below = k; nowhere = refl })
+called_judged g at (ToBuiltin n) vs e h below =
+    surely_after (λ (rs : List Region). AllBelow g.regions.count rs) (λ v. IsGoodResult g.regions.count v) (arguments_fit g at 0 (builtin_parameters n) vs)
+    (λ rs. value at Int)
+    (subst (λ (ps : List (Option StaticType)). Surely (λ (rs : List Region). AllBelow g.regions.count rs) (arguments_fit g at 0 ps vs)) (builtins_are n)
+    (arguments_judged g at 0 (replicate n Int) vs e (builtins_objects n) below)) (λ rs k. record { type = tt; below = tt; nowhere = refl })
+called_judged g at (ToFunction s) vs e h below =
+    surely_after (λ (rs : List Region). AllBelow g.regions.count rs) (λ v. IsGoodResult g.regions.count v) (arguments_fit g at s.regions s.parameters vs)
+    (call_entered g at s)
+    (subst (λ (ps : List (Option StaticType)). Surely (λ (rs : List Region). AllBelow g.regions.count rs) (arguments_fit g at s.regions ps vs))
+    (sym h.parameters) (arguments_judged g at s.regions h.types vs e h.objects below))
+    (λ rs k. surely_unless (λ v. IsGoodResult g.regions.count v)
+    (test (all_live g rs s.effect) effect_rule at ++ test (all_ordered g rs s.bounds) outlives_rule at) (typed_result at rs s.result)
+    (λ none. subst (λ (t : Option StaticType). Surely (λ v. IsGoodResult g.regions.count v) (typed_result at rs t)) (sym h.result)
+    (result_judged g.regions.count at rs h.gives h.plain k)))

@@ -1,0 +1,92 @@
+-- A scope in which all is known of each name stays one: where a block or a loop begins, in an `rnew`, and after a local, an array and a lexical region.
+use Rattle.std.proofs.Common.{◌≡◌, ℕ, Bool, true, false, List, [], ◌∷◌, arith, refl}
+use Rattle.std.specs.Prelude.{◌+◌, if◌then◌else◌, is_some, not}
+use Rattle.cyc_tree.specs.Tree as tree
+use Rattle.type_proof.specs.Entries.{IsObjectType}
+use Rattle.type_proof.specs.Judged.{arrayed, extended, named}
+use Rattle.source_typing.specs.Named.{Below, TypeBelow}
+use Rattle.type_proof.proofs.statements.Lexical.{lexical, names_with}
+use Rattle.source_typing.proofs.NamedBelow.{below_up, names_up}
+use Rattle.type_proof.proofs.statements.Surroundings.{type_up}
+use Rattle.source_typing.specs.Declarations.{name_added}
+use Rattle.source_typing.specs.Faults.{name_rule, test}
+use Rattle.source_typing.specs.Making.{To, inside}
+use Rattle.source_typing.specs.Regions.{Region}
+use Rattle.source_typing.specs.Scope.{Enclosing, Env, block_entered, in_scope, is_second, next_region, second, with_local}
+use Rattle.source_typing.specs.Statements.{in_a_loop}
+use Rattle.source_typing.specs.Tables.{Arrayed, Counter, Entry, OfBuiltin, OfFunction, OfOther, OfTag, OfValue, Stored, Tables, Unknown, What}
+use Rattle.source_typing.specs.Types.{StaticType}
+use Rattle.source_typing.specs.Verdicts.{Of}
+use Rattle.source_typing.specs.Written.{RegionNamed, find_region}
+use Rattle.accepted_proof.specs.Good.{AllGood, IsAround, IsGood, IsGoodEntry, NamesBelow}
+
+-- ---- one more region name
+
+pub entry_up : (n : ℕ) (e : Entry) → IsGoodEntry n e → IsGoodEntry (n + 1) e
+entry_up n (OfValue (Stored t r)) h = (h.0, type_up n t h.1, below_up n r h.2)
+entry_up n (OfValue (Arrayed t r)) h = (h.0, type_up n t h.1, below_up n r h.2)
+entry_up n (OfValue Counter) h = absurd h
+entry_up n (OfValue Unknown) h = absurd h
+entry_up n (OfTag t) h = h
+entry_up n (OfFunction s) h = h
+entry_up n (OfBuiltin k) h = h
+entry_up n OfOther h = absurd h
+
+pub entries_up : (n : ℕ) (ns : Tables) → AllGood n ns → AllGood (n + 1) ns
+entries_up n [] h = tt
+entries_up n (x ∷ xs) h = (entry_up n x.entry h.0, entries_up n xs h.1)
+
+pub around_up : (n : ℕ) (i : Enclosing) → IsAround n i → IsAround (n + 1) i
+around_up n i h = record { region = h.region; is = h.is; below = below_up n h.region h.below }
+
+-- ---- scopes
+
+-- the block's own region is the name that is next
+pub good_block : (g : Env) → IsGood g → IsGood (block_entered g)
+good_block g h = record {
+  names = entries_up g.regions.count (in_scope g) h.names;
+  regions = names_up g.regions.count g.names h.regions;
+  frame = omega arith;
+  enclosing = around_up g.regions.count g.enclosing h.enclosing;
+}
+
+pub good_loop : (g : Env) → IsGood g → IsGood (in_a_loop g)
+good_loop g h = record { names = h.names; regions = h.regions; frame = h.frame; enclosing = h.enclosing }
+
+-- in an `rnew` of a region that is in scope
+pub good_inside : (r : Region) (g : Env) → Below g.regions.count r → IsGood g → IsGood (inside (Of (To r)) g)
+good_inside r g b h = record { names = h.names; regions = h.regions; frame = h.frame; enclosing = record { region = r; is = refl; below = b } }
+
+-- after a lexical region
+name_below : (n : ℕ) (names : List RegionNamed) (x : tree.Name) (r : Region) (b : Bool) → NamesBelow n names → Below n r → NamesBelow n (name_added b x r names)
+name_below n names x r true h k = h
+name_below n names x r false h k = (k, h)
+
+region_names : (r : tree.RegionName) (g : Env) → IsGood g → NamesBelow (g.regions.count + 1) (names_with r g)
+region_names (tree.Named x) g h =
+    name_below (g.regions.count + 1) g.names x (next_region g) (is_some (find_region g.names x.text)) (names_up g.regions.count g.names h.regions)
+    (omega arith)
+region_names (tree.Heap at) g h = names_up g.regions.count g.names h.regions
+region_names (tree.Unique at) g h = names_up g.regions.count g.names h.regions
+
+pub good_region : (r : tree.RegionName) (g : Env) → IsGood g → IsGood (lexical g (names_with r g))
+good_region r g h = record {
+  names = entries_up g.regions.count (in_scope g) h.names;
+  regions = region_names r g h;
+  frame = below_up g.regions.count g.frame h.frame;
+  enclosing = around_up g.regions.count g.enclosing h.enclosing;
+}
+
+pub good_local : (x : tree.Name) (t : StaticType) (g : Env) → IsObjectType t → TypeBelow g.regions.count t → IsGood g → IsGood (extended g x t)
+good_local x t g w b h = record { names = ((w, b, h.frame), h.names); regions = h.regions; frame = h.frame; enclosing = h.enclosing }
+
+pub good_array : (x : tree.Name) (t : StaticType) (g : Env) → IsObjectType t → TypeBelow g.regions.count t → IsGood g → IsGood (arrayed g x t)
+good_array x t g w b h = record { names = ((w, b, h.frame), h.names); regions = h.regions; frame = h.frame; enclosing = h.enclosing }
+
+-- a name that isn't declared twice is one more local
+pub one_more : (x : tree.Name) (w : What) (g : Env) → second g x ≡ [] → with_local x w g ≡ named g x w
+one_more x w g e = by (is_second g.locals g.block x.text) e
+  where
+    by : (b : Bool) → test (not b) name_rule x.at ≡ [] → (if b then g else named g x w) ≡ named g x w
+    by true p = absurd cc
+    by false p = refl

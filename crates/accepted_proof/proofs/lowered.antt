@@ -1,0 +1,16 @@
+pub mod Forms
+pub mod Calls
+pub mod Members
+pub mod Operators
+pub mod Makings
+pub mod ObjectSizes
+pub mod Types
+pub mod Scopes
+pub mod Expressions
+pub mod Bodies
+pub mod StructSizes
+pub mod LaidStructs
+pub mod Heads
+pub mod Tables
+pub mod SizedGlobals
+pub mod Programs

@@ -1,0 +1,77 @@
+-- Makings that lowering takes: of one value, in the heap or in the region of a handle.
+use Rattle.std.proofs.Common.{◌≡◌, ℕ, true, false, List, refl, sym, subst, ap, ◌∙◌}
+use Rattle.cyc_tree.specs.Tree.{Expression, One}
+use Rattle.source_lowering.specs.Lowerable.{IsNoStruct, IsObject, Takes, TakesDropped, TakesMember, TakesNew, TakesRun, TakesWhole}
+use Rattle.source_lowering.specs.Lowered.{Named, static_shape}
+use Rattle.source_meaning.specs.Shapes as shapes
+use Rattle.source_meaning.specs.Shapes.{Shape, ThinShape}
+use Rattle.source_meaning.specs.Steps.{World}
+use Rattle.source_typing.specs.Making.{To, made}
+use Rattle.source_typing.specs.Regions.{Region}
+use Rattle.source_typing.specs.Scope.{Value}
+use Rattle.source_typing.specs.Types.{Char, Fat, Handle, Int, Key, Null, StaticType, Struct, Thin, Union, Unique, Unsigned, Void, is_makeable, shape_of}
+use Rattle.source_typing.specs.Verdicts.{Of}
+use Rattle.type_proof.proofs.expressions.Makings.{made_there}
+use Rattle.type_proof.proofs.expressions.WordRules.{Valued}
+use Rattle.accepted_proof.proofs.Known.{IsKnown, IsKnownValue, IsWord, known_object, word_shape}
+use Rattle.accepted_proof.proofs.lowered.Calls.{word_member}
+use Rattle.accepted_proof.proofs.lowered.Forms.{IsTaken, TakenAs, TakenStruct, TakenWord, taken_word}
+use Rattle.accepted_proof.proofs.lowered.Operators.{no_place}
+
+module _ (w : World) (names : List Named) where
+  -- ---- what is made
+
+  -- a value of a type that can be made
+  record NewTaken (e : Expression) (t : StaticType) : Type 0 where
+    takes : TakesNew w names (One e)
+    known : IsKnown w.structs (shape_of t)
+    shape : static_shape w names e ≡ shape_of t
+
+  word_made : (e : Expression) (t : StaticType) → IsWord t → IsKnown w.structs (shape_of t) → TakenWord w names e t → NewTaken e t
+  word_made e t i k h =
+      let none : IsNoStruct (static_shape w names e) = subst (λ s. IsNoStruct s) (sym h.shape) (word_shape t i) in
+      record {
+        takes = (
+          subst (λ s. IsObject w.structs s) (sym h.shape) (known_object w.structs (shape_of t) k),
+          word_member w names (static_shape w names e) (TakesWhole w names e) (Takes w names e) none h.takes,
+        );
+        known = k;
+        shape = h.shape;
+      }
+
+  struct_made : (e : Expression) (tag : List ℕ) (rs : List Region) → IsKnown w.structs (shape_of (Struct tag rs)) → TakenStruct w names e tag
+      → NewTaken e (Struct tag rs)
+  struct_made e tag rs k h = record {
+    takes = (
+      subst (λ s. IsObject w.structs s) (sym h.shape) k,
+      subst (λ s. TakesMember s (TakesWhole w names e) (Takes w names e)) (sym h.shape) h.takes,
+    );
+    known = k;
+    shape = h.shape;
+  }
+
+  value_made : (e : Expression) (t : StaticType) → is_makeable t ≡ true → IsKnownValue w.structs t → TakenAs w names t e → NewTaken e t
+  value_made e Void m k h = absurd cc
+  value_made e Null m k h = absurd cc
+  value_made e Int m k h = word_made e Int tt k h
+  value_made e Unsigned m k h = word_made e Unsigned tt k h
+  value_made e Char m k h = word_made e Char tt k h
+  value_made e (Thin n r t) m k h = word_made e (Thin n r t) tt k h
+  value_made e (Fat r t) m k h = word_made e (Fat r t) tt k h
+  value_made e (Unique n t) m k h = absurd (let z : shapes.Alone ≡ shapes.Shared = k.0 in cc)
+  value_made e (Handle r) m k h = word_made e (Handle r) tt k h
+  value_made e (Key r) m k h = absurd k
+  value_made e (Struct tag rs) m k h = struct_made e tag rs k h
+  value_made e (Union tag rs) m k h = absurd k
+
+  -- ---- makings
+
+  -- a making in a region
+  pub making_taken : (x : Expression) (at : ℕ) (r : Region) (e : Expression) (a v : Value) → IsTaken w names e a → made at (To r) a ≡ Of v
+      → (TakesNew w names (One e) → Takes w names x) → static_shape w names x ≡ ThinShape false shapes.Shared (static_shape w names e)
+      → (TakesDropped w names (static_shape w names x) x → TakesRun w names x) → IsTaken w names x v
+  making_taken x at r e a v h q takes shape run =
+      let d : (is_makeable a.type ≡ true) × Valued v (Thin false r a.type) = made_there (is_makeable a.type) at r a.type v q in
+      let n : NewTaken e a.type = value_made e a.type d.0 h.known h.value in
+      taken_word w names x v (Thin false r a.type) d.1.type (no_place v d.1.seat) tt (refl, n.known)
+      (record { takes = takes n.takes; shape = shape ∙ ap (λ (s : Shape). ThinShape false shapes.Shared s) n.shape }) run

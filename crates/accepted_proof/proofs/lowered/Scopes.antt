@@ -1,0 +1,114 @@
+-- A scope in which all is known of each name stays one: after a local, where a block or a loop begins, and with a function's parameters.
+use Rattle.std.proofs.Common.{◌≡◌, ℕ, suc, Bool, true, false, Option, Some, List, [], ◌∷◌, refl, subst, ap, ◌∙◌}
+use Rattle.std.specs.Prelude.{bytes_eq, if◌then◌else◌, map}
+use Rattle.cyc_tree.specs.Tree as tree
+use Rattle.source_lowering.specs.Lowered.{Named, local_named, named_shape, shape_by}
+use Rattle.source_lowering.specs.Programs.{named_here, one_out, outward, parameter_names}
+use Rattle.source_meaning.specs.Places.{bound_to}
+use Rattle.source_meaning.specs.Shapes.{ArrayShape, Part, Shape, part_shapes}
+use Rattle.source_meaning.specs.Steps.{Entity, World}
+use Rattle.type_proof.specs.Judged.{arrayed, extended, named}
+use Rattle.type_proof.specs.Programs.{name_alone, with_all}
+use Rattle.source_typing.specs.Declarations.{with_region}
+use Rattle.source_typing.specs.Making.{Goal, inside}
+use Rattle.source_typing.specs.Regions.{with_scope}
+use Rattle.source_typing.specs.Scope.{Env, block_entered, in_scope, meant}
+use Rattle.source_typing.specs.Statements.{in_a_loop}
+use Rattle.source_typing.specs.Tables.{Arrayed, Counter, Entry, OfBuiltin, OfFunction, OfOther, OfTag, OfValue, Stored, Unknown, What}
+use Rattle.source_typing.specs.Types.{StaticType, shape_of}
+use Rattle.source_typing.specs.Verdicts.{Verdict}
+use Rattle.accepted_proof.proofs.Known.{IsKnown}
+use Rattle.accepted_proof.proofs.lowered.Forms.{AreKnown, IsKnownScope, KnownEntry}
+use Rattle.accepted_proof.proofs.lowered.Types.{TagsThere}
+
+module _ (w : World) where
+  -- a name keeps what is known of it while it has its shape
+  entry_kept : (names others : List Named) (x : List ℕ) (e : Entry) → named_shape w others x ≡ named_shape w names x → KnownEntry w names x e
+      → KnownEntry w others x e
+  entry_kept names others x (OfValue (Stored t r)) q h = (q ∙ h.0, h.1)
+  entry_kept names others x (OfValue (Arrayed t r)) q h = (h.0, q ∙ h.1, h.2)
+  entry_kept names others x (OfValue Counter) q h = h
+  entry_kept names others x (OfValue Unknown) q h = h
+  entry_kept names others x (OfTag t) q h = h
+  entry_kept names others x (OfFunction s) q h = h
+  entry_kept names others x (OfBuiltin n) q h = h
+  entry_kept names others x OfOther q h = h
+
+  -- each tag in scope is the program's
+  pub scope_tags : (names : List Named) (g : Env) → IsKnownScope w names g → TagsThere w.structs (in_scope g)
+  scope_tags names g scope x t e = (scope.entries x (OfTag t) e).there
+
+  -- ---- one more local
+
+  -- a name of a shape that is known, whatever else is in scope
+  scope_named : (names : List Named) (g : Env) (x : tree.Name) (what : What) (s : Shape) (index : ℕ)
+      → ((others : List Named) (y : List ℕ) → named_shape w others y ≡ s → KnownEntry w others y (OfValue what)) → IsKnownScope w names g
+      → IsKnownScope w (named_here x.text s index ∷ names) (named g x what)
+  scope_named names g x what s index k scope = record { entries = λ y e p. by y e (bytes_eq x.text y) refl p; members = scope.members; sizes = scope.sizes }
+    where
+      by : (y : List ℕ) (e : Entry) (b : Bool) → bytes_eq x.text y ≡ b → (if b then Some (OfValue what) else meant g y) ≡ Some e
+          → KnownEntry w (named_here x.text s index ∷ names) y e
+      by y e true r p =
+          let z : OfValue what ≡ e = cc in
+          subst (λ (d : Entry). KnownEntry w (named_here x.text s index ∷ names) y d) z
+          (k (named_here x.text s index ∷ names) y
+          (ap (λ (b : Bool). shape_by (if b then Some (named_here x.text s index) else local_named names y) (bound_to w.globals y)) r))
+      by y e false r p =
+          entry_kept names (named_here x.text s index ∷ names) y e
+          (ap (λ (b : Bool). shape_by (if b then Some (named_here x.text s index) else local_named names y) (bound_to w.globals y)) r)
+          (scope.entries y e p)
+
+  pub scope_local : (names : List Named) (g : Env) (x : tree.Name) (t : StaticType) (s : Shape) (index : ℕ) → s ≡ shape_of t → IsKnown w.structs (shape_of t)
+      → IsKnownScope w names g → IsKnownScope w (named_here x.text s index ∷ names) (extended g x t)
+  scope_local names g x t s index q k scope = scope_named names g x (Stored t g.frame) s index (λ others y z. (z ∙ q, k)) scope
+
+  pub scope_array : (names : List Named) (g : Env) (x : tree.Name) (t : StaticType) (s : Shape) (count index : ℕ) → s ≡ shape_of t
+      → IsKnown w.structs (shape_of t) → IsKnownScope w names g
+      → IsKnownScope w (named_here x.text (ArrayShape count s) index ∷ names) (arrayed g x t)
+  scope_array names g x t s count index q k scope =
+      scope_named names g x (Arrayed t g.frame) (ArrayShape count s) index
+      (λ others y z. (count, z ∙ ap (λ (u : Shape). ArrayShape count u) q, k)) scope
+
+  -- ---- blocks and loops
+
+  outward_shape : (names : List Named) (x : List ℕ) (global : Option Entity)
+      → shape_by (local_named (outward names) x) global ≡ shape_by (local_named names x) global
+  outward_shape [] x global = refl
+  outward_shape (l ∷ ls) x global = by (bytes_eq l.name x) (outward_shape ls x global)
+    where
+      by : (b : Bool) → shape_by (local_named (outward ls) x) global ≡ shape_by (local_named ls x) global
+          → shape_by (if b then Some (one_out l) else local_named (outward ls) x) global ≡ shape_by (if b then Some l else local_named ls x) global
+      by true others = refl
+      by false others = others
+
+  pub scope_block : (names : List Named) (g : Env) → IsKnownScope w names g → IsKnownScope w (outward names) (block_entered g)
+  scope_block names g scope = record {
+    entries = λ x e p. entry_kept names (outward names) x e (outward_shape names x (bound_to w.globals x)) (scope.entries x e p);
+    members = scope.members;
+    sizes = scope.sizes;
+  }
+
+  pub scope_loop : (names : List Named) (g : Env) → IsKnownScope w names g → IsKnownScope w names (in_a_loop g)
+  scope_loop names g scope = record { entries = scope.entries; members = scope.members; sizes = scope.sizes }
+
+  -- where a region begins, and within an operand of `rnew`
+  pub scope_region : (names : List Named) (r : tree.RegionName) (g : Env) → IsKnownScope w names g → IsKnownScope w names (with_region r with_scope g)
+  scope_region names (tree.Named n) g scope = record { entries = scope.entries; members = scope.members; sizes = scope.sizes }
+  scope_region names (tree.Heap at) g scope = record { entries = scope.entries; members = scope.members; sizes = scope.sizes }
+  scope_region names (tree.Unique at) g scope = record { entries = scope.entries; members = scope.members; sizes = scope.sizes }
+
+  pub scope_inside : (names : List Named) (goal : Verdict Goal) (g : Env) → IsKnownScope w names g → IsKnownScope w names (inside goal g)
+  scope_inside names goal g scope = record { entries = scope.entries; members = scope.members; sizes = scope.sizes }
+
+  -- ---- parameters
+
+  pub scope_all : (ps : List Part) (ts : List StaticType) (index : ℕ) (names : List Named) (g : Env) → part_shapes ps ≡ map (λ (t : StaticType). shape_of t) ts
+      → AreKnown w.structs ts → IsKnownScope w names g → IsKnownScope w (parameter_names ps index names) (with_all ps ts g)
+  scope_all [] [] index names g q k scope = scope
+  scope_all (p ∷ ps) (t ∷ ts) index names g q k scope =
+      let a : p.shape ≡ shape_of t = cc in
+      let b : part_shapes ps ≡ map (λ (t : StaticType). shape_of t) ts = cc in
+      scope_all ps ts (suc index) (named_here p.name p.shape index ∷ names) (extended g (name_alone p.name) t) b k.1
+      (scope_local names g (name_alone p.name) t p.shape index a k.0 scope)
+  scope_all [] (t ∷ ts) index names g q k scope = absurd cc
+  scope_all (p ∷ ps) [] index names g q k scope = absurd cc

@@ -1,0 +1,64 @@
+-- A global without fault has as many bytes by the rules as by its meaning, where the rules lay out the structs of the program.
+use Rattle.std.proofs.Common.{◌≡◌, ℕ, suc, ◌*◌, true, false, Option, Some, None, List, [], ◌∷◌, sym, ap, ap₂, ◌∙◌}
+use Rattle.cyc_tree.specs.Tree as tree
+use Rattle.cyc_tree.specs.Tree.{Item}
+use Rattle.source_lowering.specs.Layouts.{extent_of}
+use Rattle.source_meaning.specs.Programs.{global_shape}
+use Rattle.source_meaning.specs.Shapes.{Layout, Shape, settled, written}
+use Rattle.source_meaning.specs.Steps.{World}
+use Rattle.source_typing.specs.Extents.{layouts_of, size_by, size_of, variable_size}
+use Rattle.source_typing.specs.Functions.{function_faults}
+use Rattle.source_typing.specs.Globals.{count_of, global_faults, global_size, global_type}
+use Rattle.source_typing.specs.Programs.{items_from}
+use Rattle.source_typing.specs.Scope.{Env, at_item}
+use Rattle.source_typing.specs.Tables.{Tables}
+use Rattle.source_typing.specs.Taken.{constant_forms, item_forms, item_taken, only_taken}
+use Rattle.type_proof.specs.Judged.{safe_forms}
+use Rattle.source_typing.proofs.Inversion.{none_of_both}
+use Rattle.source_typing.specs.Types.{StaticType, shape_of}
+use Rattle.accepted_proof.proofs.Globals.{GlobalGood, counted_shape, global_good, shape_here, size_by_entry}
+use Rattle.accepted_proof.proofs.good.Types.{KnowsTags}
+
+abbrev pub IsSized : World → Tables → ℕ → Item → Type 0
+IsSized w g i (tree.StructItem s) = Unit {0}
+IsSized w g i (tree.UnionItem s) = Unit {0}
+IsSized w g i (tree.GlobalItem x) = ((extent_of w (global_shape x.initial (settled (written x.of)))).size ≡ global_size (at_item false g i) x)
+IsSized w g i (tree.FunctionItem f) = Unit {0}
+
+abbrev pub AreSized : World → Tables → ℕ → List Item → Type 0
+AreSized w g i [] = Unit {0}
+AreSized w g i (x ∷ is) = IsSized w g i x × AreSized w g (suc i) is
+
+module _ (w : World) (g : Tables) (structs : layouts_of false g ≡ w.structs) (unions : layouts_of true g ≡ w.unions) where
+  -- an object, or an array of so many
+  object_sized : (t : StaticType) → (extent_of w (shape_of t)).size ≡ size_of g t
+  object_sized t = sym (ap₂ (λ (ls ms : List Layout). size_by ls ms t) structs unions)
+
+  counted_sized : (o : Option ℕ) (t : StaticType) → (extent_of w (counted_shape o (shape_of t))).size ≡ variable_size g o t
+  counted_sized None t = object_sized t
+  counted_sized (Some n) t = ap (λ (z : ℕ). n * z) (object_sized t)
+
+  global_sized : (i : ℕ) (x : tree.Global) → GlobalGood g i x
+      → (extent_of w (global_shape x.initial (settled (written x.of)))).size ≡ global_size (at_item false g i) x
+  global_sized i x h =
+      let s : Env = at_item false g i in
+      ap (λ (z : Shape). (extent_of w z).size) (shape_here g i x h)
+      ∙ (counted_sized (count_of x.initial) h.type
+      ∙ sym (size_by_entry s x h.type (global_faults s x) (count_of x.initial) (global_type s x) h.entry))
+
+  pub globals_sized : (i : ℕ) (is : List Item) → KnowsTags g → only_taken safe_forms is ≡ is → constant_forms safe_forms is ≡ []
+      → items_from false g i is ≡ []
+      → AreSized w g i is
+  globals_sized i [] tags t f p = tt
+  globals_sized i (tree.StructItem s ∷ is) tags t f p = let b : only_taken safe_forms is ≡ is = cc in (tt, globals_sized (suc i) is tags b f p)
+  globals_sized i (tree.UnionItem s ∷ is) tags t f p = let b : only_taken safe_forms is ≡ is = cc in (tt, globals_sized (suc i) is tags b f p)
+  globals_sized i (tree.GlobalItem x ∷ is) tags t f p =
+      let a : item_taken safe_forms (tree.GlobalItem x) ≡ tree.GlobalItem x = cc in
+      let b : only_taken safe_forms is ≡ is = cc in
+      let c = none_of_both (item_forms safe_forms (tree.GlobalItem x)) (constant_forms safe_forms is) f in
+      let d = none_of_both (global_faults (at_item false g i) x) (items_from false g (suc i) is) p in
+      (global_sized i x (global_good g i x tags a c.0 d.0), globals_sized (suc i) is tags b c.1 d.1)
+  globals_sized i (tree.FunctionItem x ∷ is) tags t f p =
+      let b : only_taken safe_forms is ≡ is = cc in
+      let d = none_of_both (function_faults false g i x) (items_from false g (suc i) is) p in
+      (tt, globals_sized (suc i) is tags b f d.1)

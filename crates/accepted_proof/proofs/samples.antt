@@ -1,0 +1,3 @@
+pub mod StructSamples
+pub mod RegionSamples
+pub mod RefusedPrograms

@@ -1,0 +1,11 @@
+pub mod Homes
+pub mod Saving
+pub mod Homed
+pub mod HomeWords
+pub mod SavedFew
+mod HomeSamples
+pub mod Locals
+pub mod Nests
+pub mod HomeLocals
+pub mod Fine
+pub mod FineHomes

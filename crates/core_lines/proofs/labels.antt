@@ -1,0 +1,6 @@
+pub mod Relaxing
+pub mod NoLabels
+pub mod LabelsOnce
+pub mod NoTargets
+pub mod TargetsOnce
+pub mod Shortening

@@ -1,0 +1,241 @@
+-- Each label of a program's code is placed once: functions have the first labels, and the statements of each function those behind the statements before.
+use Rattle.std.proofs.Common.{Bool, ◌≡◌, ℕ, ◌+◌, ◌≤◌, ◌<◌, ◌⊎◌, inl, inr, false, nat_eq, List, [], ◌∷◌, ◌++◌, None, refl}
+use Rattle.std.proofs.Common.{sym, ap, subst, ◌∙◌, arith, append_assoc, append-nil}
+use Rattle.std.specs.Prelude.{length}
+use Rattle.std.specs.List.{All}
+use Rattle.std.proofs.lemmas.List.Elements.{All-nil, All-cons, All-head, All-tail, All-same, All-append, All-weaker}
+use Rattle.std.proofs.lemmas.Bool.{ne_eqb}
+use Rattle.std.proofs.lemmas.Bool.Decides.{nat_tests}
+use Rattle.core_meaning.specs.Core.{Statement, Do, If, While, Block, Leave, Break, Continue, Call, Return, Raise, Statements, NoStatements}
+use Rattle.core_meaning.specs.Core.{MoreStatements, Function, Program}
+use Rattle.core_lines.specs.declared.line.Line.{Line}
+use Rattle.core_lines.specs.declared.line.Line.TheVariants.{Label, Jump}
+use Rattle.core_lines.specs.Lines.{labels_placed, AreOnce}
+use Rattle.core_lines.specs.Frames.{call_code, raise_code}
+use Rattle.core_lines.specs.Frames.{prologue_code, return_code, epilogue_code}
+use Rattle.core_lines.specs.Selected.{frame_bytes, Surroundings}
+use Rattle.core_lines.specs.Choosing.{held_behind, held_behind_all, choice_code}
+use Rattle.core_lines.specs.Selected.{operation_code, labels_in, labels_of, labels_within, holding, naming, names_after, names_after_all, within_block}
+use Rattle.core_lines.specs.Selected.{statement_code, statements_code, around, function_code, functions_code, program_code}
+use Rattle.core_lines.specs.Running.{data_offsets}
+use Rattle.core_lines.specs.Homes.{saved_by, saved_slot}
+use Rattle.core_lines.proofs.labels.NoLabels.{labels_placed-append, operation_none, choice_code_none, call_none, return_none, epilogue_none, prologue_none}
+
+-- ---- lists of labels
+
+-- those of two lists are each there once, where no label is in both
+once_append : (first second : List ℕ) → AreOnce first → AreOnce second → All (λ label. All (λ other. nat_eq label other ≡ false) second) first
+    → AreOnce (first ++ second)
+once_append [] second a b apart = b
+once_append (label ∷ first) second a b apart = (
+  All-append (λ other. nat_eq label other ≡ false) first second a.0 (All-head (λ l. All (λ other. nat_eq l other ≡ false) second) label first apart),
+  once_append first second a.1 b (All-tail (λ l. All (λ other. nat_eq l other ≡ false) second) label first apart),
+)
+
+-- the labels that lines place lie from one to another, and none is placed twice
+pub record PlacesFrom (low high : ℕ) (lines : List Line) : Type 0 where
+  pub within : All (λ label. (low ≤ label) × (label < high)) (labels_placed lines)
+  pub once : AreOnce (labels_placed lines)
+
+-- lines and those behind them, where all labels of the ones lie below those of the others, whichever come first
+join : {a b c d : ℕ} {first second : List Line} (low high : ℕ) → PlacesFrom a b first → PlacesFrom c d second → low ≤ a → b ≤ high → low ≤ c → d ≤ high
+    → (b ≤ c) ⊎ (d ≤ a) → PlacesFrom low high (first ++ second)
+join {a} {b} {c} {d} {first} {second} low high these those from_low to_high also_from_low also_to_high apart =
+    let both = labels_placed-append first second in
+    let wide : ℕ → Type 0 = λ label. (low ≤ label) × (label < high) in
+    record {
+      within = All-same wide (labels_placed (first ++ second)) (labels_placed first ++ labels_placed second) both
+          (All-append wide (labels_placed first) (labels_placed second)
+          (All-weaker (λ label. (a ≤ label) × (label < b)) wide (λ label h. (omega arith, omega arith)) (labels_placed first) these.within)
+          (All-weaker (λ label. (c ≤ label) × (label < d)) wide (λ label h. (omega arith, omega arith)) (labels_placed second) those.within));
+      once = subst AreOnce (sym both) (once_append (labels_placed first) (labels_placed second) these.once those.once
+          (All-weaker (λ label. (a ≤ label) × (label < b)) (λ label. All (λ other. nat_eq label other ≡ false) (labels_placed second))
+          (λ label h. All-weaker (λ other. (c ≤ other) × (other < d)) (λ other. nat_eq label other ≡ false) (λ other g. grind (arith, nat_tests))
+          (labels_placed second) those.within)
+          (labels_placed first) these.within));
+    }
+
+-- ---- lines that place none, and one
+
+none_from : (low high : ℕ) (lines : List Line) → labels_placed lines ≡ [] → PlacesFrom low high lines
+none_from low high lines none = record {
+  within = All-same (λ label. (low ≤ label) × (label < high)) (labels_placed lines) [] none (All-nil (λ label. (low ≤ label) × (label < high)));
+  once = subst AreOnce (sym none) tt;
+}
+
+one_from : (label : ℕ) (lines : List Line) → labels_placed lines ≡ label ∷ [] → PlacesFrom label (label + 1) lines
+one_from label lines one = record {
+  within = All-same (λ l. (label ≤ l) × (l < label + 1)) (labels_placed lines) (label ∷ []) one
+      (All-cons (λ l. (label ≤ l) × (l < label + 1)) label [] (omega arith, omega arith) (All-nil (λ l. (label ≤ l) × (l < label + 1))));
+  once = subst AreOnce (sym one) (All-nil (λ other. nat_eq label other ≡ false), tt);
+}
+
+-- ---- statements
+
+-- The labels of a statement's code are numbered from `next` on. A choice and a loop have two of their own: `next`, and the one behind those of the first part;
+-- a `Leave` has one, `next`.
+mutual
+  pub statement_places : (bytes : ℕ) (u : Surroundings) (next out again : ℕ) (s : Statement) → PlacesFrom next (next + labels_in s)
+      (statement_code bytes u next out again s)
+  statement_places bytes u next out again (Do operation) = none_from next (next + 0) (operation_code u operation) (operation_none u operation)
+  statement_places bytes u next out again (If t these those) =
+      let behind = next + 1 + labels_of these in
+      let end = next + labels_in (If t these those) in
+      let front = choice_code u.wide u.passed u.held t next ++ statements_code bytes (holding None u) (next + 1) out again these in
+      let over : List Line = Jump behind ∷ Label next ∷ [] in
+      let second = statements_code bytes (holding None (naming (names_after_all these u.names) u)) (behind + 1) out again those in
+      let last : List Line = Label behind ∷ [] in
+      let first : PlacesFrom (next + 1) behind front =
+      join (next + 1) behind (none_from (next + 1) (next + 1) (choice_code u.wide u.passed u.held t next) (choice_code_none u.wide u.passed u.held t next))
+      (statements_places bytes (holding None u) (next + 1) out again these)
+      (omega arith) (omega arith) (omega arith) (omega arith) (inl (omega arith)) in
+      let choice : PlacesFrom next behind (front ++ over) =
+      join next behind first (one_from next over refl) (omega arith) (omega arith) (omega arith) (omega arith) (inr (omega arith)) in
+      let others : PlacesFrom behind end (second ++ last) =
+      join behind end (statements_places bytes (holding None (naming (names_after_all these u.names) u)) (behind + 1) out again those) (one_from behind last refl) (omega arith) (omega arith)
+      (omega arith) (omega arith) (inr (omega arith)) in
+      subst (PlacesFrom next end) (sym (append_assoc (front ++ over) second last))
+      (join next end choice others (omega arith) (omega arith) (omega arith) (omega arith) (inl (omega arith)))
+  statement_places bytes u next out again (While test t body) =
+      let behind = next + 1 + labels_of test in
+      let end = next + labels_in (While test t body) in
+      let start : List Line = Label next ∷ [] in
+      let front = start ++ statements_code bytes (holding None u) (next + 1) out again test in
+      let held = held_behind_all None test in
+      let leaves = choice_code u.wide u.passed held t behind in
+      let v = holding None (naming (names_after_all test u.names) u) in
+      let inside = statements_code bytes v (behind + 1) behind next body in
+      let last : List Line = Jump next ∷ Label behind ∷ [] in
+      let first : PlacesFrom next behind front =
+      join next behind (one_from next start refl) (statements_places bytes (holding None u) (next + 1) out again test) (omega arith) (omega arith)
+      (omega arith) (omega arith) (inl (omega arith)) in
+      let tested : PlacesFrom next behind (front ++ leaves) =
+      join next behind first (none_from behind behind leaves (choice_code_none u.wide u.passed held t behind)) (omega arith) (omega arith) (omega arith) (omega arith)
+      (inl (omega arith)) in
+      let others : PlacesFrom behind end (inside ++ last) =
+      join behind end (statements_places bytes v (behind + 1) behind next body) (one_from behind last refl) (omega arith) (omega arith)
+      (omega arith) (omega arith) (inr (omega arith)) in
+      subst (PlacesFrom next end) (sym (append_assoc (front ++ leaves) inside last))
+      (join next end tested others (omega arith) (omega arith) (omega arith) (omega arith) (inl (omega arith)))
+  statement_places bytes u next out again (Block locals body) = statements_places bytes (within_block locals u) next out again body
+  statement_places bytes u next out again (Leave body) =
+      let last : List Line = Label next ∷ [] in
+      join next (next + labels_in (Leave body)) (statements_places bytes u (next + 1) next again body) (one_from next last refl)
+      (omega arith) (omega arith) (omega arith) (omega arith) (inr (omega arith))
+  statement_places bytes u next out again Break = none_from next (next + 0) (Jump out ∷ []) refl
+  statement_places bytes u next out again Continue = none_from next (next + 0) (Jump again ∷ []) refl
+  statement_places bytes u next out again (Call results f arguments) =
+      none_from next (next + 0) (call_code u.passed results f arguments) (call_none u.passed results f arguments)
+  statement_places bytes u next out again (Return values) = none_from next (next + 0) (return_code u.passed values u.exit)
+      (return_none u.passed values u.exit)
+  statement_places bytes u next out again (Raise kind) = none_from next (next + 0) (raise_code kind) refl
+
+  pub statements_places : (bytes : ℕ) (u : Surroundings) (next out again : ℕ) (ss : Statements) → PlacesFrom next (next + labels_of ss)
+      (statements_code bytes u next out again ss)
+  statements_places bytes u next out again NoStatements = none_from next (next + 0) [] refl
+  statements_places bytes u next out again (MoreStatements s ss) =
+      join next (next + labels_of (MoreStatements s ss)) (statement_places bytes u next out again s)
+      (statements_places bytes (holding (held_behind s) (naming (names_after s u.names) u)) (next + labels_in s) out again ss)
+      (omega arith) (omega arith) (omega arith) (omega arith) (inl (omega arith))
+
+-- ---- functions
+
+-- labels from one to another, or from a third on, behind them
+abbrev IsOf : ℕ → ℕ → ℕ → ℕ → Type 0
+IsOf number end next label = ((number ≤ label) × (label < end)) ⊎ (next ≤ label)
+
+record PlacesOf (number end next : ℕ) (lines : List Line) : Type 0 where
+  pub within : All (IsOf number end next) (labels_placed lines)
+  pub once : AreOnce (labels_placed lines)
+
+-- the labels of a function's code: its number, and those of its statements
+record FunctionPlaces (number next : ℕ) (f : Function) (lines : List Line) : Type 0 where
+  pub labels : List ℕ
+  pub are : labels_placed lines ≡ number ∷ labels
+  pub within : All (λ label. (next ≤ label) × (label < next + labels_within f)) labels
+  pub once : AreOnce (number ∷ labels)
+
+function_places : (wide : ℕ → Bool) (statics : List ℕ) (number next : ℕ) (f : Function) → number < next → FunctionPlaces number next f (function_code wide statics number next f)
+function_places wide statics number next f less =
+    let prologue = prologue_code (frame_bytes f) f.passed (saved_slot f) (saved_by f) f.parameters in
+    let body = statements_code (frame_bytes f) (around wide statics next f) (next + 1) number number f.body in
+    let leaves = epilogue_code (frame_bytes f) (saved_slot f) (saved_by f) in
+    let front : List Line = (Label number ∷ []) ++ prologue in
+    let p = statements_places (frame_bytes f) (around wide statics next f) (next + 1) number number f.body in
+    let wide : ℕ → Type 0 = λ label. (next ≤ label) × (label < next + labels_within f) in
+    let of_body : All wide (labels_placed body) =
+    All-weaker (λ label. (next + 1 ≤ label) × (label < next + 1 + labels_of f.body)) wide
+    (λ label h. let l = h.0 in let r = h.1 in (omega (arith, l), omega (arith, r))) (labels_placed body) p.within in
+    let one : labels_placed (front ++ body) ≡ number ∷ labels_placed body =
+    labels_placed-append front body
+    ∙ ap (λ ls. ls ++ labels_placed body) (labels_placed-append (Label number ∷ []) prologue
+    ∙ ap (λ ls. number ∷ ls) (prologue_none (frame_bytes f) f.passed (saved_slot f) (saved_by f) f.parameters)) in
+    let two : labels_placed (((front ++ body) ++ (Label next ∷ [])) ++ leaves) ≡ number ∷ (labels_placed body ++ (next ∷ [])) =
+    labels_placed-append ((front ++ body) ++ (Label next ∷ [])) leaves
+    ∙ ap (λ ls. labels_placed ((front ++ body) ++ (Label next ∷ [])) ++ ls) (epilogue_none (frame_bytes f) (saved_slot f) (saved_by f))
+    ∙ append-nil (labels_placed ((front ++ body) ++ (Label next ∷ [])))
+    ∙ labels_placed-append (front ++ body) (Label next ∷ [])
+    ∙ ap (λ ls. ls ++ (next ∷ [])) one in
+    let here : All wide (next ∷ []) = All-cons wide next [] (omega arith, omega arith) (All-nil wide) in
+    let within = All-append wide (labels_placed body) (next ∷ []) of_body here in
+    record {
+      labels = labels_placed body ++ (next ∷ []);
+      are = two;
+      within = within;
+      once = (
+        All-weaker wide (λ other. nat_eq number other ≡ false) (λ other h. ne_eqb number other (λ e. let l = h.0 in omega (arith, e, l, less)))
+            (labels_placed body ++ (next ∷ [])) within,
+        once_append (labels_placed body) (next ∷ []) p.once (All-nil (λ other. nat_eq next other ≡ false), tt)
+            (All-weaker (λ label. (next + 1 ≤ label) × (label < next + 1 + labels_of f.body)) (λ label. All (λ other. nat_eq label other ≡ false) (next ∷ []))
+            (λ label h. All-cons (λ other. nat_eq label other ≡ false) next [] (ne_eqb label next (λ e. let l = h.0 in omega (arith, e, l)))
+            (All-nil (λ other. nat_eq label other ≡ false))) (labels_placed body) p.within),
+      );
+    }
+
+functions_places : (wide : ℕ → Bool) (statics : List ℕ) (number next : ℕ) (fs : List Function) → number + length fs ≤ next → PlacesOf number (number + length fs) next
+    (functions_code wide statics number next fs)
+functions_places wide statics number next [] room = record { within = All-nil (IsOf number (number + 0) next); once = tt }
+functions_places wide statics number next (f ∷ fs) room =
+    let first = function_code wide statics number next f in
+    let others = functions_code wide statics (number + 1) (next + labels_within f) fs in
+    let p = function_places wide statics number next f (omega (arith, room)) in
+    let q = functions_places wide statics (number + 1) (next + labels_within f) fs (omega (arith, room)) in
+    let end = number + length (f ∷ fs) in
+    let wide : ℕ → Type 0 = IsOf number end next in
+    let is : labels_placed (first ++ others) ≡ (number ∷ p.labels) ++ labels_placed others =
+    labels_placed-append first others ∙ ap (λ ls. ls ++ labels_placed others) p.are in
+    let mine : All wide (number ∷ p.labels) =
+    All-cons wide number p.labels (inl (omega arith, omega arith))
+    (All-weaker (λ label. (next ≤ label) × (label < next + labels_within f)) wide (λ label h. inr h.0) p.labels p.within) in
+    let theirs : All wide (labels_placed others) =
+    All-weaker (IsOf (number + 1) (number + 1 + length fs) (next + labels_within f)) wide (λ label h. wider label h) (labels_placed others) q.within in
+    let apart : All (λ label. All (λ other. nat_eq label other ≡ false) (labels_placed others)) (number ∷ p.labels) =
+    All-cons (λ label. All (λ other. nat_eq label other ≡ false) (labels_placed others)) number p.labels
+    (All-weaker (IsOf (number + 1) (number + 1 + length fs) (next + labels_within f)) (λ other. nat_eq number other ≡ false) (λ other h. first_apart other h)
+    (labels_placed others) q.within)
+    (All-weaker (λ label. (next ≤ label) × (label < next + labels_within f)) (λ label. All (λ other. nat_eq label other ≡ false) (labels_placed others))
+    (λ label g. All-weaker (IsOf (number + 1) (number + 1 + length fs) (next + labels_within f)) (λ other. nat_eq label other ≡ false)
+    (λ other h. inner_apart label other g h) (labels_placed others) q.within) p.labels p.within) in
+    record {
+      within = All-same wide (labels_placed (first ++ others)) ((number ∷ p.labels) ++ labels_placed others) is
+          (All-append wide (number ∷ p.labels) (labels_placed others) mine theirs);
+      once = subst AreOnce (sym is) (once_append (number ∷ p.labels) (labels_placed others) p.once q.once apart);
+    }
+  where
+    wider : (label : ℕ) → IsOf (number + 1) (number + 1 + length fs) (next + labels_within f) label → IsOf number (number + length (f ∷ fs)) next label
+    wider label (inl h) = let l = h.0 in let r = h.1 in inl (omega (arith, l), omega (arith, r))
+    wider label (inr h) = inr (omega (arith, h))
+
+    first_apart : (other : ℕ) → IsOf (number + 1) (number + 1 + length fs) (next + labels_within f) other → nat_eq number other ≡ false
+    first_apart other (inl h) = let l = h.0 in ne_eqb number other (λ e. omega (arith, e, l))
+    first_apart other (inr h) = ne_eqb number other (λ e. omega (arith, e, h, room))
+
+    inner_apart : (label other : ℕ) → (next ≤ label) × (label < next + labels_within f) → IsOf (number + 1) (number + 1 + length fs)
+        (next + labels_within f) other
+        → nat_eq label other ≡ false
+    inner_apart label other g (inl h) = let l = g.0 in let r = h.1 in ne_eqb label other (λ e. omega (arith, e, l, r, room))
+    inner_apart label other g (inr h) = let r = g.1 in ne_eqb label other (λ e. omega (arith, e, r, h))
+
+-- no label is placed twice
+pub program_labels_once : (wide : ℕ → Bool) (p : Program) → AreOnce (labels_placed (program_code wide p))
+program_labels_once wide p = (functions_places wide (data_offsets p.data_objects) 0 (length p.functions) p.functions (omega arith)).once

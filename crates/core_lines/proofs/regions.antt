@@ -1,0 +1,15 @@
+pub mod RegionsBorn
+pub mod RegionsFreed
+pub mod Granting
+pub mod BlockBytes
+pub mod StoreCalls
+pub mod RegionCalls
+pub mod GrantCalls
+pub mod FreeCalls
+pub mod UniquesBorn
+pub mod UniquesFreed
+pub mod UniqueCalls
+pub mod KeysTurned
+pub mod KeyCalls
+pub mod RegionOperations
+pub mod Requests

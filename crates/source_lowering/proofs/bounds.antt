@@ -1,0 +1,14 @@
+pub mod Costs
+pub mod Counted
+pub mod ValueCosts
+pub mod PartCosts
+pub mod PrefixCosts
+pub mod SuffixCosts
+pub mod MadeCosts
+pub mod OperandCosts
+pub mod ExpressionCosts
+pub mod WholeCosts
+pub mod DeclarationCosts
+pub mod WholeObjects
+pub mod LocalWords
+pub mod Bounded

@@ -1,0 +1,121 @@
+-- What the code of declarations takes, and of the ends and ways out of regions.
+use Rattle.std.proofs.Common.{ℕ, zero, suc, ◌+◌, ◌*◌, ◌≤◌, List, [], ◌∷◌, ◌++◌, arith}
+use Rattle.cyc_tree.specs.Tree as tree
+use Rattle.cyc_tree.specs.Tree.{Expression, Initializer, Declaration}
+use Rattle.source_meaning.specs.Shapes.{Shape, ThinShape, FatShape, ArrayShape, HandleShape, StructShape, written, settled}
+use Rattle.source_meaning.specs.Steps.{World}
+use Rattle.core_meaning.specs.Core as core
+use Rattle.core_meaning.specs.Core.{Do, Clear, LocalAddress, Put, RegionFree, RegionNew}
+use Rattle.source_lowering.specs.Layouts.{local_of}
+use Rattle.source_lowering.specs.Lowered.{Named, width_of, put_local, static_shape, conversion_code, expression_code}
+use Rattle.source_lowering.specs.Programs.{local_shape, first_code, begun_code, unset_code, value_code, declaration_code, ending_code, regions_behind}
+use Rattle.source_lowering.specs.Programs.{leaving_code}
+use Rattle.source_lowering.specs.Lowerable.{Takes, TakesValue, TakesDeclaration}
+use Rattle.source_lowering.specs.Bounds.{frame_nodes, declaration_nodes, tokens_of, declaration_tokens, shape_words}
+use Rattle.source_lowering.proofs.bounds.LocalWords.{word_words}
+use Rattle.source_lowering.proofs.bounds.Costs.{Costs, no_costs, both_cost, at_most, does_one, does_then}
+use Rattle.source_lowering.proofs.bounds.ValueCosts.{put_local_costs}
+use Rattle.source_lowering.proofs.bounds.PartCosts.{conversion_costs}
+use Rattle.source_lowering.proofs.bounds.Counted.{two_nodes}
+use Rattle.source_lowering.proofs.bounds.ExpressionCosts.{expression_costs}
+use Rattle.source_lowering.proofs.bounds.WholeCosts.{source_costs}
+
+-- ---- declarations
+
+-- a declaration leaves one operation to the end of its region
+pub record IsDeclared (t p n : ℕ) (code : List core.Statement) : Type 0 where
+  pub operations : ℕ
+  pub costs : Costs t p 0 operations code
+  pub less : operations + 1 ≤ 8 * (1 + n)
+
+first_costs : (t p d : ℕ) (s : Shape) → suc d ≤ t → Costs t p 0 1 (Do (first_code s d) ∷ [])
+first_costs t p d (ThinShape may_be_null owner to) h = does_one t p _ h
+first_costs t p d _ h = does_one t p _ h
+
+unset_costs : (w : World) (s : Shape) (d index t p : ℕ) → suc d ≤ t → Costs t p 0 2 (unset_code w s d index)
+unset_costs w s d index t p h = by s
+  where
+    word : (of : Shape) → Costs t p 0 2 (Do (first_code of d) ∷ Do (Put 0 index (width_of of) d) ∷ [])
+    word of = both_cost t p 0 1 0 1 (Do (first_code of d) ∷ []) (Do (Put 0 index (width_of of) d) ∷ []) (first_costs t p d of h) (does_one t p _ h)
+
+    begun : (of : Shape) → Costs t p 0 2 (begun_code w of d index)
+    begun of = does_then t p 1 (LocalAddress d 0 index) _ h (does_one t p (Clear d (local_of w of).layout (local_of w of).count) h)
+
+    by : (of : Shape) → Costs t p 0 2 (unset_code w of d index)
+    by (StructShape tag) = begun (StructShape tag)
+    by (FatShape to) = begun (FatShape to)
+    by (ArrayShape count to) = begun (ArrayShape count to)
+    by of = word of
+
+value_bounded : (w : World) (names : List Named) (s : Shape) (e : Expression) (d index own t p : ℕ) → TakesValue w names s e
+    → d + 2 * frame_nodes e ≤ t → 2 * frame_nodes e ≤ p → IsDeclared t p (tokens_of e) (value_code w names s e d index own)
+value_bounded w names s e d index own t p h f g = by s h
+  where
+    word : (of : Shape) → Takes w names e → IsDeclared t p (tokens_of e)
+        (expression_code w names e d own ++ (conversion_code w of (static_shape w names e) d ++ put_local of d 0 index))
+    word of h =
+        let a = expression_costs w names e t p d own h f g in
+        let l = a.less in
+        let n = two_nodes e in
+        record {
+          operations = a.operations + (4 + 4);
+          costs = both_cost t p 0 a.operations 0 (4 + 4) _ _ a.costs (both_cost t p 0 4 0 4 _ _ (conversion_costs w t p d of (static_shape w names e)
+              (omega (arith, f, n))) (put_local_costs of t p d 0 index (omega (arith, f, n))));
+          less = omega (arith, l);
+        }
+
+    by : (of : Shape) → TakesValue w names of e → IsDeclared t p (tokens_of e) (value_code w names of e d index own)
+    by (StructShape tag) h =
+        let a = source_costs w names e t p d own h f g in
+        let l = a.less in
+        let n = two_nodes e in
+        record {
+          operations = a.operations + (1 + 1);
+          costs = both_cost t p 0 a.operations 0 (1 + 1) _ _ a.costs (both_cost t p 0 1 0 1 (Do (LocalAddress (d + 1) 0 index) ∷ []) _
+              (does_one t p _ (omega (arith, f, n))) (does_one t p _ (omega (arith, f, n))));
+          less = omega (arith, l);
+        }
+    by of h = word of h
+
+pub declaration_bounded : (w : World) (names : List Named) (declared : Declaration) (d index own t p : ℕ) → TakesDeclaration w names declared
+    → d + 2 * declaration_nodes declared + 1 ≤ t → 2 * declaration_nodes declared ≤ p
+    → IsDeclared t p (declaration_tokens declared) (declaration_code w names declared d index own)
+declaration_bounded w names (tree.Local of name Initializer.Unset) d index own t p h f g =
+    record { operations = 2; costs = unset_costs w (settled (written of)) d index t p (omega (arith, f)); less = omega arith }
+declaration_bounded w names (tree.Local of name (Initializer.Elements count)) d index own t p h f g =
+    record { operations = 2; costs = unset_costs w (ArrayShape count (settled (written of))) d index t p (omega (arith, f)); less = omega arith }
+declaration_bounded w names (tree.Local of name (Initializer.Value e)) d index own t p h f g =
+    value_bounded w names (settled (written of)) e d index own t p h.1 (omega (arith, f)) g
+declaration_bounded w names (tree.Region at region handle) d index own t p h f g = record {
+  operations = 1 + 1;
+  costs = both_cost t p 0 1 0 1 (Do (RegionNew d) ∷ []) _ (does_one t p _ (omega (arith, f))) (does_one t p _ (omega (arith, f)));
+  less = omega arith;
+}
+declaration_bounded w names _ d index own t p h f g = absurd h
+
+-- ---- regions
+
+-- the end of a declaration's region
+pub ending_costs : (declared : Declaration) (d t p : ℕ) → suc d ≤ t → Costs t p 0 1 (ending_code declared d)
+ending_costs (tree.Region at region handle) d t p h = does_one t p (RegionFree d) h
+ending_costs (tree.Local of name initializer) d t p h = at_most t p 0 1 [] (omega arith) (no_costs t p)
+ending_costs (tree.Open at region handle key) d t p h = at_most t p 0 1 [] (omega arith) (no_costs t p)
+ending_costs (tree.Alias at region of alias pointer) d t p h = at_most t p 0 1 [] (omega arith) (no_costs t p)
+ending_costs (tree.NewKey at region key) d t p h = at_most t p 0 1 [] (omega arith) (no_costs t p)
+
+-- a region has its handle in a temporary, for which its local's word stands
+pub regions_paid : (w : World) (declared : Declaration) (n : ℕ) → regions_behind declared n ≤ n + shape_words w (local_shape declared)
+regions_paid w (tree.Region at region handle) n = let one = word_words w HandleShape tt in omega (arith, one)
+regions_paid w (tree.Local of name initializer) n = omega arith
+regions_paid w (tree.Open at region handle key) n = omega arith
+regions_paid w (tree.Alias at region of alias pointer) n = omega arith
+regions_paid w (tree.NewKey at region key) n = omega arith
+
+-- regions are left, an operation each
+pub leaving_costs : (all count t p : ℕ) → all ≤ t → Costs t p 0 count (leaving_code all count)
+leaving_costs all zero t p h = no_costs t p
+leaving_costs zero (suc count) t p h = at_most t p 0 (suc count) [] (omega arith) (no_costs t p)
+leaving_costs (suc all) (suc count) t p h =
+    at_most t p (1 + count) (suc count) _ (omega arith)
+    (both_cost t p 0 1 0 count (Do (RegionFree all) ∷ []) (leaving_code all count) (does_one t p (RegionFree all) h)
+    (leaving_costs all count t p (omega (arith, h))))

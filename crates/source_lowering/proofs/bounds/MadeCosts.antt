@@ -1,0 +1,113 @@
+-- What stands around the code of values takes: structs that are copied, members, and the requests of `new` and `rnew`.
+use Rattle.std.proofs.Common.{ℕ, suc, ◌+◌, ◌*◌, ◌≤◌, List, [], ◌∷◌, ◌++◌, arith}
+use Rattle.source_meaning.specs.Shapes.{Shape, StructShape}
+use Rattle.source_meaning.specs.Steps.{World}
+use Rattle.core_meaning.specs.Core.{Constant, Copy, Do, HeapHandle, Offset, OwnAddress, RegionAlloc, Statement}
+use Rattle.source_lowering.specs.Layouts.{layout_of}
+use Rattle.source_lowering.specs.Members.{words_in}
+use Rattle.source_lowering.specs.Lowered.{stores_code, copied_code, word_member_code, member_code, request_code, new_code_by}
+use Rattle.source_lowering.specs.Lowerable.{TakesMember}
+use Rattle.source_lowering.proofs.bounds.Costs.{Costs, both_cost, does_one, does_then}
+use Rattle.source_lowering.proofs.bounds.ValueCosts.{words_few, kept_costs}
+use Rattle.source_lowering.proofs.bounds.PartCosts.{IsCheap, ArePassed, conversion_costs}
+use Rattle.source_lowering.proofs.bounds.PrefixCosts.{IsPointed}
+
+-- a struct leaves two operations to what is done with it
+pub record IsWhole (t p n : ℕ) (code : List Statement) : Type 0 where
+  pub operations : ℕ
+  pub costs : Costs t p 0 operations code
+  pub less : operations + 2 ≤ 8 * n
+
+-- what is made takes two operations more than its value's tokens have: those of `new` itself
+pub record IsMade (t p n : ℕ) (code : List Statement) : Type 0 where
+  pub operations : ℕ
+  pub costs : Costs t p 0 operations code
+  pub less : operations ≤ 8 * n + 2
+
+-- ---- places that are read whole
+
+copied_costs : (w : World) (s : Shape) (t p d own : ℕ) → d + 2 ≤ t → Costs t p 0 3 (copied_code w s d own)
+copied_costs w s t p d own h = both_cost t p 0 1 0 2 (Do (OwnAddress (d + 1) own) ∷ []) _ (does_one t p _ (omega (arith, h)))
+    (both_cost t p 0 1 0 1 (Do (Copy (d + 1) d (layout_of w s)) ∷ []) _ (does_one t p _ (omega (arith, h))) (does_one t p _ (omega (arith, h))))
+
+pub read_costs : (w : World) (s : Shape) (t p d own n : ℕ) (place : List Statement) → d + 2 ≤ t → IsPointed t p n place
+    → IsWhole t p n (place ++ copied_code w s d own)
+read_costs w s t p d own n place h a =
+    let l = a.less in
+    record {
+      operations = a.operations + 3;
+      costs = both_cost t p 0 a.operations 0 3 _ _ a.costs (copied_costs w s t p d own h);
+      less = omega (arith, l);
+    }
+
+-- ---- members
+
+pub member_costs : (w : World) (s from : Shape) (t p d cells bytes n : ℕ) (whole word : List Statement) (for_whole for_word : Type 0)
+    → TakesMember s for_whole for_word → (for_whole → IsWhole t p n whole) → (for_word → IsCheap t p n word) → d + 1 + 4 ≤ t
+    → ArePassed t p (1 + n) (member_code w s from d cells bytes whole word)
+member_costs w s from t p d cells bytes n whole word for_whole for_word takes as_whole as_word h = by s takes
+  where
+    as_a_word : (of : Shape) → for_word → ArePassed t p (1 + n) (word ++ word_member_code w of from d cells bytes)
+    as_a_word of takes =
+        let a = as_word takes in let l = a.less in
+        record {
+          operations = a.operations + (4 + 3);
+          costs = both_cost t p 0 a.operations 0 (4 + 3) _ _ a.costs (both_cost t p 0 4 0 3 _ _ (conversion_costs w t p (d + 1) of from h)
+              (kept_costs of t p d (d + 1) cells bytes (omega (arith, h)) (omega (arith, h))));
+          less = omega (arith, l);
+        }
+
+    by : (of : Shape) → TakesMember of for_whole for_word → ArePassed t p (1 + n) (member_code w of from d cells bytes whole word)
+    by (StructShape tag) takes =
+        let a = as_whole takes in let l = a.less in
+        record {
+          operations = a.operations + (1 + 1);
+          costs = both_cost t p 0 a.operations 0 (1 + 1) _ _ a.costs (both_cost t p 0 1 0 1 (Do (Offset (d + 2) d cells bytes) ∷ []) _
+              (does_one t p _ (omega (arith, h))) (does_one t p _ (omega (arith, h))));
+          less = omega (arith, l);
+        }
+    by of takes = as_a_word of takes
+
+-- ---- what `new` and `rnew` make
+
+-- the request counts twice
+request_costs : (w : World) (s : Shape) (t p d count : ℕ) → suc d ≤ t → suc count ≤ t → Costs t p 0 3 (request_code w s d count)
+request_costs w s t p d count g h =
+    does_then t p 2 (Constant count 1) _ (omega (arith, h)) (does_one t p (RegionAlloc d d count (layout_of w s)) (omega (arith, g, h)))
+
+pub made_costs : (w : World) (s : Shape) (t p d n : ℕ) (whole word : List Statement) (for_whole for_word : Type 0) → TakesMember s for_whole for_word
+    → (for_whole → IsWhole t p n whole) → (for_word → IsCheap t p n word) → d + 5 ≤ t → IsMade t p n (new_code_by w s d whole word)
+made_costs w s t p d n whole word for_whole for_word takes as_whole as_word h = by s takes
+  where
+    as_a_word : (of : Shape) → for_word → IsMade t p n (word ++ (request_code w of d (d + 1 + words_in of) ++ stores_code of d (d + 1) 0 0))
+    as_a_word of takes =
+        let a = as_word takes in let l = a.less in let few = words_few of in
+        record {
+          operations = a.operations + (3 + 3);
+          costs = both_cost t p 0 a.operations 0 (3 + 3) _ _ a.costs
+              (both_cost t p 0 3 0 3 _ _ (request_costs w of t p d (d + 1 + words_in of) (omega (arith, h)) (omega (arith, h, few)))
+              (kept_costs of t p d (d + 1) 0 0 (omega (arith, h)) (omega (arith, h))));
+          less = omega (arith, l);
+        }
+
+    by : (of : Shape) → TakesMember of for_whole for_word → IsMade t p n (new_code_by w of d whole word)
+    by (StructShape tag) takes =
+        let a = as_whole takes in let l = a.less in
+        record {
+          operations = a.operations + (3 + 1);
+          costs = both_cost t p 0 a.operations 0 (3 + 1) _ _ a.costs
+              (both_cost t p 0 3 0 1 _ _ (request_costs w (StructShape tag) t p d (d + 2) (omega (arith, h)) (omega (arith, h)))
+              (does_one t p (Copy d (d + 1) (layout_of w (StructShape tag))) (omega (arith, h))));
+          less = omega (arith, l);
+        }
+    by of takes = as_a_word of takes
+
+-- the heap's handle comes first
+pub heap_costs : (t p d n : ℕ) (code : List Statement) → suc d ≤ t → IsMade t p n code → IsCheap t p (1 + n) (Do (HeapHandle d) ∷ code)
+heap_costs t p d n code h a =
+    let l = a.less in
+    record {
+      operations = 1 + a.operations;
+      costs = both_cost t p 0 1 0 a.operations (Do (HeapHandle d) ∷ []) code (does_one t p _ h) a.costs;
+      less = omega (arith, l);
+    }

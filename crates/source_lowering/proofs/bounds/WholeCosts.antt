@@ -1,0 +1,98 @@
+-- What the code of initializers and of expressions that are statements takes, structs too.
+use Rattle.std.proofs.Common.{◌≡◌, refl, ℕ, ◌+◌, ◌*◌, ◌≤◌, Bool, true, false, List, length, arith}
+use Rattle.std.specs.Prelude.{if◌then◌else◌}
+use Rattle.cyc_tree.specs.Tree.{Name, Expression, Expressions}
+use Rattle.source_meaning.specs.Shapes.{Shape, StructShape}
+use Rattle.source_meaning.specs.Steps.{World}
+use Rattle.core_meaning.specs.Core.{Copy}
+use Rattle.source_lowering.specs.Layouts.{layout_of}
+use Rattle.source_lowering.specs.Lowered.{Named, arguments_code, call_parameters, expression_code, static_shape}
+use Rattle.source_lowering.specs.Programs.{source_code}
+use Rattle.source_lowering.specs.Whole.{makes_struct, is_made, whole_values, whole_code, assigned_code, dropped_code, run_code}
+use Rattle.source_lowering.specs.Lowerable.{Takes, TakesWhole, TakesAssigned, TakesDropped, TakesCalled, TakesRun}
+use Rattle.source_lowering.specs.Bounds.{frame_nodes, run_nodes, tokens_of}
+use Rattle.source_lowering.proofs.bounds.Costs.{both_cost, does_one}
+use Rattle.source_lowering.proofs.bounds.PartCosts.{ArePassed, made_result}
+use Rattle.source_lowering.proofs.bounds.MadeCosts.{IsWhole}
+use Rattle.source_lowering.proofs.bounds.Counted.{two_nodes}
+use Rattle.source_lowering.proofs.bounds.ExpressionCosts.{arguments_costs, place_costs, expression_costs, whole_costs}
+use Rattle.source_lowering.proofs.bounds.OperandCosts.{called_cheap}
+use Rattle.source_lowering.proofs.bounds.WholeObjects.{unmade_place}
+
+-- ---- initializers
+
+-- a struct's initializer
+pub source_costs : (w : World) (names : List Named) (e : Expression) (t p d own : ℕ) → TakesWhole w names e → d + 2 * frame_nodes e ≤ t → 2 * frame_nodes e ≤ p
+    → IsWhole t p (tokens_of e) (source_code w names (is_made w e) e d own)
+source_costs w names e t p d own h f g = by (is_made w e) refl
+  where
+    by : (made : Bool) → is_made w e ≡ made → IsWhole t p (tokens_of e) (source_code w names made e d own)
+    by true is = whole_costs w names e t p d own h f g
+    by false is =
+        let a = place_costs w names e t p d own (unmade_place w names e h is) f g in let l = a.less in
+        record { operations = a.operations; costs = a.costs; less = omega (arith, l) }
+
+-- ---- expressions that are statements
+
+word_run : (w : World) (names : List Named) (e : Expression) (t p d own : ℕ) → Takes w names e → d + 2 * frame_nodes e ≤ t → 2 * frame_nodes e ≤ p
+    → ArePassed t p (tokens_of e) (expression_code w names e d own)
+word_run w names e t p d own h f g =
+    let a = expression_costs w names e t p d own h f g in let l = a.less in
+    record { operations = a.operations; costs = a.costs; less = omega (arith, l) }
+
+whole_run : (w : World) (names : List Named) (e : Expression) (t p d own : ℕ) → TakesWhole w names e → d + 2 * frame_nodes e ≤ t → 2 * frame_nodes e ≤ p
+    → ArePassed t p (tokens_of e) (whole_code w names e d own)
+whole_run w names e t p d own h f g =
+    let a = whole_costs w names e t p d own h f g in let l = a.less in
+    record { operations = a.operations; costs = a.costs; less = omega (arith, l) }
+
+assigned_costs : (w : World) (names : List Named) (s : Shape) (place value : Expression) (t p d own : ℕ) → TakesAssigned w names s place value
+    → d + 2 * (frame_nodes place + (1 + frame_nodes value)) ≤ t → 2 * (frame_nodes place + (1 + frame_nodes value)) ≤ p
+    → ArePassed t p (tokens_of place + (1 + tokens_of value)) (assigned_code w names s place value d own)
+assigned_costs w names (StructShape tag) place value t p d own h f g =
+    let n = two_nodes value in
+    let a = whole_costs w names value t p d own h.1.0 (omega (arith, f)) (omega (arith, g)) in
+    let b = place_costs w names place t p (d + 1) (own + length (whole_values w names value)) h.0 (omega (arith, f, n)) (omega (arith, g)) in
+    let l = a.less in let k = b.less in
+    record {
+      operations = a.operations + (b.operations + 1);
+      costs = both_cost t p 0 a.operations 0 (b.operations + 1) _ _ a.costs
+          (both_cost t p 0 b.operations 0 1 _ _ b.costs (does_one t p (Copy (d + 1) d (layout_of w (StructShape tag))) (omega (arith, f, n))));
+      less = omega (arith, l, k);
+    }
+assigned_costs w names _ place value t p d own h f g = word_run w names (Expression.Assign place value) t p d own h f g
+
+dropped_costs : (w : World) (names : List Named) (s : Shape) (e : Expression) (t p d own : ℕ) → TakesDropped w names s e → d + 2 * frame_nodes e ≤ t
+    → 2 * frame_nodes e ≤ p → ArePassed t p (tokens_of e) (dropped_code w names s e d own)
+dropped_costs w names (StructShape tag) e t p d own h f g = whole_run w names e t p d own h f g
+dropped_costs w names _ e t p d own h f g = word_run w names e t p d own h f g
+
+-- a call may have no value
+call_run : (w : World) (names : List Named) (name : Name) (arguments : Expressions) (t p d own : ℕ)
+    → TakesCalled (makes_struct w name.text) (TakesWhole w names (Expression.Call name arguments)) (Takes w names (Expression.Call name arguments))
+    → d + 2 * run_nodes w (Expression.Call name arguments) ≤ t → 2 * run_nodes w (Expression.Call name arguments) ≤ p
+    → ArePassed t p (tokens_of (Expression.Call name arguments)) (run_code w names (Expression.Call name arguments) d own)
+call_run w names name arguments t p d own h f g = by (makes_struct w name.text) refl h
+  where
+    e : Expression
+    e = Expression.Call name arguments
+
+    by : (made : Bool) → makes_struct w name.text ≡ made → TakesCalled made (TakesWhole w names e) (Takes w names e)
+        → ArePassed t p (tokens_of e) (if made then whole_code w names e d own else expression_code w names e d own)
+    by true is h = let one = made_result w name.text is in whole_run w names e t p d own h (omega (arith, f, one)) (omega (arith, g, one))
+    by false is h =
+        let a = called_cheap w name.text (call_parameters w name.text) arguments (arguments_code w names (call_parameters w name.text) arguments d own)
+        t p d (omega (arith, f))
+        (omega (arith, f)) (omega (arith, g))
+        (arguments_costs w names (call_parameters w name.text) arguments t p d own h.1 (omega (arith, f)) (omega (arith, g))) in
+        let l = a.less in
+        record { operations = a.operations; costs = a.costs; less = omega (arith, l) }
+
+pub run_costs : (w : World) (names : List Named) (e : Expression) (t p d own : ℕ) → TakesRun w names e → d + 2 * run_nodes w e ≤ t → 2 * run_nodes w e ≤ p
+    → ArePassed t p (tokens_of e) (run_code w names e d own)
+run_costs w names (Expression.Assign place value) t p d own h f g = assigned_costs w names (static_shape w names place) place value t p d own h f g
+run_costs w names (Expression.Grouped at inner) t p d own h f g =
+    let a = run_costs w names inner t p d own h f g in let l = a.less in
+    record { operations = a.operations; costs = a.costs; less = omega (arith, l) }
+run_costs w names (Expression.Call name arguments) t p d own h f g = call_run w names name arguments t p d own h f g
+run_costs w names e t p d own h f g = dropped_costs w names (static_shape w names e) e t p d own h f g

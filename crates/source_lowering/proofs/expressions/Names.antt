@@ -1,0 +1,184 @@
+-- A name is found by lowering where the source finds it.
+use Rattle.std.proofs.Common.{◌≡◌, ℕ, suc, ◌⊎◌, inl, inr, ⊎_elim, List, [], ◌∷◌, Bool, true, false, Some, None, refl, ap, ◌∙◌, subst}
+use Rattle.std.specs.Prelude.{slice_get, bytes_eq, if◌then◌else◌}
+use Rattle.source_meaning.specs.Shapes.{Shape, Part, Layout}
+use Rattle.source_meaning.specs.Memory as source
+use Rattle.source_meaning.specs.Steps.{World, Variable, Binding, Routine}
+use Rattle.source_meaning.specs.Places.{bound_to}
+use Rattle.source_meaning.specs.Calls.{function_of}
+use Rattle.source_meaning.specs.Programs.{is_main, heap_spot}
+use Rattle.source_meaning.specs.Shapes.{IntShape}
+use Rattle.core_meaning.specs.Memory as core
+use Rattle.source_lowering.specs.Lowered.{Named, local_named, number_of}
+use Rattle.source_lowering.specs.Lowerable.{IsVariable, AreStructs, TakesBody}
+use Rattle.source_lowering.specs.Simulation.{VariableLeads, IsLed, AreLed, IsLocal, AreLocals}
+use Rattle.source_lowering.proofs.values.Integers.{IsTaken, IsValueShape}
+use Rattle.source_lowering.proofs.expressions.Making.{local_spot}
+
+-- ---- what is known of the program's names
+
+abbrev pub AreObjectNames : List Layout → List Named → Type 0
+AreObjectNames structs [] = Unit {0}
+AreObjectNames structs (l ∷ ls) = IsVariable structs l.shape × AreObjectNames structs ls
+
+pub record IsGlobal (structs : List Layout) (b : Binding) : Type 0 where
+  pub shape : Shape
+  pub number : ℕ
+  pub is : b.entity ≡ Variable shape (heap_spot number)
+  pub is_variable : IsVariable structs shape
+
+abbrev pub AreGlobals : List Layout → List Binding → Type 0
+AreGlobals structs [] = Unit {0}
+AreGlobals structs (b ∷ bs) = IsGlobal structs b × AreGlobals structs bs
+
+abbrev pub AreParameters : List Part → Type 0
+AreParameters [] = Unit {0}
+AreParameters (p ∷ ps) = IsValueShape p.shape × AreParameters ps
+
+pub record IsRoutine (w : World) (f : Routine) : Type 0 where
+  pub result : IsTaken f.result
+  pub main : is_main f.name ≡ true → f.result ≡ IntShape
+  pub parameters : AreParameters f.parameters
+  pub body : TakesBody w f
+
+abbrev pub AreRoutines : World → List Routine → Type 0
+AreRoutines w [] = Unit {0}
+AreRoutines w (f ∷ fs) = IsRoutine w f × AreRoutines w fs
+
+-- a program of words and structs alone
+pub record IsPlainWorld (w : World) : Type 0 where
+  pub structs : AreStructs w.unions w.structs
+  pub globals : AreGlobals w.structs w.globals
+  pub functions : AreRoutines w w.functions
+
+-- ---- locals
+
+pub record FoundLocal (structs : List Layout) (blocks : List ℕ) (bs : List Binding) (ls : List Named) (name : List ℕ) : Type 0 where
+  pub local : Named
+  pub frame : ℕ
+  pub found : local_named ls name ≡ Some local
+  pub bound : bound_to bs name ≡ Some (Variable local.shape (local_spot frame local.index))
+  pub in_block : slice_get blocks local.out ≡ Some frame
+  pub is_variable : IsVariable structs local.shape
+  pub led : (v : World) (m : source.Memory) (c : core.Memory) → AreLed v m c bs → VariableLeads v m c local.shape (local_spot frame local.index)
+
+pub record MissingLocal (bs : List Binding) (ls : List Named) (name : List ℕ) : Type 0 where
+  pub found : local_named ls name ≡ None
+  pub bound : bound_to bs name ≡ None
+
+pub find_local : (structs : List Layout) (blocks : List ℕ) (bs : List Binding) (ls : List Named) (name : List ℕ) → AreLocals blocks bs ls
+    → AreObjectNames structs ls
+    → FoundLocal structs blocks bs ls name ⊎ MissingLocal bs ls name
+find_local structs blocks [] [] name all integers = inr (record { found = refl; bound = refl })
+find_local structs blocks [] (l ∷ ls) name all integers = absurd all
+find_local structs blocks (b ∷ bs) [] name all integers = absurd all
+find_local structs blocks (b ∷ bs) (l ∷ ls) name all integers = by (bytes_eq l.name name) refl (find_local structs blocks bs ls name all.1 integers.1)
+  where
+    one : IsLocal blocks b l
+    one = all.0
+
+    other : bytes_eq l.name name ≡ false → FoundLocal structs blocks bs ls name ⊎ MissingLocal bs ls name
+        → FoundLocal structs blocks (b ∷ bs) (l ∷ ls) name ⊎ MissingLocal (b ∷ bs) (l ∷ ls) name
+    other e rest =
+        let same : bytes_eq b.name name ≡ false = ap (λ z. bytes_eq z name) one.named ∙ e in
+        ⊎_elim
+        (λ (f : FoundLocal structs blocks bs ls name). inl (record {
+          local = f.local;
+          frame = f.frame;
+          found = ap (λ z. if z then Some l else local_named ls name) e ∙ f.found;
+          bound = ap (λ z. if z then Some b.entity else bound_to bs name) same ∙ f.bound;
+          in_block = f.in_block;
+          is_variable = f.is_variable;
+          led = λ w m c h. f.led w m c h.1;
+        }))
+        (λ (f : MissingLocal bs ls name). inr (record {
+          found = ap (λ z. if z then Some l else local_named ls name) e ∙ f.found;
+          bound = ap (λ z. if z then Some b.entity else bound_to bs name) same ∙ f.bound;
+        }))
+        rest
+
+    by : (t : Bool) → bytes_eq l.name name ≡ t → FoundLocal structs blocks bs ls name ⊎ MissingLocal bs ls name
+        → FoundLocal structs blocks (b ∷ bs) (l ∷ ls) name ⊎ MissingLocal (b ∷ bs) (l ∷ ls) name
+    by true e rest = inl (record {
+      local = l;
+      frame = one.frame;
+      found = ap (λ z. if z then Some l else local_named ls name) e;
+      bound = ap (λ z. if z then Some b.entity else bound_to bs name) (ap (λ z. bytes_eq z name) one.named ∙ e) ∙ ap (λ z. Some z) one.is;
+      in_block = one.in_block;
+      is_variable = integers.0;
+      led = λ w m c h. subst (λ z. IsLed w m c z) one.is h.0;
+    })
+    by false e rest = other e rest
+
+-- ---- globals
+
+pub record FoundGlobal (structs : List Layout) (bs : List Binding) (name : List ℕ) : Type 0 where
+  pub shape : Shape
+  pub number : ℕ
+  pub bound : bound_to bs name ≡ Some (Variable shape (heap_spot number))
+  pub is_variable : IsVariable structs shape
+  pub led : (v : World) (m : source.Memory) (c : core.Memory) → AreLed v m c bs → VariableLeads v m c shape (heap_spot number)
+
+pub find_global : (structs : List Layout) (bs : List Binding) (name : List ℕ) → AreGlobals structs bs → FoundGlobal structs bs name ⊎ (bound_to bs name ≡ None)
+find_global structs [] name all = inr refl
+find_global structs (b ∷ bs) name all = by (bytes_eq b.name name) refl (find_global structs bs name all.1)
+  where
+    other : bytes_eq b.name name ≡ false → FoundGlobal structs bs name ⊎ (bound_to bs name ≡ None)
+        → FoundGlobal structs (b ∷ bs) name ⊎ (bound_to (b ∷ bs) name ≡ None)
+    other e rest =
+        ⊎_elim
+        (λ (f : FoundGlobal structs bs name). inl (record {
+          shape = f.shape;
+          number = f.number;
+          bound = ap (λ z. if z then Some b.entity else bound_to bs name) e ∙ f.bound;
+          is_variable = f.is_variable;
+          led = λ w m c h. f.led w m c h.1;
+        }))
+        (λ (f : bound_to bs name ≡ None). inr (ap (λ z. if z then Some b.entity else bound_to bs name) e ∙ f))
+        rest
+
+    by : (t : Bool) → bytes_eq b.name name ≡ t → FoundGlobal structs bs name ⊎ (bound_to bs name ≡ None)
+        → FoundGlobal structs (b ∷ bs) name ⊎ (bound_to (b ∷ bs) name ≡ None)
+    by true e rest = inl (record {
+      shape = all.0.shape;
+      number = all.0.number;
+      bound = ap (λ z. if z then Some b.entity else bound_to bs name) e ∙ ap (λ z. Some z) all.0.is;
+      is_variable = all.0.is_variable;
+      led = λ w m c h. subst (λ z. IsLed w m c z) all.0.is h.0;
+    })
+    by false e rest = other e rest
+
+-- ---- functions
+
+pub record FoundFunction (w : World) (fs : List Routine) (name : List ℕ) : Type 0 where
+  pub routine : Routine
+  pub found : function_of fs name ≡ Some routine
+  pub numbered : slice_get fs (number_of fs name) ≡ Some routine
+  pub is : IsRoutine w routine
+
+pub find_function : (w : World) (fs : List Routine) (name : List ℕ) → AreRoutines w fs → FoundFunction w fs name ⊎ (function_of fs name ≡ None)
+find_function w [] name all = inr refl
+find_function w (f ∷ fs) name all = by (bytes_eq f.name name) refl (find_function w fs name all.1)
+  where
+    other : bytes_eq f.name name ≡ false → FoundFunction w fs name ⊎ (function_of fs name ≡ None)
+        → FoundFunction w (f ∷ fs) name ⊎ (function_of (f ∷ fs) name ≡ None)
+    other e rest =
+        ⊎_elim
+        (λ (g : FoundFunction w fs name). inl (record {
+          routine = g.routine;
+          found = ap (λ z. if z then Some f else function_of fs name) e ∙ g.found;
+          numbered = ap (λ z. slice_get (f ∷ fs) (if z then 0 else suc (number_of fs name))) e ∙ g.numbered;
+          is = g.is;
+        }))
+        (λ (g : function_of fs name ≡ None). inr (ap (λ z. if z then Some f else function_of fs name) e ∙ g))
+        rest
+
+    by : (t : Bool) → bytes_eq f.name name ≡ t → FoundFunction w fs name ⊎ (function_of fs name ≡ None)
+        → FoundFunction w (f ∷ fs) name ⊎ (function_of (f ∷ fs) name ≡ None)
+    by true e rest = inl (record {
+      routine = f;
+      found = ap (λ z. if z then Some f else function_of fs name) e;
+      numbered = ap (λ z. slice_get (f ∷ fs) (if z then 0 else suc (number_of fs name))) e;
+      is = all.0;
+    })
+    by false e rest = other e rest

@@ -1,0 +1,300 @@
+-- Regions are born, freed, and give blocks for one object, in the source and in Core.
+use Rattle.std.proofs.Common.{◌≡◌, ℕ, ◌+◌, ◌*◌, ◌^◌, ◌<◌, ◌≤◌, Bool, true, false, not, nat_eq, nat_lt, Some, None, refl, sym, ap, ◌∙◌, subst, arith}
+use Rattle.std.specs.Prelude.{◌&&◌, ◌-◌, if◌then◌else◌, map, slice_get}
+use Rattle.std.proofs.lemmas.Bool.{eqb-true, and_parts}
+use Rattle.std.proofs.lemmas.Bool.Decides.{nat_tests}
+use Rattle.cyc_words.specs.Events as events
+use Rattle.step_trees.specs.Trees.{Says}
+use Rattle.source_meaning.specs.Shapes.{Shape}
+use Rattle.source_meaning.specs.Memory as source
+use Rattle.source_meaning.specs.Memory.{Scalar, Spot, Holds, Object, blank_cell, blank_object, same_region, next_spot, is_live}
+use Rattle.source_meaning.specs.Steps as steps
+use Rattle.source_meaning.specs.Steps.{World}
+use Rattle.source_meaning.specs.Conversions.{cells_of, size_of}
+use Rattle.source_meaning.specs.Making.{InRegion, ask, make_object}
+use Rattle.source_meaning.specs.Regions.{region_born, region_freed}
+use Rattle.core_meaning.specs.Memory as core
+use Rattle.core_meaning.specs.Memory.{Pointer, Birth, Word, Part, blanks, first_spot}
+use Rattle.core_meaning.specs.Core.{Program, Statements, RegionNew, RegionFree}
+use Rattle.core_meaning.specs.Steps as core_steps
+use Rattle.core_meaning.specs.Steps.{Config, with_temp, with_memory}
+use Rattle.core_meaning.specs.Meaning as meaning
+use Rattle.core_meaning.specs.Operations.{born, saturated, does}
+use Rattle.core_meaning.proofs.Spots.{region_same, region_self}
+use Rattle.source_lowering.specs.Layouts.{layout_of}
+use Rattle.source_lowering.specs.Lowered.{put, request_code}
+use Rattle.source_lowering.specs.Lowerable.{IsObject, AreStructs}
+use Rattle.source_lowering.proofs.Structs.{object_small}
+use Rattle.source_lowering.specs.Simulation.{region_at, at, BothVisible, Leads, IsShown, IsLexical, SameMemory, Bound, nothing, Grown, Same, Next}
+use Rattle.source_lowering.proofs.memory.Keeping.{shown_later, held_same, ended_later, ended_agree}
+use Rattle.source_lowering.proofs.Runs.{stuck_same, says_same}
+use Rattle.source_lowering.proofs.values.Values.{put_temp, other_temp}
+use Rattle.source_lowering.proofs.memory.Entering.{held_on, live_in, block_made}
+use Rattle.source_lowering.proofs.expressions.Making.{spot_of, is_here, made_cell, still_unmade, here_is, cells_in}
+use Rattle.source_lowering.proofs.statements.Declaring.{blank_holds}
+
+-- ---- a region is born
+
+abbrev pub source_born : source.Memory → source.Memory
+source_born m = source.with_state (record m { births = m.births + 1 }) (source.Born m.births) source.Live
+
+abbrev pub core_born : core.Memory → core.Memory
+core_born c = born core.Live c
+
+pub region_born_later : (b : Bound) (m : source.Memory) (c : core.Memory) → Grown b m c (source_born m) (core_born c)
+region_born_later b m c = record {
+  shapes = λ t sh g. record { content = g.content; is = g.is };
+  parts = λ t j o x g. record { content = g.content; is = g.is };
+  objects = λ j h. refl;
+  begun = omega arith;
+  called = omega arith;
+  stands = λ j h. refl;
+  owned = λ j t i e h. refl;
+}
+
+lexical_live : (b : Bool) (now : core.Standing) → IsLexical now → IsLexical (if b then core.Live else now)
+lexical_live true now h = tt
+lexical_live false now h = h
+
+pub region_born_agree : (w : World) (m : source.Memory) (c : core.Memory) → SameMemory w m c → SameMemory w (source_born m) (core_born c)
+region_born_agree w m c a = record {
+  cells = λ s shape v h. let one = a.cells s shape v h in record {
+    contents = one.contents;
+    shown = shown_later nothing w m (source_born m) c (core_born c) shape v one.contents (region_born_later nothing m c) one.shown;
+    held = held_same c (core_born c) (at s) 0 one.contents (λ t j. refl) one.held;
+  };
+  live = λ q.
+      subst (λ d. source.state_is_live ((source_born m).state q)
+      ≡ core.is_live (if core.same_region (region_at q) (core.Born d) then core.Live else c.standing (region_at q))) a.births
+      (live_in q (source.Born m.births) (same_region q (source.Born m.births)) (m.state q) (c.standing (region_at q)) refl (a.live q));
+  activations = a.activations;
+  unmade = a.unmade;
+  unentered = a.unentered;
+  unbegun = a.unbegun;
+  uncalled = a.uncalled;
+  unowned = a.unowned;
+  births = ap (λ d. d + 1) a.births;
+  heap = omega arith;
+  lexical = λ d. lexical_live (nat_eq d c.births) (c.standing (core.Born d)) (a.lexical d);
+  blocks = a.blocks;
+  ungranted = a.ungranted;
+}
+
+-- both say so, with the same number, which is Core's handle
+pub region_born_same : (w : World) (fs : Program) (n d : ℕ) (m : source.Memory) (c : Config) (s : ℕ → source.Memory → steps.Step)
+    (k : Config → core_steps.Step) → SameMemory w m c.memory
+    → Same w fs n (s m.births (source_born m)) (k (with_temp d (Birth m.births) (with_memory (core_born c.memory) c)))
+    → Same w fs n (region_born s m) (does (RegionNew d) k c)
+region_born_same w fs n d m c s k a go =
+    subst (λ z. Same w fs n (region_born s m) (Says (core_steps.Visible (events.RegionNew z)) (k (with_temp d (Birth z) (with_memory (core_born c.memory) c)))))
+    a.births
+    (says_same w fs n _ _ (s m.births (source_born m)) (k (with_temp d (Birth m.births) (with_memory (core_born c.memory) c)))
+    (BothVisible (events.RegionNew m.births)) go)
+
+-- ---- a region is freed
+
+abbrev pub source_freed : source.Memory → ℕ → source.Memory
+source_freed m r = source.with_state m (source.Born r) source.Dead
+
+abbrev pub core_freed : core.Memory → ℕ → core.Memory
+core_freed c r = core.with_standing c (core.Born r) core.Dead
+
+pub region_freed_later : (b : Bound) (m : source.Memory) (c : core.Memory) (r : ℕ) → Grown b m c (source_freed m r) (core_freed c r)
+region_freed_later b m c r = ended_later b m c (source.Born r)
+
+pub region_freed_agree : (w : World) (m : source.Memory) (c : core.Memory) (r : ℕ) → SameMemory w m c → SameMemory w (source_freed m r) (core_freed c r)
+region_freed_agree w m c r a = ended_agree w m c (source.Born r) a
+
+live_lexical : (now : core.Standing) → IsLexical now → core.is_live now ≡ true → core.is_lexical now ≡ true
+live_lexical core.Live h e = refl
+live_lexical core.Dead h e = absurd (cc e)
+live_lexical core.Opened h e = absurd h
+live_lexical core.Single h e = absurd h
+live_lexical core.Closed h e = absurd h
+
+-- a region that is live in the source, and isn't the heap, can be freed in Core
+pub freed_checked : (w : World) (m : source.Memory) (c : core.Memory) (r : ℕ) → SameMemory w m c → 0 < r → is_live m (source.Born r) ≡ true
+    → (not (nat_eq r 0) && core.is_lexical (c.standing (core.Born r))) ≡ true
+freed_checked w m c r a more live =
+    let other : nat_eq r 0 ≡ false = grind (arith, nat_tests, more) in
+    ap (λ z. not z && core.is_lexical (c.standing (core.Born r))) other ∙
+    live_lexical (c.standing (core.Born r)) (a.lexical r) (sym (a.live (source.Born r)) ∙ live)
+
+-- both say so; the source is stuck where the region isn't live
+pub region_freed_same : (w : World) (fs : Program) (n d r : ℕ) (m : source.Memory) (c : Config) (s : Unit {0} → source.Memory → steps.Step)
+    (k : Config → core_steps.Step) → SameMemory w m c.memory → 0 < r → c.temps d ≡ Birth r
+    → Same w fs n (s tt (source_freed m r)) (k (with_memory (core_freed c.memory r) c)) → Same w fs n (region_freed r s m) (does (RegionFree d) k c)
+region_freed_same w fs n d r m c s k a more temp go = by (is_live m (source.Born r)) refl
+  where
+    by : (b : Bool) → is_live m (source.Born r) ≡ b → Same w fs n (region_freed r s m) (does (RegionFree d) k c)
+    by false e = rw e (stuck_same w fs n _)
+    by true e =
+        rw (e, temp, freed_checked w m c.memory r a more e)
+        (says_same w fs n _ _ (s tt (source_freed m r)) (k (with_memory (core_freed c.memory r) c)) (BothVisible (events.RegionFree r)) go)
+
+-- ---- a region gives a block for one object
+
+abbrev pub source_granted : World → source.Memory → ℕ → Shape → source.Memory
+source_granted w m d s = source.with_object m (source.Born d) (blank_object (cells_of w s))
+
+abbrev pub core_granted : World → core.Memory → ℕ → Shape → core.Memory
+core_granted w c d s = core.with_object c (core.Born d) (blanks (layout_of w s) 1)
+
+-- what Core gives is at a new spot
+abbrev is_given : core.Memory → ℕ → core.Spot → Bool
+is_given c d t = core.same_region t.region (core.Born d) && nat_eq t.object (c.objects (core.Born d))
+
+granted_other : (w : World) (c : core.Memory) (d : ℕ) (s : Shape) (t : core.Spot) (j : ℕ) → core.same_region t.region (core.Born d) ≡ false
+    → (core_granted w c d s).parts t j ≡ c.parts t j
+granted_other w c d s t j e =
+    ap (λ b. if b && nat_eq t.object (c.objects (core.Born d)) then blanks (layout_of w s) 1 t.cell j else c.parts t j) e
+
+granted_part : (w : World) (m : source.Memory) (c : core.Memory) (d : ℕ) (s : Shape) → SameMemory w m c → (t : core.Spot) (j : ℕ) (p : Part)
+    → c.parts t j ≡ Some p → (core_granted w c d s).parts t j ≡ Some p
+granted_part w m c d s a t j p is = by (is_given c d t) refl
+  where
+    by : (b : Bool) → is_given c d t ≡ b → (core_granted w c d s).parts t j ≡ Some p
+    by true e =
+        let two = and_parts (core.same_region t.region (core.Born d)) (nat_eq t.object (c.objects (core.Born d))) e in
+        let n = eqb-true t.object (c.objects (core.Born d)) two.1 in
+        let none : None ≡ Some p = sym (a.ungranted d t j (region_same t.region (core.Born d) two.0) (omega (arith, n))) ∙ is in
+        absurd (cc none)
+    by false e = ap (λ b. if b then blanks (layout_of w s) 1 t.cell j else c.parts t j) e ∙ is
+
+pub block_granted_later : (b : Bound) (w : World) (m : source.Memory) (c : core.Memory) (d : ℕ) (s : Shape) → SameMemory w m c
+    → Grown b m c (source_granted w m d s) (core_granted w c d s)
+block_granted_later b w m c d s a = record {
+  shapes = λ t other h. record { content = h.content; is = made_cell m (source.Born d) (blank_object (cells_of w s)) t _ a.unmade h.is };
+  parts = λ t j o width h. record { content = h.content; is = granted_part w m c d s a t j _ h.is };
+  objects = λ k h. refl;
+  begun = omega arith;
+  called = omega arith;
+  stands = λ k h. refl;
+  owned = λ k t j r h. granted_other w c d s t j (ap (λ z. core.same_region z (core.Born d)) r);
+}
+
+-- no region has fewer objects
+counted : (w : World) (c : core.Memory) (d j : ℕ) (s : Shape) → c.objects (core.Born j) ≤ (core_granted w c d s).objects (core.Born j)
+counted w c d j s = by (nat_eq j d) refl
+  where
+    by : (b : Bool) → nat_eq j d ≡ b → c.objects (core.Born j) ≤ (core_granted w c d s).objects (core.Born j)
+    by true e =
+        let same : (core_granted w c d s).objects (core.Born j) ≡ c.objects (core.Born d) + 1 =
+        ap (λ b. if b then c.objects (core.Born d) + 1 else c.objects (core.Born j)) e in
+        subst (λ z. c.objects (core.Born j) ≤ z) (sym same)
+        (subst (λ z. c.objects (core.Born z) ≤ c.objects (core.Born d) + 1) (sym (eqb-true j d e)) (omega arith))
+    by false e = subst (λ z. c.objects (core.Born j) ≤ z) (sym (ap (λ b. if b then c.objects (core.Born d) + 1 else c.objects (core.Born j)) e)) (omega arith)
+
+still_ungranted : (w : World) (m : source.Memory) (c : core.Memory) (d : ℕ) (s : Shape) → SameMemory w m c → (j : ℕ) (t : core.Spot) (i : ℕ)
+    → t.region ≡ core.Born j → (core_granted w c d s).objects (core.Born j) ≤ t.object → (core_granted w c d s).parts t i ≡ None
+still_ungranted w m c d s a j t i r h = by (is_given c d t) refl
+  where
+    c' : core.Memory
+    c' = core_granted w c d s
+
+    here : c'.objects (core.Born d) ≡ c.objects (core.Born d) + 1
+    here = ap (λ b. if b then c.objects (core.Born d) + 1 else c.objects (core.Born d)) (region_self (core.Born d))
+
+    by : (b : Bool) → is_given c d t ≡ b → c'.parts t i ≡ None
+    by true e =
+        let two = and_parts (core.same_region t.region (core.Born d)) (nat_eq t.object (c.objects (core.Born d))) e in
+        let n = eqb-true t.object (c.objects (core.Born d)) two.1 in
+        let same : core.Born j ≡ core.Born d = sym r ∙ region_same t.region (core.Born d) two.0 in
+        let more : c.objects (core.Born d) + 1 ≤ t.object = subst (λ z. z ≤ t.object) here (subst (λ q. c'.objects q ≤ t.object) same h) in
+        absurd (omega (arith, n, more))
+    by false e =
+        let less : c.objects (core.Born j) ≤ t.object = let g = counted w c d j s in omega (arith, g, h) in
+        ap (λ b. if b then blanks (layout_of w s) 1 t.cell i else c.parts t i) e ∙ a.ungranted j t i r less
+
+pub block_granted_agree : (w : World) (m : source.Memory) (c : core.Memory) (d : ℕ) (s : Shape) → SameMemory w m c
+    → SameMemory w (source_granted w m d s) (core_granted w c d s)
+block_granted_agree w m c d s a = record {
+  cells = λ t shape v h. by (is_here m (source.Born d) t) t shape v refl h;
+  live = a.live;
+  activations = a.activations;
+  unmade = still_unmade m (source.Born d) o a.unmade;
+  unentered = λ k t j h r. granted_other w c d s t j (ap (λ z. core.same_region z (core.Born d)) r) ∙ a.unentered k t j h r;
+  unbegun = a.unbegun;
+  uncalled = λ k t j h r. granted_other w c d s t j (ap (λ z. core.same_region z (core.Born d)) r) ∙ a.uncalled k t j h r;
+  unowned = a.unowned;
+  births = a.births;
+  heap = a.heap;
+  lexical = a.lexical;
+  blocks = λ j.
+      ap (λ z. if nat_eq j d then z + 1 else m.objects (source.Born j)) (a.blocks d) ∙
+      ap (λ z. if nat_eq j d then c.objects (core.Born d) + 1 else z) (a.blocks j);
+  ungranted = still_ungranted w m c d s a;
+}
+  where
+    o : Object
+    o = blank_object (cells_of w s)
+
+    m' : source.Memory
+    m' = source_granted w m d s
+
+    c' : core.Memory
+    c' = core_granted w c d s
+
+    by : (b : Bool) (t : Spot) (shape : Shape) (v : Scalar) → is_here m (source.Born d) t ≡ b
+        → m'.cells t ≡ Some (record { shape = shape; content = Holds v }) → IsShown w m' c' t shape v
+    by true t shape v e h = absurd (blank_holds (cells_of w s) t.cell shape v (sym (ap (λ b. if b then o t.cell else m.cells t) e) ∙ h))
+    by false t shape v e h =
+        let one = a.cells t shape v (sym (ap (λ b. if b then o t.cell else m.cells t) e) ∙ h) in
+        record {
+          contents = one.contents;
+          shown = shown_later nothing w m m' c c' shape v one.contents (block_granted_later nothing w m c d s a) one.shown;
+          held = held_on c c' (at t) 0 one.contents (granted_part w m c d s a) one.held;
+        }
+
+-- ---- the new object
+
+-- both number it alike
+pub granted_spot : (w : World) (m : source.Memory) (c : core.Memory) (d : ℕ) → SameMemory w m c → at (next_spot m (source.Born d)) ≡ first_spot c (core.Born d)
+granted_spot w m c d a = ap (λ z. record { region = core.Born d; object = z; cell = 0 }) (a.blocks d)
+
+-- nothing was stored to its cells yet
+pub granted_blank : (w : World) (m : source.Memory) (d cell : ℕ) (s : Shape)
+    → (source_granted w m d s).cells (spot_of (source.Born d) (m.objects (source.Born d)) cell) ≡ slice_get (map blank_cell (cells_of w s)) cell
+granted_blank w m d cell s = here_is m (source.Born d) (m.objects (source.Born d)) cell (blank_object (cells_of w s)) refl
+
+pub granted_leads : (w : World) (m : source.Memory) (c : core.Memory) (d : ℕ) (s : Shape) → SameMemory w m c
+    → Leads w (source_granted w m d s) (core_granted w c d s) s (next_spot m (source.Born d)) 0
+granted_leads w m c d s a = (
+  cells_in m (source.Born d) (m.objects (source.Born d)) (λ z. source.Blank) (cells_of w s) refl,
+  block_made c (core.Born d) (m.objects (source.Born d)) (layout_of w s) (sym (a.blocks d)),
+)
+
+-- ---- it is asked for
+
+-- both ask for as many bytes
+pub request_size : (w : World) (s : Shape) → AreStructs w.unions w.structs → IsObject w.structs s → saturated (1 * (layout_of w s).bytes) ≡ size_of w s
+request_size w s structs object =
+    let small : size_of w s ≤ 4096 = object_small w.unions w.structs s structs object in
+    let one : 1 * size_of w s ≡ size_of w s = omega arith in
+    let less : nat_lt (size_of w s) (2 ^ 32) ≡ true = grind (arith, nat_tests, small) in
+    ap saturated one ∙ ap (λ b. if b then size_of w s else 2 ^ 32 - 1) less
+
+requested : (w : World) (d e r : ℕ) (shape : Shape) (c : Config) (rest : Statements) (next : Next) → d < e → c.temps d ≡ Birth r
+    → core.is_live (c.memory.standing (core.Born r)) ≡ true → meaning.statements (put (request_code w shape d e) rest) next c
+    ≡ Says (core_steps.Visible (events.RegionAlloc r (saturated (1 * (layout_of w shape).bytes)))) (meaning.statements rest next
+    (with_temp d (Pointer (first_spot c.memory (core.Born r)) 0) (with_memory (core_granted w c.memory r shape) (with_temp e (Word 1) c))))
+requested w d e r shape c rest next less temp live = rw (other_temp e d (Word 1) c less ∙ temp, put_temp e (Word 1) c, live) refl
+
+-- a block is asked for in the region of a handle that is in a temporary, which gets a pointer to it; the source is stuck where the region isn't live
+pub request_same : (w : World) (fs : Program) (n d e r : ℕ) (shape : Shape) (m : source.Memory) (c : Config) (s : Spot → source.Memory → steps.Step)
+    (rest : Statements) (next : Next) → AreStructs w.unions w.structs → IsObject w.structs shape → SameMemory w m c.memory → d < e → c.temps d ≡ Birth r
+    → Same w fs n (s (next_spot m (source.Born r)) (source_granted w m r shape)) (meaning.statements rest next
+    (with_temp d (Pointer (at (next_spot m (source.Born r))) 0) (with_memory (core_granted w c.memory r shape) (with_temp e (Word 1) c))))
+    → Same w fs n (ask (InRegion r) (size_of w shape) (blank_object (cells_of w shape)) s m) (meaning.statements (put (request_code w shape d e) rest) next c)
+request_same w fs n d e r shape m c s rest next structs object a less temp go = by (is_live m (source.Born r)) refl
+  where
+    after : core_steps.Step
+    after = meaning.statements (put (request_code w shape d e) rest) next c
+
+    by : (b : Bool) → is_live m (source.Born r) ≡ b → Same w fs n (ask (InRegion r) (size_of w shape) (blank_object (cells_of w shape)) s m) after
+    by false f = rw f (stuck_same w fs n after)
+    by true f =
+        let live : core.is_live (c.memory.standing (core.Born r)) ≡ true = sym (a.live (source.Born r)) ∙ f in
+        rw (f, requested w d e r shape c rest next less temp live, request_size w shape structs object, sym (granted_spot w m c.memory r a))
+        (says_same w fs n _ _ (make_object (source.Born r) (blank_object (cells_of w shape)) s m) _ (BothVisible (events.RegionAlloc r (size_of w shape)))
+        (rw f go))

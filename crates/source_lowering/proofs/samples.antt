@@ -1,0 +1,3 @@
+mod Samples
+mod WholeSamples
+mod RegionSamples

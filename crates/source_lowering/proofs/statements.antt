@@ -1,0 +1,10 @@
+pub mod Ways
+pub mod Statements
+pub mod Declaring
+pub mod WholeStatements
+pub mod Blocks
+pub mod LexicalRegions
+pub mod WrittenTypes
+pub mod EachDeclaration
+pub mod EachRun
+pub mod EachStatement

@@ -1,0 +1,13 @@
+pub mod Integers
+pub mod AnyValues
+pub mod Operators
+pub mod Values
+pub mod NumberConversions
+pub mod ThinConversions
+pub mod Conversions
+pub mod Tests
+pub mod Joined
+pub mod FatConversions
+pub mod Widening
+pub mod FatOperators
+pub mod Pointers

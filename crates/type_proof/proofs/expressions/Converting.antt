@@ -1,0 +1,259 @@
+-- Values are converted: integers to each other, `NULL` to pointers, pointers to pointers into regions that theirs outlive, thin and fat ones to each other,
+-- and structs to their own type.
+use Rattle.std.proofs.Common.{◌≡◌, ◌<◌, ℕ, Bool, true, false, inl, inr, Some, None, List, [], ◌∷◌, refl, sym, ◌∙◌, ap, subst}
+use Rattle.std.specs.Prelude.{◌*◌, length}
+use Rattle.cyc_words.specs.declared.faults.Kind.TheVariants.{NullException}
+use Rattle.source_meaning.specs.Shapes.{Shared, Shape, ThinShape, FatShape, HandleShape, StructShape}
+use Rattle.source_meaning.specs.Memory as memory
+use Rattle.source_meaning.specs.Memory.{Region, Spot, Span, Scalar, Memory, beyond}
+use Rattle.source_meaning.specs.Steps.{World, Act, ◌>>=◌, ◌>>◌, give, check}
+use Rattle.source_meaning.specs.Conversions.{cells_of, element, fat_to_thin, converted}
+use Rattle.source_meaning.specs.Places.{span_at}
+use Rattle.source_typing.specs.Converts.{IsInteger, Converts, Same, Integers, NullToThin, NullToFat, NullToUnique, Thins, Fats, ThinToFat, FatToThin, Uniques}
+use Rattle.source_typing.specs.Regions.{Regions}
+use Rattle.source_typing.specs.Types.{StaticType, Int, Unsigned, Char, Void, Null, Thin, Fat, Unique, Handle, Key, Struct, Union, renamed, shape_of}
+use Rattle.type_proof.specs.Flat.{Tables}
+use Rattle.type_proof.proofs.invariant.Invariant.{RunType, Owner, Ghost, Reaches, HasType, HaveTypes, Inv}
+use Rattle.type_proof.proofs.invariant.Runs.{Safe, Runs, safe_raised}
+use Rattle.type_proof.proofs.invariant.Arguments.{Agrees}
+use Rattle.type_proof.proofs.invariant.Names.{NameOf, NamesOk}
+use Rattle.type_proof.proofs.invariant.Sound.{cells_type}
+use Rattle.type_proof.proofs.expressions.Elements.{cells_counted, ReachesAll, one_element, runs_element}
+use Rattle.type_proof.proofs.invariant.Layouts.{same_text}
+use Rattle.type_proof.proofs.expressions.Integers.{word_of, Becomes, integer_becomes}
+use Rattle.type_proof.proofs.expressions.Words.{IsObjectType, IsSimple, object_some, integer_object, shape_itself, OneValue, one_value}
+
+-- a pointer may be used as one into a region that its own outlives
+reach_along : (d : Tables) (w : Ghost) (m : Memory) (at : Spot) (r q : Region) (t : RunType) → Inv d w m → w.above r q ≡ true → Reaches d w at r t
+    → Reaches d w at q t
+reach_along d w m at r q t i o h = record { typed = h.typed; above = i.along at.region r q h.above o }
+
+-- what converts to an object is something
+pub converts_some : (g : Regions) (t u : StaticType) → Converts g t u → IsObjectType u → t ≡ Void → ⊥
+converts_some g t u (Same {t = s}) e z = object_some s e z
+converts_some g t u (Integers {t = s} a c) e z = object_some s (integer_object s a) z
+converts_some g t u NullToThin e z = cc
+converts_some g t u NullToFat e z = cc
+converts_some g t u NullToUnique e z = cc
+converts_some g t u (Thins o) e z = cc
+converts_some g t u (Fats o) e z = cc
+converts_some g t u (ThinToFat o) e z = cc
+converts_some g t u (FatToThin o) e z = cc
+converts_some g t u Uniques e z = cc
+
+module _ {B : Type 0} (n : ℕ) (d : Tables) (world : World) (f : NameOf → Region) (w : Ghost) (m : Memory) (holder : ℕ → Owner) (i : Inv d w m)
+    (Q : B → Memory → Type 0) (h : List Scalar → Act B) where
+  -- what goes on with a value of a type
+  abbrev pub Going : StaticType → Type 0
+  Going u = (us : List Scalar) → HaveTypes d w holder us (cells_type d f u) → Runs n (h us) m Q
+
+  -- `NULL`, from whatever type
+  null_goes : (c : Bool) (q : NameOf) (t : StaticType) (from : Shape) → Going (Thin c q t)
+      → Runs n (converted world (ThinShape c Shared (shape_of t)) from (memory.Thin None ∷ []) >>= h) m Q
+  null_goes true q t from go = record { by = λ next p. (go (memory.Thin None ∷ []) (inl (record { allowed = refl; is = refl }), tt)).by next p }
+  null_goes false q t from go = record { by = λ next p. safe_raised n NullException }
+
+  -- a pointer to somewhere
+  some_goes : (a c : Bool) (q : NameOf) (t : StaticType) (at : Spot) → IsObjectType t → Reaches d w at (f q) (renamed f t) → Going (Thin c q t)
+      → Runs n (converted world (ThinShape c Shared (shape_of t)) (ThinShape a Shared (shape_of t)) (memory.Thin (Some at) ∷ []) >>= h) m Q
+  some_goes a c q t at e reach go = record {
+    by = λ next p.
+        subst (λ (b : Bool). Safe n ((check b >> (Rattle.source_meaning.specs.Conversions.thin_to_thin c (Some at) >>= λ v. give (v ∷ []) >>= h)) next m)) (sym (shape_itself t e))
+        (by c next p);
+  }
+    where
+      typed : HaveTypes d w holder (memory.Thin (Some at) ∷ []) (cells_type d f (Thin c q t))
+      typed = (inr (record { at = at; is = refl; reaches = reach }), tt)
+
+      by : (b : Bool) (next : B → Memory → _) → ((v : B) (m' : Memory) → Q v m' → Safe n (next v m'))
+          → Safe n ((Rattle.source_meaning.specs.Conversions.thin_to_thin b (Some at) >>= λ v. give (v ∷ []) >>= h) next m)
+      by true next p = (go (memory.Thin (Some at) ∷ []) typed).by next p
+      by false next p = (go (memory.Thin (Some at) ∷ []) typed).by next p
+
+  thin_goes : (a c : Bool) (r q : NameOf) (t : StaticType) (vs : List Scalar) → IsObjectType t
+      → ((at : Spot) → Reaches d w at (f r) (renamed f t) → Reaches d w at (f q) (renamed f t)) → HaveTypes d w holder vs (cells_type d f (Thin a r t)) → Going (Thin c q t)
+      → Runs n (converted world (ThinShape c Shared (shape_of t)) (ThinShape a Shared (shape_of t)) vs >>= h) m Q
+  thin_goes a c r q t [] e along x go = absurd x
+  thin_goes a c r q t (v ∷ u ∷ us) e along x go = absurd x.1
+  thin_goes a c r q t (v ∷ []) e along x go = goes x.0
+    where
+      goes : HasType d w (holder 0) v (renamed f (Thin a r t)) → Runs n (converted world (ThinShape c Shared (shape_of t)) (ThinShape a Shared (shape_of t)) (v ∷ []) >>= h) m Q
+      goes (inl z) = subst (λ (y : Scalar). Runs n (converted world (ThinShape c Shared (shape_of t)) (ThinShape a Shared (shape_of t)) (y ∷ []) >>= h) m Q) (sym z.is)
+          (null_goes c q t (ThinShape a Shared (shape_of t)) go)
+      goes (inr z) = subst (λ (y : Scalar). Runs n (converted world (ThinShape c Shared (shape_of t)) (ThinShape a Shared (shape_of t)) (y ∷ []) >>= h) m Q) (sym z.is)
+          (some_goes a c q t z.at e (along z.at z.reaches) go)
+
+  -- ---- fat pointers
+
+  -- `NULL` becomes one, and stays one
+  fat_null_goes : (q : NameOf) (t : StaticType) (from : Shape) → Going (Fat q t)
+      → Runs n (converted world (FatShape (shape_of t)) from (memory.Thin None ∷ []) >>= h) m Q
+  fat_null_goes q t from go = record { by = λ next p. (go (memory.Wide None ∷ []) (inl refl, tt)).by next p }
+
+  wide_null_goes : (q : NameOf) (t : StaticType) (from : Shape) → Going (Fat q t)
+      → Runs n (converted world (FatShape (shape_of t)) from (memory.Wide None ∷ []) >>= h) m Q
+  wide_null_goes q t from go = record { by = λ next p. (go (memory.Wide None ∷ []) (inl refl, tt)).by next p }
+
+  -- a fat pointer stays as it is
+  fat_goes : (r q : NameOf) (t : StaticType) (vs : List Scalar) → IsObjectType t
+      → ((at : Spot) → Reaches d w at (f r) (renamed f t) → Reaches d w at (f q) (renamed f t)) → HaveTypes d w holder vs (cells_type d f (Fat r t))
+      → Going (Fat q t)
+      → Runs n (converted world (FatShape (shape_of t)) (FatShape (shape_of t)) vs >>= h) m Q
+  fat_goes r q t [] e along x go = absurd x
+  fat_goes r q t (v ∷ u ∷ us) e along x go = absurd x.1
+  fat_goes r q t (v ∷ []) e along x go = goes x.0
+    where
+      goes : HasType d w (holder 0) v (renamed f (Fat r t)) → Runs n (converted world (FatShape (shape_of t)) (FatShape (shape_of t)) (v ∷ []) >>= h) m Q
+      goes (inl z) = subst (λ (y : Scalar). Runs n (converted world (FatShape (shape_of t)) (FatShape (shape_of t)) (y ∷ []) >>= h) m Q) (sym z)
+          (wide_null_goes q t (FatShape (shape_of t)) go)
+      goes (inr z) = subst (λ (y : Scalar). Runs n (converted world (FatShape (shape_of t)) (FatShape (shape_of t)) (y ∷ []) >>= h) m Q) (sym z.is) (record {
+        by = λ next p.
+            subst (λ (b : Bool). Safe n ((check b >> give (memory.Wide (Some z.span) ∷ []) >>= h) next m)) (sym (shape_itself t e))
+            ((go (memory.Wide (Some z.span) ∷ []) (inr (record { span = z.span; is = refl; reaches = λ i l. along _ (z.reaches i l) }), tt)).by next p);
+      })
+
+  -- a thin pointer becomes a fat one of one element
+  thin_fat_goes : (a : Bool) (r q : NameOf) (t : StaticType) (vs : List Scalar) → IsObjectType t
+      → ((at : Spot) → Reaches d w at (f r) (renamed f t) → Reaches d w at (f q) (renamed f t)) → HaveTypes d w holder vs (cells_type d f (Thin a r t))
+      → Going (Fat q t)
+      → Runs n (converted world (FatShape (shape_of t)) (ThinShape a Shared (shape_of t)) vs >>= h) m Q
+  thin_fat_goes a r q t [] e along x go = absurd x
+  thin_fat_goes a r q t (v ∷ u ∷ us) e along x go = absurd x.1
+  thin_fat_goes a r q t (v ∷ []) e along x go = goes x.0
+    where
+      goes : HasType d w (holder 0) v (renamed f (Thin a r t))
+          → Runs n (converted world (FatShape (shape_of t)) (ThinShape a Shared (shape_of t)) (v ∷ []) >>= h) m Q
+      goes (inl z) = subst (λ (y : Scalar). Runs n (converted world (FatShape (shape_of t)) (ThinShape a Shared (shape_of t)) (y ∷ []) >>= h) m Q) (sym z.is)
+          (fat_null_goes q t (ThinShape a Shared (shape_of t)) go)
+      goes (inr z) = subst (λ (y : Scalar). Runs n (converted world (FatShape (shape_of t)) (ThinShape a Shared (shape_of t)) (y ∷ []) >>= h) m Q) (sym z.is)
+          (record {
+            by = λ next p.
+                subst (λ (b : Bool). Safe n ((check b >> give (span_at 1 z.at ∷ []) >>= h) next m)) (sym (shape_itself t e))
+                ((go (span_at 1 z.at ∷ []) (inr (one_element d w z.at (f q) (renamed f t) (along z.at z.reaches)), tt)).by next p);
+          })
+
+  -- a fat pointer becomes a thin one to its element, which has to be there
+  element_goes : (c : Bool) (q : NameOf) (t : StaticType) (s : Span) → Agrees world d → ReachesAll d w s (f q) (renamed f t) → Going (Thin c q t)
+      → Runs n (fat_to_thin c (length (cells_of world (shape_of t))) (Some s) >>= λ v. give (v ∷ []) >>= h) m Q
+  element_goes c q t s agrees reach go = by c
+    where
+      at : Spot
+      at = beyond s.first (s.index * length (cells_of world (shape_of t)))
+
+      typed : (b : Bool) → s.index < s.count → HaveTypes d w holder (memory.Thin (Some at) ∷ []) (cells_type d f (Thin b q t))
+      typed b l = (
+        inr (record {
+          at = at;
+          is = refl;
+          reaches = subst (λ (k : ℕ). Reaches d w (beyond s.first (s.index * k)) (f q) (renamed f t)) (sym (cells_counted d world f t agrees))
+              (reach s.index l);
+        }),
+        tt,
+      )
+
+      found : Runs n (element (length (cells_of world (shape_of t))) (Some s) >>= λ a. h (memory.Thin (Some a) ∷ [])) m Q
+      found = runs_element n (length (cells_of world (shape_of t))) s (λ a. h (memory.Thin (Some a) ∷ [])) m Q
+          (λ l. go (memory.Thin (Some at) ∷ []) (typed c l))
+
+      by : (b : Bool) → Runs n (fat_to_thin b (length (cells_of world (shape_of t))) (Some s) >>= λ v. give (v ∷ []) >>= h) m Q
+      by true = record { by = λ next p. found.by next p }
+      by false = record { by = λ next p. found.by next p }
+
+  -- `NULL` stays `NULL`, or an exception is raised
+  null_thin_goes : (c : Bool) (q : NameOf) (t : StaticType) (from : Shape) → Going (Thin c q t)
+      → Runs n (converted world (ThinShape c Shared (shape_of t)) from (memory.Wide None ∷ []) >>= h) m Q
+  null_thin_goes true q t from go = record { by = λ next p. (go (memory.Thin None ∷ []) (inl (record { allowed = refl; is = refl }), tt)).by next p }
+  null_thin_goes false q t from go = record { by = λ next p. safe_raised n NullException }
+
+  fat_thin_goes : (c : Bool) (r q : NameOf) (t : StaticType) (vs : List Scalar) → IsObjectType t → Agrees world d
+      → ((at : Spot) → Reaches d w at (f r) (renamed f t) → Reaches d w at (f q) (renamed f t)) → HaveTypes d w holder vs (cells_type d f (Fat r t))
+      → Going (Thin c q t)
+      → Runs n (converted world (ThinShape c Shared (shape_of t)) (FatShape (shape_of t)) vs >>= h) m Q
+  fat_thin_goes c r q t [] e agrees along x go = absurd x
+  fat_thin_goes c r q t (v ∷ u ∷ us) e agrees along x go = absurd x.1
+  fat_thin_goes c r q t (v ∷ []) e agrees along x go = goes x.0
+    where
+      goes : HasType d w (holder 0) v (renamed f (Fat r t))
+          → Runs n (converted world (ThinShape c Shared (shape_of t)) (FatShape (shape_of t)) (v ∷ []) >>= h) m Q
+      goes (inl z) = subst (λ (y : Scalar). Runs n (converted world (ThinShape c Shared (shape_of t)) (FatShape (shape_of t)) (y ∷ []) >>= h) m Q) (sym z)
+          (null_thin_goes c q t (FatShape (shape_of t)) go)
+      goes (inr z) = subst (λ (y : Scalar). Runs n (converted world (ThinShape c Shared (shape_of t)) (FatShape (shape_of t)) (y ∷ []) >>= h) m Q) (sym z.is)
+          (record {
+            by = λ next p.
+                subst (λ (b : Bool). Safe n ((check b >> (fat_to_thin c (length (cells_of world (shape_of t))) (Some z.span) >>= λ v. give (v ∷ []) >>= h)) next m))
+                (sym (shape_itself t e)) ((element_goes c q t z.span agrees (λ i l. along _ (z.reaches i l)) go).by next p);
+          })
+
+  -- ---- all of them
+
+  integer_goes : (t u : StaticType) (vs : List Scalar) → IsInteger t → IsInteger u → HaveTypes d w holder vs (cells_type d f t) → Going u
+      → Runs n (converted world (shape_of u) (shape_of t) vs >>= h) m Q
+  integer_goes t u vs it iu x go =
+      let c : Becomes d f world t u vs = integer_becomes d f world t u vs iu (word_of d f w holder vs t it x) in
+      record { by = λ next q. subst (λ (s : _). Safe n s) (sym (c.at_once h next m)) ((go c.values (c.typed w holder)).by next q) }
+
+  -- a struct's cells stay as they are
+  struct_goes : (tag : List ℕ) (rs : List NameOf) (vs : List Scalar) → HaveTypes d w holder vs (cells_type d f (Struct tag rs)) → Going (Struct tag rs)
+      → Runs n (converted world (StructShape tag) (StructShape tag) vs >>= h) m Q
+  struct_goes tag rs [] x go = record {
+    by = λ next p. subst (λ (b : Bool). Safe n ((check b >> give [] >>= h) next m)) (sym (same_text tag)) ((go [] x).by next p);
+  }
+  struct_goes tag rs (v ∷ []) x go = record {
+    by = λ next p. subst (λ (b : Bool). Safe n ((check b >> give (v ∷ []) >>= h) next m)) (sym (same_text tag)) ((go (v ∷ []) x).by next p);
+  }
+  struct_goes tag rs (v ∷ u ∷ us) x go = record {
+    by = λ next p. subst (λ (b : Bool). Safe n ((check b >> give (v ∷ u ∷ us) >>= h) next m)) (sym (same_text tag)) ((go (v ∷ u ∷ us) x).by next p);
+  }
+
+  -- a handle stays as it is
+  handle_goes : (r : NameOf) (vs : List Scalar) → HaveTypes d w holder vs (cells_type d f (Handle r)) → Going (Handle r)
+      → Runs n (converted world HandleShape HandleShape vs >>= h) m Q
+  handle_goes r [] x go = absurd x
+  handle_goes r (v ∷ u ∷ us) x go = absurd x.1
+  handle_goes r (v ∷ []) x go =
+      let typed : HaveTypes d w holder (memory.HandleOf x.0.birth ∷ []) (cells_type d f (Handle r)) =
+      subst (λ (y : Scalar). HaveTypes d w holder (y ∷ []) (cells_type d f (Handle r))) x.0.is x in
+      subst (λ (y : Scalar). Runs n (converted world HandleShape HandleShape (y ∷ []) >>= h) m Q) (sym x.0.is)
+      (record { by = λ next p. (go (memory.HandleOf x.0.birth ∷ []) typed).by next p })
+
+  same_goes : (t : StaticType) (vs : List Scalar) → IsObjectType t → HaveTypes d w holder vs (cells_type d f t) → Going t
+      → Runs n (converted world (shape_of t) (shape_of t) vs >>= h) m Q
+  same_goes Int vs e x go = integer_goes Int Int vs refl refl x go
+  same_goes Unsigned vs e x go = integer_goes Unsigned Unsigned vs refl refl x go
+  same_goes Char vs e x go = integer_goes Char Char vs refl refl x go
+  same_goes Void vs e x go = absurd e
+  same_goes Null vs e x go = absurd e
+  same_goes (Thin a r t) vs e x go = thin_goes a a r r t vs e (λ at z. z) x go
+  same_goes (Fat r t) vs e x go = fat_goes r r t vs e (λ at z. z) x go
+  same_goes (Unique a t) vs e x go = absurd e
+  same_goes (Handle r) vs e x go = handle_goes r vs x go
+  same_goes (Key r) vs e x go = absurd e
+  same_goes (Struct tag rs) vs e x go = struct_goes tag rs vs x go
+  same_goes (Union tag rs) vs e x go = absurd e
+
+  -- Each conversion gives a value of its type, or raises.
+  pub converts_goes : (g : Regions) (k : ℕ) (t u : StaticType) (vs : List Scalar) → Agrees world d → NamesOk g f k w m → IsSimple t → IsObjectType u
+      → Converts g t u
+      → HaveTypes d w holder vs (cells_type d f t) → Going u → Runs n (converted world (shape_of u) (shape_of t) vs >>= h) m Q
+  converts_goes g k t u vs agrees names p e (Same {t = s}) x go = same_goes s vs e x go
+  converts_goes g k t u vs agrees names p e (Integers {t = s} {u = z} a c) x go = integer_goes s z vs a c x go
+  converts_goes g k t u vs agrees names p e (NullToThin {a = q} {t = s}) x go =
+      let v : OneValue d w (holder 0) vs Null = one_value d w holder vs Null x in
+      subst (λ (us : List Scalar). Runs n (converted world (ThinShape true Shared (shape_of s)) (shape_of {R = NameOf} Null) us >>= h) m Q)
+      (sym (v.is ∙ ap (λ (y : Scalar). y ∷ []) v.typed))
+      (null_goes true q s (shape_of {R = NameOf} Null) go)
+  converts_goes g k t u vs agrees names p e (NullToFat {a = q} {t = s}) x go =
+      let v : OneValue d w (holder 0) vs Null = one_value d w holder vs Null x in
+      subst (λ (us : List Scalar). Runs n (converted world (FatShape (shape_of s)) (shape_of {R = NameOf} Null) us >>= h) m Q)
+      (sym (v.is ∙ ap (λ (y : Scalar). y ∷ []) v.typed))
+      (fat_null_goes q s (shape_of {R = NameOf} Null) go)
+  converts_goes g k t u vs agrees names p e NullToUnique x go = absurd e
+  converts_goes g k t u vs agrees names p e (Thins {n = n1} {m = n2} {a = a} {b = b} {t = s} o) x go =
+      thin_goes n1 n2 a b s vs e (λ at z. reach_along d w m at (f a) (f b) (renamed f s) i (names.order a b o) z) x go
+  converts_goes g k t u vs agrees names p e (Fats {a = a} {b = b} {t = s} o) x go =
+      fat_goes a b s vs e (λ at z. reach_along d w m at (f a) (f b) (renamed f s) i (names.order a b o) z) x go
+  converts_goes g k t u vs agrees names p e (ThinToFat {n = n1} {a = a} {b = b} {t = s} o) x go =
+      thin_fat_goes n1 a b s vs e (λ at z. reach_along d w m at (f a) (f b) (renamed f s) i (names.order a b o) z) x go
+  converts_goes g k t u vs agrees names p e (FatToThin {n = n1} {a = a} {b = b} {t = s} o) x go =
+      fat_thin_goes n1 a b s vs e agrees (λ at z. reach_along d w m at (f a) (f b) (renamed f s) i (names.order a b o) z) x go
+  converts_goes g k t u vs agrees names p e Uniques x go = absurd e

@@ -1,0 +1,127 @@
+-- What the rules call copyable has no cell that carries a right.
+use Rattle.std.proofs.Common.{◌≡◌, ◌≤◌, ℕ, zero, suc, Bool, true, false, Option, Some, None, List, [], ◌∷◌, ◌++◌, refl, sym, ◌∙◌, ap, subst, arith}
+use Rattle.std.specs.Prelude.{map, length, bytes_eq, if◌then◌else◌}
+use Rattle.std.specs.Cmp.Derive.{both_true}
+use Rattle.std.proofs.lemmas.Bool.{false≢true, and_parts}
+use Rattle.std.proofs.lemmas.Slice.Eq.{bytes_eq-Decides}
+use Rattle.source_meaning.specs.Shapes as shapes
+use Rattle.source_meaning.specs.Shapes.{Layout}
+use Rattle.source_meaning.specs.Memory.{Region}
+use Rattle.source_meaning.specs.Steps.{World}
+use Rattle.source_typing.specs.Regions as names
+use Rattle.source_typing.specs.Tables as typing
+use Rattle.source_typing.specs.Tables.{Entry, OfTag, OfValue, OfFunction, OfBuiltin, OfOther, find, as_tag, parts_of_tag, parts_in, each_part, if_known, copies, is_copyable}
+use Rattle.source_typing.specs.Types.{StaticType, Int, Unsigned, Char, Void, Null, Thin, Fat, Unique, Handle, Key, Struct, Union, renamed}
+use Rattle.type_proof.specs.Flat.{Declared, Tables, filled, flat, flat_by, flat_all, struct_flat}
+use Rattle.type_proof.specs.Structs.{AreMembers, AreLaidOut}
+use Rattle.type_proof.proofs.invariant.Invariant.{RunType, heap}
+use Rattle.type_proof.proofs.invariant.Cells.{Copied}
+use Rattle.type_proof.specs.Entries.{IsObjectType, AreObjects, Structure}
+use Rattle.type_proof.proofs.invariant.Layouts.{Structs, member_types, members_typed, members_at}
+use Rattle.type_proof.proofs.expressions.Members.{members_objects}
+
+abbrev cells : List Declared → RunType → List RunType
+cells ds t = flat_by (struct_flat heap ds) t
+
+both : (xs ys : List RunType) → Copied xs → Copied ys → Copied (xs ++ ys)
+both [] ys h k = k
+both (x ∷ xs) ys h k = (h.0, both xs ys h.1 k)
+
+none : (ds : List Declared) (tag : List ℕ) (rs : List Region) → length ds ≤ 0 → Copied (struct_flat heap ds tag rs)
+none [] tag rs l = tt
+none (d ∷ ds) tag rs l = absurd (omega (arith, l))
+
+module _ (tables : typing.Tables) where
+  abbrev StructsCopied : List Declared → Type 0
+  StructsCopied ds = (n : ℕ) (tag : List ℕ) (rs : List Region) → length ds ≤ suc n → each_part (copies n tables) (parts_in tables tag) ≡ true
+      → Copied (struct_flat heap ds tag rs)
+
+  type_copied : (ds : List Declared) → StructsCopied ds → (n : ℕ) (f : names.Region → Region) (t : StaticType) → length ds ≤ n
+      → copies n tables t ≡ true → Copied (cells ds (renamed f t))
+  type_copied ds each n f Int l e = (refl, tt)
+  type_copied ds each n f Unsigned l e = (refl, tt)
+  type_copied ds each n f Char l e = (refl, tt)
+  type_copied ds each n f Void l e = tt
+  type_copied ds each n f Null l e = (refl, tt)
+  type_copied ds each n f (Thin c r t) l e = (refl, tt)
+  type_copied ds each n f (Fat r t) l e = (refl, tt)
+  type_copied ds each n f (Unique c t) l e = absurd (false≢true e)
+  type_copied ds each n f (Handle r) l e = (refl, tt)
+  type_copied ds each n f (Key r) l e = absurd (false≢true e)
+  type_copied ds each zero f (Struct tag rs) l e = none ds tag (map f rs) l
+  type_copied ds each (suc n) f (Struct tag rs) l e = each n tag (map f rs) l e
+  type_copied ds each n f (Union tag rs) l e = (refl, tt)
+
+  members_copied : (ds : List Declared) → StructsCopied ds → (n : ℕ) (f : names.Region → Region) (ps : List typing.Part) (qs : List shapes.Part)
+      (ts : List StaticType) → AreMembers ps qs ts → length ds ≤ n → each_part (copies n tables) ps ≡ true
+      → Copied (flat_all (cells ds) (map (renamed f) ts))
+  members_copied ds each n f [] [] [] h l e = tt
+  members_copied ds each n f (p ∷ ps) (q ∷ qs) (t ∷ ts) h l e =
+      let z : (if_known (copies n tables) p.type ≡ true) × (each_part (copies n tables) ps ≡ true) =
+      and_parts (if_known (copies n tables) p.type) (each_part (copies n tables) ps) e in
+      both (cells ds (renamed f t)) (flat_all (cells ds) (map (renamed f) ts))
+      (type_copied ds each n f t l (sym (ap (if_known (copies n tables)) h.1) ∙ z.0))
+      (members_copied ds each n f ps qs ts h.3 l z.1)
+  members_copied ds each n f [] [] (t ∷ ts) h l e = absurd h
+  members_copied ds each n f [] (q ∷ qs) ts h l e = absurd h
+  members_copied ds each n f (p ∷ ps) [] ts h l e = absurd h
+  members_copied ds each n f (p ∷ ps) (q ∷ qs) [] h l e = absurd h
+
+  structs_copied : (ds : List Declared) (ls : List Layout) → AreLaidOut tables ds ls → StructsCopied ds
+  structs_copied [] [] h n tag rs l e = tt
+  structs_copied (d ∷ ds) (x ∷ ls) h n tag rs l e = by (bytes_eq d.tag tag) refl (structs_copied ds ls h.2)
+    where
+      by : (b : Bool) → bytes_eq d.tag tag ≡ b → StructsCopied ds
+          → Copied (if b then flat_all (cells ds) (map (renamed (filled heap rs)) d.parts) else struct_flat heap ds tag rs)
+      by true q others = members_copied ds others n (filled heap rs) (parts_in tables d.tag) x.parts d.parts h.1 (omega (arith, l))
+          (subst (λ (y : List ℕ). each_part (copies n tables) (parts_in tables y) ≡ true) (sym ((bytes_eq-Decides d.tag tag).0 q)) e)
+      by false q others = others n tag rs (omega (arith, l)) e
+  structs_copied [] (x ∷ ls) h n tag rs l e = absurd h
+  structs_copied (d ∷ ds) [] h n tag rs l e = absurd h
+
+pub copyable_copied : (d : Tables) (world : World) (tables : typing.Tables) (f : names.Region → Region) (t : StaticType) → Structs d world tables
+    → is_copyable tables t ≡ true → Copied (flat heap d (renamed f t))
+copyable_copied d world tables f t h e =
+    type_copied tables d.structs (structs_copied tables d.structs world.structs h.laid_out) (length tables) f t h.few e
+
+-- ---- what objects are of so far can be copied
+
+module _ (d : Tables) (world : World) (tables : typing.Tables) (h : Structs d world tables) where
+  all_copyable : (n : ℕ) → ((t : StaticType) → IsObjectType t → copies n tables t ≡ true) → (ps : List typing.Part) (qs : List shapes.Part) (ts : List StaticType)
+      → AreMembers ps qs ts → AreObjects ts → each_part (copies n tables) ps ≡ true
+  all_copyable n each [] [] [] m o = refl
+  all_copyable n each (p ∷ ps) (q ∷ qs) (t ∷ ts) m o =
+      both_true (ap (if_known (copies n tables)) m.1 ∙ each t o.0) (all_copyable n each ps qs ts m.3 o.1)
+  all_copyable n each [] [] (t ∷ ts) m o = absurd m
+  all_copyable n each [] (q ∷ qs) ts m o = absurd m
+  all_copyable n each (p ∷ ps) [] ts m o = absurd m
+  all_copyable n each (p ∷ ps) (q ∷ qs) [] m o = absurd m
+
+  object_copies : (n : ℕ) (t : StaticType) → IsObjectType t → copies n tables t ≡ true
+  object_copies n Int e = refl
+  object_copies n Unsigned e = refl
+  object_copies n Char e = refl
+  object_copies n Void e = absurd e
+  object_copies n Null e = absurd e
+  object_copies n (Thin c r t) e = refl
+  object_copies n (Fat r t) e = refl
+  object_copies n (Unique c t) e = absurd e
+  object_copies n (Handle r) e = refl
+  object_copies n (Key r) e = absurd e
+  object_copies n (Union tag rs) e = absurd e
+  object_copies zero (Struct tag rs) e = refl
+  object_copies (suc n) (Struct tag rs) e = by (λ t q. object_copies n t q) (find tables tag) refl
+    where
+      by : ((t : StaticType) → IsObjectType t → copies n tables t ≡ true) → (o : Option Entry) → find tables tag ≡ o → each_part (copies n tables) (parts_in tables tag) ≡ true
+      by each None z = subst (λ (o : Option Entry). each_part (copies n tables) (parts_of_tag (as_tag o)) ≡ true) (sym z) refl
+      by each (Some (OfTag t)) z =
+          let k : Structure world tag t = h.plain tag (OfTag t) z in
+          all_copyable n each (parts_in tables tag) (shapes.parts_of world.structs tag) (member_types d.structs tag)
+          (members_at tables d.structs world.structs tag h.laid_out k.there) (members_objects d.structs (member_types d.structs tag) (members_typed d.structs tag h.in_order))
+      by each (Some (OfValue v)) z = subst (λ (o : Option Entry). each_part (copies n tables) (parts_of_tag (as_tag o)) ≡ true) (sym z) refl
+      by each (Some (OfFunction s)) z = subst (λ (o : Option Entry). each_part (copies n tables) (parts_of_tag (as_tag o)) ≡ true) (sym z) refl
+      by each (Some (OfBuiltin c)) z = subst (λ (o : Option Entry). each_part (copies n tables) (parts_of_tag (as_tag o)) ≡ true) (sym z) refl
+      by each (Some OfOther) z = subst (λ (o : Option Entry). each_part (copies n tables) (parts_of_tag (as_tag o)) ≡ true) (sym z) refl
+
+  pub object_copyable : (t : StaticType) → IsObjectType t → is_copyable tables t ≡ true
+  object_copyable t e = object_copies (length tables) t e

@@ -1,0 +1,11 @@
+pub mod Surroundings
+pub mod Lexical
+pub mod Begun
+pub mod Flows
+pub mod Ways
+pub mod Statements
+pub mod Unreached
+pub mod Dropped
+pub mod Blocks
+pub mod Parameters
+pub mod Functions

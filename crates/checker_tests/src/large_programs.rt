@@ -4,9 +4,23 @@ use crate::checked_texts::expect_answer;
 use std::alloc::{AllocError, Global};
 use std::test::Fail;
 
+/// The parts of a text: a beginning, what stands before a number and after it, and an end.
+#[derive(Clone, Copy)]
+struct Parts<'a> {
+    start: &'a str,
+    before: &'a str,
+    after: &'a str,
+    end: &'a str,
+}
+
 /// A beginning, so many times two parts with a number between them, and an end.
-fn numbered(alloc: Global, count: u32, parts: [&str; 4]) -> Result<String, AllocError> {
-    let [start, before, after, end] = parts;
+fn numbered(alloc: Global, count: u32, parts: Parts<'_>) -> Result<String, AllocError> {
+    let Parts {
+        start,
+        before,
+        after,
+        end,
+    } = parts;
     let mut text = String::from_str(alloc, start)?;
     for number in 0..count {
         write!(text, "{before}{number}{after}")?;
@@ -32,11 +46,16 @@ accepted <- 255 <- ~char a~[4096]; ~char b[4072]; int main() { putchar(\"abc\"[1
 1:4290: Size <- 255 <- ~char a~[4096]; ~char b[4072]; int main() { putchar(\"abc\"[1]); return \"abc\"[0] + \"abcdefgh\"[1]; }";
 
 /// The four parts of a text.
-fn parts_of(text: &str) -> Option<[&str; 4]> {
+fn parts_of(text: &str) -> Option<Parts<'_>> {
     let (start, rest) = text.split_once('~')?;
     let (before, rest) = rest.split_once('~')?;
     let (after, end) = rest.split_once('~')?;
-    Some([start, before, after, end])
+    Some(Parts {
+        start,
+        before,
+        after,
+        end,
+    })
 }
 
 /// Does a line of the table.

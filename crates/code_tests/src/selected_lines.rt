@@ -230,6 +230,7 @@ fn a_choice_loads_what_was_read_from_a_local(rt: HostRuntime) -> Result<(), Fail
     let block = vec![in rt.alloc(); Statement::Block(locals, body)]?;
     let functions = vec![in rt.alloc(); function(rt.alloc(), 1, block)]?;
     let lines = lines_of(rt.alloc(), functions)?;
+    assert_eq!(rt; lines.len(), 28);
     // lw x5, 8(x2); sw x5, 4(x2); lw x5, 4(x2)
     let read = [0x0081_2283, 0x0051_2223, 0x0041_2283];
     assert!(rt; are_words(&lines[15..18], &read));

@@ -7,13 +7,13 @@ use Rattle.cyc_parser.specs.declared.fault.ParseFault.TheVariants.{Parse, TooDee
 use Rattle.source_grammar.specs.Phrases.{Tokens}
 use Rattle.cyc_parser.specs.Reading.{next_place}
 use Rattle.cyc_parser.specs.Reader.{Outcome, placed, next_is}
-use Rattle.cyc_parser.proofs.exact.Parts.{bind_ok, bind_err, ok_is, no_fault, passes_then}
+use Rattle.cyc_parser.proofs.exactness.Parts.{bind_ok, bind_err, ok_is, no_fault, passes_then}
 use Rattle.cyc_parser.specs.Exact.{AreMadeUp, Found, Refused, Deepened, Phrase, Stops, Passes, Exact, IsPlaced}
-pub use Rattle.cyc_parser.proofs.exact.Reads.{read_exact}
-pub use Rattle.cyc_parser.proofs.exact.Choice.{choose_exact}
-pub use Rattle.cyc_parser.proofs.exact.Lists.{many_exact}
+pub use Rattle.cyc_parser.proofs.exactness.Reads.{read_exact}
+pub use Rattle.cyc_parser.proofs.exactness.Choice.{choose_exact}
+pub use Rattle.cyc_parser.proofs.exactness.Lists.{many_exact}
 pub use Rattle.cyc_parser.proofs.Many.{many_more, many_end}
-pub use Rattle.cyc_parser.proofs.exact.Steps.{token_exact, done_exact, refuse_exact, exact_as, exact_wider, exact_on, made_exact}
+pub use Rattle.cyc_parser.proofs.exactness.Steps.{token_exact, done_exact, refuse_exact, exact_as, exact_wider, exact_on, made_exact}
 
 -- ---- a phrase and its place
 

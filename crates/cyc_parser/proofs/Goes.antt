@@ -8,8 +8,8 @@ use Rattle.cyc_parser.specs.declared.fault.ParseFault.TheVariants.{TooDeep}
 use Rattle.source_grammar.specs.Phrases.{Tokens}
 use Rattle.cyc_parser.specs.Reader.{Outcome, read, many, choose, next_is}
 use Rattle.cyc_parser.specs.Exact.{Stops, Exact, Anything, Rows}
-use Rattle.cyc_parser.proofs.exact.Choice.{choose_first, choose_second}
-use Rattle.cyc_parser.proofs.exact.Lists.{next, rows_stop, rows_end}
+use Rattle.cyc_parser.proofs.exactness.Choice.{choose_first, choose_second}
+use Rattle.cyc_parser.proofs.exactness.Lists.{next, rows_stop, rows_end}
 use Rattle.cyc_parser.proofs.Many.{many_more}
 
 -- read so; or refused, since a token at the place is too deep

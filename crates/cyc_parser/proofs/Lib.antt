@@ -1,5 +1,5 @@
 pub mod Exact
-pub mod exact
+pub mod exactness
 pub mod Many
 pub mod ReadLoops
 pub mod SomeStatements
@@ -18,4 +18,4 @@ pub mod ReadChains
 pub mod OnePlace
 pub mod OneFault
 pub mod Goes
-pub mod goes
+pub mod going

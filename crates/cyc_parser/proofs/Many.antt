@@ -5,7 +5,7 @@ use Rattle.std.specs.Prelude.{nat_le}
 use Rattle.cyc_lexer.specs.declared.token.TokenKind.{TokenKind}
 use Rattle.source_grammar.specs.Phrases.{Tokens}
 use Rattle.cyc_parser.specs.Reader.{Outcome, ◌>>=◌, next_is, one_more, many_in, many}
-use Rattle.cyc_parser.proofs.exact.Parts.{bind_same}
+use Rattle.cyc_parser.proofs.exactness.Parts.{bind_same}
 
 -- what the others read counts only where a token was taken
 one_more_at : {A : Type 0} (ts : Tokens) (x : A × Tokens) (r s : Outcome (List A)) (b : Bool) → nat_le (suc (length x.1)) (length ts) ≡ b

@@ -13,8 +13,8 @@ use Rattle.source_grammar.specs.ExpressionGrammar.{IsExpression}
 use Rattle.source_grammar.specs.StatementGrammar.{IsNameInParentheses, IsStatement}
 use Rattle.cyc_parser.specs.Tests.{begins_unary, begins_statement}
 use Rattle.cyc_parser.specs.Exact.{nowhere, AreMadeUp, Phrase, PhraseFrom}
-use Rattle.cyc_parser.proofs.exact.Parts.{made_up_both}
-use Rattle.cyc_parser.proofs.exact.Expressions.{IsUnary, unary_from}
+use Rattle.cyc_parser.proofs.exactness.Parts.{made_up_both}
+use Rattle.cyc_parser.proofs.exactness.Expressions.{IsUnary, unary_from}
 
 abbrev token_of : TokenKind → Token
 token_of k = record { kind = k; at = nowhere; text = [] }

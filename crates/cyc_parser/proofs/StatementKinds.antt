@@ -14,9 +14,9 @@ use Rattle.source_grammar.specs.StatementGrammar.{IsDeclaration, IsStatement}
 use Rattle.cyc_parser.specs.Tests.{is_sign, is_keyword, begins_declaration, begins_unary, begins_control, begins_statement, begins_item, begins_clause}
 use Rattle.cyc_parser.specs.Reader.{next_is}
 use Rattle.cyc_parser.proofs.StatementsWithin.{goes_on_in_block}
-use Rattle.cyc_parser.proofs.exact.Unguarded.{begins_within}
-use Rattle.cyc_parser.proofs.exact.Expressions.{expression_begins}
-use Rattle.cyc_parser.proofs.exact.Declarations.{declaration_begins}
+use Rattle.cyc_parser.proofs.exactness.Unguarded.{begins_within}
+use Rattle.cyc_parser.proofs.exactness.Expressions.{expression_begins}
+use Rattle.cyc_parser.proofs.exactness.Declarations.{declaration_begins}
 
 -- a number for each kind of statement, in the order in which the readers try them, by the first token
 abbrev pub word_rank : Keyword → ℕ

@@ -14,10 +14,10 @@ use Rattle.cyc_parser.specs.Reader.{Outcome, Fails}
 use Rattle.cyc_parser.specs.ReadPrograms.{program}
 use Rattle.cyc_parser.specs.Refusals.{BeginAProgram, GoNoFurther, StandsIn, AreWithin, IsUnexpectedAt, IsTooDeepAt, IsRefusedFor, IsRefusedProgram}
 use Rattle.cyc_parser.specs.Exact.{AreMadeUp, Refused, Deepened, Passes}
-use Rattle.cyc_parser.proofs.exact.Parts.{ok_is, no_fault}
-use Rattle.cyc_parser.proofs.exact.Programs.{AreSomeItems, AreItemsAt, program_exact, program_ends}
+use Rattle.cyc_parser.proofs.exactness.Parts.{ok_is, no_fault}
+use Rattle.cyc_parser.proofs.exactness.Programs.{AreSomeItems, AreItemsAt, program_exact, program_ends}
 use Rattle.cyc_parser.proofs.Goes.{Goes}
-use Rattle.cyc_parser.proofs.goes.Programs.{program_goes}
+use Rattle.cyc_parser.proofs.going.Programs.{program_goes}
 use Rattle.cyc_parser.proofs.OnePlace.{Longer, cut}
 
 -- ---- some items, up to the end, are a program

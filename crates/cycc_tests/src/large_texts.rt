@@ -4,9 +4,25 @@ use crate::commands::expect_text;
 use std::alloc::{AllocError, Global};
 use std::test::Fail;
 
+/// The parts of a text: a beginning, a part that is repeated, a middle, another such part, and an end.
+#[derive(Clone, Copy)]
+struct Parts<'a> {
+    start: &'a str,
+    part: &'a str,
+    middle: &'a str,
+    other: &'a str,
+    end: &'a str,
+}
+
 /// A beginning, so many times a part, a middle, so many times another part, and an end.
-fn repeated(alloc: Global, count: usize, parts: [&str; 5]) -> Result<String, AllocError> {
-    let [start, part, middle, other, end] = parts;
+fn repeated(alloc: Global, count: usize, parts: Parts<'_>) -> Result<String, AllocError> {
+    let Parts {
+        start,
+        part,
+        middle,
+        other,
+        end,
+    } = parts;
     let mut text = String::from_str(alloc, start)?;
     for _ in 0..count {
         text.push_str(part)?;
@@ -35,19 +51,25 @@ const LARGE_TEXTS: &str = "\
 0 | ended 0$ | ................................................................................................................................................................................................................................................................................................................................................................................................................ <- cycc eval IN --ending <- 400 <- int main() {~putchar(46); ~}~~
 0 | - | - | 1024 pages <- cycc compile IN OUT <- 406 <- int main() {~putchar(1); ~;;;;}~~
 0 | - | - | 1024 pages <- cycc compile IN OUT <- 406 <- int main() {~putchar(1); ~;;;;;}~~
-0 | - | - | 1024 pages <- cycc compile IN OUT <- 43687 <- int main() {~putchar(1); ~}~~
-8 | IN:1:1: TooLarge$ | - <- cycc compile IN OUT <- 43688 <- int main() {~putchar(1); ~}~~
+0 | - | - | 1024 pages <- cycc compile IN OUT <- 43686 <- int main() {~putchar(1); ~}~~
+8 | IN:1:1: TooLarge$ | - <- cycc compile IN OUT <- 43687 <- int main() {~putchar(1); ~}~~
 0 | - | accepted$ <- cycc check IN <- 50000 <- int main() {~putchar(1); ~}~~
 8 | IN:1:1: TooLarge$ | - <- cycc compile IN OUT <- 50000 <- int main() {~putchar(1); ~}~~
 8 | IN:1:1: TooLarge$ | - <- cycc run IN <- 50000 <- int main() {~putchar(1); ~}~~";
 
 /// The five parts of a text.
-fn parts_of(text: &str) -> Option<[&str; 5]> {
+fn parts_of(text: &str) -> Option<Parts<'_>> {
     let (start, rest) = text.split_once('~')?;
     let (part, rest) = rest.split_once('~')?;
     let (middle, rest) = rest.split_once('~')?;
     let (other, end) = rest.split_once('~')?;
-    Some([start, part, middle, other, end])
+    Some(Parts {
+        start,
+        part,
+        middle,
+        other,
+        end,
+    })
 }
 
 /// Does a line of the table.

@@ -7,7 +7,10 @@ use Rattle.cyc_core.specs.declared.layout.Local.{Local}
 use Rattle.cyc_core.specs.declared.layout.Local.TheVariants as local
 use Rattle.cyc_core.specs.declared.program.Datum.{Datum}
 use Rattle.cyc_core.specs.declared.program.Datum.TheVariants as datum
+use Rattle.core_eval.specs.declared.value.Area.TheVariants as area
+use Rattle.core_eval.specs.declared.value.Value.{Value}
 use Rattle.core_eval.specs.declared.value.Value.TheVariants as value
+use Rattle.core_eval.specs.declared.held.Bound.TheVariants as bound
 use Rattle.core_eval.specs.declared.held.Held.{Held}
 use Rattle.core_eval.specs.declared.held.Held.TheVariants as held
 use Rattle.core_eval.specs.declared.value.Slot.{Slot}
@@ -43,9 +46,25 @@ abbrev pub blank_object : Local → List Slot
 blank_object (local.Scalar c) = scalar (blanked (first_held c))
 blank_object (local.Whole l count) = block_cells false l.value count
 
--- what a global begins as
+-- a char of a string, so many bytes on
+abbrev pub char_slot : (offset byte : ℕ) → Slot
+char_slot offset byte = record { offset = offset; padding = 0; held = held.Byte (value.Word byte) }
+
+-- those of a string from a byte on, and the 0 behind them
+abbrev pub text_cells : ℕ → List ℕ → List Slot
+text_cells k [] = char_slot k 0 ∷ []
+text_cells k (b ∷ bs) = char_slot k b ∷ text_cells (suc k) bs
+
+-- a pointer to the first element of the global or string of a number
+abbrev pub first_element : ℕ → Value
+first_element object = value.Pointer (record { area = area.Globals; object = object; byte = 0; cell = 0 })
+
+-- what a global or a string begins as
 abbrev pub first_object : Datum → List Slot
 first_object (datum.Byte b) = scalar (held.Byte (value.Word b))
 first_object (datum.Word w) = scalar (held.Word (value.Word w))
 first_object datum.Null = scalar (held.Word value.Null)
+first_object (datum.Text bytes) = text_cells 0 bytes.items
+first_object (datum.Address object) = scalar (held.Word (first_element object))
+first_object (datum.Bounds object count) = scalar (held.Fat (first_element object) (bound.Word count) (bound.Word 0))
 first_object (datum.Whole l count) = block_cells true l.value count

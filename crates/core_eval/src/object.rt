@@ -1,11 +1,11 @@
 // How objects begin.
 
-ghost use Rattle.std.specs.Prelude.{◌≡◌, ◌++◌, false, true, map, IfOk, OnOk};
+ghost use Rattle.std.specs.Prelude.{◌≡◌, ◌++◌, ◌∷◌, [], false, true, map, vec_len, IfOk, OnOk};
 ghost use Rattle.core_eval.specs.Values.{cells_of};
-ghost use Rattle.core_eval.specs.Elements.{blank_object, block_cells, first_object, held_first, scalar, slot_from};
+ghost use Rattle.core_eval.specs.Elements.{blank_object, block_cells, char_slot, first_element, first_object, held_first, scalar, slot_from, text_cells};
 
-use crate::held::Held;
-use crate::value::{Object, Slot, Value};
+use crate::held::{Bound, Held};
+use crate::value::{Area, Object, Place, Slot, Value};
 use cyc_core::{Cell, CellLayout, Datum, Layout, Local};
 use std::alloc::{AllocError, Global};
 
@@ -104,7 +104,46 @@ pub fn blank_objects(alloc: Global, locals: &[Local]) -> Result<Vec<Object>, All
     Ok(objects)
 }
 
-/// What a global begins as.
+/// A char of a string more, right behind the others. Fails only where no host memory is left, or it would lie behind 2^32 - 1 bytes.
+fn push_char(slots: &mut Vec<Slot>, byte: u8) -> Result<(), AllocError>
+    ensures { OnOk result (slots.new.items ≡ slots.old.items ++ char_slot (vec_len slots.old) byte ∷ []) }
+{
+    let Ok(offset) = u32::try_from(slots.len()) else {
+        return Err(AllocError);
+    };
+    slots.push(Slot {
+        offset,
+        padding: 0,
+        held: Held::Byte(Value::Word(u32::from(byte))),
+    })?;
+    Ok(())
+}
+
+/// The cells of a string, and of the 0 behind its bytes.
+fn text_cells(alloc: Global, bytes: &[u8]) -> Result<Vec<Slot>, AllocError>
+    ensures { IfOk result (λ slots. slots.items ≡ text_cells 0 bytes.now) }
+{
+    let mut slots = Vec::new(alloc);
+    'each: for byte in bytes {
+        push_char(&mut slots, *byte)?;
+    }
+    push_char(&mut slots, 0)?;
+    Ok(slots)
+}
+
+/// A pointer to the first element of the global or string of a number.
+fn first_element(object: u32) -> Value
+    ensures { result ≡ first_element object }
+{
+    Value::Pointer(Place {
+        area: Area::Globals,
+        object,
+        byte: 0,
+        cell: 0,
+    })
+}
+
+/// What a global or a string begins as.
 fn first_object(alloc: Global, datum: &Datum) -> Result<Object, AllocError>
     ensures { IfOk result (λ object. cells_of object ≡ first_object datum.now) }
 {
@@ -112,6 +151,13 @@ fn first_object(alloc: Global, datum: &Datum) -> Result<Object, AllocError>
         Datum::Byte(byte) => Ok(scalar(Held::Byte(Value::Word(*byte as u32)))),
         Datum::Word(word) => Ok(scalar(Held::Word(Value::Word(*word)))),
         Datum::Null => Ok(scalar(Held::Word(Value::Null))),
+        Datum::Text(bytes) => Ok(Object::Whole(text_cells(alloc, bytes)?)),
+        Datum::Address(object) => Ok(scalar(Held::Word(first_element(*object)))),
+        Datum::Bounds(object, count) => Ok(scalar(Held::Fat(
+            first_element(*object),
+            Bound::Word(*count),
+            Bound::Word(0),
+        ))),
         Datum::Whole(layout, count) => Ok(Object::Whole(block_cells(
             alloc,
             true,
@@ -121,7 +167,7 @@ fn first_object(alloc: Global, datum: &Datum) -> Result<Object, AllocError>
     }
 }
 
-/// What the globals begin as.
+/// What the globals and strings begin as.
 pub fn first_objects(alloc: Global, globals: &[Datum]) -> Result<Vec<Object>, AllocError>
     ensures { IfOk result (λ objects. map cells_of objects.items ≡ map first_object globals.now) }
 {

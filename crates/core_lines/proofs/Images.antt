@@ -9,20 +9,20 @@ use Rattle.core_lines.specs.declared.line.Line.{Line}
 use Rattle.core_lines.specs.Lines.{HasLines, IsPlace}
 use Rattle.core_lines.specs.Selected.{rounded, end_from, datum_locals}
 use Rattle.core_lines.specs.Statics.{zeros, datum_bytes, data_bytes, ArePlainData}
-use Rattle.core_lines.specs.Running.{Begins, data_end}
+use Rattle.core_lines.specs.Running.{Begins, data_offsets, data_end}
 use Rattle.core_lines.proofs.memory.DataBytes.{zeros_length, datum_length, has_bytes, data_shown}
 
 -- the data's bytes are as many as its objects take
-pub data_length : (low : ℕ) (ds : List Datum) → ArePlainData ds → low + length (data_bytes low ds) ≡ end_from low (datum_locals ds)
-data_length low [] plain = omega arith
-data_length low (d ∷ ds) plain =
-    let next = rounded low + length (datum_bytes d) in
-    let rest = data_bytes next ds in
-    let here = datum_length d plain.0 in
+pub data_length : (os : List ℕ) (low : ℕ) (ds : List Datum) → ArePlainData os ds → low + length (data_bytes os low ds) ≡ end_from low (datum_locals ds)
+data_length os low [] plain = omega arith
+data_length os low (d ∷ ds) plain =
+    let next = rounded low + length (datum_bytes os d) in
+    let rest = data_bytes os next ds in
+    let here = datum_length os d plain.0 in
     let padding = zeros_length (rounded low - low) in
-    let one = length-append (zeros (rounded low - low)) (datum_bytes d ++ rest) in
-    let two = length-append (datum_bytes d) rest in
-    let others = data_length next ds plain.1 ∙ ap (λ n. end_from (rounded low + n) (datum_locals ds)) here in
+    let one = length-append (zeros (rounded low - low)) (datum_bytes os d ++ rest) in
+    let two = length-append (datum_bytes os d) rest in
+    let others = data_length os next ds plain.1 ∙ ap (λ n. end_from (rounded low + n) (datum_locals ds)) here in
     omega (arith, padding, one, two, others)
 
 -- A machine that runs from its code's first instruction on, with an empty stack of the whole length, over a store that holds no number.
@@ -38,11 +38,12 @@ pub record IsFirst (m : Arrays) : Type 0 where
   pub small : (at : ℕ) → byte_at m at < 256
   pub unheld : (number : ℕ) → m.holdings.standing number ≡ None
 
-pub begins_as : (m : Arrays) (places : ℕ → ℕ) (lines : List Line) (ds : List Datum) → IsFirst m → ArePlainData ds → m.statics ≡ data_bytes 0 ds
+pub begins_as : (m : Arrays) (places : ℕ → ℕ) (lines : List Line) (ds : List Datum) → IsFirst m → ArePlainData (data_offsets ds) ds → m.statics ≡ data_bytes (data_offsets ds) 0 ds
     → ((label : ℕ) → IsPlace (places label)) → HasLines (areas_of m) (byte_at m) places 0 lines → Begins (areas_of m) places lines ds (state_of m)
 begins_as m places lines ds first plain statics labels has =
-    let long : length m.statics ≡ length (data_bytes 0 ds) = ap (λ (bs : List ℕ). length bs) statics in
-    let whole : 0 + length (data_bytes 0 ds) ≡ data_end ds = data_length 0 ds plain in
+    let os = data_offsets ds in
+    let long : length m.statics ≡ length (data_bytes os 0 ds) = ap (λ (bs : List ℕ). length bs) statics in
+    let whole : 0 + length (data_bytes os 0 ds) ≡ data_end ds = data_length os 0 ds plain in
     record {
       runs = first.runs;
       at_first = first.at_first;
@@ -58,7 +59,7 @@ begins_as m places lines ds first plain statics labels has =
       labels = labels;
       has = has;
       data_within = omega (arith, long, whole);
-      shows_data = data_shown ds (byte_at m) plain (has_bytes (byte_at m) data_base (data_bytes 0 ds) (λ k less.
+      shows_data = data_shown ds (byte_at m) plain (has_bytes (byte_at m) data_base (data_bytes os 0 ds) (λ k less.
           in_statics m.holdings.pages m.arena m.code m.statics m.stack (data_base + k) k
           (record { code_within = first.code_within; statics_within = first.statics_within; stack_whole = first.stack_whole }) refl (omega (arith, long, less))
           ∙ ap (λ (bs : List ℕ). slice_index bs k) statics));

@@ -1,5 +1,5 @@
 -- The code's programs as programs of Core.
-use Rattle.std.specs.Prelude.{ℕ, zero, suc, ◌+◌, ◌%◌, Option, Some, None, List, [], ◌∷◌, ◌++◌, map, length, slice_get}
+use Rattle.std.specs.Prelude.{ℕ, zero, suc, ◌+◌, ◌%◌, Option, Some, None, List, [], ◌∷◌, ◌++◌, map, length, slice_get, unwrap_or}
 use Rattle.core_meaning.specs.Memory.{PartShape, Layout, Content, shape_in}
 use Rattle.core_meaning.specs.Memory as memory
 use Rattle.core_meaning.specs.Core as core
@@ -195,6 +195,9 @@ abbrev pub datum_layout : Datum → Layout
 datum_layout (datum.Byte b) = part_layout cell.Byte
 datum_layout (datum.Word w) = part_layout cell.Word
 datum_layout datum.Null = part_layout cell.Pointer
+datum_layout (datum.Text bytes) = part_layout cell.Byte
+datum_layout (datum.Address object) = part_layout cell.Pointer
+datum_layout (datum.Bounds object count) = part_layout cell.Fat
 datum_layout (datum.Whole l count) = layout_tree l.value
 
 -- of how many elements it is
@@ -202,6 +205,9 @@ abbrev pub datum_count : Datum → ℕ
 datum_count (datum.Byte b) = 1
 datum_count (datum.Word w) = 1
 datum_count datum.Null = 1
+datum_count (datum.Text bytes) = length bytes.items + 1
+datum_count (datum.Address object) = 1
+datum_count (datum.Bounds object count) = 1
 datum_count (datum.Whole l count) = count
 
 -- what a part begins as
@@ -209,11 +215,24 @@ abbrev pub part_first : Option PartShape → Content
 part_first None = memory.Blank
 part_first (Some s) = s.first
 
+-- the first element of the global or string of a number
+abbrev pub first_element : ℕ → Content
+first_element object = memory.Pointer (record { region = memory.Born 0; object = object; cell = 0 }) 0
+
+-- the parts of a fat pointer to it
+abbrev pub bounds_first : (object count part : ℕ) → Content
+bounds_first object count zero = first_element object
+bounds_first object count (suc zero) = memory.Word count
+bounds_first object count (suc (suc part)) = memory.Word 0
+
 -- what a cell's part of a global holds at the start
 abbrev pub datum_first : Datum → ℕ → ℕ → Content
 datum_first (datum.Byte b) k j = memory.Word b
 datum_first (datum.Word w) k j = memory.Word w
 datum_first datum.Null k j = memory.Null
+datum_first (datum.Text bytes) k j = memory.Word (unwrap_or (slice_get bytes.items k) 0)
+datum_first (datum.Address object) k j = first_element object
+datum_first (datum.Bounds object count) k j = bounds_first object count j
 datum_first (datum.Whole l count) k j =
     part_first (shape_in (slice_get (layout_tree l.value).cells (k % length (layout_tree l.value).cells)) j)
 

@@ -19,7 +19,7 @@ pub struct Function {
     pub body: Vec<Statement>,
 }
 
-/// A global, and what it holds at the start.
+/// A global or a string, and what it holds at the start.
 #[derive(Drop)]
 pub enum Datum {
     /// A byte.
@@ -28,6 +28,12 @@ pub enum Datum {
     Word(u32),
     /// NULL.
     Null,
+    /// A string: its bytes, and a final 0 behind them.
+    Text(Vec<u8>),
+    /// A pointer to the first element of the global or string of a number.
+    Address(u32),
+    /// A fat pointer to the first element of the global or string of a number, with so many elements.
+    Bounds(u32, u32),
     /// An object of so many elements of a layout, which begins as the layout's cells do: numbers with 0, pointers with NULL.
     Whole(Rc<Layout>, u32),
 }
@@ -39,6 +45,6 @@ pub struct Program {
     pub functions: Vec<Function>,
     /// The number of the function that is run.
     pub main: u32,
-    /// Its globals; `DataAddress` names one by its number in this list.
+    /// Its globals, and behind them its strings; `DataAddress` names one by its number in this list.
     pub globals: Vec<Datum>,
 }

@@ -11,15 +11,15 @@ use Rattle.core_lines.specs.Statics.{element_bytes, zeros}
 use Rattle.rv32_layout.specs.Sizes.{cells_size}
 use Rattle.rv32_layout.proofs.Cells.{zeros_joined, cells_are_zeros}
 
-pub elements_are_zeros : (first : ℕ → ℕ → Content) → ((k j : ℕ) → IsNothing (first k j)) → (k count : ℕ) (cs : List CellLayout)
-    → element_bytes (map cell_parts cs) first k count ≡ zeros (count * cells_size cs)
-elements_are_zeros first nothing k zero cs = sym (ap zeros (zero-mul (cells_size cs)))
-elements_are_zeros first nothing k (suc count) cs =
+pub elements_are_zeros : (os : List ℕ) (first : ℕ → ℕ → Content) → ((k j : ℕ) → IsNothing (first k j)) → (k count : ℕ) (cs : List CellLayout)
+    → element_bytes os (map cell_parts cs) first k count ≡ zeros (count * cells_size cs)
+elements_are_zeros os first nothing k zero cs = sym (ap zeros (zero-mul (cells_size cs)))
+elements_are_zeros os first nothing k (suc count) cs =
     let cells = map cell_parts cs in
-    let rest = element_bytes cells first (k + length cells) count in
+    let rest = element_bytes os cells first (k + length cells) count in
     let more : cells_size cs + count * cells_size cs ≡ suc count * cells_size cs = omega (arith, suc-mul count (cells_size cs)) in
-    ap (λ xs. xs ++ rest) (cells_are_zeros first nothing k cs) ∙
-    ap (λ xs. zeros (cells_size cs) ++ xs) (elements_are_zeros first nothing (k + length cells) count cs) ∙
+    ap (λ xs. xs ++ rest) (cells_are_zeros os first nothing k cs) ∙
+    ap (λ xs. zeros (cells_size cs) ++ xs) (elements_are_zeros os first nothing (k + length cells) count cs) ∙
     zeros_joined (cells_size cs) (count * cells_size cs) ∙ ap zeros more
 
 -- where one is over a limit, so are any

@@ -1,5 +1,5 @@
--- How many bytes globals take, cell by cell.
-use Rattle.std.specs.Prelude.{ℕ, ◌+◌, ◌*◌, List, [], ◌∷◌}
+-- How many bytes globals and strings take, cell by cell.
+use Rattle.std.specs.Prelude.{ℕ, ◌+◌, ◌*◌, List, [], ◌∷◌, length}
 use Rattle.cyc_core.specs.declared.layout.CellLayout.{CellLayout}
 use Rattle.cyc_core.specs.declared.program.Datum.{Datum}
 use Rattle.cyc_core.specs.declared.program.Datum.TheVariants as datum
@@ -17,4 +17,7 @@ abbrev pub datum_size : Datum → ℕ
 datum_size (datum.Byte b) = 1
 datum_size (datum.Word w) = 4
 datum_size datum.Null = 4
+datum_size (datum.Text bytes) = length bytes.items + 1
+datum_size (datum.Address object) = 4
+datum_size (datum.Bounds object count) = 12
 datum_size (datum.Whole l count) = count * cells_size l.value.cells.items

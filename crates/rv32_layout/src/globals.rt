@@ -1,16 +1,20 @@
-// The bytes of globals.
+// The bytes of globals and strings.
 
-ghost use Rattle.std.specs.Prelude.{◌≡◌, ◌-◌, ◌<◌, ◌≤◌, ◌↔◌, ◌++◌, ◌+◌, ◌*◌, ◌^◌, Err, IfOk, IfSome, IfNone, OnOk, IsTrue, length, map, vec_len};
+ghost use Rattle.std.specs.Prelude.{◌≡◌, ◌-◌, ◌<◌, ◌≤◌, ◌↔◌, ◌++◌, ◌∷◌, [], ◌+◌, ◌*◌, ◌^◌, Err, IfOk, IfSome, IfNone, OnOk, IsTrue, length, map, vec_len};
 ghost use Rattle.cyc_image.specs.Format.{data_limit};
 ghost use Rattle.cyc_core.specs.Trees.{datum_tree, layout_tree, program_tree};
+ghost use Rattle.cyc_core.specs.declared.program.Datum.TheVariants as datum;
 ghost use Rattle.core_lines.specs.Selected.{rounded};
+ghost use Rattle.core_lines.specs.Running.{data_offsets};
 ghost use Rattle.core_lines.specs.Statics.{zeros, datum_bytes, data_bytes, AreCellsJoined, cells_end, IsPlainDatum, ArePlainData};
+ghost use Rattle.rv32_layout.specs.Addresses.{AreChars, IsAddress};
 ghost use Rattle.rv32_layout.specs.Sizes.{cell_size, cells_size, datum_size};
 
 use crate::fault::PlaceFault;
 use crate::words::word_bytes;
 use cyc_core::{CellLayout, Datum, Layout, Program};
 use cyc_image::DATA_LIMIT;
+use rv32_select::{DATA_BASE, statics};
 use std::alloc::{AllocError, Global};
 
 /// How many bytes a cell takes, with those behind it that hold nothing.
@@ -65,7 +69,7 @@ fn elements_end(start: usize, layout: &Layout, count: u32) -> Option<usize>
     within(start + count as usize * element)
 }
 
-/// Where a global ends that begins at an offset, if that is within the limit.
+/// Where a global or a string ends that begins at an offset, if that is within the limit.
 fn global_end(start: usize, global: &Datum) -> Option<usize>
     requires { start ≤ data_limit }
     ensures some { IfSome result (λ end. (end ≡ start + datum_size global.now) × (end ≤ data_limit)) }
@@ -73,7 +77,9 @@ fn global_end(start: usize, global: &Datum) -> Option<usize>
 {
     match global {
         Datum::Byte(_) => within(start + 1),
-        Datum::Word(_) | Datum::Null => within(start + 4),
+        Datum::Word(_) | Datum::Null | Datum::Address(_) => within(start + 4),
+        Datum::Text(bytes) => within(start + bytes.len() + 1),
+        Datum::Bounds(_, _) => within(start + 12),
         Datum::Whole(layout, count) => elements_end(start, layout.as_ref(), *count),
     }
 }
@@ -86,9 +92,9 @@ fn rounded(offset: usize) -> usize
     (offset + 3) / 4 * 4
 }
 
-/// Whether the globals take more bytes than the limit.
+/// Whether the globals and strings take more bytes than the limit.
 fn are_too_large(globals: &[Datum]) -> bool
-    ensures { IsTrue result ↔ (data_limit < length (data_bytes 0 (map datum_tree globals.now))) }
+    ensures { IsTrue result ↔ (data_limit < length (data_bytes (data_offsets (map datum_tree globals.now)) 0 (map datum_tree globals.now))) }
 {
     let mut at = 0;
     'each: for global in globals {
@@ -143,58 +149,122 @@ fn put_whole(bytes: &mut Vec<u8>, layout: &Layout, count: u32) -> Result<(), All
     }
 }
 
-/// Appends what a global holds at the start, a number that fits or zeros.
+/// Appends a string's bytes, and a 0 behind them.
+fn put_text(bytes: &mut Vec<u8>, text: &[u8]) -> Result<(), AllocError>
+    ensures bytes { OnOk result (bytes.new.items ≡ bytes.old.items ++ (text.now ++ 0 ∷ [])) }
+    ensures chars { OnOk result (AreChars text.now) }
+{
+    'each: for byte in text {
+        bytes.push(*byte)?;
+    }
+    bytes.push(b'\0')?;
+    Ok(())
+}
+
+/// The address of the global or string of a number. Fails where there is none, or it is no word: no lowered program has such.
+#[tactic(auto, using(rv32_select::proofs::Numbers::nth_some))]
+fn address(offsets: &[u64], object: u32) -> Result<u32, AllocError>
+    ensures { IfOk result (λ address. IsAddress offsets.now object address) }
+{
+    let Some(offset) = offsets.get(object as usize) else {
+        return Err(AllocError);
+    };
+    let Some(address) = DATA_BASE.checked_add(*offset) else {
+        return Err(AllocError);
+    };
+    match u32::try_from(address) {
+        Ok(address) => Ok(address),
+        Err(_) => Err(AllocError),
+    }
+}
+
+/// Appends a pointer to the global or string of a number.
+#[tactic(auto, using(crate::proofs::Strings::address_bytes, crate::proofs::Strings::address_is_plain))]
+fn put_address(bytes: &mut Vec<u8>, offsets: &[u64], object: u32) -> Result<(), AllocError>
+    ensures bytes { OnOk result (bytes.new.items ≡ bytes.old.items ++ datum_bytes offsets.now (datum_tree (datum.Address object))) }
+    ensures plain { OnOk result (IsPlainDatum offsets.now (datum_tree (datum.Address object))) }
+{
+    let address = address(offsets, object)?;
+    bytes.extend_from_slice(&word_bytes(address))?;
+    Ok(())
+}
+
+/// Appends a fat pointer to the first of so many elements of the global or string of a number.
+#[tactic(auto, using(crate::proofs::Strings::bounds_joined, crate::proofs::Strings::bounds_is_plain))]
+fn put_bounds(
+    bytes: &mut Vec<u8>,
+    offsets: &[u64],
+    object: u32,
+    count: u32,
+) -> Result<(), AllocError>
+    ensures bytes { OnOk result (bytes.new.items ≡ bytes.old.items ++ datum_bytes offsets.now (datum_tree (datum.Bounds object count))) }
+    ensures plain { OnOk result (IsPlainDatum offsets.now (datum_tree (datum.Bounds object count))) }
+{
+    let address = address(offsets, object)?;
+    bytes.extend_from_slice(&word_bytes(address))?;
+    bytes.extend_from_slice(&word_bytes(count))?;
+    put_zeros(bytes, 4)?;
+    Ok(())
+}
+
+/// Appends what a global or a string holds at the start: numbers that fit, addresses of objects, or zeros.
 #[tactic(auto, using(crate::proofs::Statics::byte_is_plain, crate::proofs::Statics::word_is_plain, crate::proofs::Statics::null_is_plain))]
-fn put_datum(bytes: &mut Vec<u8>, global: &Datum) -> Result<(), AllocError>
-    ensures bytes { OnOk result (bytes.new.items ≡ bytes.old.items ++ datum_bytes (datum_tree global.now)) }
-    ensures plain { OnOk result (IsPlainDatum (datum_tree global.now)) }
+fn put_datum(bytes: &mut Vec<u8>, offsets: &[u64], global: &Datum) -> Result<(), AllocError>
+    ensures bytes { OnOk result (bytes.new.items ≡ bytes.old.items ++ datum_bytes offsets.now (datum_tree global.now)) }
+    ensures plain { OnOk result (IsPlainDatum offsets.now (datum_tree global.now)) }
 {
     match global {
         Datum::Byte(byte) => bytes.push(*byte)?,
         Datum::Word(word) => bytes.extend_from_slice(&word_bytes(*word))?,
         Datum::Null => put_zeros(bytes, 4)?,
+        Datum::Text(text) => put_text(bytes, text)?,
+        Datum::Address(object) => put_address(bytes, offsets, *object)?,
+        Datum::Bounds(object, count) => put_bounds(bytes, offsets, *object, *count)?,
         Datum::Whole(layout, count) => put_whole(bytes, layout.as_ref(), *count)?,
     }
     Ok(())
 }
 
-/// Appends a global, from the next multiple of 4 on. The bytes begin at the offset 0.
-fn put_global(bytes: &mut Vec<u8>, global: &Datum) -> Result<(), AllocError>
+/// Appends a global or a string, from the next multiple of 4 on. The bytes begin at the offset 0.
+fn put_global(bytes: &mut Vec<u8>, offsets: &[u64], global: &Datum) -> Result<(), AllocError>
     requires { vec_len bytes.old ≤ data_limit }
     ensures bytes { OnOk result
-        (bytes.new.items ≡ bytes.old.items ++ (zeros (rounded (vec_len bytes.old) - vec_len bytes.old) ++ datum_bytes (datum_tree global.now))) }
-    ensures plain { OnOk result (IsPlainDatum (datum_tree global.now)) }
+        (bytes.new.items ≡ bytes.old.items ++ (zeros (rounded (vec_len bytes.old) - vec_len bytes.old) ++ datum_bytes offsets.now (datum_tree global.now))) }
+    ensures plain { OnOk result (IsPlainDatum offsets.now (datum_tree global.now)) }
 {
     let padding = rounded(bytes.len()) - bytes.len();
     put_zeros(bytes, padding)?;
-    put_datum(bytes, global)?;
+    put_datum(bytes, offsets, global)?;
     Ok(())
 }
 
-/// The bytes of globals that aren't too large.
-fn globals_bytes(alloc: Global, globals: &[Datum]) -> Result<Vec<u8>, AllocError>
-    requires { length (data_bytes 0 (map datum_tree globals.now)) ≤ data_limit }
-    ensures bytes { IfOk result (λ bytes. bytes.items ≡ data_bytes 0 (map datum_tree globals.now)) }
-    ensures plain { IfOk result (λ bytes. ArePlainData (map datum_tree globals.now)) }
+/// The bytes of globals and strings that aren't too large, of which pointers name those that begin at these offsets.
+fn globals_bytes(alloc: Global, offsets: &[u64], globals: &[Datum]) -> Result<Vec<u8>, AllocError>
+    requires { length (data_bytes offsets.now 0 (map datum_tree globals.now)) ≤ data_limit }
+    ensures bytes { IfOk result (λ bytes. bytes.items ≡ data_bytes offsets.now 0 (map datum_tree globals.now)) }
+    ensures plain { IfOk result (λ bytes. ArePlainData offsets.now (map datum_tree globals.now)) }
 {
     let mut bytes = Vec::new(alloc);
     'each: for global in globals {
-        put_global(&mut bytes, global)?;
+        put_global(&mut bytes, offsets, global)?;
     }
     Ok(bytes)
 }
 
-/// The bytes of a program's globals, each from a multiple of 4 on. An `Err` is `TooLarge` exactly where they would be over
-/// 1,048,576 bytes, and else `Memory`, also where the cells of an object don't lie one behind the other: no lowered program has such.
+/// The bytes of a program's globals and strings, each from a multiple of 4 on; a pointer to one of them is its address. An `Err`
+/// is `TooLarge` exactly where they would be over 1,048,576 bytes, and else `Memory`, also where the cells of an object don't lie one
+/// behind the other, or a pointer names no object: no lowered program has such.
 pub fn data(alloc: Global, program: &Program) -> Result<Vec<u8>, PlaceFault>
-    ensures bytes { IfOk result (λ bytes. bytes.items ≡ data_bytes 0 (program_tree program.now).data_objects) }
-    ensures plain { IfOk result (λ bytes. ArePlainData (program_tree program.now).data_objects) }
+    ensures bytes { let ds = (program_tree program.now).data_objects in IfOk result (λ bytes. bytes.items ≡ data_bytes (data_offsets ds) 0 ds) }
+    ensures plain { let ds = (program_tree program.now).data_objects in IfOk result (λ bytes. ArePlainData (data_offsets ds) ds) }
     ensures within { IfOk result (λ bytes. vec_len bytes ≤ data_limit) }
-    ensures too_large { (result ≡ Err PlaceFault.TooLarge) ↔ (data_limit < length (data_bytes 0 (program_tree program.now).data_objects)) }
+    ensures too_large { let ds = (program_tree program.now).data_objects in
+        (result ≡ Err PlaceFault.TooLarge) ↔ (data_limit < length (data_bytes (data_offsets ds) 0 ds)) }
 {
     if are_too_large(&program.globals) {
         return Err(PlaceFault::TooLarge);
     }
-    let bytes = globals_bytes(alloc, &program.globals)?;
+    let offsets = statics(alloc, &program.globals)?;
+    let bytes = globals_bytes(alloc, &offsets, &program.globals)?;
     Ok(bytes)
 }

@@ -1,8 +1,8 @@
-//! From the lines of a program of Core to its code, and from its globals to the bytes of its data.
+//! From the lines of a program of Core to its code, and from its globals and strings to the bytes of its data.
 //!
 //! `place` gives each line its words, and each jump and call its offset from where its label stands:
 //! each machine with the code has the lines. The code is refused as too large exactly where it is
-//! over 1,048,576 bytes. `data` gives each global its bytes. Stands on `rv32_select`, `cyc_core`,
+//! over 1,048,576 bytes. `data` gives each global and string its bytes. Stands on `rv32_select`, `cyc_core`,
 //! `rv32_isa`, `byteorder`, `indexmap` and `thiserror`, and its clauses on the definitions of
 //! `core_lines`, `rv32_machine` and `cyc_image`.
 #![tactic(auto)]

@@ -25,13 +25,15 @@ fn local_bytes(local: &Local) -> u64
     }
 }
 
-/// The bytes of a global.
+/// The bytes of a global or a string.
 fn datum_bytes(global: &Datum) -> u64
     ensures { result ≡ selected.bytes_of (datum_local (datum_tree global.now)) }
 {
     match global {
         Datum::Byte(_) => 1,
-        Datum::Word(_) | Datum::Null => 4,
+        Datum::Word(_) | Datum::Null | Datum::Address(_) => 4,
+        Datum::Text(bytes) => bytes.len() as u64 + 1,
+        Datum::Bounds(_, _) => 12,
         Datum::Whole(layout, count) => whole_bytes(layout.as_ref(), *count),
     }
 }
@@ -78,7 +80,7 @@ pub fn offsets_from(alloc: Global, low: u64, locals: &[Local]) -> Result<Vec<u64
     Ok(offsets)
 }
 
-/// Where each global begins, from the first byte of the data on.
+/// Where each global and string begins, from the first byte of the data on.
 pub fn statics(alloc: Global, globals: &[Datum]) -> Result<Vec<u64>, AllocError>
     ensures { IfOk result (λ offsets. offsets.items ≡ offsets_from 0 (datum_locals (map datum_tree globals.now))) }
 {

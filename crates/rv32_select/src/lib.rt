@@ -20,3 +20,5 @@ mod whole;
 
 pub use function::select;
 pub use labelled::Labelled;
+pub use layout::statics;
+pub use operation::DATA_BASE;

@@ -21,7 +21,7 @@ use rv32_machine::{GETCHAR, PUTCHAR, REGION_FREE, REGION_NEW};
 use std::alloc::AllocError;
 
 /// The address at which a program's data begin.
-const DATA_BASE: u64 = 0x0020_0000;
+pub const DATA_BASE: u64 = 0x0020_0000;
 
 /// The number of the heap, which is its handle.
 const HEAP: u64 = 0;

@@ -11,7 +11,7 @@ each-preserved c =
     let inside : c.each.global-index < length globals = omega arith in
     let here = drop_more globals c.each.global-index d inside ∙ ap (λ x. x ∷ others) (sym c.global-item.is) in
     record {
-      whole = rest_joined (drop c.each.global-index globals) d others c.each.bytes.items c.put_global.new.bytes.items (vec_len c.each.bytes)
+      whole = rest_joined c.args.offsets.now (drop c.each.global-index globals) d others c.each.bytes.items c.put_global.new.bytes.items (vec_len c.each.bytes)
           (vec_len c.put_global.new.bytes) _ here (omega arith) (omega arith) c.in_ok-put_global.ensures.bytes c.each.invariant.whole;
-      plain = more_plain (drop c.each.global-index globals) d others globals here c.in_ok-put_global.ensures.plain c.each.invariant.plain;
+      plain = more_plain c.args.offsets.now (drop c.each.global-index globals) d others globals here c.in_ok-put_global.ensures.plain c.each.invariant.plain;
     }

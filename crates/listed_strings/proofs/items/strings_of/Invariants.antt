@@ -1,0 +1,9 @@
+use Rattle.std.proofs.Common.{◌≡◌, ◌++◌, drop}
+use Rattle.cyc_tree.specs.View.{program_tree}
+use Rattle.source_meaning.specs.Strings.{program_strings}
+use Rattle.listed_strings.specs.Listing.{listed}
+use Rattle.listed_strings.proofs.items.strings_of.Given as goal
+
+-- those so far and the rest are all
+abbrev pub invariant-each : goal.invariant-each
+invariant-each l = listed l.literals.items ++ program_strings (program_tree (drop l.item-index l.items)) ≡ program_strings (program_tree l.items)

@@ -1,0 +1,133 @@
+// The strings of a program, by their places.
+
+ghost use Rattle.std.specs.Prelude.{◌≡◌, ℕ, Some, None, IfOk, OnOk, if◌then◌else◌, nat_eq, map, option_map};
+ghost use Rattle.cyc_tree.specs.View.{program_tree};
+ghost use Rattle.source_meaning.specs.Places.{or_else};
+ghost use Rattle.source_meaning.specs.Strings.{program_strings};
+ghost use Rattle.listed_strings.specs.Listing.{listed, literal_of};
+ghost use Rattle.listed_strings.specs.Numbered.{first_at, in_places, numbered};
+
+use crate::items::strings_of;
+use crate::literal::Literal;
+use cyc_tree::Item;
+use indexmap::IndexMap;
+use std::alloc::{AllocError, Global};
+use std::marker::Model;
+
+/// A string: its number among the program's strings, and how many bytes it has with the final 0.
+#[derive(Clone, Copy)]
+pub struct Numbered {
+    pub number: u32,
+    pub count: u32,
+}
+
+/// The first string of each place.
+#[derive(Drop)]
+struct Places {
+    by_place: IndexMap<u32, Numbered>,
+}
+
+/// The strings of a program, by their places. A contract sees them as the literals in the order of the text.
+#[derive(Drop)]
+pub struct Strings<'p> {
+    all: Vec<Literal<'p>>,
+    places: Places,
+}
+
+impl<'p> Model for Strings<'p> {
+    ghost use Rattle.std.specs.Prelude.{List};
+    ghost use Rattle.source_meaning.specs.Strings as meaning;
+    ghost use Rattle.listed_strings.specs.Listing.{listed};
+    ghost use Rattle.listed_strings.specs.Numbered.{AreFirst};
+
+    ghost Value = { List meaning.Literal };
+
+    ghost view = { λ s. listed s.all.items };
+
+    ghost invariant = { λ s. AreFirst (listed s.all.items) s.places };
+}
+
+impl Places {
+    /// No place has one.
+    fn new(alloc: Global) -> Self
+        ensures { (at : ℕ) → in_places result at ≡ None }
+    {
+        Places {
+            by_place: IndexMap::new(alloc),
+        }
+    }
+
+    /// The first of the place.
+    fn of(&self, at: u32) -> Option<Numbered>
+        ensures { result ≡ in_places self.now at }
+    {
+        match self.by_place.get(&at) {
+            Some(first) => Some(*first),
+            None => None,
+        }
+    }
+
+    /// Adds one of the place, which is the first where the place has none. Fails only where no host memory is left.
+    fn add(&mut self, at: u32, value: Numbered) -> Result<(), AllocError>
+        ensures { OnOk result ((other : ℕ) → in_places self.new other ≡ or_else (in_places self.old other) (if nat_eq at other then Some value else None)) }
+    {
+        if !self.by_place.contains_key(&at) {
+            self.by_place.insert(at, value)?;
+        }
+        Ok(())
+    }
+}
+
+/// A string of this number. Fails where its bytes are more than a word counts.
+fn number_of<'p>(literal: &Literal<'p>, number: u32) -> Result<Numbered, AllocError>
+    ensures { IfOk result (λ n. n ≡ numbered (literal_of literal.now) number) }
+{
+    match u32::try_from(literal.bytes.len()) {
+        Ok(bytes) => match bytes.checked_add(1) {
+            Some(count) => Ok(Numbered { number, count }),
+            None => Err(AllocError),
+        },
+        Err(_) => Err(AllocError),
+    }
+}
+
+/// The first string of each place.
+fn first_places<'p>(alloc: Global, all: &[Literal<'p>]) -> Result<Places, AllocError>
+    ensures { IfOk result (λ places. (at : ℕ) → in_places places at ≡ first_at (map literal_of all.now) 0 at) }
+{
+    let mut places = Places::new(alloc);
+    let mut number = 0_u32;
+    'each: for literal in all {
+        places.add(literal.at, number_of(literal, number)?)?;
+        match number.checked_add(1) {
+            Some(next) => number = next,
+            None => return Err(AllocError),
+        }
+    }
+    Ok(places)
+}
+
+impl<'p> Strings<'p> {
+    /// The strings of a program. Fails where no host memory is left, or there are more than a word counts.
+    pub fn of(alloc: Global, items: &'p [Item]) -> Result<Self, AllocError>
+        ensures { IfOk result (λ strings. strings ≡ program_strings (program_tree items.entry.now)) }
+    {
+        let all = strings_of(alloc, items)?;
+        let places = first_places(alloc, &all)?;
+        Ok(Strings { all, places })
+    }
+
+    /// All of them, in the order of the text.
+    pub fn all(&self) -> &[Literal<'p>]
+        ensures { map literal_of result.now ≡ self.now }
+    {
+        &self.all
+    }
+
+    /// The first string of a place.
+    pub fn at(&self, at: u32) -> Option<Numbered>
+        ensures { result ≡ first_at self.now 0 at }
+    {
+        self.places.of(at)
+    }
+}

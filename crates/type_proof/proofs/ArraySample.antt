@@ -1,5 +1,5 @@
 -- A block with an array that is in order: `{ int a[3]; a[1] = 5; int ?p = a + 1; return *p + numelts(p); }`.
-use Rattle.std.proofs.Common.{false, Some, None, [], ◌∷◌, refl, arith}
+use Rattle.std.proofs.Common.{false, Some, None, [], ◌∷◌, refl, arith, true}
 use Prim.Native.String.{String}
 use Rattle.std.specs.Prelude.{ℕ, codes}
 use Rattle.cyc_tree.specs.declared.expression.Operator.TheVariants.{Add}
@@ -13,17 +13,17 @@ use Rattle.source_typing.specs.Scope.{Env, Nowhere, at_item, block_entered}
 use Rattle.source_typing.specs.Types.{Int, Unsigned, Fat}
 use Rattle.type_proof.specs.Judged.{ItemsJudged}
 
-abbrev name_at : ℕ → String → tree.Name
+abbrev pub name_at : ℕ → String → tree.Name
 name_at at s = record { at = at; text = codes s }
 
-abbrev variable_at : ℕ → String → Expression
+abbrev pub variable_at : ℕ → String → Expression
 variable_at at s = Expression.Variable (name_at at s)
 
-abbrev number : ℕ → ℕ → Expression
+abbrev pub number : ℕ → ℕ → Expression
 number at n = Expression.Number at n false
 
 -- the body of a function that takes nothing and gives an int
-abbrev inside : Env
+abbrev pub inside : Env
 inside = block_entered (record (at_item false [] 0) { regions = entry_regions 0 [] []; result = Some Int })
 
 abbrev block : BlockItems
@@ -35,18 +35,32 @@ block = Declare (tree.Local (record { at = 2; base = tree.Int; pointers = [] }) 
     (MoreLinks Add (Expression.NumElts 50 (variable_at 58 "p")) NoLinks)))) NoItems)))
 
 -- the array lies in the block's region, and so do the elements that p spans
-pub block_judged : ItemsJudged inside block
+pub block_judged : ItemsJudged inside true block
 block_judged = (
   record { type = Int; object = tt; below = tt; begins = refl; shape = refl; scope = refl },
   (
-    record { value = record { at = 12; type = Int; seat = Nowhere }; judged = refl; is_taken = refl; operands = ((tt, (tt, (tt, tt))), tt) },
+    record {
+      value = record { at = 12; type = Int; seat = Nowhere };
+      judged = refl;
+      is_taken = refl;
+      operands = ((tt, (tt, (tt, tt))), tt);
+      members =
+          ((tt, (tt, tt)), tt);
+    },
     (
       record {
         type = Fat (Level 0) Int;
         object = tt;
         below = (omega arith, tt);
         fitting = record {
-          accepted = record { value = record { at = 31; type = Fat (Level 0) Int; seat = Nowhere }; judged = refl; is_taken = refl; operands = (tt, (tt, (tt, tt))) };
+          accepted = record {
+            value = record { at = 31; type = Fat (Level 0) Int; seat = Nowhere };
+            judged = refl;
+            is_taken = refl;
+            operands =
+                (tt, (tt, (tt, tt)));
+            members = (tt, (tt, tt));
+          };
           converts = Same;
         };
         shape = refl;
@@ -58,7 +72,13 @@ block_judged = (
           result = refl;
           object = tt;
           fitting = record {
-            accepted = record { value = record { at = 45; type = Unsigned; seat = Nowhere }; judged = refl; is_taken = refl; operands = (tt, (tt, (tt, tt))) };
+            accepted = record {
+              value = record { at = 45; type = Unsigned; seat = Nowhere };
+              judged = refl;
+              is_taken = refl;
+              operands = (tt, (tt, (tt, tt)));
+              members = (tt, (tt, tt));
+            };
             converts = Integers refl refl;
           };
         },

@@ -7,6 +7,7 @@ use Rattle.source_meaning.specs.Shapes.{Shape}
 use Rattle.source_meaning.specs.Memory.{Region, Frame, Born, Scalar, Integer, AsInt, Live, Memory}
 use Rattle.source_meaning.specs.Steps.{World, take_turn, Scope, Flow, Falls, Breaks, Continues, Returns, Step, Act, give, ◌>>=◌, ◌>>◌, say}
 use Rattle.source_meaning.specs.Regions.{in_block}
+use Rattle.source_meaning.specs.Strings.{expression_strings, statement_strings}
 use Rattle.source_meaning.specs.Statements.{block_items, loop, statement}
 use Rattle.source_meaning.specs.Programs.{entered, with_arguments, result_of, result_at_end, is_main}
 use Rattle.source_typing.specs.Scope.{Env, Local, block_entered}
@@ -34,9 +35,10 @@ use Rattle.type_proof.proofs.invariant.Scopes.{above_scope, block_ghost, block_m
 use Rattle.type_proof.proofs.invariant.Arguments.{Flown, bound_all, runs_arguments}
 use Rattle.type_proof.proofs.invariant.Layouts.{agrees}
 use Rattle.type_proof.proofs.invariant.Names.{NameOf}
+use Rattle.type_proof.proofs.Strings.{found_parts}
 use Rattle.type_proof.proofs.invariant.Scenes.{Alike, Globals, Scene, scene_later}
 use Rattle.type_proof.proofs.Entries.{Function, Enters, Invokes}
-use Rattle.type_proof.proofs.statements.Surroundings.{surrounds_loop}
+use Rattle.type_proof.proofs.statements.Looped.{surrounds_loop}
 use Rattle.type_proof.proofs.statements.Flows.{WaysStand, ReturnOk, Turning}
 use Rattle.type_proof.proofs.statements.Ways.{head_leaves, turn_goes}
 use Rattle.type_proof.proofs.statements.Unreached.{items_fall_nowhere}
@@ -46,7 +48,8 @@ use Rattle.type_proof.proofs.statements.Statements.{condition_tells}
 use Rattle.flow_summaries.specs.Statements.{exits_of}
 use Rattle.flow_summaries.proofs.Statements.{exits_told}
 use Rattle.type_proof.proofs.statements.Blocks.{items_leave, statement_leaves}
-use Rattle.type_proof.proofs.statements.Parameters.{landing, inv_landed, grows_landed, flown_moved, with_all, beginning, all_shaped, types_alike, types_up, AllBound, all_bound}
+use Rattle.type_proof.proofs.statements.Parameters.{landing, inv_landed, grows_landed, flown_moved, with_all, beginning, all_shaped, types_alike, types_up}
+use Rattle.type_proof.proofs.statements.Parameters.{AllBound, all_bound}
 use Rattle.type_proof.proofs.statements.Functions.{FunctionJudged, Sources, entry_scope, entry_names, count_is, variables_alike, surrounds_entry, scene_entry}
 
 module _ (n : ℕ) (d : Tables) (world : World) (tables : typing.Tables) (sources : Sources d world tables) (invokes : Invokes n d world tables)
@@ -65,7 +68,8 @@ module _ (n : ℕ) (d : Tables) (world : World) (tables : typing.Tables) (source
     Left (Returns vs) w = ReturnOk d (renamed h F.gives) vs w
 
     -- by the way on which it is left
-    left_with : (scope : Scope) (f : NameOf → Region) (s : States) → inner.in_loop ≡ judged.outside.in_loop → inner.in_switch ≡ judged.outside.in_switch → (flow : Flow) (w : Ghost) (m : Memory)
+    left_with : (scope : Scope) (f : NameOf → Region) (s : States) → inner.in_loop ≡ judged.outside.in_loop → inner.in_switch ≡ judged.outside.in_switch
+        → (flow : Flow) (w : Ghost) (m : Memory)
         → WaysStand d (renamed h F.gives) inner scope f (left_by_items inner F.routine.body s) flow w m → Left flow w
     left_with scope f s a c Falls w m y = by (ways_of_items F.routine.body).falls refl
       where
@@ -140,13 +144,16 @@ module _ (n : ℕ) (d : Tables) (world : World) (tables : typing.Tables) (source
             (bound_all start F.routine.parameters ss) w2 m2 =
             all_bound d world tables f0 (renamed h F.gives) a0 inner (m1.objects (Frame a0)) F.routine.parameters F.types ss vss g0 start w2 m2
             (surrounds_entry d world tables sources x s F judged h enters.heap_is a0) refl F.objects takes_below F.shapes tt landed in
-            let first : Scene d g0 start f0 a0 (beginning inner judged.outside.locals) k w1 m1 = scene_entry d world tables sources x s F judged h k w m i globals enters inner in
+            let first : Scene d g0 start f0 a0 (beginning inner judged.outside.locals) k w1 m1 =
+            scene_entry d world tables sources x s F judged h k w m i globals enters inner in
             let scene : Scene d g0 start f0 a0 (beginning inner judged.outside.locals) k w2 m2 =
-            scene_later d g0 start f0 a0 (beginning inner judged.outside.locals) (beginning inner judged.outside.locals) k w1 m1 w2 m2 i2 g2 (no_locals judged.locals w2 m2) first in
+            scene_later d g0 start f0 a0 (beginning inner judged.outside.locals) (beginning inner judged.outside.locals) k w1 m1 w2 m2 i2 g2
+            (no_locals judged.locals w2 m2) first in
             record {
               by = λ next q.
                   (items_leave n d world tables invokes turns a0 (renamed h F.gives) F.routine.body (with_all F.routine.parameters F.types g0)
-                  (bound_all start F.routine.parameters ss) f0 all.surrounds judged.body (states_at inner) judged.flow k w2 m2 i2 (all.scene a0 k scene)).by next
+                  (bound_all start F.routine.parameters ss) f0 all.surrounds judged.body (sources.spelled x F.routine F.found) (states_at inner) judged.flow k
+                  w2 m2 i2 (all.scene a0 k scene)).by next
                   (λ flow m3 y. q flow m3 (record {
                     ghost = y.ghost;
                     inv = y.inv;
@@ -219,11 +226,16 @@ module _ (d : Tables) (world : World) (tables : typing.Tables) (sources : Source
   }
 
   next_turns : (n : ℕ) → Invokes n d world tables → Turning n d world tables → Turning (suc n) d world tables
-  next_turns n invokes turns gives g scope f b condition body h c j = λ st head k w m i x. record {
-    by = λ next q. (turn_goes n d gives g scope f b (use_of g condition).look (left_by (in_a_loop g) body) (exits_of (in_a_loop g) body) (statement body scope) (loop condition body scope)
-        (statement_leaves n d world tables invokes turns b gives body (in_a_loop g) scope f (surrounds_loop d world tables g scope f gives h) j) (exits_told body (in_a_loop g)) st head
-        (head_leaves n d gives g scope f b (use_of g condition).look (left_by (in_a_loop g) body) (exits_of (in_a_loop g) body) (truth (sense condition scope)) (take_turn condition body scope)
-        (condition_tells n d world tables invokes b gives g scope f condition h c) (exits_told body (in_a_loop g)) (turns gives g scope f b condition body h c j) st head) k w m i x).by next
+  next_turns n invokes turns gives g scope f b condition body h c j found = λ st head k w m i x. record {
+    by = λ next q. (turn_goes n d gives g scope f b (use_of g condition).look (left_by (in_a_loop g) body) (exits_of (in_a_loop g) body) (statement body scope)
+        (loop condition body scope)
+        (statement_leaves n d world tables invokes turns b gives body (in_a_loop g) scope f (surrounds_loop d world tables g scope f gives h) j
+        (found_parts world.strings (expression_strings condition) (statement_strings body) found).1) (exits_told body (in_a_loop g)) st head
+        (head_leaves n d gives g scope f b (use_of g condition).look (left_by (in_a_loop g) body) (exits_of (in_a_loop g) body) (truth (sense condition scope))
+        (take_turn condition body scope)
+        (condition_tells n d world tables invokes b gives g scope f condition h c
+        (found_parts world.strings (expression_strings condition) (statement_strings body) found).0)
+        (exits_told body (in_a_loop g)) (turns gives g scope f b condition body h c j found) st head) k w m i x).by next
         (λ flow m2 z. safe_less n (next flow m2) (q flow m2 z));
   }
 
@@ -231,7 +243,7 @@ module _ (d : Tables) (world : World) (tables : typing.Tables) (sources : Source
   pub all_fuel : (n : ℕ) → Invokes n d world tables × Turning n d world tables
   all_fuel zero = (
     λ x s F there h k b w m vss below i globals enters flown. record { by = λ next q. tt },
-    λ gives g scope f b condition body h c j st head k w m i z. record { by = λ next q. tt },
+    λ gives g scope f b condition body h c j found st head k w m i z. record { by = λ next q. tt },
   )
   all_fuel (suc n) =
       let h : Invokes n d world tables × Turning n d world tables = all_fuel n in (next_invokes n h.0 h.1, next_turns n h.0 h.1)

@@ -11,7 +11,7 @@ use Rattle.source_typing.specs.Calls.{all_live, all_ordered}
 use Rattle.source_typing.specs.Regions.{TheHeap}
 use Rattle.source_typing.specs.Scope.{Env, meant, is_live, outlives}
 use Rattle.source_typing.specs.Tables as typing
-use Rattle.source_typing.specs.Tables.{Entry, OfFunction, Signature, find, argument}
+use Rattle.source_typing.specs.Tables.{Entry, OfValue, OfTag, OfFunction, OfBuiltin, OfOther, Stored, Arrayed, Counter, Unknown, Signature, find, argument}
 use Rattle.source_typing.specs.Types.{StaticType, Int, Unsigned, Char, Void, Null, Thin, Fat, Unique, Handle, Key, Struct, Union, renamed}
 use Rattle.source_typing.specs.Moves.{Use}
 use Rattle.source_typing.specs.States.{States}
@@ -43,13 +43,29 @@ object_plain (Unique n t) e = absurd e
 object_plain (Handle r) e = tt
 object_plain (Key r) e = absurd e
 object_plain (Struct tag rs) e = e
-object_plain (Union tag rs) e = absurd e
+object_plain (Union tag rs) e = e
 
 -- ---- functions
 
--- all that is in scope is of such types
+-- what a name in scope may be: what is declared, or the index of elements that are made
+abbrev pub MeansEntry : World → List ℕ → Entry → Type 0
+MeansEntry world x (OfValue Counter) = Unit {0}
+MeansEntry world x e = PlainEntry world x e
+
+-- all that is in scope is of these
 abbrev pub MeansPlain : World → Env → Type 0
-MeansPlain world g = (x : List ℕ) (e : Entry) → meant g x ≡ Some e → PlainEntry world x e
+MeansPlain world g = (x : List ℕ) (e : Entry) → meant g x ≡ Some e → MeansEntry world x e
+
+-- what is declared may be in scope
+pub declared_means : (world : World) (x : List ℕ) (e : Entry) → PlainEntry world x e → MeansEntry world x e
+declared_means world x (OfValue (Stored t r)) h = h
+declared_means world x (OfValue (Arrayed t r)) h = h
+declared_means world x (OfValue Counter) h = absurd h
+declared_means world x (OfValue Unknown) h = absurd h
+declared_means world x (OfTag t) h = h
+declared_means world x (OfFunction s) h = h
+declared_means world x (OfBuiltin c) h = h
+declared_means world x OfOther h = absurd h
 
 -- a type as it is in any run, if it names no region but the heap
 abbrev pub run_type : StaticType → RunType
@@ -111,7 +127,8 @@ module _ (d : Tables) (g : Env) (f : NameOf → Region) (k : ℕ) (w : Ghost) (m
 
 module _ (n : ℕ) (d : Tables) (g : Env) (scope : Scope) (f : NameOf → Region) (b : ℕ) where
   -- a call of one of the program's functions, whose region variables stand for these
-  pub gives_called : (x : List ℕ) (s : Signature) (F : Function scope.world x s) (us : List Use) (es : List Sense) (rs : List NameOf) → Invokes n d scope.world g.tables
+  pub gives_called : (x : List ℕ) (s : Signature) (F : Function scope.world x s) (us : List Use) (es : List Sense) (rs : List NameOf)
+      → Invokes n d scope.world g.tables
       → find g.tables x ≡ Some (OfFunction s) → g.lenient ≡ false → AllBelow g.regions.count rs → all_live g rs s.effect ≡ true
       → all_ordered g rs s.bounds ≡ true
       → AllPass n d g scope f b (part_shapes F.routine.parameters) (map (renamed (argument rs)) F.types) us es

@@ -38,9 +38,11 @@ first_inv d os = record {
   top = λ q e. upper_is q heap e;
   heap_lives = refl;
   heap_is_free = refl;
-  unborn = λ r n. at_region (λ x. Dead) heap Live r (λ x. x ≡ Dead) (λ e. absurd (n (subst (λ (x : Region). Known (heap_alone os) x) (sym e) (omega arith)))) (λ e. refl);
+  unborn = λ r n. at_region (λ x. Dead) heap Live r (λ x. x ≡ Dead) (λ e. absurd (n (subst (λ (x : Region). Known (heap_alone os) x) (sym e) (omega arith))))
+      (λ e. refl);
   unowned = λ r n. refl;
-  empty = λ r n. if_cases (same_region r heap) _ 0 (λ x. x ≡ 0) (λ e. absurd (n (subst (λ (x : Region). Known (heap_alone os) x) (sym (region_is r heap e)) (omega arith)))) (λ e. refl);
+  empty = λ r n. if_cases (same_region r heap) _ 0 (λ x. x ≡ 0)
+      (λ e. absurd (n (subst (λ (x : Region). Known (heap_alone os) x) (sym (region_is r heap e)) (omega arith)))) (λ e. refl);
   born_upper = λ q r e. subst (λ (x : Region). Known (heap_alone os) x) (sym (upper_is q r e)) (omega arith);
   born_lower = λ q r e. subst (λ (x : Region). Known (heap_alone os) x) (sym (lower_is q r e)) (omega arith);
   along = λ p q r e h. both_heap p r (upper_is p q e) (lower_is q r h);

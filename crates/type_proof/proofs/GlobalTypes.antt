@@ -5,7 +5,7 @@ use Rattle.std.proofs.lemmas.Bool.{cases_Bool, false≢true}
 use Rattle.std.proofs.lemmas.Slice.Eq.{bytes_eq-Decides}
 use Rattle.cyc_tree.specs.Tree as tree
 use Rattle.cyc_tree.specs.Tree.{Constant, Initial, Item}
-use Rattle.source_meaning.specs.Shapes.{Shared, Shape, IntShape, UnsignedShape, CharShape, ThinShape, FatShape, StructShape}
+use Rattle.source_meaning.specs.Shapes.{Shared, Shape, IntShape, UnsignedShape, CharShape, ThinShape, FatShape, StructShape, UnionShape}
 use Rattle.source_meaning.specs.Steps.{World}
 use Rattle.source_typing.specs.Regions.{Region}
 use Rattle.source_typing.specs.Tables as typing
@@ -13,7 +13,7 @@ use Rattle.source_typing.specs.Tables.{What, Entry, OfValue, OfTag, OfFunction, 
 use Rattle.source_typing.specs.Tables.{parts_in, begins}
 use Rattle.source_typing.specs.Types.{StaticType, Int, Unsigned, Char, Void, Null, Thin, Fat, Unique, Handle, Key, Struct, Union, shape_of}
 use Rattle.type_proof.specs.Entries.{IsObjectType, PlainTables}
-use Rattle.type_proof.specs.Programs.{IsNumber, IsNullConstant, IsFirst, InitialJudged, GlobalJudged, GlobalsJudged}
+use Rattle.type_proof.specs.Programs.{IsNumber, IsPointerConstant, IsFirst, InitialJudged, GlobalJudged, GlobalsJudged}
 use Rattle.type_proof.proofs.invariant.Layouts.{same_text}
 
 -- ---- whether two types have one shape
@@ -56,7 +56,11 @@ objects_shaped (Fat r t) (Fat q u) e h = fats_shaped r q t u (objects_shaped t u
 objects_shaped (Fat r t) u e h = inr (λ z. cc)
 objects_shaped (Unique n t) u e h = absurd e
 objects_shaped (Key r) u e h = absurd e
-objects_shaped (Union x rs) u e h = absurd e
+objects_shaped (Union x rs) (Union y qs) e h = elim (cases_Bool (bytes_eq x y)) [
+  | inl z ↦ inl (ap UnionShape ((bytes_eq-Decides x y).0 z))
+  | inr z ↦ inr (λ k. let same : x ≡ y = cc in false≢true (sym z ∙ (ap (λ (a : List ℕ). bytes_eq a y) same ∙ same_text y)))
+]
+objects_shaped (Union x rs) u e h = inr (λ z. cc)
 
 -- ---- how a variable begins goes by its shape
 
@@ -83,14 +87,14 @@ begins_shaped n g (Handle r) e = refl
 begins_shaped n g (Key r) e = absurd e
 begins_shaped zero g (Struct tag rs) e = refl
 begins_shaped (suc n) g (Struct tag rs) e = refl
-begins_shaped n g (Union tag rs) e = absurd e
+begins_shaped n g (Union tag rs) e = refl
 
 abbrev FirstBy : Shape → Constant → Type 0
 FirstBy IntShape c = IsNumber c
 FirstBy UnsignedShape c = IsNumber c
 FirstBy CharShape c = IsNumber c
-FirstBy (ThinShape b owner to) c = IsNullConstant c
-FirstBy (FatShape to) c = IsNullConstant c
+FirstBy (ThinShape b owner to) c = IsPointerConstant to c
+FirstBy (FatShape to) c = IsPointerConstant to c
 FirstBy s c = ⊥
 
 to_shape : (t : StaticType) (c : Constant) → IsObjectType t → IsFirst t c → FirstBy (shape_of t) c
@@ -105,7 +109,7 @@ to_shape (Unique b t) c e h = absurd e
 to_shape (Handle r) c e h = h
 to_shape (Key r) c e h = absurd e
 to_shape (Struct tag rs) c e h = h
-to_shape (Union tag rs) c e h = absurd e
+to_shape (Union tag rs) c e h = h
 
 from_shape : (t : StaticType) (c : Constant) → IsObjectType t → FirstBy (shape_of t) c → IsFirst t c
 from_shape Int c e h = h
@@ -119,7 +123,7 @@ from_shape (Unique b t) c e h = absurd e
 from_shape (Handle r) c e h = h
 from_shape (Key r) c e h = absurd e
 from_shape (Struct tag rs) c e h = h
-from_shape (Union tag rs) c e h = absurd e
+from_shape (Union tag rs) c e h = h
 
 initial_shaped : (t u : StaticType) (i : Initial) → IsObjectType t → IsObjectType u → shape_of t ≡ shape_of u → InitialJudged u i → InitialJudged t i
 initial_shaped t u Initial.Unset e h z j = tt
@@ -163,7 +167,8 @@ global_typed world tables x plain j = by (find tables x.name.text) refl
       judged = record {
         type = t;
         object = o;
-        begins = begins_shaped (length tables) tables t o ∙ (ap (begins_by (length tables) tables) z ∙ (sym (begins_shaped (length tables) tables j.type j.object) ∙ j.begins));
+        begins = begins_shaped (length tables) tables t o ∙
+            (ap (begins_by (length tables) tables) z ∙ (sym (begins_shaped (length tables) tables j.type j.object) ∙ j.begins));
         shape = j.shape ∙ sym z;
         initial = initial_shaped t j.type x.initial o j.object z j.initial;
       };
@@ -197,7 +202,8 @@ global_typed world tables x plain j = by (find tables x.name.text) refl
     by (Some (OfBuiltin n)) e = no_value (Some (OfBuiltin n)) e (λ v q. cc)
     by (Some OfOther) e = no_value (Some OfOther) e (λ v q. cc)
 
-pub globals_typed : (world : World) (tables : typing.Tables) (items : List Item) → PlainTables world tables → GlobalsJudged tables items → GlobalsTyped tables items
+pub globals_typed : (world : World) (tables : typing.Tables) (items : List Item) → PlainTables world tables → GlobalsJudged tables items
+    → GlobalsTyped tables items
 globals_typed world tables [] plain h = tt
 globals_typed world tables (tree.GlobalItem x ∷ items) plain h = (global_typed world tables x plain h.0, globals_typed world tables items plain h.1)
 globals_typed world tables (tree.StructItem s ∷ items) plain h = globals_typed world tables items plain h

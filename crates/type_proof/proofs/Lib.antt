@@ -1,4 +1,5 @@
 pub mod invariant
+pub mod Strings
 pub mod expressions
 pub mod Entries
 pub mod statements
@@ -6,7 +7,11 @@ pub mod Entered
 pub mod First
 pub mod GlobalTypes
 pub mod Started
+pub mod FirstStrings
 pub mod Never
 pub mod Same
 pub mod Sample
 pub mod ArraySample
+pub mod StringSample
+pub mod FilledSample
+pub mod SwitchSample

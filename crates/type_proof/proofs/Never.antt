@@ -1,6 +1,6 @@
 -- A program that is in order is never stuck, on any input, with any fuel.
 use Rattle.std.proofs.Common.{◌≡◌, ℕ, zero, suc, ◌+◌, Bool, true, false, inl, Option, Some, None, List, [], ◌∷◌, refl, sym, ◌∙◌, ap, subst, arith}
-use Rattle.std.specs.Prelude.{map, ◌++◌, slice_get, option_and_then, codes, bytes_eq, if◌then◌else◌}
+use Rattle.std.specs.Prelude.{map, length, ◌++◌, slice_get, option_and_then, codes, bytes_eq, if◌then◌else◌}
 use Rattle.std.proofs.lemmas.Bool.{false≢true}
 use Rattle.std.proofs.lemmas.Option.{slice_get_within, same_Some}
 use Rattle.cyc_tree.specs.Tree as tree
@@ -13,13 +13,14 @@ use Rattle.source_meaning.specs.Conversions.{one, integer}
 use Rattle.source_meaning.specs.Places.{bound_to}
 use Rattle.source_meaning.specs.Calls.{function_of}
 use Rattle.source_meaning.specs.Strings.{program_strings}
-use Rattle.source_meaning.specs.Programs.{heap_spot, heap_alone, global_shape, global_object, global_objects, string_object, world_of, entered, start, source}
+use Rattle.source_meaning.specs.Programs.{heap_spot, heap_alone, globals_from, global_shape, global_object, global_objects, string_object, world_of, entered}
+use Rattle.source_meaning.specs.Programs.{start, source}
 use Rattle.source_typing.specs.Tables as typing
 use Rattle.source_typing.specs.Tables.{What, OfValue, Stored, Arrayed, Counter, Unknown, Signature, find}
 use Rattle.source_typing.specs.Types.{Int, Unsigned, Char, Void, Null, Thin, Fat, Unique, Handle, Key, Struct, Union, StaticType, shape_of}
 use Rattle.type_proof.specs.Flat.{Tables, flat}
 pub use Rattle.type_proof.specs.Programs.{GlobalFound, ArrayFound, MainFound, ProgramJudged}
-use Rattle.type_proof.proofs.invariant.Invariant.{heap, Ghost, Laid, AllLaid, HaveTypes, Inv}
+use Rattle.type_proof.proofs.invariant.Invariant.{heap, Reached, Ghost, Laid, AllLaid, HaveTypes, Inv}
 use Rattle.type_proof.proofs.invariant.Runs.{Safe, Runs, not_stuck}
 use Rattle.type_proof.proofs.invariant.After.{flying}
 use Rattle.type_proof.proofs.invariant.Layouts.{Structs}
@@ -31,6 +32,9 @@ use Rattle.type_proof.proofs.Entries.{run_type, Enters, Invokes}
 use Rattle.type_proof.proofs.statements.Functions.{Sources}
 use Rattle.type_proof.proofs.Entered.{runs_entered, all_fuel}
 use Rattle.type_proof.proofs.First.{first_ghost, first_inv}
+use Rattle.type_proof.proofs.invariant.Rows.{got_behind}
+use Rattle.type_proof.proofs.Strings.{AreFound, StringsLaid, all_found, routine_found, strings_kept}
+use Rattle.type_proof.proofs.FirstStrings.{StringsTyped, strings_typed, globals_counted, ready_before}
 use Rattle.std.proofs.lemmas.Slice.Eq.{bytes_eq-Decides}
 use Rattle.type_proof.proofs.GlobalTypes.{globals_typed}
 use Rattle.type_proof.proofs.Started.{Ready, InitialLaid, TypedEntity, EachTyped, runs_globals}
@@ -152,9 +156,9 @@ module _ (p : Program) (tables : typing.Tables) (judged : ProgramJudged p tables
   abbrev world : World
   world = world_of p
 
-  -- its structs, and no unions
+  -- its structs and unions
   abbrev d : Tables
-  d = record { structs = judged.structs.types; unions = [] }
+  d = record { structs = judged.structs.types; unions = judged.unions.types }
 
   structs : Structs d world tables
   structs = record {
@@ -162,16 +166,23 @@ module _ (p : Program) (tables : typing.Tables) (judged : ProgramJudged p tables
     laid_out = judged.structs.laid_out;
     few = judged.structs.few;
     plain = judged.plain;
+    unions_laid = judged.unions.laid_out;
+    unions = judged.unions.members;
   }
 
-  all_globals : (w : Ghost) → EachTyped d tables w world.globals → Globals d tables world w
-  all_globals w h x v e = laid_global d tables w world.globals x v h e
+  all_globals : (w : Ghost) → EachTyped d tables w world.globals → StringsLaid w world.strings → Globals d tables world w
+  all_globals w h strings = record { named = λ x v e. laid_global d tables w world.globals x v h e; strings = strings }
+
+  -- each literal is found by its place
+  spelled : AreFound world.strings (program_strings p)
+  spelled = all_found (program_strings p) (length (globals_from p 0))
 
   sources : Sources d world tables
   sources = record {
     structs = structs;
     globals = found;
     functions = judged.functions;
+    spelled = λ x f e. routine_found world.strings x f p spelled e;
   }
     where
       found : (x : List ℕ) (v : What) → find tables x ≡ Some (OfValue v) → BoundAs 0 (λ a. heap) (bound_to world.globals x) v
@@ -183,17 +194,17 @@ module _ (p : Program) (tables : typing.Tables) (judged : ProgramJudged p tables
             z.count,
             record { at = heap_spot z.number; is = z.is; region = refl; within = subst (λ (q : NameOf). Below 0 q) (sym z.region) tt; below = z.below },
           )
-      found x Counter e = tt
+      found x Counter e = absurd (judged.plain x (OfValue Counter) e)
       found x Unknown e = tt
 
   -- `main` is entered once the globals are stored
-  runs_main : (n : ℕ) (w : Ghost) (m : Memory) → Inv d w m → EachTyped d tables w world.globals
+  runs_main : (n : ℕ) (w : Ghost) (m : Memory) → Inv d w m → EachTyped d tables w world.globals → StringsLaid w world.strings
       → Runs n (need (function_of world.functions (codes "main")) >>= λ f. entered f world [] >>= one >>= integer) m (λ status m'. Unit {0})
-  runs_main n w m i each =
+  runs_main n w m i each strings =
       let main : MainFound world tables = judged.main in
       let fuel : Invokes n d world tables × Rattle.type_proof.proofs.statements.Flows.Turning n d world tables = all_fuel d world tables sources n in
       let runs = runs_entered n d world tables sources fuel.0 fuel.1 (codes "main") main.signature main.function
-      (judged.functions (codes "main") main.signature main.function main.found) (λ a. heap) 0 0 w m [] (omega arith) i (all_globals w each)
+      (judged.functions (codes "main") main.signature main.function main.found) (λ a. heap) 0 0 w m [] (omega arith) i (all_globals w each strings)
       (heap_enters d main.signature w m i)
       (subst (λ (ts : List StaticType). Rattle.type_proof.proofs.invariant.Arguments.Flown d w 0 [] (map run_type ts)) (sym main.types) tt) in
       subst (λ (o : Option Routine). Runs n (need o >>= λ f. entered f world [] >>= one >>= integer) m (λ status m'. Unit {0})) (sym main.function.found)
@@ -211,11 +222,19 @@ module _ (p : Program) (tables : typing.Tables) (judged : ProgramJudged p tables
 
   safe_start : (n : ℕ) → Safe n (start p)
   safe_start n =
-      let os : List Object = global_objects world p ++ map string_object (program_strings p) in
-      (runs_globals d n world tables structs (λ status m'. Unit {0}) p 0 first_ghost (heap_alone os)
-      (need (function_of world.functions (codes "main")) >>= λ f. entered f world [] >>= one >>= integer) (globals_typed world tables p judged.plain judged.globals) (first_inv d os)
-      (first_ready world p 0 os (map string_object (program_strings p)) (λ i. ap (slice_get os) (omega arith)))
-      (λ w m i keeps each. runs_main n w m i each)).by (λ status m. Stops (SourceEnding.Ended status)) (λ status m x. safe_ended n status)
+      let ss : List Object = map string_object (program_strings p) in
+      let os : List Object = global_objects world p ++ ss in
+      let count : ℕ = length (globals_from p 0) in
+      let z : StringsTyped d first_ghost (heap_alone os) (program_strings p) count =
+      strings_typed d first_ghost os (program_strings p) count (first_inv d os) (λ y l. refl)
+      (λ i. ap (λ (c : ℕ). slice_get os (c + i)) (globals_counted world p 0) ∙ got_behind (global_objects world p) ss i) in
+      let ready : Ready world p 0 first_ghost (heap_alone os) = first_ready world p 0 os ss (λ i. ap (slice_get os) (omega arith)) in
+      (runs_globals d n world tables structs (λ status m'. Unit {0}) p 0 z.ghost (heap_alone os)
+      (need (function_of world.functions (codes "main")) >>= λ f. entered f world [] >>= one >>= integer)
+      (globals_typed world tables p judged.plain judged.globals) spelled z.laid z.inv
+      (ready_before world p 0 first_ghost z.ghost (heap_alone os) (λ y l. z.before y (omega (arith, l))) ready)
+      (λ w m i keeps each. runs_main n w m i each (strings_kept z.ghost w world.strings (λ s t e. keeps s (Reached t) e) z.laid))).by
+      (λ status m. Stops (SourceEnding.Ended status)) (λ status m x. safe_ended n status)
 
   -- The program is never stuck.
   pub never_stuck : (input : List ℕ) (n : ℕ) → (source p input n).ending ≡ SourceEnding.Stuck → ⊥

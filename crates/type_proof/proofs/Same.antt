@@ -42,9 +42,10 @@ judged_same world tables x s F H j =
       result = j.result ∙ ap (λ t. Some t) gives;
       no_loop = j.no_loop;
       no_switch = j.no_switch;
-      body = subst (λ (r : Routine). ItemsJudged (with_all r.parameters H.types (block_entered j.outside)) r.body) routine
-          (subst (λ (ts : List StaticType). ItemsJudged (with_all F.routine.parameters ts (block_entered j.outside)) F.routine.body) types j.body);
-      flow = subst (λ (r : Routine). (left_by_items (with_all r.parameters H.types (block_entered j.outside)) r.body (states_at (with_all r.parameters H.types (block_entered j.outside)))).faults ≡ []) routine
+      body = subst (λ (r : Routine). ItemsJudged (with_all r.parameters H.types (block_entered j.outside)) true r.body) routine
+          (subst (λ (ts : List StaticType). ItemsJudged (with_all F.routine.parameters ts (block_entered j.outside)) true F.routine.body) types j.body);
+      flow = subst (λ (r : Routine). (left_by_items (with_all r.parameters H.types (block_entered j.outside)) r.body
+          (states_at (with_all r.parameters H.types (block_entered j.outside)))).faults ≡ []) routine
           (subst (λ (ts : List StaticType). (left_by_items (with_all F.routine.parameters ts (block_entered j.outside)) F.routine.body
           (states_at (with_all F.routine.parameters ts (block_entered j.outside)))).faults ≡ []) types j.flow);
       ends = λ e.

@@ -80,7 +80,7 @@ main_judged = record {
       result = refl;
       object = tt;
       fitting = record {
-        accepted = record { value = record { at = 20; type = Int; seat = Nowhere }; judged = refl; is_taken = refl; operands = tt };
+        accepted = record { value = record { at = 20; type = Int; seat = Nowhere }; judged = refl; is_taken = refl; operands = tt; members = tt };
         converts = Integers refl refl;
       };
     },
@@ -132,6 +132,7 @@ no_value v false false false h = absurd cc
 pub nothing_judged : ProgramJudged nothing its_tables
 nothing_judged = record {
   structs = record { types = []; in_order = tt; laid_out = tt; few = omega arith };
+  unions = record { types = []; laid_out = tt; members = tt };
   plain = λ x e h. entry_plain x e (bytes_eq (codes "getchar") x) (bytes_eq (codes "putchar") x) (bytes_eq (codes "main") x) refl refl refl h;
   globals = tt;
   variables = λ x t r h. absurd (no_value (Stored t r) (bytes_eq (codes "getchar") x) (bytes_eq (codes "putchar") x) (bytes_eq (codes "main") x) h);

@@ -18,8 +18,13 @@ pub mod Owned
 pub mod BlockPlaces
 pub mod Testing
 pub mod Forms
+pub mod Applied
 pub mod FatForms
 pub mod StructForms
 pub mod Makings
+pub mod Counters
+pub mod Filled
 pub mod CallForms
+pub mod UnionForms
+pub mod Settings
 pub mod Expressions

@@ -1,4 +1,5 @@
 pub mod Surroundings
+pub mod Looped
 pub mod Lexical
 pub mod Begun
 pub mod Flows
@@ -6,6 +7,10 @@ pub mod Ways
 pub mod Statements
 pub mod Unreached
 pub mod Dropped
+pub mod Declared
+pub mod Cases
+pub mod Switched
+pub mod Clauses
 pub mod Blocks
 pub mod Parameters
 pub mod Functions

@@ -1,14 +1,14 @@
--- What the names of a program of integers, pointers, structs, arrays and regions mean: variables, arrays, functions that take such values, structs, and
--- the two functions that every program has.
+-- What the names of a program of integers, pointers, structs, unions, arrays, strings and regions mean: variables, arrays, functions that take such values,
+-- structs, unions, and the two functions that every program has.
 use Rattle.std.specs.Prelude.{◌≡◌, ℕ, true, false, ◌⊎◌, Some, List, [], ◌∷◌, map, bytes_eq, codes}
 use Rattle.source_meaning.specs.Shapes.{part_shapes, has_tag}
 use Rattle.source_meaning.specs.Steps.{Routine, World}
 use Rattle.source_meaning.specs.Calls.{function_of}
 use Rattle.source_typing.specs.Tables as typing
 use Rattle.source_typing.specs.Tables.{Entry, OfValue, OfTag, OfFunction, OfBuiltin, Stored, Arrayed, Signature, Tag, find}
-use Rattle.source_typing.specs.Types.{StaticType, Int, Unsigned, Char, Void, Thin, Fat, Handle, Struct, shape_of}
+use Rattle.source_typing.specs.Types.{StaticType, Int, Unsigned, Char, Void, Thin, Fat, Handle, Struct, Union, shape_of}
 
--- What a variable may be of: an integer, a pointer to what a variable may be of, a handle, or a struct.
+-- What a variable may be of: an integer, a pointer to what a variable may be of, a handle, a struct, or a union.
 abbrev pub IsObjectType : StaticType → Type 0
 IsObjectType Int = Unit {0}
 IsObjectType Unsigned = Unit {0}
@@ -17,12 +17,14 @@ IsObjectType (Thin n r t) = IsObjectType t
 IsObjectType (Fat r t) = IsObjectType t
 IsObjectType (Handle r) = Unit {0}
 IsObjectType (Struct tag rs) = Unit {0}
+IsObjectType (Union tag rs) = Unit {0}
 IsObjectType _ = ⊥
 
 -- a word's type: that of an integer or a pointer
 abbrev pub IsWordType : StaticType → Type 0
 IsWordType (Handle r) = ⊥
 IsWordType (Struct tag rs) = ⊥
+IsWordType (Union tag rs) = ⊥
 IsWordType t = IsObjectType t
 
 -- what a function may give: such a value, or nothing
@@ -67,12 +69,18 @@ pub record Structure (world : World) (x : List ℕ) (t : Tag) : Type 0 where
   pub not_written : bytes_eq x (codes "putchar") ≡ false
   pub there : has_tag world.structs x ≡ true
 
+-- a tagged union of the program
+pub record Unioned (world : World) (x : List ℕ) (t : Tag) : Type 0 where
+  pub named : t.text ≡ x
+  pub union : t.is_union ≡ true
+  pub there : has_tag world.unions x ≡ true
+
 -- ---- names
 
 abbrev pub PlainEntry : World → List ℕ → Entry → Type 0
 PlainEntry world x (OfValue (Stored t r)) = IsObjectType t
 PlainEntry world x (OfValue (Arrayed t r)) = IsObjectType t
-PlainEntry world x (OfTag t) = Structure world x t
+PlainEntry world x (OfTag t) = Structure world x t ⊎ Unioned world x t
 PlainEntry world x (OfFunction s) = Function world x s
 PlainEntry world x (OfBuiltin n) = Builtin x n
 PlainEntry world x _ = ⊥

@@ -1,25 +1,29 @@
--- Which statements of integers, pointers, structs, arrays and lexical regions are in order: the judgement of each of their expressions, where it stands.
-use Rattle.std.specs.Prelude.{◌≡◌, ℕ, true, ◌||◌, Some, None, ◌∷◌}
+-- Which statements of integers, pointers, structs, arrays, strings and lexical regions are in order: the judgement of each of their expressions, where it
+-- stands.
+use Rattle.std.specs.Prelude.{◌≡◌, ℕ, Bool, true, false, ◌||◌, ◌&&◌, Some, None, List, ◌∷◌}
 use Rattle.cyc_tree.specs.Operands.{ExpressionHasOperands}
 use Rattle.cyc_tree.specs.Tree as tree
-use Rattle.cyc_tree.specs.Tree.{Expression, Initializer, Statement, BlockItems, NoItems, Declare, Execute, TypeName}
+use Rattle.cyc_tree.specs.Tree.{Expression, Initializer, Statement, BlockItems, NoItems, Declare, Execute, TypeName, Clauses, NoClauses, MoreClauses, Case}
+use Rattle.cyc_tree.specs.Tree.{Default}
 use Rattle.source_meaning.specs.Shapes.{written, settled, settled_by}
 use Rattle.source_typing.specs.Converts.{Converts}
 use Rattle.source_typing.specs.Declarations.{declare, with_region}
 use Rattle.source_typing.specs.Expressions.{judge}
-use Rattle.source_typing.specs.Regions.{with_scope}
+use Rattle.source_typing.specs.Regions.{Region, with_scope}
 use Rattle.source_typing.specs.Scope.{Env, Value, block_entered, next_region}
-use Rattle.source_typing.specs.Statements.{in_a_loop}
-use Rattle.source_typing.specs.Tables.{What, Stored, Arrayed, has_beginning}
-use Rattle.source_typing.specs.Taken.{Taken, taken, with_arrays}
-use Rattle.source_typing.specs.Types.{StaticType, Void, Handle, is_testable, shape_of}
+use Rattle.source_typing.specs.Statements.{Chosen, chosen, clauses_fit, clause_scope, in_a_loop, in_a_switch}
+use Rattle.source_typing.specs.Tables.{What, Stored, Arrayed, Part, argument, has_beginning, part_in, parts_in}
+use Rattle.source_typing.specs.Taken.{Taken, taken, with_filled}
+use Rattle.source_typing.specs.Types.{StaticType, Void, Handle, Union, is_testable, renamed, shape_of}
+use Rattle.source_typing.specs.Ways.{ways_of, ways_of_items}
 use Rattle.source_typing.specs.Verdicts.{Of}
 use Rattle.type_proof.specs.Entries.{IsObjectType}
+use Rattle.type_proof.specs.Members.{HasStructMembers}
 use Rattle.source_typing.specs.Named.{TypeBelow}
 
--- the forms that safety is proved of so far
+-- the forms that safety is proved of so far, which may be more than a program is accepted with
 abbrev pub safe_forms : Taken
-safe_forms = with_arrays
+safe_forms = record with_filled { unions = true }
 
 -- an expression of these forms that is in order, and what it is
 pub record Accepted (g : Env) (e : Expression) : Type 0 where
@@ -27,6 +31,7 @@ pub record Accepted (g : Env) (e : Expression) : Type 0 where
   pub judged : judge g e ≡ Of value
   pub is_taken : taken safe_forms e ≡ e
   pub operands : ExpressionHasOperands e
+  pub members : HasStructMembers g e
 
 -- a condition
 pub record Condition (g : Env) (e : Expression) : Type 0 where
@@ -95,22 +100,59 @@ pub record Returned (g : Env) (e : Expression) : Type 0 where
   pub object : IsObjectType gives
   pub fitting : Fitting g e gives
 
--- `return` without a value stands in a function that gives none, `break` and `continue` in a loop
-abbrev mutual
-  pub StatementJudged : Env → Statement → Type 0
-  StatementJudged g (Statement.Empty at) = Unit {0}
-  StatementJudged g (Statement.Block at items) = ItemsJudged (block_entered g) items
-  StatementJudged g (Statement.Run e) = Accepted g e
-  StatementJudged g (Statement.If at e body) = Condition g e × StatementJudged g body
-  StatementJudged g (Statement.IfElse at e body otherwise) = Condition g e × (StatementJudged g body × StatementJudged g otherwise)
-  StatementJudged g (Statement.While at e body) = Condition g e × StatementJudged (in_a_loop g) body
-  StatementJudged g (Statement.Break at) = (g.in_loop || g.in_switch ≡ true)
-  StatementJudged g (Statement.Continue at) = (g.in_loop ≡ true)
-  StatementJudged g (Statement.Return at None) = (g.result ≡ Some Void)
-  StatementJudged g (Statement.Return at (Some e)) = Returned g e
-  StatementJudged g _ = ⊥
+-- ---- `switch`
 
-  pub ItemsJudged : Env → BlockItems → Type 0
-  ItemsJudged g NoItems = Unit {0}
-  ItemsJudged g (Declare d others) = DeclarationJudged g d × ItemsJudged (declare g d).scope others
-  ItemsJudged g (Execute s others) = StatementJudged g s × ItemsJudged g others
+-- the union place that a `switch` is on: it is known, and the clauses are for its members
+pub record Switching (g : Env) (e : Expression) (cs : Clauses) : Type 0 where
+  pub accepted : Accepted g e
+  pub tag : List ℕ
+  pub regions : List Region
+  pub is : accepted.value.type ≡ Union tag regions
+  pub place : chosen (judge g e) ≡ Some (record { tag = tag; regions = regions })
+  pub fit : clauses_fit g (record { tag = tag; regions = regions }) cs ≡ true
+
+abbrev pub on_union : {g : Env} {e : Expression} {cs : Clauses} → Switching g e cs → Chosen
+on_union s = record { tag = s.tag; regions = s.regions }
+
+-- the name of a clause stands for a copy of its member
+pub record ClauseNamed (g : Env) (c : Chosen) (f x : tree.Name) : Type 0 where
+  pub part : Part
+  pub type : StaticType
+  pub found : part_in (parts_in g.tables c.tag) f.text ≡ Some part
+  pub typed : part.type ≡ Some type
+  pub scope : clause_scope g (Some c) (Case f x) ≡ extended (block_entered g) x (renamed (argument c.regions) type)
+
+abbrev pub PatternJudged : Env → Chosen → tree.Pattern → Type 0
+PatternJudged g c Default = Unit {0}
+PatternJudged g c (Case f x) = ClauseNamed g c f x
+
+-- ---- all statements
+
+-- The Boolean tells whether the start is reachable. `return` without a value stands in a function that gives none, `break` and `continue` in a loop, or in a
+-- `switch`; a clause whose start is reachable isn't left at its end.
+abbrev mutual
+  pub StatementJudged : Env → Bool → Statement → Type 0
+  StatementJudged g reached (Statement.Empty at) = Unit {0}
+  StatementJudged g reached (Statement.Block at items) = ItemsJudged (block_entered g) reached items
+  StatementJudged g reached (Statement.Run e) = Accepted g e
+  StatementJudged g reached (Statement.If at e body) = Condition g e × StatementJudged g reached body
+  StatementJudged g reached (Statement.IfElse at e body otherwise) =
+      Condition g e × (StatementJudged g reached body × StatementJudged g reached otherwise)
+  StatementJudged g reached (Statement.While at e body) = Condition g e × StatementJudged (in_a_loop g) reached body
+  StatementJudged g reached (Statement.Switch at e cs) = (s : Switching g e cs) × ClausesJudged (in_a_switch g) reached (on_union s) cs
+  StatementJudged g reached (Statement.Break at) = (g.in_loop || g.in_switch ≡ true)
+  StatementJudged g reached (Statement.Continue at) = (g.in_loop ≡ true)
+  StatementJudged g reached (Statement.Return at None) = (g.result ≡ Some Void)
+  StatementJudged g reached (Statement.Return at (Some e)) = Returned g e
+  StatementJudged g reached _ = ⊥
+
+  pub ItemsJudged : Env → Bool → BlockItems → Type 0
+  ItemsJudged g reached NoItems = Unit {0}
+  ItemsJudged g reached (Declare d others) = DeclarationJudged g d × ItemsJudged (declare g d).scope reached others
+  ItemsJudged g reached (Execute s others) = StatementJudged g reached s × ItemsJudged g (reached && (ways_of s).falls) others
+
+  pub ClausesJudged : Env → Bool → Chosen → Clauses → Type 0
+  ClausesJudged g reached c NoClauses = Unit {0}
+  ClausesJudged g reached c (MoreClauses at pattern body others) =
+      (reached && (ways_of_items body).falls ≡ false) × PatternJudged g c pattern × ItemsJudged (clause_scope g (Some c) pattern) reached body
+      × ClausesJudged g reached c others

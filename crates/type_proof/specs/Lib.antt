@@ -1,4 +1,5 @@
 pub mod Flat
+pub mod Members
 pub mod Judged
 pub mod Entries
 pub mod Structs

@@ -1,9 +1,10 @@
--- Which programs of integers, pointers, structs, arrays and regions are in order: their structs, globals, functions and `main`, by what their names mean.
+-- Which programs of integers, pointers, structs, unions, arrays, strings and regions are in order: their structs, unions, globals, functions and `main`, by
+-- what their names mean.
 use Rattle.std.specs.Prelude.{◌≡◌, ℕ, true, false, ◌⊎◌, Some, List, [], ◌∷◌, codes}
 use Rattle.cyc_tree.specs.Tree as tree
 use Rattle.cyc_tree.specs.Tree.{Constant, Initial, Item, Program}
 use Rattle.cyc_words.specs.Events.{SourceEnding}
-use Rattle.source_meaning.specs.Shapes.{ArrayShape, Part, written, settled}
+use Rattle.source_meaning.specs.Shapes.{Shape, CharShape, ArrayShape, Part, written, settled}
 use Rattle.source_meaning.specs.Memory.{Integer, IntegerType, Scalar}
 use Rattle.source_meaning.specs.Steps.{Variable, World, give}
 use Rattle.source_meaning.specs.Places.{bound_to}
@@ -13,12 +14,12 @@ use Rattle.source_typing.specs.Regions.{Region, TheHeap, entry_regions}
 use Rattle.source_typing.specs.Scope.{Env, InRegion, block_entered}
 use Rattle.source_typing.specs.Tables as typing
 use Rattle.source_typing.specs.Tables.{OfValue, OfFunction, Stored, Arrayed, Signature, find, has_beginning}
-use Rattle.source_typing.specs.Types.{StaticType, Int, Void, Thin, Fat, Handle, Struct, shape_of}
+use Rattle.source_typing.specs.Types.{StaticType, Int, Void, Thin, Fat, Handle, Struct, Union, shape_of}
 use Rattle.source_typing.specs.Ways.{ways_of_items}
 use Rattle.type_proof.specs.Entries.{IsObjectType, Function, PlainTables}
 use Rattle.type_proof.specs.Judged.{extended, ItemsJudged}
 use Rattle.source_typing.specs.Named.{AllBelow, BoundsBelow, TypeBelow, TypesBelow}
-use Rattle.type_proof.specs.Structs.{StructsJudged}
+use Rattle.type_proof.specs.Structs.{StructsJudged, UnionsJudged}
 
 -- ---- functions
 
@@ -48,9 +49,10 @@ pub record FunctionJudged (world : World) (tables : typing.Tables) (x : List ℕ
   pub result : outside.result ≡ Some F.gives
   pub no_loop : outside.in_loop ≡ false
   pub no_switch : outside.in_switch ≡ false
-  pub body : ItemsJudged (with_all F.routine.parameters F.types (block_entered outside)) F.routine.body
+  pub body : ItemsJudged (with_all F.routine.parameters F.types (block_entered outside)) true F.routine.body
   -- no fault of flow, where the parameters that can't be copied are held
-  pub flow : (left_by_items (with_all F.routine.parameters F.types (block_entered outside)) F.routine.body (states_at (with_all F.routine.parameters F.types (block_entered outside)))).faults ≡ []
+  pub flow : (left_by_items (with_all F.routine.parameters F.types (block_entered outside)) F.routine.body
+      (states_at (with_all F.routine.parameters F.types (block_entered outside)))).faults ≡ []
   pub ends : (ways_of_items F.routine.body).falls ≡ true → (F.gives ≡ Void) ⊎ ((is_main F.routine.name ≡ true) × (F.gives ≡ Int))
 
 -- ---- globals
@@ -61,17 +63,19 @@ pub record IsNumber (c : Constant) : Type 0 where
   pub word : ℕ
   pub gives : (strings : List (ℕ × Scalar)) → constant_value strings c ≡ give (Integer of word)
 
--- the constant `NULL`
-abbrev pub IsNullConstant : Constant → Type 0
-IsNullConstant (Constant.Null at) = Unit {0}
-IsNullConstant _ = ⊥
+-- the constant of a pointer to what has such a shape: `NULL`, or a string, where it points to chars
+abbrev pub IsPointerConstant : Shape → Constant → Type 0
+IsPointerConstant to (Constant.Null at) = Unit {0}
+IsPointerConstant to (Constant.Text at bytes) = (to ≡ CharShape)
+IsPointerConstant to _ = ⊥
 
--- the first value of a global of a type: a pointer's is `NULL`, and an integer's is a number; there is none of a handle or a struct
+-- the first value of a global of a type: a pointer's is `NULL` or a string, and an integer's is a number; there is none of a handle, a struct or a union
 abbrev pub IsFirst : StaticType → Constant → Type 0
-IsFirst (Thin n r t) c = IsNullConstant c
-IsFirst (Fat r t) c = IsNullConstant c
+IsFirst (Thin n r t) c = IsPointerConstant (shape_of t) c
+IsFirst (Fat r t) c = IsPointerConstant (shape_of t) c
 IsFirst (Handle r) c = ⊥
 IsFirst (Struct tag rs) c = ⊥
+IsFirst (Union tag rs) c = ⊥
 IsFirst t c = IsNumber c
 
 -- the initializer of a global, where there is one; the elements of an array have none
@@ -120,9 +124,10 @@ pub record MainFound (world : World) (tables : typing.Tables) : Type 0 where
   pub types : function.types ≡ []
   pub gives : function.gives ≡ Int
 
--- A program of integers, pointers, structs, arrays and regions in which nothing is at fault, by these tables of its names.
+-- A program of integers, pointers, structs, unions, arrays, strings and regions in which nothing is at fault, by these tables of its names.
 pub record ProgramJudged (p : Program) (tables : typing.Tables) : Type 0 where
   pub structs : StructsJudged (world_of p) tables
+  pub unions : UnionsJudged (world_of p) tables
   pub plain : PlainTables (world_of p) tables
   pub globals : GlobalsJudged tables p
   pub variables : (x : List ℕ) (t : StaticType) (r : Region) → find tables x ≡ Some (OfValue (Stored t r)) → GlobalFound (world_of p) x t r

@@ -1,11 +1,11 @@
--- How the structs of a program are laid out: by the types of their members, which are those that the tables of its names have.
+-- How the structs of a program are laid out, and what its unions may hold: by the types of their members, which are those that the tables of its names have.
 use Rattle.std.specs.Prelude.{◌≡◌, ◌≤◌, ℕ, Bool, true, false, Some, List, [], ◌∷◌, length, bytes_eq, if◌then◌else◌}
 use Rattle.source_meaning.specs.Shapes as shapes
 use Rattle.source_meaning.specs.Shapes.{Layout}
 use Rattle.source_meaning.specs.Steps.{World}
 use Rattle.source_typing.specs.Tables as typing
 use Rattle.source_typing.specs.Tables.{parts_in}
-use Rattle.source_typing.specs.Types.{StaticType, Struct, shape_of}
+use Rattle.source_typing.specs.Types.{StaticType, Int, Unsigned, Char, Thin, Fat, Handle, Struct, shape_of}
 use Rattle.type_proof.specs.Entries.{IsObjectType}
 use Rattle.type_proof.specs.Flat.{Declared}
 
@@ -47,3 +47,40 @@ pub record StructsJudged (world : World) (tables : typing.Tables) : Type 0 where
   pub in_order : AreInOrder types
   pub laid_out : AreLaidOut tables types world.structs
   pub few : length types ≤ length tables
+
+-- ---- tagged unions
+
+-- a member of a union is a scalar that is copied and is no union: an integer, a pointer or a handle
+abbrev pub IsUnionMember : StaticType → Type 0
+IsUnionMember Int = Unit {0}
+IsUnionMember Unsigned = Unit {0}
+IsUnionMember Char = Unit {0}
+IsUnionMember (Thin n r t) = IsObjectType t
+IsUnionMember (Fat r t) = IsObjectType t
+IsUnionMember (Handle r) = Unit {0}
+IsUnionMember _ = ⊥
+
+abbrev pub AreUnionMembers : List StaticType → Type 0
+AreUnionMembers [] = Unit {0}
+AreUnionMembers (t ∷ ts) = IsUnionMember t × AreUnionMembers ts
+
+-- no member has this name
+abbrev pub IsNewName : List ℕ → List shapes.Part → Type 0
+IsNewName x [] = Unit {0}
+IsNewName x (q ∷ qs) = (bytes_eq q.name x ≡ false) × IsNewName x qs
+
+-- no two have the same
+abbrev pub AreNamedApart : List shapes.Part → Type 0
+AreNamedApart [] = Unit {0}
+AreNamedApart (q ∷ qs) = IsNewName q.name qs × AreNamedApart qs
+
+abbrev pub AreUnions : List Declared → List Layout → Type 0
+AreUnions [] [] = Unit {0}
+AreUnions (d ∷ ds) (l ∷ ls) = AreUnionMembers d.parts × AreNamedApart l.parts × AreUnions ds ls
+AreUnions _ _ = ⊥
+
+-- the unions of a program
+pub record UnionsJudged (world : World) (tables : typing.Tables) : Type 0 where
+  pub types : List Declared
+  pub laid_out : AreLaidOut tables types world.unions
+  pub members : AreUnions types world.unions

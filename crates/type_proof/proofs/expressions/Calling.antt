@@ -54,16 +54,21 @@ module _ (n : ℕ) (d : Tables) (g : Env) (scope : Scope) (f : NameOf → Region
       → Runs n act m (λ vss. After d k b w m (λ w' m'. Flown d w' k vss (map (renamed f) ts) × Standing d g scope f s2 w' m'))
 
   -- what one of them moved the next ones don't find
-  pub all_passed : (ss : List Shape) (ts : List StaticType) (us : List Use) (es : List Sense) → AllPass ss ts us es → (s : States) → (all_values us s).faults ≡ []
+  pub all_passed : (ss : List Shape) (ts : List StaticType) (us : List Use) (es : List Sense) → AllPass ss ts us es → (s : States) → (all_values us s).faults
+      ≡ []
       → Passes s (all_values us s).states ts (converted_all scope.world ss es)
-  all_passed [] [] [] [] h s z = λ k w m i x. record { by = λ next q. q [] m (record { ghost = w; inv = i; grows = grows_refl k b w m; holds = (tt, x.stands) }) }
+  all_passed [] [] [] [] h s z = λ k w m i x. record {
+    by = λ next q. q [] m (record { ghost = w; inv = i; grows = grows_refl k b w m; holds = (tt, x.stands) });
+  }
   all_passed (sh ∷ ss) (t ∷ ts) (u ∷ us) (e ∷ es) h s z = λ k w m i x.
       let p : Passed = u.value s in
       record {
-        by = λ next q. (h.0 s (none_first p.faults (all_values us p.states).faults z) k w m i x).by (λ vs. (converted_all scope.world ss es >>= λ vss. give (vs ∷ vss)) next) (λ vs m1 y.
+        by = λ next q. (h.0 s (none_first p.faults (all_values us p.states).faults z) k w m i x).by
+            (λ vs. (converted_all scope.world ss es >>= λ vss. give (vs ∷ vss)) next) (λ vs m1 y.
             let x1 : Scene d g scope f b p.states (suc k) y.ghost m1 =
             scene_more d g scope f b p.states k y.ghost m1 (scene_later d g scope f b s p.states k w m y.ghost m1 y.inv y.grows y.holds.1 x) in
-            (all_passed ss ts us es h.1 p.states (none_second p.faults (all_values us p.states).faults z) (suc k) y.ghost m1 y.inv x1).by (λ vss. next (vs ∷ vss)) (λ vss m2 a. q (vs ∷ vss) m2 (record {
+            (all_passed ss ts us es h.1 p.states (none_second p.faults (all_values us p.states).faults z) (suc k) y.ghost m1 y.inv x1).by
+            (λ vss. next (vs ∷ vss)) (λ vss m2 a. q (vs ∷ vss) m2 (record {
               ghost = a.ghost;
               inv = a.inv;
               grows = grows_trans y.grows (grows_less a.grows);
@@ -99,7 +104,8 @@ module _ (n : ℕ) (d : Tables) (g : Env) (scope : Scope) (f : NameOf → Region
   one_word w k ((v ∷ []) ∷ vs ∷ vss) h = absurd h.1
   one_word w k ((v ∷ []) ∷ []) h = (h.0.0.word, ap (λ (x : Scalar). (x ∷ []) ∷ []) h.0.0.is)
 
-  pub gives_written : (us : List Use) (es : List Sense) → AllPass (IntShape ∷ []) (Int ∷ []) us es → GivesBy n d g scope f b (all_values us) Int (write_byte scope.world es)
+  pub gives_written : (us : List Use) (es : List Sense) → AllPass (IntShape ∷ []) (Int ∷ []) us es
+      → GivesBy n d g scope f b (all_values us) Int (write_byte scope.world es)
   gives_written us es h = λ s e k w m i x. record {
     by = λ next q. (all_passed (IntShape ∷ []) (Int ∷ []) us es h s e k w m i x).by (λ vss. put vss next) (λ vss m1 y.
         let z : (p : ℕ) × (vss ≡ (Integer AsInt p ∷ []) ∷ []) = one_word y.ghost k vss y.holds.0 in
@@ -114,4 +120,5 @@ module _ (n : ℕ) (d : Tables) (g : Env) (scope : Scope) (f : NameOf → Region
     where
       put : List (List Scalar) → Act (List Scalar)
       put vss = Rattle.source_meaning.specs.Conversions.one (calls.flat vss) >>= Rattle.source_meaning.specs.Conversions.integer >>= λ x.
-          Rattle.source_meaning.specs.Steps.pay >> (Rattle.source_meaning.specs.Steps.show (Rattle.cyc_words.specs.Events.ByteWritten (x % 256)) >> give (Integer AsInt (x % 256) ∷ []))
+          Rattle.source_meaning.specs.Steps.pay >> (Rattle.source_meaning.specs.Steps.show (Rattle.cyc_words.specs.Events.ByteWritten (x % 256)) >> give
+          (Integer AsInt (x % 256) ∷ []))

@@ -3,7 +3,7 @@
 use Rattle.std.proofs.Common.{◌≡◌, ◌<◌, ℕ, Bool, true, false, inl, inr, Some, None, List, [], ◌∷◌, refl, sym, ◌∙◌, ap, subst}
 use Rattle.std.specs.Prelude.{◌*◌, length}
 use Rattle.cyc_words.specs.declared.faults.Kind.TheVariants.{NullException}
-use Rattle.source_meaning.specs.Shapes.{Shared, Shape, ThinShape, FatShape, HandleShape, StructShape}
+use Rattle.source_meaning.specs.Shapes.{Shared, Shape, ThinShape, FatShape, HandleShape, StructShape, UnionShape}
 use Rattle.source_meaning.specs.Memory as memory
 use Rattle.source_meaning.specs.Memory.{Region, Spot, Span, Scalar, Memory, beyond}
 use Rattle.source_meaning.specs.Steps.{World, Act, ◌>>=◌, ◌>>◌, give, check}
@@ -58,7 +58,8 @@ module _ {B : Type 0} (n : ℕ) (d : Tables) (world : World) (f : NameOf → Reg
       → Runs n (converted world (ThinShape c Shared (shape_of t)) (ThinShape a Shared (shape_of t)) (memory.Thin (Some at) ∷ []) >>= h) m Q
   some_goes a c q t at e reach go = record {
     by = λ next p.
-        subst (λ (b : Bool). Safe n ((check b >> (Rattle.source_meaning.specs.Conversions.thin_to_thin c (Some at) >>= λ v. give (v ∷ []) >>= h)) next m)) (sym (shape_itself t e))
+        subst (λ (b : Bool). Safe n ((check b >> (Rattle.source_meaning.specs.Conversions.thin_to_thin c (Some at) >>= λ v. give (v ∷ []) >>= h)) next m))
+        (sym (shape_itself t e))
         (by c next p);
   }
     where
@@ -71,16 +72,20 @@ module _ {B : Type 0} (n : ℕ) (d : Tables) (world : World) (f : NameOf → Reg
       by false next p = (go (memory.Thin (Some at) ∷ []) typed).by next p
 
   thin_goes : (a c : Bool) (r q : NameOf) (t : StaticType) (vs : List Scalar) → IsObjectType t
-      → ((at : Spot) → Reaches d w at (f r) (renamed f t) → Reaches d w at (f q) (renamed f t)) → HaveTypes d w holder vs (cells_type d f (Thin a r t)) → Going (Thin c q t)
+      → ((at : Spot) → Reaches d w at (f r) (renamed f t) → Reaches d w at (f q) (renamed f t)) → HaveTypes d w holder vs (cells_type d f (Thin a r t))
+      → Going (Thin c q t)
       → Runs n (converted world (ThinShape c Shared (shape_of t)) (ThinShape a Shared (shape_of t)) vs >>= h) m Q
   thin_goes a c r q t [] e along x go = absurd x
   thin_goes a c r q t (v ∷ u ∷ us) e along x go = absurd x.1
   thin_goes a c r q t (v ∷ []) e along x go = goes x.0
     where
-      goes : HasType d w (holder 0) v (renamed f (Thin a r t)) → Runs n (converted world (ThinShape c Shared (shape_of t)) (ThinShape a Shared (shape_of t)) (v ∷ []) >>= h) m Q
-      goes (inl z) = subst (λ (y : Scalar). Runs n (converted world (ThinShape c Shared (shape_of t)) (ThinShape a Shared (shape_of t)) (y ∷ []) >>= h) m Q) (sym z.is)
+      goes : HasType d w (holder 0) v (renamed f (Thin a r t))
+          → Runs n (converted world (ThinShape c Shared (shape_of t)) (ThinShape a Shared (shape_of t)) (v ∷ []) >>= h) m Q
+      goes (inl z) = subst (λ (y : Scalar). Runs n (converted world (ThinShape c Shared (shape_of t)) (ThinShape a Shared (shape_of t)) (y ∷ []) >>= h) m Q)
+          (sym z.is)
           (null_goes c q t (ThinShape a Shared (shape_of t)) go)
-      goes (inr z) = subst (λ (y : Scalar). Runs n (converted world (ThinShape c Shared (shape_of t)) (ThinShape a Shared (shape_of t)) (y ∷ []) >>= h) m Q) (sym z.is)
+      goes (inr z) = subst (λ (y : Scalar). Runs n (converted world (ThinShape c Shared (shape_of t)) (ThinShape a Shared (shape_of t)) (y ∷ []) >>= h) m Q)
+          (sym z.is)
           (some_goes a c q t z.at e (along z.at z.reaches) go)
 
   -- ---- fat pointers
@@ -95,7 +100,7 @@ module _ {B : Type 0} (n : ℕ) (d : Tables) (world : World) (f : NameOf → Reg
   wide_null_goes q t from go = record { by = λ next p. (go (memory.Wide None ∷ []) (inl refl, tt)).by next p }
 
   -- a fat pointer stays as it is
-  fat_goes : (r q : NameOf) (t : StaticType) (vs : List Scalar) → IsObjectType t
+  pub fat_goes : (r q : NameOf) (t : StaticType) (vs : List Scalar) → IsObjectType t
       → ((at : Spot) → Reaches d w at (f r) (renamed f t) → Reaches d w at (f q) (renamed f t)) → HaveTypes d w holder vs (cells_type d f (Fat r t))
       → Going (Fat q t)
       → Runs n (converted world (FatShape (shape_of t)) (FatShape (shape_of t)) vs >>= h) m Q
@@ -165,7 +170,7 @@ module _ {B : Type 0} (n : ℕ) (d : Tables) (world : World) (f : NameOf → Reg
   null_thin_goes true q t from go = record { by = λ next p. (go (memory.Thin None ∷ []) (inl (record { allowed = refl; is = refl }), tt)).by next p }
   null_thin_goes false q t from go = record { by = λ next p. safe_raised n NullException }
 
-  fat_thin_goes : (c : Bool) (r q : NameOf) (t : StaticType) (vs : List Scalar) → IsObjectType t → Agrees world d
+  pub fat_thin_goes : (c : Bool) (r q : NameOf) (t : StaticType) (vs : List Scalar) → IsObjectType t → Agrees world d
       → ((at : Spot) → Reaches d w at (f r) (renamed f t) → Reaches d w at (f q) (renamed f t)) → HaveTypes d w holder vs (cells_type d f (Fat r t))
       → Going (Thin c q t)
       → Runs n (converted world (ThinShape c Shared (shape_of t)) (FatShape (shape_of t)) vs >>= h) m Q
@@ -180,7 +185,8 @@ module _ {B : Type 0} (n : ℕ) (d : Tables) (world : World) (f : NameOf → Reg
       goes (inr z) = subst (λ (y : Scalar). Runs n (converted world (ThinShape c Shared (shape_of t)) (FatShape (shape_of t)) (y ∷ []) >>= h) m Q) (sym z.is)
           (record {
             by = λ next p.
-                subst (λ (b : Bool). Safe n ((check b >> (fat_to_thin c (length (cells_of world (shape_of t))) (Some z.span) >>= λ v. give (v ∷ []) >>= h)) next m))
+                subst (λ (b : Bool). Safe n ((check b >> (fat_to_thin c (length (cells_of world (shape_of t))) (Some z.span) >>= λ v. give (v ∷ []) >>= h)) next
+                m))
                 (sym (shape_itself t e)) ((element_goes c q t z.span agrees (λ i l. along _ (z.reaches i l)) go).by next p);
           })
 
@@ -204,6 +210,15 @@ module _ {B : Type 0} (n : ℕ) (d : Tables) (world : World) (f : NameOf → Reg
   struct_goes tag rs (v ∷ u ∷ us) x go = record {
     by = λ next p. subst (λ (b : Bool). Safe n ((check b >> give (v ∷ u ∷ us) >>= h) next m)) (sym (same_text tag)) ((go (v ∷ u ∷ us) x).by next p);
   }
+
+  -- nor does a union
+  union_goes : (tag : List ℕ) (rs : List NameOf) (vs : List Scalar) → HaveTypes d w holder vs (cells_type d f (Union tag rs)) → Going (Union tag rs)
+      → Runs n (converted world (UnionShape tag) (UnionShape tag) vs >>= h) m Q
+  union_goes tag rs [] x go = absurd x
+  union_goes tag rs (v ∷ []) x go = record {
+    by = λ next p. subst (λ (b : Bool). Safe n ((check b >> give (v ∷ []) >>= h) next m)) (sym (same_text tag)) ((go (v ∷ []) x).by next p);
+  }
+  union_goes tag rs (v ∷ u ∷ us) x go = absurd x.1
 
   -- a handle stays as it is
   handle_goes : (r : NameOf) (vs : List Scalar) → HaveTypes d w holder vs (cells_type d f (Handle r)) → Going (Handle r)
@@ -229,7 +244,7 @@ module _ {B : Type 0} (n : ℕ) (d : Tables) (world : World) (f : NameOf → Reg
   same_goes (Handle r) vs e x go = handle_goes r vs x go
   same_goes (Key r) vs e x go = absurd e
   same_goes (Struct tag rs) vs e x go = struct_goes tag rs vs x go
-  same_goes (Union tag rs) vs e x go = absurd e
+  same_goes (Union tag rs) vs e x go = union_goes tag rs vs x go
 
   -- Each conversion gives a value of its type, or raises.
   pub converts_goes : (g : Regions) (k : ℕ) (t u : StaticType) (vs : List Scalar) → Agrees world d → NamesOk g f k w m → IsSimple t → IsObjectType u

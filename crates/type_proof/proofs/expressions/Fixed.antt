@@ -41,7 +41,7 @@ object_below n rs (Unique c t) e h = absurd e
 object_below n rs (Handle r) e h = argument_below n rs r h
 object_below n rs (Key r) e h = absurd e
 object_below n rs (Struct tag qs) e h = arguments_below n rs qs h
-object_below n rs (Union tag qs) e h = absurd e
+object_below n rs (Union tag qs) e h = arguments_below n rs qs h
 
 pub plain_below : (n : ℕ) (rs : List NameOf) (t : StaticType) → IsPlain t → AllBelow n rs → TypeBelow n (renamed (argument rs) t)
 plain_below n rs Int e h = tt
@@ -55,7 +55,7 @@ plain_below n rs (Unique c t) e h = absurd e
 plain_below n rs (Handle r) e h = object_below n rs (Handle r) e h
 plain_below n rs (Key r) e h = absurd e
 plain_below n rs (Struct tag qs) e h = object_below n rs (Struct tag qs) e h
-plain_below n rs (Union tag qs) e h = absurd e
+plain_below n rs (Union tag qs) e h = object_below n rs (Union tag qs) e h
 
 -- ---- what fixes them
 
@@ -135,6 +135,26 @@ same_below n tag (Some (Struct other rs)) h = by (bytes_eq tag other)
     by false = tt
 same_below n tag (Some (Union other rs)) h = tt
 
+-- and so of a union
+union_below : (n : ℕ) (tag : List ℕ) (u : Option StaticType) → PartBelow n u → AllBelow n (arguments_of true tag u)
+union_below n tag None h = tt
+union_below n tag (Some Int) h = tt
+union_below n tag (Some Unsigned) h = tt
+union_below n tag (Some Char) h = tt
+union_below n tag (Some Void) h = tt
+union_below n tag (Some Null) h = tt
+union_below n tag (Some (Thin c r t)) h = tt
+union_below n tag (Some (Fat r t)) h = tt
+union_below n tag (Some (Unique c t)) h = tt
+union_below n tag (Some (Handle r)) h = tt
+union_below n tag (Some (Key r)) h = tt
+union_below n tag (Some (Struct other rs)) h = tt
+union_below n tag (Some (Union other rs)) h = by (bytes_eq tag other)
+  where
+    by : (c : Bool) → AllBelow n (if c then rs else [])
+    by true = h
+    by false = tt
+
 -- a handle's region fixes its parameter's
 handle_below : (n at : ℕ) (r : NameOf) (u : Option StaticType) → PartBelow n u → FitsBelow n (fits_of at (Handle r) u)
 handle_below n at r None h = tt
@@ -167,18 +187,20 @@ fits_below n at (Unique c t) u e h = absurd e
 fits_below n at (Handle r) u e h = handle_below n at r u h
 fits_below n at (Key r) u e h = absurd e
 fits_below n at (Struct tag rs) u e h = fit_below n at rs (arguments_of false tag u) (same_below n tag u h)
-fits_below n at (Union tag rs) u e h = absurd e
+fits_below n at (Union tag rs) u e h = fit_below n at rs (arguments_of true tag u) (union_below n tag u h)
 
 -- the arguments' types name regions in scope
 abbrev pub ValuesBelow : ℕ → List Value → Type 0
 ValuesBelow n [] = Unit {0}
 ValuesBelow n (v ∷ vs) = TypeBelow n v.type × ValuesBelow n vs
 
-all_below : (n : ℕ) (ts : List StaticType) (vs : List Value) → AreObjects ts → ValuesBelow n vs → FitsBelow n (all_fits (map (λ (t : StaticType). Some t) ts) vs)
+all_below : (n : ℕ) (ts : List StaticType) (vs : List Value) → AreObjects ts → ValuesBelow n vs
+    → FitsBelow n (all_fits (map (λ (t : StaticType). Some t) ts) vs)
 all_below n [] vs e h = tt
 all_below n (t ∷ ts) [] e h = tt
 all_below n (t ∷ ts) (v ∷ vs) e h =
-    both_below n (fits_of v.at t (Some v.type)) (all_fits (map (λ (t : StaticType). Some t) ts) vs) (fits_below n v.at t (Some v.type) e.0 h.0) (all_below n ts vs e.1 h.1)
+    both_below n (fits_of v.at t (Some v.type)) (all_fits (map (λ (t : StaticType). Some t) ts) vs) (fits_below n v.at t (Some v.type) e.0 h.0)
+    (all_below n ts vs e.1 h.1)
 
 first_below : (n : ℕ) (fs : List Fit) (k : ℕ) → FitsBelow n fs → FitBelow n (first_fit fs k)
 first_below n [] k h = tt

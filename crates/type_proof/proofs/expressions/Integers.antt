@@ -2,7 +2,8 @@
 use Rattle.std.specs.Prelude.{◌%◌}
 use Rattle.std.proofs.Common.{◌≡◌, ℕ, Bool, true, false, List, [], ◌∷◌, refl, sym, ◌∙◌, ap, subst}
 use Rattle.cyc_tree.specs.declared.expression.Operator.{Operator}
-use Rattle.cyc_tree.specs.declared.expression.Operator.TheVariants.{BitOr, BitXor, BitAnd, Equal, NotEqual, Less, LessEqual, Greater, GreaterEqual, ShiftLeft, ShiftRight, Add, Subtract, Multiply, Divide, Remainder}
+use Rattle.cyc_tree.specs.declared.expression.Operator.TheVariants.{BitOr, BitXor, BitAnd, Equal, NotEqual, Less, LessEqual, Greater, GreaterEqual, ShiftLeft}
+use Rattle.cyc_tree.specs.declared.expression.Operator.TheVariants.{ShiftRight, Add, Subtract, Multiply, Divide, Remainder}
 use Rattle.source_meaning.specs.Memory.{Region, Scalar, Integer, IntegerType, AsInt, AsUnsigned, AsChar, Memory}
 use Rattle.source_meaning.specs.Steps.{World, Act, ◌>>=◌}
 use Rattle.source_meaning.specs.Conversions.{converted}
@@ -97,7 +98,8 @@ joined Multiply s x t y = record { of = meaning.common s t; word = _; is = refl;
 joined Divide s x t y = record { of = meaning.common s t; word = _; is = refl; type = common_is s t }
 joined Remainder s x t y = record { of = meaning.common s t; word = _; is = refl; type = common_is s t }
 
-common_shaped : (s t : IntegerType) → meaning.common_shape (shape_of (integer_type s)) (shape_of (integer_type t)) ≡ shape_of (integer_type (meaning.common s t))
+common_shaped : (s t : IntegerType) → meaning.common_shape (shape_of (integer_type s)) (shape_of (integer_type t))
+    ≡ shape_of (integer_type (meaning.common s t))
 common_shaped AsInt AsInt = refl
 common_shaped AsInt AsUnsigned = refl
 common_shaped AsInt AsChar = refl

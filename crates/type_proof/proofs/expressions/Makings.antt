@@ -15,7 +15,8 @@ use Rattle.source_typing.specs.Making as rules
 use Rattle.source_typing.specs.Making.{Goal, To, NoHandle, made_to, live_goal, handled_of}
 use Rattle.source_typing.specs.Regions.{TheHeap}
 use Rattle.source_typing.specs.Scope.{Env, Value, is_live}
-use Rattle.source_typing.specs.Types.{StaticType, Int, Unsigned, Char, Void, Null, Thin, Fat, Unique, Handle, Key, Struct, Union, is_makeable, renamed, shape_of}
+use Rattle.source_typing.specs.Types.{StaticType, Int, Unsigned, Char, Void, Null, Thin, Fat, Unique, Handle, Key, Struct, Union, is_makeable, renamed}
+use Rattle.source_typing.specs.Types.{shape_of}
 use Rattle.source_typing.specs.Verdicts.{Of, after, if_fits}
 use Rattle.source_typing.proofs.Inversion.{of_is}
 use Rattle.source_typing.specs.Moves.{Use, nothing, value_use}
@@ -39,7 +40,7 @@ use Rattle.type_proof.proofs.expressions.Forms.{Denotes, denotes_value}
 -- ---- what the rules say
 
 -- what can be made is an object
-makeable_object : (t : StaticType) → IsSimple t → is_makeable t ≡ true → IsObjectType t
+pub makeable_object : (t : StaticType) → IsSimple t → is_makeable t ≡ true → IsObjectType t
 makeable_object Int p e = tt
 makeable_object Unsigned p e = tt
 makeable_object Char p e = tt
@@ -51,10 +52,11 @@ makeable_object (Unique n t) p e = absurd p
 makeable_object (Handle r) p e = tt
 makeable_object (Key r) p e = absurd p
 makeable_object (Struct tag rs) p e = p
-makeable_object (Union tag rs) p e = absurd p
+makeable_object (Union tag rs) p e = p
 
 -- a making in the region of a name
-pub made_there : (c : Bool) (at : ℕ) (r : NameOf) (t : StaticType) (v : Value) → after (if_fits c at t) (made_to at (To r)) ≡ Of v → (c ≡ true) × Valued v (Thin false r t)
+pub made_there : (c : Bool) (at : ℕ) (r : NameOf) (t : StaticType) (v : Value) → after (if_fits c at t) (made_to at (To r)) ≡ Of v → (c ≡ true)
+    × Valued v (Thin false r t)
 made_there true at r t v e = (refl, value_of at (Thin false r t) v e)
 made_there false at r t v e = absurd cc
 
@@ -92,6 +94,29 @@ handled_is g at place (Unique n t) x a v e z = none_made place x a v (Handled g 
 handled_is g at place (Key r) x a v e z = none_made place x a v (Handled g (Key r) x) e z
 handled_is g at place (Struct tag rs) x a v e z = none_made place x a v (Handled g (Struct tag rs) x) e z
 handled_is g at place (Union tag rs) x a v e z = none_made place x a v (Handled g (Union tag rs) x) e z
+
+-- and so of an array
+no_array : (at : ℕ) (x : Goal) (a v : Value) (A : Type 0) → Of NoHandle ≡ Of x → rules.array_made at x a ≡ Of v → A
+no_array at x a v A e z = absurd (by (subst (λ (y : Goal). rules.array_made at y a ≡ Of v) (sym (of_is NoHandle x e)) z))
+  where
+    by : rules.array_made at NoHandle a ≡ Of v → ⊥
+    by q = cc
+
+pub array_handled : (g : Env) (at place : ℕ) (t : StaticType) (x : Goal) (a v : Value) → handled_of g at t ≡ Of x → rules.array_made place x a ≡ Of v
+    → Handled g t x
+array_handled g at place (Handle r) x a v e z =
+    let y : (is_live g r ≡ true) × (x ≡ To r) = live_goal_is (is_live g r) at r x e in record { region = r; is = refl; live = y.0; goal = y.1 }
+array_handled g at place Int x a v e z = no_array place x a v (Handled g Int x) e z
+array_handled g at place Unsigned x a v e z = no_array place x a v (Handled g Unsigned x) e z
+array_handled g at place Char x a v e z = no_array place x a v (Handled g Char x) e z
+array_handled g at place Void x a v e z = no_array place x a v (Handled g Void x) e z
+array_handled g at place Null x a v e z = no_array place x a v (Handled g Null x) e z
+array_handled g at place (Thin n r t) x a v e z = no_array place x a v (Handled g (Thin n r t) x) e z
+array_handled g at place (Fat r t) x a v e z = no_array place x a v (Handled g (Fat r t) x) e z
+array_handled g at place (Unique n t) x a v e z = no_array place x a v (Handled g (Unique n t) x) e z
+array_handled g at place (Key r) x a v e z = no_array place x a v (Handled g (Key r) x) e z
+array_handled g at place (Struct tag rs) x a v e z = no_array place x a v (Handled g (Struct tag rs) x) e z
+array_handled g at place (Union tag rs) x a v e z = no_array place x a v (Handled g (Union tag rs) x) e z
 
 module _ (n : ℕ) (d : Tables) (g : Env) (scope : Scope) (f : NameOf → Region) (b : ℕ) where
   -- ---- where a value is made
@@ -139,7 +164,8 @@ module _ (n : ℕ) (d : Tables) (g : Env) (scope : Scope) (f : NameOf → Region
 
   -- ---- the value is evaluated, memory is asked for, and the value is stored there
 
-  pub gives_new : (s0 s1 s2 : States) (t : StaticType) (r : NameOf) (to : Act Maker) (e : Sense) → Agrees scope.world d → Lives r → Below g.regions.count r → e.shape ≡ shape_of t → Aims s0 s1 r to
+  pub gives_new : (s0 s1 s2 : States) (t : StaticType) (r : NameOf) (to : Act Maker) (e : Sense) → Agrees scope.world d → Lives r → Below g.regions.count r
+      → e.shape ≡ shape_of t → Aims s0 s1 r to
       → Gives n d g scope f b s1 s2 t e.value
       → Gives n d g scope f b s0 s2 (Thin false r t)
       (to >>= λ to. e.value >>= λ vs. ask to (size_of scope.world e.shape) (blank_object (cells_of scope.world e.shape)) >>= λ s.
@@ -148,7 +174,8 @@ module _ (n : ℕ) (d : Tables) (g : Env) (scope : Scope) (f : NameOf → Region
     by = λ next q. (aims k w m i x).by (λ to. (e.value >>= λ vs. stored (ask to bytes (blank_object (cells_of scope.world e.shape))) vs) next) (λ to m1 y.
         let x1 : Scene d g scope f b s1 k y.ghost m1 = scene_later d g scope f b s0 s1 k w m y.ghost m1 y.inv y.grows y.holds.1 x in
         subst (λ (p : Maker). Safe n ((e.value >>= λ vs. stored (ask p bytes (blank_object (cells_of scope.world e.shape))) vs) next m1)) (sym y.holds.0.is)
-        ((gives k y.ghost m1 y.inv x1).by (λ vs. stored (ask (InRegion y.holds.0.birth) bytes (blank_object (cells_of scope.world e.shape))) vs next) (λ vs m2 z.
+        ((gives k y.ghost m1 y.inv x1).by (λ vs. stored (ask (InRegion y.holds.0.birth) bytes (blank_object (cells_of scope.world e.shape))) vs next)
+        (λ vs m2 z.
         (made_here k w m y.holds.0.birth vs z.ghost m2 z.inv (grows_trans y.grows z.grows) z.holds.0 y.holds.0.region
         (scene_later d g scope f b s1 s2 k y.ghost m1 z.ghost m2 z.inv z.grows z.holds.1 x1)).by next q)));
   }
@@ -173,10 +200,12 @@ module _ (n : ℕ) (d : Tables) (g : Env) (scope : Scope) (f : NameOf → Region
           subst (λ (cs : List Shape). Runs n (stored (ask (InRegion birth) bytes (blank_object cs)) vs) m2 (post k w m)) (sym cells)
           (record {
             by = λ next q.
-                (runs_check n (memory.is_live m2 (Born birth)) (show (RegionAlloc birth bytes) >> (stored (make_object (Born birth) (blank_object (map shape_of (cells_type d f t)))) vs)) m2 (post k w m)
+                (runs_check n (memory.is_live m2 (Born birth)) (show (RegionAlloc birth bytes) >>
+                (stored (make_object (Born birth) (blank_object (map shape_of (cells_type d f t)))) vs)) m2 (post k w m)
                 (ap state_is_live lives)
                 (runs_show n (RegionAlloc birth bytes) (stored (make_object (Born birth) (blank_object (map shape_of (cells_type d f t)))) vs) m2 (post k w m)
-                (runs_made d n k m2.activations (λ u. Reached u) w2 m2 (Born birth) (cells_type d f t) vs (λ s. give (memory.Thin (Some s) ∷ [])) (post k w m) (λ u. refl) i2 lives typed
+                (runs_made d n k m2.activations (λ u. Reached u) w2 m2 (Born birth) (cells_type d f t) vs (λ s. give (memory.Thin (Some s) ∷ [])) (post k w m)
+                (λ u. refl) i2 lives typed
                 (λ at w3 m3 i3 g3 there full st settles. record {
                   by = λ next2 q2. q2 (memory.Thin (Some at) ∷ []) m3 (record {
                     ghost = w3;
@@ -191,7 +220,8 @@ module _ (n : ℕ) (d : Tables) (g : Env) (scope : Scope) (f : NameOf → Region
                 })))).by next q;
           })
         where
-          pointer : (at : Spot) (w3 : Ghost) (m3 : Memory) → Inv d w3 m3 → at.region ≡ f r → FullAt (λ u. Reached u) w3 m3 at (cells_type d f t) vs → Scene d g scope f b s2 k w3 m3
+          pointer : (at : Spot) (w3 : Ghost) (m3 : Memory) → Inv d w3 m3 → at.region ≡ f r → FullAt (λ u. Reached u) w3 m3 at (cells_type d f t) vs
+              → Scene d g scope f b s2 k w3 m3
               → HaveTypes d w3 (flying k 0) (memory.Thin (Some at) ∷ []) (cells_type d f (Thin false r t))
           pointer at w3 m3 i3 there full x3 = (
             inr (record {
@@ -205,14 +235,16 @@ module _ (n : ℕ) (d : Tables) (g : Env) (scope : Scope) (f : NameOf → Region
             tt,
           )
 
-  pub denotes_made : (at : ℕ) (r : NameOf) (to : Act Maker) (p : States → Passed) (a v : Value) (u : Use) (e : Sense) → Agrees scope.world d → Lives r → Below g.regions.count r
+  pub denotes_made : (at : ℕ) (r : NameOf) (to : Act Maker) (p : States → Passed) (a v : Value) (u : Use) (e : Sense) → Agrees scope.world d → Lives r
+      → Below g.regions.count r
       → ((s : States) → (p s).faults ≡ [] → Aims s (p s).states r to) → Denotes n d g scope f b a u e → rules.made at (To r) a ≡ Of v
       → Denotes n d g scope f b v (value_use (λ s. then_passed (p s) u.value)) (made scope.world to Shared e)
   denotes_made at r to p a v u e agrees live below aims h j =
       let z : (is_makeable a.type ≡ true) × Valued v (Thin false r a.type) = made_there (is_makeable a.type) at r a.type v j in
       let it : IsObjectType a.type = makeable_object a.type h.simple z.0 in
       let shape : e.shape ≡ shape_of a.type = h.sound.shape (object_some a.type it) in
-      denotes_value n d g scope f b v (λ s. then_passed (p s) u.value) (Thin false r a.type) (ThinShape false Shared e.shape) _ it (below, h.below) z.1 (ap (ThinShape false Shared) shape)
+      denotes_value n d g scope f b v (λ s. then_passed (p s) u.value) (Thin false r a.type) (ThinShape false Shared e.shape) _ it (below, h.below) z.1
+      (ap (ThinShape false Shared) shape)
       (λ s q. gives_new s (p s).states (u.value (p s).states).states a.type r to e agrees live below shape (aims s (passed_first p u.value s q))
       (h.sound.value (p s).states (passed_second p u.value s q)))
 

@@ -1,5 +1,6 @@
 -- Members of structs are places, and structs are made of their members' values.
-use Rattle.std.proofs.Common.{◌≡◌, ℕ, zero, suc, ◌+◌, Bool, true, false, Option, Some, None, List, [], ◌∷◌, ◌++◌, refl, sym, ◌∙◌, ap, subst, arith}
+use Rattle.std.proofs.lemmas.Bool.{false≢true}
+use Rattle.std.proofs.Common.{◌≡◌, ℕ, zero, suc, ◌+◌, Bool, true, false, inl, inr, Option, Some, None, List, [], ◌∷◌, ◌++◌, refl, sym, ◌∙◌, ap, subst, arith}
 use Rattle.std.specs.Prelude.{map, length, slice_get, bytes_eq, if◌then◌else◌}
 use Rattle.source_meaning.specs.Shapes as shapes
 use Rattle.source_meaning.specs.Shapes.{Shape, has_tag, parts_of, part_shape, part_shapes}
@@ -12,9 +13,11 @@ use Rattle.source_typing.specs.Calls.{part_types}
 use Rattle.source_typing.specs.Regions.{TheHeap, Level}
 use Rattle.source_typing.specs.Scope.{Env}
 use Rattle.source_typing.specs.Tables as typing
-use Rattle.source_typing.specs.Tables.{Entry, OfValue, OfTag, OfFunction, OfBuiltin, OfOther, find, as_tag, parts_of_tag, parts_in, part_in, argument, or_heap}
+use Rattle.source_typing.specs.Tables.{Entry, Tag, OfValue, OfTag, OfFunction, OfBuiltin, OfOther, find, as_tag, tag_in, parts_of_tag, parts_in, part_in}
+use Rattle.source_typing.specs.Tables.{argument, or_heap}
 use Rattle.source_typing.specs.Types.{StaticType, Int, Unsigned, Char, Void, Null, Thin, Fat, Unique, Handle, Key, Struct, Union, renamed, shape_of}
-use Rattle.type_proof.specs.Entries.{IsObjectType, AreObjects, Structure}
+use Rattle.type_proof.specs.Entries.{IsObjectType, AreObjects, PlainEntry}
+use Rattle.type_proof.specs.Members.{names_union}
 use Rattle.source_typing.specs.States.{States}
 use Rattle.type_proof.specs.Flat.{Declared, Tables, or_region, filled, flat, flat_all}
 use Rattle.type_proof.specs.Structs.{AreMemberTypes, AreMembers}
@@ -90,7 +93,8 @@ pub record Found (ds : List Declared) (qs : List shapes.Part) (x : List ℕ) (t 
 same_type : (p q : typing.Part) (t u : StaticType) → Some p ≡ Some q → p.type ≡ Some t → q.type ≡ Some u → t ≡ u
 same_type p q t u e a c = let z : p ≡ q = cc in let y : p.type ≡ q.type = ap (λ (r : typing.Part). r.type) z in cc
 
-pub member_found : (ds : List Declared) (ps : List typing.Part) (qs : List shapes.Part) (ts : List StaticType) (x : List ℕ) (part : typing.Part) (u : StaticType)
+pub member_found : (ds : List Declared) (ps : List typing.Part) (qs : List shapes.Part) (ts : List StaticType) (x : List ℕ) (part : typing.Part)
+    (u : StaticType)
     → AreMembers ps qs ts → AreMemberTypes ds ts → part_in ps x ≡ Some part → part.type ≡ Some u → Found ds qs x u
 member_found ds [] [] [] x part u h o e z = absurd cc
 member_found ds (p ∷ ps) (q ∷ qs) (t ∷ ts) x part u h o e z =
@@ -149,24 +153,30 @@ member_laid d world f w same s (p ∷ ps) (q ∷ qs) [] x part u h e z l = absur
 
 -- a struct that has a member is one of the program's
 pub struct_there : (d : Tables) (world : World) (tables : typing.Tables) (tag x : List ℕ) (part : typing.Part) → Structs d world tables
-    → part_in (parts_in tables tag) x ≡ Some part → has_tag world.structs tag ≡ true
-struct_there d world tables tag x part h e = by (find tables tag) refl e
+    → names_union (tag_in tables tag) ≡ false → part_in (parts_in tables tag) x ≡ Some part → has_tag world.structs tag ≡ true
+struct_there d world tables tag x part h apart e = by (find tables tag) refl apart e
   where
-    by : (o : Option Entry) → find tables tag ≡ o → part_in (parts_of_tag (as_tag o)) x ≡ Some part → has_tag world.structs tag ≡ true
-    by None z e = absurd cc
-    by (Some (OfTag t)) z e = let k : Structure world tag t = h.plain tag (OfTag t) z in k.there
-    by (Some (OfValue v)) z e = absurd cc
-    by (Some (OfFunction s)) z e = absurd cc
-    by (Some (OfBuiltin n)) z e = absurd cc
-    by (Some OfOther) z e = absurd cc
+    of_tag : (t : Tag) → t.is_union ≡ false → PlainEntry world tag (OfTag t) → has_tag world.structs tag ≡ true
+    of_tag t n (inl k) = k.there
+    of_tag t n (inr k) = absurd (false≢true (sym n ∙ k.union))
+
+    by : (o : Option Entry) → find tables tag ≡ o → names_union (as_tag o) ≡ false → part_in (parts_of_tag (as_tag o)) x ≡ Some part
+        → has_tag world.structs tag ≡ true
+    by None z n e = absurd cc
+    by (Some (OfTag t)) z n e = of_tag t n (h.plain tag (OfTag t) z)
+    by (Some (OfValue v)) z n e = absurd cc
+    by (Some (OfFunction s)) z n e = absurd cc
+    by (Some (OfBuiltin c)) z n e = absurd cc
+    by (Some OfOther) z n e = absurd cc
 
 module _ (n : ℕ) (d : Tables) (g : Env) (scope : Scope) (f : NameOf → Region) (b : ℕ) (h : Structs d scope.world g.tables) where
   -- a member of a struct that is a place is a place in the same region
-  pub finds_member : (s0 s2 : States) (tag : List ℕ) (rs : List NameOf) (x : List ℕ) (part : typing.Part) (u : StaticType) (r : NameOf) (place : Act Spot) → part_in (parts_in g.tables tag) x ≡ Some part
+  pub finds_member : (s0 s2 : States) (tag : List ℕ) (rs : List NameOf) (x : List ℕ) (part : typing.Part) (u : StaticType) (r : NameOf) (place : Act Spot)
+      → names_union (tag_in g.tables tag) ≡ false → part_in (parts_in g.tables tag) x ≡ Some part
       → part.type ≡ Some u → Finds n d g scope f b s0 s2 (Struct tag rs) r place
       → Finds n d g scope f b s0 s2 (renamed (argument rs) u) r
       (place >>= λ s. give (beyond s (cells_before (cells_of scope.world) (parts_of scope.world.structs tag) x)))
-  finds_member s0 s2 tag rs x part u r place e z finds = λ k w m i q. record {
+  finds_member s0 s2 tag rs x part u r place apart e z finds = λ k w m i q. record {
     by = λ next p. (finds k w m i q).by (λ s. next (beyond s (cells_before (cells_of scope.world) (parts_of scope.world.structs tag) x)))
         (λ s m1 y.
         let at : PlaceOk d f (Struct tag rs) r s y.ghost m1 = y.holds.0 in
@@ -180,7 +190,7 @@ module _ (n : ℕ) (d : Tables) (g : Env) (scope : Scope) (f : NameOf → Region
   }
     where
       there : AreMembers (parts_in g.tables tag) (parts_of scope.world.structs tag) (member_types d.structs tag)
-      there = members_at g.tables d.structs scope.world.structs tag h.laid_out (struct_there d scope.world g.tables tag x part h e)
+      there = members_at g.tables d.structs scope.world.structs tag h.laid_out (struct_there d scope.world g.tables tag x part h apart e)
 
       found : Found d.structs (parts_of scope.world.structs tag) x u
       found = member_found d.structs (parts_in g.tables tag) (parts_of scope.world.structs tag) (member_types d.structs tag) x part u there
@@ -205,7 +215,8 @@ module _ (n : ℕ) (d : Tables) (g : Env) (scope : Scope) (f : NameOf → Region
   joined w by [] ys (t ∷ ts) us p q = absurd p
   joined w by (x ∷ xs) ys [] us p q = absurd p
 
-  flown_joined : (qs : List Region) (w : Ghost) (k : ℕ) (vss : List (List Scalar)) (ts : List StaticType) → AreObjects ts → Flown d w k vss (map (renamed (filled heap qs)) ts)
+  flown_joined : (qs : List Region) (w : Ghost) (k : ℕ) (vss : List (List Scalar)) (ts : List StaticType) → AreObjects ts
+      → Flown d w k vss (map (renamed (filled heap qs)) ts)
       → (to : ℕ → Owner) → HaveTypes d w to (calls.flat vss) (flat_all (flat heap d) (map (renamed (filled heap qs)) ts))
   flown_joined qs w k [] [] o p to = tt
   flown_joined qs w k (vs ∷ vss) (t ∷ ts) o p to =

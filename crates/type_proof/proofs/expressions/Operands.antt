@@ -27,7 +27,8 @@ use Rattle.type_proof.proofs.expressions.Pointers.{word_value, truth_known, runs
 
 module _ (n : ℕ) (d : Tables) (g : Env) (scope : Scope) (f : NameOf → Region) (b : ℕ) where
   -- what an integer that is looked at is, and what goes on with it
-  pub runs_word : {B : Type 0} (s s2 : States) (t : StaticType) (act : Act (List Scalar)) (h : Scalar → Act B) (k : ℕ) (w : Ghost) (m : Memory) (Q : B → Memory → Type 0)
+  pub runs_word : {B : Type 0} (s s2 : States) (t : StaticType) (act : Act (List Scalar)) (h : Scalar → Act B) (k : ℕ) (w : Ghost) (m : Memory)
+      (Q : B → Memory → Type 0)
       → IsInteger t → Shows n d g scope f b s s2 t act → Inv d w m → Scene d g scope f b s k w m
       → ((c : IntegerType) (x : ℕ) (w' : Ghost) (m' : Memory) → t ≡ integer_type c → Inv d w' m' → Grows k b w m w' m' → Scene d g scope f b s2 k w' m'
       → Runs n (h (Integer c x)) m' Q)
@@ -40,7 +41,8 @@ module _ (n : ℕ) (d : Tables) (g : Env) (scope : Scope) (f : NameOf → Region
   }
 
   -- two integers are joined by an operator
-  pub gives_applied : (s0 s1 s2 : States) (o : Operator) (s t : StaticType) (a c : Act (List Scalar)) → IsInteger s → IsInteger t → Shows n d g scope f b s0 s1 s a
+  pub gives_applied : (s0 s1 s2 : States) (o : Operator) (s t : StaticType) (a c : Act (List Scalar)) → IsInteger s → IsInteger t
+      → Shows n d g scope f b s0 s1 s a
       → Shows n d g scope f b s1 s2 t c
       → Gives n d g scope f b s0 s2 (on_integers o s t) (a >>= one >>= λ x. c >>= one >>= λ y. memory >>= λ m. need (operated m o x y) >>= λ r. give (r ∷ []))
   gives_applied s0 s1 s2 o s t a c is it ha hc = λ k w m i x.
@@ -53,7 +55,8 @@ module _ (n : ℕ) (d : Tables) (g : Env) (scope : Scope) (f : NameOf → Region
           inv = i2;
           grows = grows_trans g1 g2;
           holds = (
-            subst (λ (z : StaticType). HaveTypes d w2 (flying k 0) (integers o u p v q ∷ []) (cells_type d f z)) (sym (ap (λ (z : StaticType). on_integers o z t) e ∙ ap (on_integers o (integer_type u)) e2))
+            subst (λ (z : StaticType). HaveTypes d w2 (flying k 0) (integers o u p v q ∷ []) (cells_type d f z))
+                (sym (ap (λ (z : StaticType). on_integers o z t) e ∙ ap (on_integers o (integer_type u)) e2))
                 (joined_typed d f w2 (flying k 0) o u p v q),
             x2.stands,
           );
@@ -76,7 +79,8 @@ module _ (n : ℕ) (d : Tables) (g : Env) (scope : Scope) (f : NameOf → Region
 
   pub tells_truth : (s s2 : States) (t : StaticType) (e : Sense) → IsWordType t → Shows n d g scope f b s s2 t e.look → Tells s s2 (truth e)
   tells_truth s s2 t e is h = λ k w m i x.
-      runs_value n d g scope f b s s2 t e.look (λ v. need (is_true v)) k w m (λ t. After d k b w m (λ w' m'. Standing d g scope f s2 w' m')) (word_value t is) h i x
+      runs_value n d g scope f b s s2 t e.look (λ v. need (is_true v)) k w m (λ t. After d k b w m (λ w' m'. Standing d g scope f s2 w' m')) (word_value t is) h
+      i x
       (λ by v w1 m1 hv i1 g1 x1.
       let z : (c : Bool) × (is_true v ≡ Some c) = truth_known d f w1 by v t is hv in
       record {
@@ -84,7 +88,8 @@ module _ (n : ℕ) (d : Tables) (g : Env) (scope : Scope) (f : NameOf → Region
       })
 
   -- a test, and one of two acts
-  pub runs_choose : {B : Type 0} (s s2 : States) (act : Act Bool) (k : ℕ) (w : Ghost) (m : Memory) (h : Bool → Act B) (Q : B → Memory → Type 0) → Tells s s2 act → Inv d w m
+  pub runs_choose : {B : Type 0} (s s2 : States) (act : Act Bool) (k : ℕ) (w : Ghost) (m : Memory) (h : Bool → Act B) (Q : B → Memory → Type 0) → Tells s s2 act
+      → Inv d w m
       → Scene d g scope f b s k w m
       → ((t : Bool) (w' : Ghost) (m' : Memory) → Inv d w' m' → Grows k b w m w' m' → Scene d g scope f b s2 k w' m' → Runs n (h t) m' Q)
       → Runs n (act >>= h) m Q
@@ -120,5 +125,11 @@ module _ (n : ℕ) (d : Tables) (g : Env) (scope : Scope) (f : NameOf → Region
   pub gives_tested : (s s2 : States) (act : Act Bool) → Tells s s2 act → Gives n d g scope f b s s2 Int (act >>= λ t. give (truth_value t ∷ []))
   gives_tested s s2 act h = λ k w m i x. record {
     by = λ next q. (h k w m i x).by (λ t. next (truth_value t ∷ []))
-        (λ t m' y. q (truth_value t ∷ []) m' (record { ghost = y.ghost; inv = y.inv; grows = y.grows; holds = (truth_typed d f y.ghost (flying k 0) t, y.holds) }));
+        (λ t m' y. q (truth_value t ∷ []) m' (record {
+          ghost = y.ghost;
+          inv = y.inv;
+          grows = y.grows;
+          holds =
+              (truth_typed d f y.ghost (flying k 0) t, y.holds);
+        }));
   }

@@ -27,12 +27,15 @@ use Rattle.type_proof.proofs.invariant.After.{After, flying, flight_kept}
 use Rattle.type_proof.proofs.invariant.Arguments.{Agrees}
 use Rattle.type_proof.proofs.invariant.Cells.{cell, seen, typed_is, runs_write, stored, inv_stored, grows_stored, Copied}
 use Rattle.type_proof.proofs.invariant.Names.{NameOf}
-use Rattle.type_proof.proofs.invariant.Sound.{Looked, shape_renamed, cells_type, PlaceStands, GivesBy, ShowsBy, FindsAny, StoresBy, Sound, none_first, none_second}
+use Rattle.type_proof.proofs.invariant.Sound.{Looked, shape_renamed, cells_type, PlaceStands, GivesBy, ShowsBy, FindsAny, StoresBy, Sound, none_first}
+use Rattle.type_proof.proofs.invariant.Sound.{none_second}
 use Rattle.type_proof.proofs.invariant.Scenes.{Scene, scene_more}
 use Rattle.type_proof.proofs.invariant.Rights.{Ours, HeldAt, runs_read_held}
-use Rattle.type_proof.proofs.invariant.Standing.{Standing, Whole, InRoom, Rooms}
+use Rattle.type_proof.proofs.invariant.LocalCells.{Whole}
+use Rattle.type_proof.proofs.invariant.Standing.{Standing, InRoom, Rooms}
 use Rattle.type_proof.proofs.invariant.Moving.{into_later}
-use Rattle.type_proof.proofs.expressions.Uses.{Own, Setting, gives_moved, shows_held, runs_assigned, copied_flies, looked_held, ours, alive, here, held_by, now, means}
+use Rattle.type_proof.proofs.expressions.Uses.{Own, Setting, gives_moved, shows_held, runs_assigned, copied_flies, looked_held, ours, alive, here, held_by, now}
+use Rattle.type_proof.proofs.expressions.Uses.{means}
 use Rattle.type_proof.proofs.expressions.Places.{none_moved, uncopied}
 use Rattle.type_proof.proofs.expressions.Rewriting.{Rewritten, Rewrites, held_again, all_again}
 
@@ -47,7 +50,8 @@ held_behind w m s (t ∷ ts) us (v ∷ vs) h =
     (r.0, subst (λ (y : Spot). HeldAt w m y us r.0) (further s 1 (length ts) (suc (length ts)) (omega arith)) r.1)
 held_behind w m s (t ∷ ts) us [] h = absurd h
 
-held_before : (w : Ghost) (m : Memory) (s : Spot) (ts us : List RunType) (vs : List Scalar) → HeldAt w m s (ts ++ us) vs → (first : List Scalar) × HeldAt w m s ts first
+held_before : (w : Ghost) (m : Memory) (s : Spot) (ts us : List RunType) (vs : List Scalar) → HeldAt w m s (ts ++ us) vs → (first : List Scalar)
+    × HeldAt w m s ts first
 held_before w m s [] us vs h = ([], tt)
 held_before w m s (t ∷ ts) us (v ∷ vs) h =
     let r : (first : List Scalar) × HeldAt w m (beyond s 1) ts first = held_before w m (beyond s 1) ts us vs h.2 in (v ∷ r.0, (h.0, h.1, r.1))
@@ -65,13 +69,15 @@ held_part w m s first part others vs h =
 pub rewrites_refl : (w : Ghost) (m : Memory) → Rewrites w m w m
 rewrites_refl w m = record { types = λ y k e. e; cells = λ y t e. inl refl }
 
-pub rewrites_trans : (w : Ghost) (m : Memory) (w1 : Ghost) (m1 : Memory) (w2 : Ghost) (m2 : Memory) → Rewrites w m w1 m1 → Rewrites w1 m1 w2 m2 → Rewrites w m w2 m2
+pub rewrites_trans : (w : Ghost) (m : Memory) (w1 : Ghost) (m1 : Memory) (w2 : Ghost) (m2 : Memory) → Rewrites w m w1 m1 → Rewrites w1 m1 w2 m2
+    → Rewrites w m w2 m2
 rewrites_trans w m w1 m1 w2 m2 a b = record {
   types = λ y k e. b.types y k (a.types y k e);
   cells = λ y t e. by y t (a.cells y t e) (b.cells y t (a.types y (Private t) e));
 }
   where
-    by : (y : Spot) (t : RunType) → (m1.cells y ≡ m.cells y) ⊎ Rewritten m m1 y t → (m2.cells y ≡ m1.cells y) ⊎ Rewritten m1 m2 y t → (m2.cells y ≡ m.cells y) ⊎ Rewritten m m2 y t
+    by : (y : Spot) (t : RunType) → (m1.cells y ≡ m.cells y) ⊎ Rewritten m m1 y t → (m2.cells y ≡ m1.cells y) ⊎ Rewritten m1 m2 y t → (m2.cells y ≡ m.cells y)
+        ⊎ Rewritten m m2 y t
     by y t (inl p) (inl q) = inl (q ∙ p)
     by y t (inl p) (inr q) = inr (record { before = q.before; after = q.after; had = sym p ∙ q.had; has = q.has })
     by y t (inr p) (inl q) = inr (record { before = p.before; after = p.after; had = p.had; has = q ∙ p.has })
@@ -89,8 +95,10 @@ rewrites_one k c w m s t u v typed holds = record {
     by : (y : Spot) (q : RunType) → y ≡ s → w.types y ≡ Some (Private q) → (with_cell m s (cell t (Holds v))).cells y ≡ Some (cell t (Holds v))
         → Rewritten m (with_cell m s (cell t (Holds v))) y q
     by y q is e after =
-        let same : t ≡ q = (let a : Some (Private t) ≡ Some (Private q) = sym typed ∙ sym (ap w.types is) ∙ e in let z : Private t ≡ Private q = cc in ap invariant.type_of z) in
-        subst (λ (z : RunType). Rewritten m (with_cell m s (cell t (Holds v))) y z) same (record { before = u; after = v; had = ap m.cells is ∙ holds; has = after })
+        let same : t ≡ q = (let a : Some (Private t) ≡ Some (Private q) = sym typed ∙ sym (ap w.types is) ∙ e in let z : Private t ≡ Private q =
+        cc in ap invariant.type_of z) in
+        subst (λ (z : RunType). Rewritten m (with_cell m s (cell t (Holds v))) y z) same
+        (record { before = u; after = v; had = ap m.cells is ∙ holds; has = after })
 
 pub runs_write_held : {B : Type 0} (d : Tables) (n k b c : ℕ) (w : Ghost) (m : Memory) (s : Spot) (ts : List RunType) (us vs : List Scalar) (g : Act B)
     (Q : B → Memory → Type 0) → Inv d w m → m.state s.region ≡ Live → Ours b s → HeldAt w m s ts us → HaveTypes d w (flying k c) vs ts
@@ -122,7 +130,8 @@ runs_write_held d n k b c w m s (t ∷ ts) [] (v ∷ vs) g Q i l o h hv r = absu
 -- ---- places
 
 -- a variable that is found lies in a block of the function
-room_found : (b : ℕ) (bs : List Binding) (x : List ℕ) (sh : Shape) (at : Spot) → Rooms b bs → bound_to bs x ≡ Some (Variable sh at) → (j : ℕ) → at.region ≡ Frame j → b ≤ j
+room_found : (b : ℕ) (bs : List Binding) (x : List ℕ) (sh : Shape) (at : Spot) → Rooms b bs → bound_to bs x ≡ Some (Variable sh at) → (j : ℕ) → at.region
+    ≡ Frame j → b ≤ j
 room_found b [] x sh at h e j r = absurd cc
 room_found b (y ∷ bs) x sh at h e j r = by (bytes_eq y.name x) (λ q. room_found b bs x sh at h.1 q j r) e
   where
@@ -184,7 +193,8 @@ module _ (n : ℕ) (d : Tables) (g : Env) (scope : Scope) (f : NameOf → Region
   of_variable (Union tag rs) at = refl
 
   -- A local that can't be copied: moved where it is given away, held where it is looked at and where its members are, held again once it is assigned.
-  pub sound_own : (x : tree.Name) (v : Value) → Own d g scope f x.text v.type → Sound n d g scope f b v (local_use g.locals x) true (entity_sense scope.world (entity_of scope x.text))
+  pub sound_own : (x : tree.Name) (v : Value) → Own d g scope f x.text v.type
+      → Sound n d g scope f b v (local_use g.locals x) true (entity_sense scope.world (entity_of scope x.text))
   sound_own x v o = record {
     shape = λ z. shaped;
     owned = λ z. refl;
@@ -204,12 +214,14 @@ module _ (n : ℕ) (d : Tables) (g : Env) (scope : Scope) (f : NameOf → Region
 
   -- a member's cells are held where those of the local are
   pub finds_own_part : (p : States → Passed) (seat : Seat) (t u : StaticType) (place : Act Spot) (count : ℕ) (first others : List RunType)
-      → (f TheHeap ≡ invariant.heap → cells_type d f t ≡ first ++ (cells_type d f u ++ others)) → count ≡ length first → FindsAny n d g scope f b p true seat t place
+      → (f TheHeap ≡ invariant.heap → cells_type d f t ≡ first ++ (cells_type d f u ++ others)) → count ≡ length first
+      → FindsAny n d g scope f b p true seat t place
       → FindsAny n d g scope f b p true seat u (place >>= λ s. give (beyond s count))
   finds_own_part p seat t u place count first others cells counted finds s e k w m i x = record {
     by = λ next r. (finds s e k w m i x).by (λ at. next (beyond at count)) (λ at m1 y.
         let q : (us : List Scalar) × HeldAt y.ghost m1 (beyond at (length first)) (cells_type d f u) us =
-        held_part y.ghost m1 at first (cells_type d f u) others y.holds.0.0 (subst (λ (ts : List RunType). HeldAt y.ghost m1 at ts y.holds.0.0) (cells x.names.heap_is) y.holds.0.1) in
+        held_part y.ghost m1 at first (cells_type d f u) others y.holds.0.0
+        (subst (λ (ts : List RunType). HeldAt y.ghost m1 at ts y.holds.0.0) (cells x.names.heap_is) y.holds.0.1) in
         r (beyond at count) m1 (record {
           ghost = y.ghost;
           inv = y.inv;
@@ -229,12 +241,15 @@ module _ (n : ℕ) (d : Tables) (g : Env) (scope : Scope) (f : NameOf → Region
       → (moves ≡ false → Copied (cells_type d f t)) → FindsAny n d g scope f b p true seat t act
       → GivesBy n d g scope f b (place_use at moves po p).value t (place_sense scope.world sh act).value
   gives_own p at moves po seat t sh act shape copies finds s e k w m i x = record {
-    by = λ next q. (finds s (none_first (p s).faults (copy_if moves at (p s).states).faults e) k w m i x).by (λ spot. take_cells (cells_of scope.world sh) spot next) (λ spot m1 y.
+    by = λ next q. (finds s (none_first (p s).faults (copy_if moves at (p s).states).faults e) k w m i x).by
+        (λ spot. take_cells (cells_of scope.world sh) spot next) (λ spot m1 y.
         (subst (λ (cs : List Shape). Runs n (take_cells cs spot) m1 post) (sym (own_cells t sh shape))
-        (runs_read_held n y.ghost m1 spot ts y.holds.0.0 (λ vs. (if any_moved (map shape_of ts) then put_contents (length (map shape_of ts)) spot memory.Gone else give tt) >> give vs) post
+        (runs_read_held n y.ghost m1 spot ts y.holds.0.0 (λ vs.
+        (if any_moved (map shape_of ts) then put_contents (length (map shape_of ts)) spot memory.Gone else give tt) >> give vs) post
         y.holds.0.2 y.holds.0.1
         (record {
-          by = λ next2 q2. subst (λ (c : Bool). Safe n (((if c then put_contents (length (map shape_of ts)) spot memory.Gone else give tt) >> give y.holds.0.0) next2 m1)) (sym (none_moved ts (copies c.0)))
+          by = λ next2 q2. subst (λ (c : Bool). Safe n (((if c then put_contents (length (map shape_of ts)) spot memory.Gone else give tt) >> give y.holds.0.0)
+              next2 m1)) (sym (none_moved ts (copies c.0)))
               (q2 y.holds.0.0 m1 (record {
                 ghost = y.ghost;
                 inv = y.inv;
@@ -288,10 +303,12 @@ module _ (n : ℕ) (d : Tables) (g : Env) (scope : Scope) (f : NameOf → Region
       }
 
   -- a value is stored to it: all locals stand as they did
-  stores_own : (p : States → Passed) (seat : Seat) (t : StaticType) (act : Act Spot) → FindsAny n d g scope f b p true seat t act → StoresBy n d g scope f b p t act
+  stores_own : (p : States → Passed) (seat : Seat) (t : StaticType) (act : Act Spot) → FindsAny n d g scope f b p true seat t act
+      → StoresBy n d g scope f b p t act
   stores_own p seat t act finds s e k w m vs i x typed = record {
     by = λ next q. (finds s e (suc k) w m i (scene_more d g scope f b s k w m x)).by (λ spot. (write_cells spot vs >> give tt) next) (λ spot m1 y.
-        (runs_write_held d n k b 0 y.ghost m1 spot (cells_type d f t) y.holds.0.0 vs (give tt) (λ u. After d k b w m (λ w' m'. Standing d g scope f (p s).states w' m'))
+        (runs_write_held d n k b 0 y.ghost m1 spot (cells_type d f t) y.holds.0.0 vs (give tt)
+        (λ u. After d k b w m (λ w' m'. Standing d g scope f (p s).states w' m'))
         y.inv y.holds.0.2 y.holds.0.3 y.holds.0.1 (flight_kept d k b w m y.ghost m1 vs (cells_type d f t) i y.grows typed)
         (λ w2 m2 i2 g2 z. record {
           by = λ next2 q2. q2 tt m2 (record {

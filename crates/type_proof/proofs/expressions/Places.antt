@@ -20,7 +20,8 @@ use Rattle.type_proof.proofs.invariant.Growth.{grows_trans, grows_less}
 use Rattle.type_proof.proofs.invariant.Cells.{cell, seen, runs_read, Copied, runs_read_laid, runs_write_laid}
 use Rattle.type_proof.proofs.invariant.Arguments.{Agrees}
 use Rattle.type_proof.proofs.invariant.Names.{NameOf}
-use Rattle.type_proof.proofs.invariant.Sound.{shape_renamed, Holder, Looked, cells_type, PlaceStands, Gives, Shows, Stores, FindsAny, Sound, none_first, none_second}
+use Rattle.type_proof.proofs.invariant.Sound.{shape_renamed, Holder, Looked, cells_type, PlaceStands, Gives, Shows, Stores, FindsAny, Sound, none_first}
+use Rattle.type_proof.proofs.invariant.Sound.{none_second}
 use Rattle.type_proof.proofs.invariant.Standing.{Standing, all_kept}
 use Rattle.type_proof.proofs.invariant.Scenes.{Scene, scene_later, scene_more}
 
@@ -75,16 +76,19 @@ module _ (n : ℕ) (d : Tables) (g : Env) (scope : Scope) (f : NameOf → memory
   pub gives_reached : (s s2 : States) (t : StaticType) (sh : Shape) (seat : Seat) (at : Act Spot) → sh ≡ shape_of t → Copied (cells_type d f t)
       → FindsThere s s2 seat t at → Gives n d g scope f b s s2 t (place_sense scope.world sh at).value
   gives_reached s s2 t sh seat at e copied run = λ k w m i x.
-      runs_bind n at (λ spot. take_cells (cells_of scope.world sh) spot) m (λ spot. After d k b w m (λ w' m'. PlaceStands d f b false seat t spot w' m' × Standing d g scope f s2 w' m'))
+      runs_bind n at (λ spot. take_cells (cells_of scope.world sh) spot) m
+      (λ spot. After d k b w m (λ w' m'. PlaceStands d f b false seat t spot w' m' × Standing d g scope f s2 w' m'))
       (given k w m) (run k w m i x)
       (λ spot m1 y.
       let place : Laid y.ghost spot (cells_type d f t) × (m1.state spot.region ≡ Live) = reached_cells seat t spot y.ghost m1 y.holds.0 in
       subst (λ (cs : List Shape). Runs n (take_cells cs spot) m1 (given k w m)) (sym (cells_are sh t e))
-      (runs_read_laid d n y.ghost m1 spot ts (flying k 0) (λ vs. (if any_moved (map shape_of ts) then put_contents (length (map shape_of ts)) spot memory.Gone else give tt) >> give vs)
+      (runs_read_laid d n y.ghost m1 spot ts (flying k 0) (λ vs.
+      (if any_moved (map shape_of ts) then put_contents (length (map shape_of ts)) spot memory.Gone else give tt) >> give vs)
       (given k w m) y.inv place.1 place.0 copied
       (λ vs hv. record {
         by = λ next q.
-            subst (λ (z : Bool). Safe n (((if z then put_contents (length (map shape_of ts)) spot memory.Gone else give tt) >> give vs) next m1)) (sym (none_moved ts copied))
+            subst (λ (z : Bool). Safe n (((if z then put_contents (length (map shape_of ts)) spot memory.Gone else give tt) >> give vs) next m1))
+            (sym (none_moved ts copied))
             (q vs m1 (record { ghost = y.ghost; inv = y.inv; grows = y.grows; holds = (hv, y.holds.1) }));
       })))
     where

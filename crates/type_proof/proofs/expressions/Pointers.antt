@@ -166,15 +166,18 @@ live_pointer d w m by v c r t i l (inr h) = (Some h.at, h.is, i.closed r h.at.re
 
 module _ (n : ℕ) (d : Tables) (g : Env) (scope : Scope) (f : NameOf → Region) (b : ℕ) where
   -- what a value that is looked at is, and what goes on with it
-  pub runs_value : {B : Type 0} (s s2 : States) (t : StaticType) (act : Act (List Scalar)) (h : Scalar → Act B) (k : ℕ) (w : Ghost) (m : Memory) (Q : B → Memory → Type 0)
+  pub runs_value : {B : Type 0} (s s2 : States) (t : StaticType) (act : Act (List Scalar)) (h : Scalar → Act B) (k : ℕ) (w : Ghost) (m : Memory)
+      (Q : B → Memory → Type 0)
       → IsValue t → Shows n d g scope f b s s2 t act → Inv d w m → Scene d g scope f b s k w m
-      → ((by : Owner) (v : Scalar) (w' : Ghost) (m' : Memory) → HasType d w' by v (renamed f t) → Inv d w' m' → Grows k b w m w' m' → Scene d g scope f b s2 k w' m'
+      → ((by : Owner) (v : Scalar) (w' : Ghost) (m' : Memory) → HasType d w' by v (renamed f t) → Inv d w' m' → Grows k b w m w' m'
+      → Scene d g scope f b s2 k w' m'
       → Runs n (h v) m' Q)
       → Runs n (act >>= one >>= h) m Q
   runs_value s s2 t act h k w m Q e shows i x go = record {
     by = λ next q. (shows k w m i x).by (λ vs. one vs (λ a. h a next)) (λ vs m' y.
         let z : OneValue d y.ghost (y.holds.0.by 0) vs (renamed f t) =
-        one_value d y.ghost y.holds.0.by vs (renamed f t) (subst (λ (ts : List RunType). HaveTypes d y.ghost y.holds.0.by vs ts) (value_cell d f t e) y.holds.0.typed) in
+        one_value d y.ghost y.holds.0.by vs (renamed f t) (subst (λ (ts : List RunType). HaveTypes d y.ghost y.holds.0.by vs ts) (value_cell d f t e)
+        y.holds.0.typed) in
         subst (λ (us : List Scalar). Safe n (one us (λ a. h a next) m')) (sym z.is) ((go (y.holds.0.by 0) z.value y.ghost m' z.typed y.inv y.grows
         (scene_later d g scope f b s s2 k w m y.ghost m' y.inv y.grows y.holds.1 x)).by next q));
   }
@@ -221,7 +224,8 @@ module _ (n : ℕ) (d : Tables) (g : Env) (scope : Scope) (f : NameOf → Region
       }
 
   -- two pointers are compared: the first one is as it was once the second one was evaluated
-  pub gives_compared : (s0 s1 s2 : States) (o : Operator) (s t : StaticType) (a c : Act (List Scalar)) → is_equality o ≡ true → IsValue s → IsValue t → Compares s t
+  pub gives_compared : (s0 s1 s2 : States) (o : Operator) (s t : StaticType) (a c : Act (List Scalar)) → is_equality o ≡ true → IsValue s → IsValue t
+      → Compares s t
       → Shows n d g scope f b s0 s1 s a → Shows n d g scope f b s1 s2 t c
       → Gives n d g scope f b s0 s2 Int (a >>= one >>= λ x. c >>= one >>= λ y. steps.memory >>= λ m. need (operated m o x y) >>= λ r. give (r ∷ []))
   gives_compared s0 s1 s2 o s t a c e is it compares ha hc = λ k w m i x.

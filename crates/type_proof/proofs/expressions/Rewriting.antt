@@ -12,7 +12,8 @@ use Rattle.type_proof.proofs.invariant.Invariant.{RunType, Kept, Private, Ghost}
 use Rattle.type_proof.proofs.invariant.Cells.{cell}
 use Rattle.type_proof.proofs.invariant.Names.{NameOf}
 use Rattle.type_proof.proofs.invariant.Rights.{HeldAt}
-use Rattle.type_proof.proofs.invariant.Standing.{Unlent, Whole, FreeAt, PrivateAt, CellsStand, LocalStands, AllStand}
+use Rattle.type_proof.proofs.invariant.LocalCells.{Unlent, Whole, FreeAt, PrivateAt, CellsStand}
+use Rattle.type_proof.proofs.invariant.Standing.{LocalStands, AllStand}
 
 pub record Rewritten (m m' : Memory) (y : Spot) (t : RunType) : Type 0 where
   pub before : Scalar

@@ -56,7 +56,8 @@ moved_shape _ s t e = absurd cc
 
 module _ (n : ℕ) (d : Tables) (g : Env) (scope : Scope) (f : NameOf → Region) (b : ℕ) where
   -- `p + e` and `p - e`
-  pub gives_moved : (s0 s1 s2 : States) (o : Operator) (r : NameOf) (t u : StaticType) (a c : Act (List Scalar)) → is_move o ≡ true → IsObjectType t → IsInteger u
+  pub gives_moved : (s0 s1 s2 : States) (o : Operator) (r : NameOf) (t u : StaticType) (a c : Act (List Scalar)) → is_move o ≡ true → IsObjectType t
+      → IsInteger u
       → Shows n d g scope f b s0 s1 (Fat r t) a → Shows n d g scope f b s1 s2 u c
       → Gives n d g scope f b s0 s2 (Fat r t) (a >>= one >>= λ x. c >>= one >>= λ y. memory >>= λ m. need (operated m o x y) >>= λ r. give (r ∷ []))
   gives_moved s0 s1 s2 o r t u a c e it iu ha hc = λ k w m i x.
@@ -93,7 +94,8 @@ module _ (n : ℕ) (d : Tables) (g : Env) (scope : Scope) (f : NameOf → Region
       counted : (k : ℕ) (w : Ghost) (m : Memory) (by : Owner) (v : Scalar) (w1 : Ghost) (m1 : Memory) → HasType d w1 by v (renamed f (Fat r t)) → Inv d w1 m1
           → Grows k b w m w1 m1 → Scene d g scope f b s2 k w1 m1 → Runs n (elements_left v >>= λ n. give (n ∷ [])) m1 (post k w m)
       counted k w m by v w1 m1 (inl h) i1 g1 x1 = subst (λ (y : Scalar). Runs n (elements_left y >>= λ n. give (n ∷ [])) m1 (post k w m)) (sym h) (record {
-        by = λ next q. q (Integer AsUnsigned 0 ∷ []) m1 (record { ghost = w1; inv = i1; grows = g1; holds = ((record { word = 0; is = refl }, tt), x1.stands) });
+        by = λ next q. q (Integer AsUnsigned 0 ∷ []) m1 (record
+            { ghost = w1; inv = i1; grows = g1; holds = ((record { word = 0; is = refl }, tt), x1.stands) });
       })
       counted k w m by v w1 m1 (inr h) i1 g1 x1 = subst (λ (y : Scalar). Runs n (elements_left y >>= λ n. give (n ∷ [])) m1 (post k w m)) (sym h.is) (record {
         by = λ next q. q (Integer AsUnsigned (h.span.count - h.span.index) ∷ []) m1 (record {
@@ -109,13 +111,18 @@ module _ (n : ℕ) (d : Tables) (g : Env) (scope : Scope) (f : NameOf → Region
   -- NULL raises, an index that isn't below the count raises, and else the element is there, in a region that is live
   finds_spanned : (s2 : States) (r : NameOf) (t : StaticType) (cells k : ℕ) (w : Ghost) (m : Memory) (by : Owner) (v : Scalar) (w1 : Ghost) (m1 : Memory)
       → cells ≡ length (cells_type d f t) → g.regions.live r ≡ true → HasType d w1 by v (renamed f (Fat r t)) → Inv d w1 m1 → Grows k b w m w1 m1
-      → Scene d g scope f b s2 k w1 m1 → Runs n (accessed cells v) m1 (λ at. After d k b w m (λ w' m'. PlaceOk d f t r at w' m' × Standing d g scope f s2 w' m'))
+      → Scene d g scope f b s2 k w1 m1 → Runs n (accessed cells v) m1
+      (λ at. After d k b w m (λ w' m'. PlaceOk d f t r at w' m' × Standing d g scope f s2 w' m'))
   finds_spanned s2 r t cells k w m by v w1 m1 count live (inl h) i1 g1 x1 =
       subst (λ (y : Scalar). Runs n (accessed cells y) m1 (λ at. After d k b w m (λ w' m'. PlaceOk d f t r at w' m' × Standing d g scope f s2 w' m'))) (sym h)
       (record { by = λ next q. safe_raised n NullException })
   finds_spanned s2 r t cells k w m by v w1 m1 count live (inr h) i1 g1 x1 =
-      subst (λ (y : Scalar). Runs n (accessed cells y) m1 (λ at. After d k b w m (λ w' m'. PlaceOk d f t r at w' m' × Standing d g scope f s2 w' m'))) (sym h.is)
-      (record { by = λ next q. (runs_element n cells h.span (λ at. give at) m1 (λ at. After d k b w m (λ w' m'. PlaceOk d f t r at w' m' × Standing d g scope f s2 w' m')) here).by next q })
+      subst (λ (y : Scalar). Runs n (accessed cells y) m1 (λ at. After d k b w m (λ w' m'. PlaceOk d f t r at w' m' × Standing d g scope f s2 w' m')))
+      (sym h.is)
+      (record {
+        by = λ next q. (runs_element n cells h.span (λ at. give at) m1
+            (λ at. After d k b w m (λ w' m'. PlaceOk d f t r at w' m' × Standing d g scope f s2 w' m')) here).by next q;
+      })
     where
       at : Spot
       at = beyond h.span.first (h.span.index * cells)
@@ -137,7 +144,8 @@ module _ (n : ℕ) (d : Tables) (g : Env) (scope : Scope) (f : NameOf → Region
   pub finds_element : (s s2 : States) (r : NameOf) (t : StaticType) (cells : ℕ) (act : Act (List Scalar)) → IsObjectType t → cells ≡ length (cells_type d f t)
       → g.regions.live r ≡ true → Shows n d g scope f b s s2 (Fat r t) act → Finds n d g scope f b s s2 t r (act >>= one >>= λ p. accessed cells p)
   finds_element s s2 r t cells act it count live shows = λ k w m i x. record {
-    by = λ next q. (runs_value n d g scope f b s s2 (Fat r t) act (λ p. accessed cells p) k w m (λ at. After d k b w m (λ w' m'. PlaceOk d f t r at w' m' × Standing d g scope f s2 w' m')) it shows i x
+    by = λ next q. (runs_value n d g scope f b s s2 (Fat r t) act (λ p. accessed cells p) k w m
+        (λ at. After d k b w m (λ w' m'. PlaceOk d f t r at w' m' × Standing d g scope f s2 w' m')) it shows i x
         (λ by v w1 m1 hv i1 g1 x1.
         finds_spanned s2 r t cells k w m by v w1 m1 count live hv i1 g1 x1)).by next q;
   }
@@ -145,13 +153,16 @@ module _ (n : ℕ) (d : Tables) (g : Env) (scope : Scope) (f : NameOf → Region
   -- and so where the index is another one
   finds_further : (s2 : States) (r : NameOf) (t : StaticType) (cells j k : ℕ) (w : Ghost) (m : Memory) (by : Owner) (v : Scalar) (w1 : Ghost) (m1 : Memory)
       → cells ≡ length (cells_type d f t) → g.regions.live r ≡ true → HasType d w1 by v (renamed f (Fat r t)) → Inv d w1 m1 → Grows k b w m w1 m1
-      → Scene d g scope f b s2 k w1 m1 → Runs n (indexed_span j v >>= λ p. accessed cells p) m1 (λ at. After d k b w m (λ w' m'. PlaceOk d f t r at w' m' × Standing d g scope f s2 w' m'))
+      → Scene d g scope f b s2 k w1 m1 → Runs n (indexed_span j v >>= λ p. accessed cells p) m1
+      (λ at. After d k b w m (λ w' m'. PlaceOk d f t r at w' m' × Standing d g scope f s2 w' m'))
   finds_further s2 r t cells j k w m by v w1 m1 count live (inl h) i1 g1 x1 =
-      subst (λ (y : Scalar). Runs n (indexed_span j y >>= λ p. accessed cells p) m1 (λ at. After d k b w m (λ w' m'. PlaceOk d f t r at w' m' × Standing d g scope f s2 w' m'))) (sym h)
+      subst (λ (y : Scalar). Runs n (indexed_span j y >>= λ p. accessed cells p) m1
+      (λ at. After d k b w m (λ w' m'. PlaceOk d f t r at w' m' × Standing d g scope f s2 w' m'))) (sym h)
       (record { by = λ next q. safe_raised n NullException })
   finds_further s2 r t cells j k w m by v w1 m1 count live (inr h) i1 g1 x1 =
       let index : ℕ = sum_of h.span.index j in
-      subst (λ (y : Scalar). Runs n (indexed_span j y >>= λ p. accessed cells p) m1 (λ at. After d k b w m (λ w' m'. PlaceOk d f t r at w' m' × Standing d g scope f s2 w' m'))) (sym h.is) (record {
+      subst (λ (y : Scalar). Runs n (indexed_span j y >>= λ p. accessed cells p) m1
+      (λ at. After d k b w m (λ w' m'. PlaceOk d f t r at w' m' × Standing d g scope f s2 w' m'))) (sym h.is) (record {
         by = λ next q. (finds_spanned s2 r t cells k w m by (Wide (Some (record h.span { index = index }))) w1 m1 count live
             (inr (same_elements d w1 h.span index (f r) (renamed f t) h.reaches)) i1 g1 x1).by next q;
       })

@@ -35,7 +35,8 @@ module _ (n : ℕ) (d : Tables) (g : Env) (scope : Scope) (f : NameOf → Region
   pub runs_converted : {B : Type 0} (s s2 : States) (t u : StaticType) (act : Act (List Scalar)) (h : List Scalar → Act B) (k : ℕ) (w : Ghost) (m : Memory)
       (Q : B → Memory → Type 0) → Agrees scope.world d → IsSimple t → IsObjectType u → Converts g.regions t u → Gives n d g scope f b s s2 t act → Inv d w m
       → Scene d g scope f b s k w m
-      → ((vs : List Scalar) (w' : Ghost) (m' : Memory) → Inv d w' m' → Grows k b w m w' m' → HaveTypes d w' (flying k 0) vs (cells_type d f u) → Scene d g scope f b s2 k w' m'
+      → ((vs : List Scalar) (w' : Ghost) (m' : Memory) → Inv d w' m' → Grows k b w m w' m' → HaveTypes d w' (flying k 0) vs (cells_type d f u)
+      → Scene d g scope f b s2 k w' m'
       → Runs n (h vs) m' Q)
       → Runs n (act >>= converted scope.world (shape_of u) (shape_of t) >>= h) m Q
   runs_converted s s2 t u act h k w m Q agrees it iu conv gives i x go = record {
@@ -61,15 +62,17 @@ module _ (n : ℕ) (d : Tables) (g : Env) (scope : Scope) (f : NameOf → Region
   variable_sense (Handle r) at e = refl
   variable_sense (Key r) at e = absurd e
   variable_sense (Struct tag rs) at e = refl
-  variable_sense (Union tag rs) at e = absurd e
+  variable_sense (Union tag rs) at e = refl
 
   -- a variable's region outlives itself
-  above_itself : {a : States} {k : ℕ} {e : Option Entity} (sh : Shape) (t : StaticType) (r : NameOf) (z : Bound g.regions.count f e sh t r) (w : Ghost) (m : Memory)
+  above_itself : {a : States} {k : ℕ} {e : Option Entity} (sh : Shape) (t : StaticType) (r : NameOf) (z : Bound g.regions.count f e sh t r) (w : Ghost)
+      (m : Memory)
       → Inv d w m → Scene d g scope f b a k w m → w.above z.at.region (f r) ≡ true
   above_itself sh t r z w m h s = ap (λ (q : Region). w.above q (f r)) z.region ∙ h.itself (f r) (s.names.known r z.within)
 
   -- the cells of a variable that pointers may reach
-  pub finds_variable : Binds g scope f → (x : List ℕ) (t : StaticType) (r : NameOf) → meant g x ≡ Some (OfValue (Stored t r)) → is_own g.tables (find_local g.locals x) ≡ false
+  pub finds_variable : Binds g scope f → (x : List ℕ) (t : StaticType) (r : NameOf) → meant g x ≡ Some (OfValue (Stored t r))
+      → is_own g.tables (find_local g.locals x) ≡ false
       → (z : Bound g.regions.count f (entity_of scope x) (shape_of t) t r) → FindsBy n d g scope f b nothing t r (give z.at)
   finds_variable binds x t r e mine z = λ st q k w m h s. record {
     by = λ next go. go z.at m (record {
@@ -88,7 +91,8 @@ module _ (n : ℕ) (d : Tables) (g : Env) (scope : Scope) (f : NameOf → Region
 
   -- a global, and a local that can be copied, are places
   pub sound_global : Agrees scope.world d → Binds g scope f → (place : ℕ) (moves : Bool) (x : List ℕ) (t : StaticType) (r : NameOf) (v : Value)
-      → meant g x ≡ Some (OfValue (Stored t r)) → is_own g.tables (find_local g.locals x) ≡ false → IsObjectType t → (moves ≡ false → Copied (cells_type d f t)) → v.type ≡ t → v.seat ≡ In r
+      → meant g x ≡ Some (OfValue (Stored t r)) → is_own g.tables (find_local g.locals x) ≡ false → IsObjectType t → (moves ≡ false → Copied (cells_type d f t))
+      → v.type ≡ t → v.seat ≡ In r
       → Sound n d g scope f b v (place_use place moves false nothing) false (entity_sense scope.world (entity_of scope x))
   sound_global agrees binds place moves x t r v e mine it copied vt seat =
       let z : Bound g.regions.count f (entity_of scope x) (shape_of t) t r = binds.variables x (Stored t r) e in
@@ -100,7 +104,8 @@ module _ (n : ℕ) (d : Tables) (g : Env) (scope : Scope) (f : NameOf → Region
       (subst (λ (y : StaticType). FindsBy n d g scope f b nothing y r (give z.at)) (sym vt) (finds_variable binds x t r e mine z)))))
 
   pub sound_local : Agrees scope.world d → Binds g scope f → (x : List ℕ) (t : StaticType) (r : NameOf) (v : Value)
-      → meant g x ≡ Some (OfValue (Stored t r)) → is_own g.tables (find_local g.locals x) ≡ false → IsObjectType t → Copied (cells_type d f t) → v.type ≡ t → v.seat ≡ In r
+      → meant g x ≡ Some (OfValue (Stored t r)) → is_own g.tables (find_local g.locals x) ≡ false → IsObjectType t → Copied (cells_type d f t) → v.type ≡ t
+      → v.seat ≡ In r
       → Sound n d g scope f b v (value_use nothing) false (entity_sense scope.world (entity_of scope x))
   sound_local agrees binds x t r v e mine it copied vt seat =
       let z : Bound g.regions.count f (entity_of scope x) (shape_of t) t r = binds.variables x (Stored t r) e in
@@ -113,7 +118,8 @@ module _ (n : ℕ) (d : Tables) (g : Env) (scope : Scope) (f : NameOf → Region
 
   -- an array's name is a fat pointer that spans its elements
   pub gives_array : (x : List ℕ) (t : StaticType) (r : NameOf) (c : ℕ) (z : Bound g.regions.count f (entity_of scope x) (ArrayShape c (shape_of t)) t r)
-      → meant g x ≡ Some (OfValue (Arrayed t r)) → is_own g.tables (find_local g.locals x) ≡ false → GivesBy n d g scope f b nothing (Fat r t) (give (span_at c z.at ∷ []))
+      → meant g x ≡ Some (OfValue (Arrayed t r)) → is_own g.tables (find_local g.locals x) ≡ false
+      → GivesBy n d g scope f b nothing (Fat r t) (give (span_at c z.at ∷ []))
   gives_array x t r c z e mine = λ st a k w m h s. record {
     by = λ next q. q (span_at c z.at ∷ []) m (record {
       ghost = w;
@@ -121,7 +127,8 @@ module _ (n : ℕ) (d : Tables) (g : Env) (scope : Scope) (f : NameOf → Region
       grows = grows_refl k b w m;
       holds = (
         (
-          inr (all_elements d w z.at c (f r) (renamed f t) (above_itself (ArrayShape c (shape_of t)) t r z w m h s) (s.variables x (Arrayed t r) e mine z.at c z.is)),
+          inr (all_elements d w z.at c (f r) (renamed f t) (above_itself (ArrayShape c (shape_of t)) t r z w m h s)
+              (s.variables x (Arrayed t r) e mine z.at c z.is)),
           tt,
         ),
         s.stands,
@@ -145,7 +152,7 @@ module _ (n : ℕ) (d : Tables) (g : Env) (scope : Scope) (f : NameOf → Region
   given_typed (Handle r) vs w by e h = h
   given_typed (Key r) vs w by e h = absurd e
   given_typed (Struct tag rs) vs w by e h = tt
-  given_typed (Union tag rs) vs w by e h = absurd e
+  given_typed (Union tag rs) vs w by e h = tt
 
   -- a value is stored to the place of an object, which is found after it was evaluated
   pub gives_assigned : (s0 s1 s2 : States) (t u : StaticType) (to from : Sense) → Agrees scope.world d → AreInOrder d.structs → IsSimple t → IsObjectType u

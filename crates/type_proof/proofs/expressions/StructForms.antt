@@ -17,12 +17,14 @@ use Rattle.source_typing.specs.Calls as rules_of_calls
 use Rattle.source_typing.specs.Fixing.{all_fits, fixed_from}
 use Rattle.source_typing.specs.Places as places
 use Rattle.source_typing.specs.Scope.{Env, Enclosing, Value, Seat, Nowhere, In, InBlock, is_live, is_place, value}
-use Rattle.source_typing.specs.Tables.{Entry, OfTag, Part, Tag, find, as_tag, parts_of_tag, parts_in, argument}
+use Rattle.source_typing.specs.Tables as typing
+use Rattle.source_typing.specs.Tables.{Entry, OfTag, Part, Tag, find, as_tag, tag_in, parts_of_tag, parts_in, argument}
 use Rattle.source_typing.specs.Types.{StaticType, Int, Unsigned, Char, Void, Null, Thin, Fat, Unique, Handle, Key, Struct, Union, renamed, shape_of}
 use Rattle.source_typing.proofs.Inversion.{after_is}
 use Rattle.source_typing.proofs.PlacesFit.{HasPart, MemberOf, ArrowTo, member_is, arrow_is}
 use Rattle.source_typing.proofs.CallsFit.{AllConvert, Arguments, arguments_are}
 use Rattle.type_proof.specs.Entries.{IsObjectType, Structure}
+use Rattle.type_proof.specs.Members.{names_union, IsNoUnion, LeadsToNoUnion}
 use Rattle.source_typing.specs.Moves.{Use, value_use, place_use, member_use, copy_if}
 use Rattle.source_typing.specs.States.{then_passed}
 use Rattle.type_proof.specs.Flat.{Tables, filled, flat, flat_all}
@@ -39,9 +41,11 @@ use Rattle.type_proof.proofs.invariant.Layouts.{member_types, members_typed, mem
 use Rattle.type_proof.proofs.expressions.Words.{IsSimple, object_simple, object_renamed, object_copied}
 use Rattle.type_proof.proofs.expressions.Fixed.{EnclosingBelow, object_below, within, fixed_within}
 use Rattle.type_proof.proofs.expressions.Calling.{AllPass, all_values, all_passed}
-use Rattle.type_proof.proofs.expressions.Members.{Found, member_found, member_run, struct_there, members_objects, members_known, members_shaped, finds_member, gives_made}
+use Rattle.type_proof.proofs.expressions.Members.{Found, member_found, member_run, struct_there, members_objects, members_known, members_shaped, finds_member}
+use Rattle.type_proof.proofs.expressions.Members.{gives_made}
 use Rattle.type_proof.proofs.expressions.WordRules.{Valued, value_of, IsPointer, IsThin, IsFat, pointer_contents}
-use Rattle.type_proof.proofs.expressions.Forms.{Denotes, denotes_value, denotes_contents, AllDenote, values_below, all_pass}
+use Rattle.type_proof.proofs.expressions.Forms.{Denotes, denotes_value}
+use Rattle.type_proof.proofs.expressions.Applied.{denotes_contents, AllDenote, values_below, all_pass}
 
 -- ---- what has members
 
@@ -117,13 +121,19 @@ to_member g x (Key r) v p h = absurd h
 to_member g x (Struct tag rs) v p h = absurd h
 to_member g x (Union tag rs) v p h = absurd h
 
+-- what a pointer leads to is no union's
+leads_to : (tables : typing.Tables) (t u : StaticType) (r : NameOf) → IsPointer t r u → LeadsToNoUnion tables t → IsNoUnion tables u
+leads_to tables t u r IsThin h = h
+leads_to tables t u r IsFat h = h
+
 module _ (n : ℕ) (d : Tables) (g : Env) (scope : Scope) (f : NameOf → Region) (b : ℕ) (structs : Structs d scope.world g.tables) where
   -- ---- members
 
   -- a member of a struct in a region
-  denotes_part : (i : Enclosing) (tag : List ℕ) (rs : List NameOf) (x : List ℕ) (r : NameOf) (place : ℕ) (moves po : Bool) (a v : Value) (u : Use) (e : Sense) → (u.own ≡ true → po ≡ true) → Denotes n d g scope f b a u e → a.type ≡ Struct tag rs
+  denotes_part : (i : Enclosing) (tag : List ℕ) (rs : List NameOf) (x : List ℕ) (r : NameOf) (place : ℕ) (moves po : Bool) (a v : Value) (u : Use) (e : Sense)
+      → names_union (tag_in g.tables tag) ≡ false → (u.own ≡ true → po ≡ true) → Denotes n d g scope f b a u e → a.type ≡ Struct tag rs
       → a.seat ≡ In r → HasPart (within i g) tag rs x (In r) v → Denotes n d g scope f b v (place_use place moves po u.look) (member scope.world e x)
-  denotes_part i tag rs x r place moves po a v u e mine h t s p = record {
+  denotes_part i tag rs x r place moves po a v u e apart mine h t s p = record {
     simple = object_simple v.type object;
     below = subst (λ (y : StaticType). TypeBelow g.regions.count y) (sym type) (object_below g.regions.count rs p.type found.object below);
     outside = λ z. let y : v.seat ≡ In r = p.is.1 in cc;
@@ -149,7 +159,7 @@ module _ (n : ℕ) (d : Tables) (g : Env) (scope : Scope) (f : NameOf → Region
       parts = ap (struct_parts scope.world) (h.sound.shape some ∙ ap shape_of t)
 
       there : AreMembers (parts_in g.tables tag) (parts_of scope.world.structs tag) (member_types d.structs tag)
-      there = members_at g.tables d.structs scope.world.structs tag structs.laid_out (struct_there d scope.world g.tables tag x p.part structs p.found)
+      there = members_at g.tables d.structs scope.world.structs tag structs.laid_out (struct_there d scope.world g.tables tag x p.part structs apart p.found)
 
       found : Found d.structs (parts_of scope.world.structs tag) x p.type
       found = member_found d.structs (parts_in g.tables tag) (parts_of scope.world.structs tag) (member_types d.structs tag) x p.part p.type there
@@ -177,43 +187,55 @@ module _ (n : ℕ) (d : Tables) (g : Env) (scope : Scope) (f : NameOf → Region
           shaped (λ q. object_copied d f v.type structs.in_order object)
           (subst (λ (q : Seat). FindsAny n d g scope f b u.look false q v.type act) (sym p.is.1)
           (subst (λ (y : StaticType). FindsBy n d g scope f b u.look y r act)
-          (sym type) (λ st q. finds_member n d g scope f b structs st (u.look st).states tag rs x p.part p.type r e.place p.found p.typed (finds st q))))
+          (sym type) (λ st q. finds_member n d g scope f b structs st (u.look st).states tag rs x p.part p.type r e.place apart p.found p.typed (finds st q))))
       by true is z =
-          let k : parts_of_cells.Part d (filled heap (map f rs)) (flat_all (flat heap d) (map (renamed (filled heap (map f rs))) (member_types d.structs tag))) (cells_before (cells_of scope.world) (parts_of scope.world.structs tag) x) p.type =
-          member_cells d scope.world (filled heap (map f rs)) (agrees d scope.world g.tables structs) (parts_in g.tables tag) (parts_of scope.world.structs tag) (member_types d.structs tag) x p.part p.type there p.found p.typed in
-          sound_part n d g scope f b (agrees d scope.world g.tables structs) v place moves po (mine (is refl)) u.look (part_shape (parts_of scope.world.structs tag) x) act
+          let k : parts_of_cells.Part d (filled heap (map f rs)) (flat_all (flat heap d) (map (renamed (filled heap (map f rs))) (member_types d.structs tag)))
+          (cells_before (cells_of scope.world) (parts_of scope.world.structs tag) x) p.type =
+          member_cells d scope.world (filled heap (map f rs)) (agrees d scope.world g.tables structs) (parts_in g.tables tag) (parts_of scope.world.structs tag)
+          (member_types d.structs tag) x p.part p.type there p.found p.typed in
+          sound_part n d g scope f b (agrees d scope.world g.tables structs) v place moves po (mine (is refl)) u.look
+          (part_shape (parts_of scope.world.structs tag) x) act
           shaped (λ q. object_copied d f v.type structs.in_order object)
           (finds_own_part n d g scope f b (agrees d scope.world g.tables structs) u.look v.seat a.type v.type e.place
           (cells_before (cells_of scope.world) (parts_of scope.world.structs tag) x) k.first k.others
-          (λ here. ap (cells_type d f) t ∙ (struct_is d.structs tag (map f rs) structs.in_order ∙ (k.cells ∙ ap (λ (q : RunType). k.first ++ (flat heap d q ++ k.others))
+          (λ here. ap (cells_type d f) t ∙ (struct_is d.structs tag (map f rs) structs.in_order
+          ∙ (k.cells ∙ ap (λ (q : RunType). k.first ++ (flat heap d q ++ k.others))
           (sym (member_run f rs p.type here found.object) ∙ ap (renamed f) (sym type))))) k.count z)
 
-  pub denotes_member : (i : Enclosing) (x : tree.Name) (place : ℕ) (moves : Bool) (a v : Value) (u : Use) (e : Sense) → Denotes n d g scope f b a u e
+  pub denotes_member : (i : Enclosing) (x : tree.Name) (place : ℕ) (moves : Bool) (a v : Value) (u : Use) (e : Sense) → IsNoUnion g.tables a.type
+      → Denotes n d g scope f b a u e
       → places.member (within i g) x a ≡ Of v → Denotes n d g scope f b v (member_use place moves u) (member scope.world e x.text)
-  denotes_member i x place moves a v u e h j =
-      let z : OfStruct (within i g) x.text a.type a.seat v = of_struct (within i g) x.text a.type a.seat v (member_is (within i g) x a.at a.type a.seat v j).1 in
+  denotes_member i x place moves a v u e apart h j =
+      let z : OfStruct (within i g) x.text a.type a.seat v = of_struct (within i g) x.text a.type a.seat v (member_is (within i g) x a.at a.type a.seat v j).1
+      in
       by a.seat refl z j
     where
       by : (s : Seat) → a.seat ≡ s → OfStruct (within i g) x.text a.type s v → places.member_of (within i g) x a.at a.type s ≡ Of v
           → Denotes n d g scope f b v (member_use place moves u) (member scope.world e x.text)
       by Nowhere q z k = absurd cc
       by InBlock q z k = absurd (h.outside q)
-      by (In r) q z k = denotes_part i z.tag z.regions x.text r place moves u.own a v u e (λ c. c) h z.is q z.part
+      by (In r) q z k = denotes_part i z.tag z.regions x.text r place moves u.own a v u e (subst (λ (y : StaticType). IsNoUnion g.tables y) z.is apart) (λ c. c)
+          h z.is q z.part
 
-  pub denotes_arrow : (i : Enclosing) → g.lenient ≡ false → (x : tree.Name) (place : ℕ) (moves through : Bool) (a v : Value) (u : Use) (e : Sense) → Denotes n d g scope f b a u e
+  pub denotes_arrow : (i : Enclosing) → g.lenient ≡ false → (x : tree.Name) (place : ℕ) (moves through : Bool) (a v : Value) (u : Use) (e : Sense)
+      → LeadsToNoUnion g.tables a.type → Denotes n d g scope f b a u e
       → places.arrow (within i g) x a ≡ Of v
-      → Denotes n d g scope f b v (place_use place moves false (λ s. then_passed (u.look s) (copy_if through place))) (member scope.world (contents scope.world e) x.text)
-  denotes_arrow i strict x place moves through a v u e h j =
+      → Denotes n d g scope f b v (place_use place moves false (λ s. then_passed (u.look s) (copy_if through place)))
+      (member scope.world (contents scope.world e) x.text)
+  denotes_arrow i strict x place moves through a v u e apart h j =
       let z : ToMember (within i g) x.text a.type v = to_member (within i g) x.text a.type v h.simple (arrow_is (within i g) x a.at a.type v j) in
       let at : Value = record { at = a.at; type = Struct z.tag z.regions; seat = In z.region } in
       let found : places.contents (within i g) a.at a ≡ Of at =
       pointer_contents (within i g) a.at a.type (Struct z.tag z.regions) z.region z.is z.live in
-      denotes_part i z.tag z.regions x.text z.region place moves false at v (place_use place moves false (λ s. then_passed (u.look s) (copy_if through place))) (contents scope.world e) (λ c. absurd cc)
-      (denotes_contents n d g scope f b i strict (agrees d scope.world g.tables structs) structs.in_order a.at place moves through a at u e h found) refl refl z.part
+      denotes_part i z.tag z.regions x.text z.region place moves false at v (place_use place moves false (λ s. then_passed (u.look s) (copy_if through place)))
+      (contents scope.world e) (leads_to g.tables a.type (Struct z.tag z.regions) z.region z.is apart) (λ c. absurd cc)
+      (denotes_contents n d g scope f b i strict (agrees d scope.world g.tables structs) structs.in_order a.at place moves through a at u e h found) refl refl
+      z.part
 
   -- ---- makings
 
-  pub called_struct : (i : Enclosing) → EnclosingBelow g.regions.count i → (at : ℕ) (x : List ℕ) (t : Tag) (vs : List Value) (us : List Use) (es : List Sense) (v : Value) → Structure scope.world x t
+  pub called_struct : (i : Enclosing) → EnclosingBelow g.regions.count i → (at : ℕ) (x : List ℕ) (t : Tag) (vs : List Value) (us : List Use) (es : List Sense)
+      (v : Value) → Structure scope.world x t
       → find g.tables x ≡ Some (OfTag t) → AllDenote n d g scope f b vs us es → rules_of_calls.called (within i g) at (ToStruct t) vs ≡ Of v
       → Denotes n d g scope f b v (value_use (all_values us)) (call_sense scope.world x es)
   called_struct i inside at x t vs us es v k there h e =
@@ -238,10 +260,13 @@ module _ (n : ℕ) (d : Tables) (g : Env) (scope : Scope) (f : NameOf → Region
       (subst (λ (ss : List Shape). AllPass n d g scope f b ss (map (renamed (argument z.0)) types) us es) (sym shaped) pass) s q)) in
       subst (λ (c : Bool). Denotes n d g scope f b v (value_use (all_values us)) (if c then value_sense IntShape (read_byte es)
       else (if bytes_eq x (codes "putchar") then value_sense IntShape (write_byte scope.world es)
-      else (if has_tag scope.world.structs x then struct_made scope.world x es else called scope.world (function_of scope.world.functions x) es)))) (sym k.not_read)
+      else (if has_tag scope.world.structs x then struct_made scope.world x es else called scope.world (function_of scope.world.functions x) es))))
+      (sym k.not_read)
       (subst (λ (c : Bool). Denotes n d g scope f b v (value_use (all_values us)) (if c then value_sense IntShape (write_byte scope.world es)
-      else (if has_tag scope.world.structs x then struct_made scope.world x es else called scope.world (function_of scope.world.functions x) es))) (sym k.not_written)
-      (subst (λ (c : Bool). Denotes n d g scope f b v (value_use (all_values us)) (if c then struct_made scope.world x es else called scope.world (function_of scope.world.functions x) es))
+      else (if has_tag scope.world.structs x then struct_made scope.world x es else called scope.world (function_of scope.world.functions x) es)))
+      (sym k.not_written)
+      (subst (λ (c : Bool). Denotes n d g scope f b v (value_use (all_values us))
+      (if c then struct_made scope.world x es else called scope.world (function_of scope.world.functions x) es))
       (sym k.there) made))
     where
       types : List StaticType

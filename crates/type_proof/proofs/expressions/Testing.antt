@@ -60,7 +60,8 @@ module _ (n : ℕ) (d : Tables) (g : Env) (scope : Scope) (f : NameOf → Region
           ghost = z.ghost;
           inv = z.inv;
           grows = z.grows;
-          holds = all_met_second g.tables d f g.locals scope.locals s1 (q s1).states z.ghost m2 (are_kinds g.tables d f g.locals scope.locals s1 w m y.stands) z.holds;
+          holds = all_met_second g.tables d f g.locals scope.locals s1 (q s1).states z.ghost m2 (are_kinds g.tables d f g.locals scope.locals s1 w m y.stands)
+              z.holds;
         }));
       }
 
@@ -100,7 +101,8 @@ module _ (n : ℕ) (d : Tables) (g : Env) (scope : Scope) (f : NameOf → Region
   all_tell c (MoreExpressions e es) u act h hs s z k w m j x = record {
     by = λ next r. subst (λ (y : Bool → Memory → Step). Safe n (act y m)) (λ a t. same c next t a)
         ((all_tell c es (tested_use u (use_of (within i g) e)) (act >>= λ t. further c t (truth (sense e scope)))
-        (maybe_tells c u.look (use_of (within i g) e).look (uses_of (within i g) e).look.effects act (truth (sense e scope)) h hs.0 (uses_told e (within i g)).look.states) hs.1 s z k w m j x).by next r);
+        (maybe_tells c u.look (use_of (within i g) e).look (uses_of (within i g) e).look.effects act (truth (sense e scope)) h hs.0
+        (uses_told e (within i g)).look.states) hs.1 s z k w m j x).by next r);
   }
     where
       same : (c : Bool) (next : Bool → Memory → Step) (t : Bool)

@@ -1,4 +1,5 @@
--- What expressions promise where locals stand in states: from each states from which the rules of flow find no fault, they run safely, and leave those that the rules say.
+-- What expressions promise where locals stand in states: from each states from which the rules of flow find no fault, they run safely, and leave those that
+-- the rules say.
 use Rattle.std.proofs.Common.{◌≡◌, ℕ, suc, ◌≤◌, Bool, true, false, Option, Some, List, [], ◌∷◌, refl, sym, ◌∙◌, ap, subst, arith}
 use Rattle.std.specs.Prelude.{map, length, bytes_eq, if◌then◌else◌}
 use Rattle.cyc_tree.specs.Tree as tree
@@ -23,21 +24,27 @@ use Rattle.type_proof.proofs.invariant.Arguments.{Agrees}
 use Rattle.type_proof.proofs.invariant.Names.{NameOf, NamesOk, names_later}
 use Rattle.type_proof.proofs.invariant.Sound.{Looked, shape_renamed, cells_type, none_first, none_second}
 use Rattle.type_proof.proofs.invariant.Rights.{Ours, HeldAt, runs_read_held, runs_gone, content_same}
-use Rattle.type_proof.proofs.invariant.Standing.{Standing, CellsStand, Whole, FreeAt, gone_free, held_free, Beside, LocalStands, Alongside, Rooms, found_stands, updated}
+use Rattle.type_proof.proofs.invariant.LocalCells.{CellsStand, Whole, FreeAt, gone_free, held_free}
+use Rattle.type_proof.proofs.invariant.Standing.{Standing, Beside, LocalStands, Alongside, Rooms, found_stands}
+use Rattle.type_proof.proofs.invariant.Standing.{updated}
 use Rattle.type_proof.proofs.invariant.Moving.{runs_write_free}
 
 -- cells that are copied are read, where their values may go
-pub copied_flies : (d : Tables) (w : Ghost) (m : Memory) (s : Spot) (k c : ℕ) (ts : List RunType) (vs : List Scalar) → Inv d w m → any_moved (map shape_of ts) ≡ false
+pub copied_flies : (d : Tables) (w : Ghost) (m : Memory) (s : Spot) (k c : ℕ) (ts : List RunType) (vs : List Scalar) → Inv d w m → any_moved (map shape_of ts)
+    ≡ false
     → HeldAt w m s ts vs → HaveTypes d w (flying k c) vs ts
 copied_flies d w m s k c [] [] i e h = tt
-copied_flies d w m s k c (u ∷ us) (v ∷ vs) i e h = by (is_moved (shape_of u)) (λ r. copied_flies d w m (Rattle.source_meaning.specs.Memory.beyond s 1) k (suc c) us vs i r h.2) refl e
+copied_flies d w m s k c (u ∷ us) (v ∷ vs) i e h = by (is_moved (shape_of u))
+    (λ r. copied_flies d w m (Rattle.source_meaning.specs.Memory.beyond s 1) k (suc c) us vs i r h.2) refl e
   where
-    by : (q : Bool) → (any_moved (map shape_of us) ≡ false → HaveTypes d w (flying k (suc c)) vs us) → is_moved (shape_of u) ≡ q → (if q then true else any_moved (map shape_of us)) ≡ false → HaveTypes d w (flying k c) (v ∷ vs) (u ∷ us)
+    by : (q : Bool) → (any_moved (map shape_of us) ≡ false → HaveTypes d w (flying k (suc c)) vs us) → is_moved (shape_of u) ≡ q
+        → (if q then true else any_moved (map shape_of us)) ≡ false → HaveTypes d w (flying k c) (v ∷ vs) (u ∷ us)
     by true others p r = absurd cc
     by false others p r =
         let y : CellOk d w s (m.cells s) (Private u) = i.cells s (Private u) h.0 in
         let ok : (a : Scalar) → y.content ≡ Holds a → HasType d w (InCell s) a u = y.ok in (
-          copied_kept d w w (InCell s) (flying k c 0) v u (record { types = λ a b2 q. q; above = λ a b2 q. q }) p (ok v (content_same _ u y.content (Holds v) y.is h.1)),
+          copied_kept d w w (InCell s) (flying k c 0) v u (record { types = λ a b2 q. q; above = λ a b2 q. q }) p
+              (ok v (content_same _ u y.content (Holds v) y.is h.1)),
           Rattle.type_proof.proofs.invariant.Values.values_kept d w w (flying k (suc c)) (λ j. flying k c (suc j)) vs us
               (λ j. record { types = λ a b2 q. q; above = λ a b2 q. q; keyed = λ a q. refl; owner = λ a q. q ∙ ap (Flying k) (omega arith) })
               (others r),
@@ -52,9 +59,18 @@ looked_held d w m s [] [] i h = tt
 looked_held d w m s (u ∷ us) (v ∷ vs) i h =
     let y : CellOk d w s (m.cells s) (Private u) = i.cells s (Private u) h.0 in
     let ok : (a : Scalar) → y.content ≡ Holds a → HasType d w (InCell s) a u = y.ok in (
-      subst (λ (p : Spot). HasType d w (InCell p) v u) (sym (Rattle.type_proof.proofs.invariant.Facts.not_further s)) (ok v (content_same _ u y.content (Holds v) y.is h.1)),
-      Rattle.type_proof.proofs.invariant.Values.values_kept d w w (λ j. InCell (Rattle.source_meaning.specs.Memory.beyond (Rattle.source_meaning.specs.Memory.beyond s 1) j)) (λ j. InCell (Rattle.source_meaning.specs.Memory.beyond s (suc j))) vs us
-          (λ j. record { types = λ a b2 q. q; above = λ a b2 q. q; keyed = λ a q. refl; owner = λ a q. q ∙ ap InCell (Rattle.type_proof.proofs.invariant.Facts.further s 1 j (suc j) (omega arith)) })
+      subst (λ (p : Spot). HasType d w (InCell p) v u) (sym (Rattle.type_proof.proofs.invariant.Facts.not_further s))
+          (ok v (content_same _ u y.content (Holds v) y.is h.1)),
+      Rattle.type_proof.proofs.invariant.Values.values_kept d w w
+          (λ j. InCell (Rattle.source_meaning.specs.Memory.beyond (Rattle.source_meaning.specs.Memory.beyond s 1) j))
+          (λ j. InCell (Rattle.source_meaning.specs.Memory.beyond s (suc j))) vs us
+          (λ j. record {
+            types = λ a b2 q. q;
+            above = λ a b2 q. q;
+            keyed = λ a q. refl;
+            owner = λ a q. q
+                ∙ ap InCell (Rattle.type_proof.proofs.invariant.Facts.further s 1 j (suc j) (omega arith));
+          })
           (looked_held d w m (Rattle.source_meaning.specs.Memory.beyond s 1) us vs i h.2),
     )
 looked_held d w m s [] (v ∷ vs) i h = absurd h
@@ -68,7 +84,8 @@ found_bound (y ∷ ls) [] x l e o al f h = absurd al
 found_bound (y ∷ ls) (z ∷ bs) x l e o al f h =
     by (bytes_eq y.name x) (bytes_eq z.name x) (ap (λ (n : List ℕ). bytes_eq n x) al.0) (λ q r. found_bound ls bs x l e o al.1 q r) f h
   where
-    by : (c k : Bool) → k ≡ c → (find_local ls x ≡ Some l → or_else (bound_to bs x) o ≡ Some e → bound_to bs x ≡ Some e) → (if c then Some y else find_local ls x) ≡ Some l
+    by : (c k : Bool) → k ≡ c → (find_local ls x ≡ Some l → or_else (bound_to bs x) o ≡ Some e → bound_to bs x ≡ Some e)
+        → (if c then Some y else find_local ls x) ≡ Some l
         → or_else (if k then Some z.entity else bound_to bs x) o ≡ Some e → (if k then Some z.entity else bound_to bs x) ≡ Some e
     by c true same others q r = r
     by false false same others q r = others q r
@@ -106,9 +123,11 @@ module _ (n : ℕ) (d : Tables) (g : Env) (scope : Scope) (f : NameOf → Region
       → Runs n act m (λ vs. After d k b w m (λ w' m'. Looked d w' vs (cells_type d f t) × Standing d g scope f (p s).states w' m'))
 
   -- two acts, one after the other: no fault of both is none of the first, and none of the second from where the first leaves
-  pub then_gives : {A : Type 0} (p q : States → Passed) (t : StaticType) (act : Act (List Scalar)) (h : List Scalar → Act A) (k : ℕ) (s : States) (w : Ghost) (m : Memory)
+  pub then_gives : {A : Type 0} (p q : States → Passed) (t : StaticType) (act : Act (List Scalar)) (h : List Scalar → Act A) (k : ℕ) (s : States) (w : Ghost)
+      (m : Memory)
       (Q : A → Memory → Type 0) → GivesBy p t act → Inv d w m → NamesOk g.regions f k w m → Standing d g scope f s w m → (then_passed (p s) q).faults ≡ []
-      → ((vs : List Scalar) (w' : Ghost) (m' : Memory) → Inv d w' m' → Grows k b w m w' m' → NamesOk g.regions f k w' m' → HaveTypes d w' (flying k 0) vs (cells_type d f t)
+      → ((vs : List Scalar) (w' : Ghost) (m' : Memory) → Inv d w' m' → Grows k b w m w' m' → NamesOk g.regions f k w' m'
+      → HaveTypes d w' (flying k 0) vs (cells_type d f t)
       → Standing d g scope f (p s).states w' m' → (q (p s).states).faults ≡ [] → Runs n (h vs) m' Q)
       → Runs n (act >>= h) m Q
   then_gives p q t act h k s w m Q gives i x st e go = record {
@@ -161,12 +180,14 @@ module _ (n : ℕ) (d : Tables) (g : Env) (scope : Scope) (f : NameOf → Region
 
     -- ---- a local that is read as a value
 
-    taken : (k : ℕ) (s : States) (w : Ghost) (m : Memory) → Inv d w m → NamesOk g.regions f k w m → Standing d g scope f s w m → need_held x.at (state_of g.locals x.text s) ≡ []
+    taken : (k : ℕ) (s : States) (w : Ghost) (m : Memory) → Inv d w m → NamesOk g.regions f k w m → Standing d g scope f s w m
+        → need_held x.at (state_of g.locals x.text s) ≡ []
         → Runs n (take_cells (map shape_of (cells_type d f t)) o.at) m (λ vs. After d k b w m (λ w' m'. HaveTypes d w' (flying k 0) vs (cells_type d f t)
         × Standing d g scope f (with_state g.locals x.text Gone s) w' m'))
     taken k s w m i names st e =
         runs_read_held n w m o.at (cells_type d f t) a.0.values
-        (λ vs. (if any_moved (map shape_of (cells_type d f t)) then put_contents (length (map shape_of (cells_type d f t))) o.at Rattle.source_meaning.specs.Memory.Gone else give tt) >> give vs)
+        (λ vs. (if any_moved (map shape_of (cells_type d f t)) then put_contents (length (map shape_of (cells_type d f t))) o.at
+        Rattle.source_meaning.specs.Memory.Gone else give tt) >> give vs)
         (post) (alive k w m names) a.0.held (by (any_moved (map shape_of (cells_type d f t))) refl)
       where
         ts : List RunType
@@ -245,7 +266,8 @@ module _ (n : ℕ) (d : Tables) (g : Env) (scope : Scope) (f : NameOf → Region
         (subst (λ (cs : List Shape). ShowsBy (local_use g.locals x).look t (give o.at >>= λ spot. read_cells (length cs) spot)) (sym cells_are)
         (λ k s w m i names st e. let h : Whole w m o.at (cells_type d f t) × ((c : State) → unless_lent (state_of g.locals x.text s) c ≡ c) =
         held_by x.at (state_of g.locals x.text s) w m (here s w m st) e in
-        let post : List Scalar → Memory → Type 0 = (λ vs. After d k b w m (λ w' m'. Looked d w' vs (cells_type d f t) × Standing d g scope f ((local_use g.locals x).look s).states w' m')) in
+        let post : List Scalar → Memory → Type 0 = (λ vs. After d k b w m
+        (λ w' m'. Looked d w' vs (cells_type d f t) × Standing d g scope f ((local_use g.locals x).look s).states w' m')) in
         record {
           by = λ next r. (runs_read_held n w m o.at (cells_type d f t) h.0.values (λ vs. give vs) post (alive k w m names) h.0.held
               (record {
@@ -254,7 +276,12 @@ module _ (n : ℕ) (d : Tables) (g : Env) (scope : Scope) (f : NameOf → Region
                   inv = i;
                   grows = grows_refl k b w m;
                   holds = (
-                    record { by = λ j. InCell (Rattle.source_meaning.specs.Memory.beyond o.at j); holder = λ j. tt; typed = looked_held d w m o.at (cells_type d f t) h.0.values i h.0.held },
+                    record {
+                      by = λ j. InCell (Rattle.source_meaning.specs.Memory.beyond o.at j);
+                      holder = λ j. tt;
+                      typed =
+                          looked_held d w m o.at (cells_type d f t) h.0.values i h.0.held;
+                    },
                     subst (λ (a : State). Standing d g scope f (with_state g.locals x.text a s) w m) (sym (h.1 Held))
                         (now s Held w m w m st (record { types = λ y q u. u; cells = λ y u q v. refl }) h.0),
                   );
@@ -264,12 +291,14 @@ module _ (n : ℕ) (d : Tables) (g : Env) (scope : Scope) (f : NameOf → Region
 
     -- assigned as a whole, by a value that is on its way: it is held again
     pub runs_assigned : {B : Type 0} (k : ℕ) (s : States) (w : Ghost) (m : Memory) (vs : List Scalar) (h : Act B) (Q : B → Memory → Type 0) → Inv d w m
-        → NamesOk g.regions f k w m → Standing d g scope f s w m → ((local_use g.locals x).target s).faults ≡ [] → HaveTypes d w (flying k 0) vs (cells_type d f t)
+        → NamesOk g.regions f k w m → Standing d g scope f s w m → ((local_use g.locals x).target s).faults ≡ []
+        → HaveTypes d w (flying k 0) vs (cells_type d f t)
         → ((w' : Ghost) (m' : Memory) → Inv d w' m' → Grows k b w m w' m' → Standing d g scope f ((local_use g.locals x).target s).states w' m' → Runs n h m' Q)
         → Runs n ((entity_sense scope.world (entity_of scope x.text)).place >>= λ at. write_cells at vs >> h) m Q
     runs_assigned k s w m vs h Q i names st e typed go =
         subst (λ (a : Sense). Runs n (a.place >>= λ at. write_cells at vs >> h) m Q) (sym means)
-        (let a : FreeAt w m o.at (cells_type d f t) × ((c : State) → unless_lent (state_of g.locals x.text s) c ≡ c) = free_by x.at (state_of g.locals x.text s) w m (here s w m st) e in
+        (let a : FreeAt w m o.at (cells_type d f t) × ((c : State) → unless_lent (state_of g.locals x.text s) c ≡ c) =
+        free_by x.at (state_of g.locals x.text s) w m (here s w m st) e in
         record {
           by = λ next r. (runs_write_free d n k b 0 w m o.at (cells_type d f t) vs h Q i (alive k w m names) ours a.0 typed
               (λ w' m' i' g' older away held. go w' m' i' g'

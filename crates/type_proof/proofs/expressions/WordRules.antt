@@ -47,7 +47,7 @@ testable_word (Unique n t) p e = absurd p
 testable_word (Handle r) p e = absurd cc
 testable_word (Key r) p e = absurd p
 testable_word (Struct tag rs) p e = absurd cc
-testable_word (Union tag rs) p e = absurd p
+testable_word (Union tag rs) p e = absurd cc
 
 -- a value that is no place, and its type
 pub record Valued (v : Value) (t : StaticType) : Type 0 where
@@ -85,14 +85,15 @@ compared_seat g at (Thin n r t) (Unique m u) v p q e = absurd q
 compared_seat g at (Thin n r t) (Handle s) v p q e = null_seat false at v e
 compared_seat g at (Thin n r t) (Key s) v p q e = absurd q
 compared_seat g at (Thin n r t) (Struct tag rs) v p q e = null_seat false at v e
-compared_seat g at (Thin n r t) (Union tag rs) v p q e = absurd q
+compared_seat g at (Thin n r t) (Union tag rs) v p q e = null_seat false at v e
 compared_seat g at (Fat r t) b v p q e = null_seat ((is_pointer (Fat r t) && is_null b) || (is_null (Fat r t) && is_pointer b)) at v e
 compared_seat g at (Unique n t) b v p q e = absurd p
 compared_seat g at (Handle r) b v p q e = null_seat ((is_pointer (Handle r) && is_null b) || (is_null (Handle r) && is_pointer b)) at v e
 compared_seat g at (Key r) b v p q e = absurd p
 compared_seat g at (Struct tag rs) b v p q e =
     null_seat ((is_pointer (Struct tag rs) && is_null b) || (is_null (Struct tag rs) && is_pointer b)) at v e
-compared_seat g at (Union tag rs) b v p q e = absurd p
+compared_seat g at (Union tag rs) b v p q e =
+    null_seat ((is_pointer (Union tag rs) && is_null b) || (is_null (Union tag rs) && is_pointer b)) at v e
 
 equality_seat : (c : Bool) (g : Env) (at : ℕ) (a b : StaticType) (v : Value) → IsSimple a → IsSimple b → if_equality c g at a b ≡ Of v → v.seat ≡ Nowhere
 equality_seat true g at a b v p q e = compared_seat g at a b v p q e
@@ -120,16 +121,17 @@ applied_seat g o at (Unique n t) b v p q e = absurd p
 applied_seat g o at (Handle r) b v p q e = joined_seat (is_integer (Handle r) && is_integer b) g o at (Handle r) b v p q e
 applied_seat g o at (Key r) b v p q e = absurd p
 applied_seat g o at (Struct tag rs) b v p q e = joined_seat (is_integer (Struct tag rs) && is_integer b) g o at (Struct tag rs) b v p q e
-applied_seat g o at (Union tag rs) b v p q e = absurd p
+applied_seat g o at (Union tag rs) b v p q e = joined_seat (is_integer (Union tag rs) && is_integer b) g o at (Union tag rs) b v p q e
 
 -- what is tested, and `-e` and `~e`
 pub fitted : (b : Bool) (at place : ℕ) (t : StaticType) (v : Value) → after (if_fits b at t) (value place) ≡ Of v → (b ≡ true) × Valued v t
 fitted true at place t v e = (refl, value_of place t v e)
 fitted false at place t v e = absurd cc
 
--- what an assignment gives: the stored value, but of a struct nothing
+-- what an assignment gives: the stored value, but of a struct or a union nothing
 abbrev pub given_type : StaticType → StaticType
 given_type (Struct tag rs) = Void
+given_type (Union tag rs) = Void
 given_type t = t
 
 pub assigned_object : (g : Env) (t : StaticType) → IsObjectType t → assigned_type g t ≡ given_type t
@@ -144,7 +146,7 @@ assigned_object g (Unique n t) e = absurd e
 assigned_object g (Handle r) e = refl
 assigned_object g (Key r) e = absurd e
 assigned_object g (Struct tag rs) e = refl
-assigned_object g (Union tag rs) e = absurd e
+assigned_object g (Union tag rs) e = refl
 
 pub given_simple : (t : StaticType) → IsObjectType t → IsSimple (given_type t)
 given_simple Int e = tt
@@ -158,7 +160,7 @@ given_simple (Unique n t) e = absurd e
 given_simple (Handle r) e = tt
 given_simple (Key r) e = absurd e
 given_simple (Struct tag rs) e = tt
-given_simple (Union tag rs) e = absurd e
+given_simple (Union tag rs) e = tt
 
 pub given_below : (n : ℕ) (t : StaticType) → IsObjectType t → TypeBelow n t → TypeBelow n (given_type t)
 given_below n Int e h = h
@@ -172,7 +174,7 @@ given_below n (Unique c t) e h = absurd e
 given_below n (Handle r) e h = h
 given_below n (Key r) e h = absurd e
 given_below n (Struct tag rs) e h = tt
-given_below n (Union tag rs) e h = absurd e
+given_below n (Union tag rs) e h = tt
 
 pub given_shaped : (t : StaticType) (s : Shape) → IsObjectType t → s ≡ shape_of t → (given_type t ≡ Void → ⊥) → s ≡ shape_of (given_type t)
 given_shaped Int s e h n = h
@@ -186,7 +188,7 @@ given_shaped (Unique c t) s e h n = absurd e
 given_shaped (Handle r) s e h n = h
 given_shaped (Key r) s e h n = absurd e
 given_shaped (Struct tag rs) s e h n = absurd (n refl)
-given_shaped (Union tag rs) s e h n = absurd e
+given_shaped (Union tag rs) s e h n = absurd (n refl)
 
 -- a pointer into a region to a type: a thin or a fat one
 pub data IsPointer : StaticType → NameOf → StaticType → Type 0 where
@@ -220,7 +222,8 @@ pub record Pointed (g : Env) (at : ℕ) (t : StaticType) (v : Value) : Type 0 wh
   pub live : is_live g region ≡ true
   pub value_is : record { at = at; type = to; seat = In region } ≡ v
 
-in_live_is : (c : Bool) (at : ℕ) (t : StaticType) (r : NameOf) (v : Value) → places.in_live c at t r ≡ Of v → (c ≡ true) × (record { at = at; type = t; seat = In r } ≡ v)
+in_live_is : (c : Bool) (at : ℕ) (t : StaticType) (r : NameOf) (v : Value) → places.in_live c at t r ≡ Of v → (c ≡ true)
+    × (record { at = at; type = t; seat = In r } ≡ v)
 in_live_is true at t r v e = (refl, of_is (record { at = at; type = t; seat = In r }) v e)
 in_live_is false at t r v e = absurd cc
 
@@ -246,7 +249,7 @@ contents_is g at (Unique n t) v p e = absurd p
 contents_is g at (Handle r) v p e = absurd cc
 contents_is g at (Key r) v p e = absurd p
 contents_is g at (Struct tag rs) v p e = absurd cc
-contents_is g at (Union tag rs) v p e = absurd p
+contents_is g at (Union tag rs) v p e = absurd cc
 
 -- ---- counts
 

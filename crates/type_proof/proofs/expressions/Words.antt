@@ -33,7 +33,7 @@ object_simple (Unique n t) e = absurd e
 object_simple (Handle r) e = tt
 object_simple (Key r) e = absurd e
 object_simple (Struct tag rs) e = e
-object_simple (Union tag rs) e = absurd e
+object_simple (Union tag rs) e = e
 
 pub plain_simple : (t : StaticType) → IsPlain t → IsSimple t
 plain_simple Int e = tt
@@ -47,7 +47,7 @@ plain_simple (Unique n t) e = absurd e
 plain_simple (Handle r) e = tt
 plain_simple (Key r) e = absurd e
 plain_simple (Struct tag rs) e = e
-plain_simple (Union tag rs) e = absurd e
+plain_simple (Union tag rs) e = e
 
 -- an object is something
 pub object_some : (t : StaticType) → IsObjectType t → t ≡ Void → ⊥
@@ -95,7 +95,7 @@ object_renamed h (Unique n t) e = absurd e
 object_renamed h (Handle r) e = tt
 object_renamed h (Key r) e = absurd e
 object_renamed h (Struct tag rs) e = tt
-object_renamed h (Union tag rs) e = absurd e
+object_renamed h (Union tag rs) e = tt
 
 pub plain_renamed : (h : NameOf → NameOf) (t : StaticType) → IsPlain t → IsPlain (renamed h t)
 plain_renamed h Int e = tt
@@ -109,7 +109,7 @@ plain_renamed h (Unique n t) e = absurd e
 plain_renamed h (Handle r) e = tt
 plain_renamed h (Key r) e = absurd e
 plain_renamed h (Struct tag rs) e = tt
-plain_renamed h (Union tag rs) e = absurd e
+plain_renamed h (Union tag rs) e = tt
 
 map_twice : (f : NameOf → Region) (h : NameOf → NameOf) (rs : List NameOf) → map f (map h rs) ≡ map (λ a. f (h a)) rs
 map_twice f h [] = refl
@@ -128,7 +128,7 @@ object_twice f h (Unique n t) e = absurd e
 object_twice f h (Handle r) e = refl
 object_twice f h (Key r) e = absurd e
 object_twice f h (Struct tag rs) e = ap (Struct tag) (map_twice f h rs)
-object_twice f h (Union tag rs) e = absurd e
+object_twice f h (Union tag rs) e = ap (Union tag) (map_twice f h rs)
 
 pub plain_twice : (f : NameOf → Region) (h : NameOf → NameOf) (t : StaticType) → IsPlain t → renamed f (renamed h t) ≡ renamed (λ a. f (h a)) t
 plain_twice f h Int e = refl
@@ -142,7 +142,7 @@ plain_twice f h (Unique n t) e = absurd e
 plain_twice f h (Handle r) e = refl
 plain_twice f h (Key r) e = absurd e
 plain_twice f h (Struct tag rs) e = ap (Struct tag) (map_twice f h rs)
-plain_twice f h (Union tag rs) e = absurd e
+plain_twice f h (Union tag rs) e = ap (Union tag) (map_twice f h rs)
 
 -- a shape is the same as itself
 pub shape_itself : (t : StaticType) → IsObjectType t → same_shape (shape_of t) (shape_of t) ≡ true
@@ -158,7 +158,7 @@ shape_itself (Unique n t) e = absurd e
 shape_itself (Handle r) e = refl
 shape_itself (Key r) e = absurd e
 shape_itself (Struct tag rs) e = same_text tag
-shape_itself (Union tag rs) e = absurd e
+shape_itself (Union tag rs) e = same_text tag
 
 -- its cells are copied when they are read
 pub object_copied : (d : Tables) (f : NameOf → Region) (t : StaticType) → AreInOrder d.structs → IsObjectType t → Copied (cells_type d f t)

@@ -52,33 +52,43 @@ pub record Births (w : Ghost) (m : Memory) (a b : ℕ) (r : Region) (st : State)
   pub up_along : (p q : Region) → w.above p q ≡ true → u q ≡ true → (q ≡ r → ⊥) → u p ≡ true
   pub up_sole : (q : Region) → (o ≡ Nobody → ⊥) → u q ≡ true → (q ≡ r → ⊥) → q ≡ heap
 
-all_at : {A B C : Type 0} (f : Region → A) (g : Region → B) (h : Region → C) (r : Region) (a : A) (b : B) (c : C) (q : Region) (P : A → B → C → Type 0) → (q ≡ r → P a b c) → ((q ≡ r → ⊥) → P (f q) (g q) (h q)) → P (if same_region q r then a else f q) (if same_region q r then b else g q) (if same_region q r then c else h q)
+all_at : {A B C : Type 0} (f : Region → A) (g : Region → B) (h : Region → C) (r : Region) (a : A) (b : B) (c : C) (q : Region) (P : A → B → C → Type 0)
+    → (q ≡ r → P a b c) → ((q ≡ r → ⊥) → P (f q) (g q) (h q))
+    → P (if same_region q r then a else f q) (if same_region q r then b else g q) (if same_region q r then c else h q)
 all_at f g h r a b c q P y n = elim (cases_Bool (same_region q r)) [
   | inl e ↦ subst (λ (x : Bool). P (if x then a else f q) (if x then b else g q) (if x then c else h q)) (sym e) (y (region_is q r e))
   | inr e ↦ subst (λ (x : Bool). P (if x then a else f q) (if x then b else g q) (if x then c else h q)) (sym e) (n (not_region q r e))
 ]
 
-pub inv_birth : (d : Tables) (w : Ghost) (m : Memory) (a b : ℕ) (r : Region) (st : State) (u : Region → Bool) (o : Owner) (f : Bool) → Inv d w m → Births w m a b r st u o f → Inv d (bearing w r u o f) (with_birth m a b r st)
+pub inv_birth : (d : Tables) (w : Ghost) (m : Memory) (a b : ℕ) (r : Region) (st : State) (u : Region → Bool) (o : Owner) (f : Bool) → Inv d w m
+    → Births w m a b r st u o f → Inv d (bearing w r u o f) (with_birth m a b r st)
 inv_birth d w m a b r st u o f i n = record {
   cells = λ s k e. cell_kept d w (bearing w r u o f) s (m.cells s) k (carries s) (i.cells s k e);
   counted = i.counted;
   states = λ q. all_at w.owner w.keyed m.state r o f st q (λ x y z. StateOk x y z) (λ e. n.ok) (λ e. i.states q);
-  closed = λ q p. at_region m.state r st q (λ x. x ≡ Live → (if same_region q r then u p else w.above p q) ≡ true → (if same_region p r then st else m.state p) ≡ Live)
+  closed = λ q p. at_region m.state r st q (λ x. x ≡ Live → (if same_region q r then u p else w.above p q) ≡ true → (if same_region p r then st else m.state p)
+      ≡ Live)
       (λ e l v. at_region m.state r st p (λ y. y ≡ Live) (λ g. l) (λ g. n.up_live p (of_new q p e v) g))
-      (λ e l v. at_region m.state r st p (λ y. y ≡ Live) (λ g. absurd (not_new p (i.born_upper p q (of_old q p e v)) g)) (λ g. i.closed q p l (of_old q p e v)));
-  rests = λ q p. at_region m.state r st q (λ x. x ≡ Live → (if same_region q r then u p else w.above p q) ≡ true → (p ≡ q → ⊥) → Steady (if same_region p r then o else w.owner p))
+      (λ e l v. at_region m.state r st p (λ y. y ≡ Live) (λ g. absurd (not_new p (i.born_upper p q (of_old q p e v)) g))
+      (λ g. i.closed q p l (of_old q p e v)));
+  rests = λ q p. at_region m.state r st q (λ x. x ≡ Live → (if same_region q r then u p else w.above p q) ≡ true → (p ≡ q → ⊥)
+      → Steady (if same_region p r then o else w.owner p))
       (λ e l v ne. at_region w.owner r o p (λ y. Steady y) (λ g. absurd (ne (g ∙ sym e))) (λ g. n.up_steady p (of_new q p e v) g))
-      (λ e l v ne. at_region w.owner r o p (λ y. Steady y) (λ g. absurd (not_new p (i.born_upper p q (of_old q p e v)) g)) (λ g. i.rests q p l (of_old q p e v) ne));
+      (λ e l v ne. at_region w.owner r o p (λ y. Steady y) (λ g. absurd (not_new p (i.born_upper p q (of_old q p e v)) g))
+      (λ g. i.rests q p l (of_old q p e v) ne));
   sole = λ q p. at_region w.owner r o q (λ x. (x ≡ Nobody → ⊥) → (if same_region q r then u p else w.above p q) ≡ true → (p ≡ q → ⊥) → p ≡ heap)
       (λ e x v ne. n.up_sole p x (of_new q p e v) (λ g. ne (g ∙ sym e)))
       (λ e x v ne. i.sole q p x (of_old q p e v) ne);
-  itself = λ q k. at_region (λ x. w.above q q) r (u q) q (λ x. x ≡ true) (λ e. subst (λ (x : Region). u x ≡ true) (sym e) n.up_itself) (λ e. i.itself q (n.only q k e));
+  itself = λ q k. at_region (λ x. w.above q q) r (u q) q (λ x. x ≡ true) (λ e. subst (λ (x : Region). u x ≡ true) (sym e) n.up_itself)
+      (λ e. i.itself q (n.only q k e));
   under_heap = λ q k. at_region (λ x. w.above heap q) r (u heap) q (λ x. x ≡ true) (λ e. n.up_heap) (λ e. i.under_heap q (n.only q k e));
   top = λ q v. i.top q (of_old heap q no_heap v);
   heap_lives = at_region m.state r st heap (λ x. x ≡ Live) (λ e. absurd (no_heap e)) (λ e. i.heap_lives);
   heap_is_free = at_region w.owner r o heap (λ x. x ≡ Nobody) (λ e. absurd (no_heap e)) (λ e. i.heap_is_free);
-  unborn = λ q k. at_region m.state r st q (λ x. x ≡ Dead) (λ e. absurd (k (subst (λ (x : Region). Counted a b x) (sym e) n.here))) (λ e. i.unborn q (λ x. k (n.more q x)));
-  unowned = λ q k. at_region w.owner r o q (λ x. x ≡ Nobody) (λ e. absurd (k (subst (λ (x : Region). Counted a b x) (sym e) n.here))) (λ e. i.unowned q (λ x. k (n.more q x)));
+  unborn = λ q k. at_region m.state r st q (λ x. x ≡ Dead) (λ e. absurd (k (subst (λ (x : Region). Counted a b x) (sym e) n.here)))
+      (λ e. i.unborn q (λ x. k (n.more q x)));
+  unowned = λ q k. at_region w.owner r o q (λ x. x ≡ Nobody) (λ e. absurd (k (subst (λ (x : Region). Counted a b x) (sym e) n.here)))
+      (λ e. i.unowned q (λ x. k (n.more q x)));
   empty = λ q k. i.empty q (λ x. k (n.more q x));
   born_upper = λ q p. at_region (λ x. w.above q p) r (u q) p (λ x. x ≡ true → Counted a b q)
       (λ e v. elim (cases_Bool (same_region q r)) [
@@ -88,13 +98,15 @@ inv_birth d w m a b r st u o f i n = record {
       (λ e v. n.more q (i.born_upper q p v));
   born_lower = λ q p. at_region (λ x. w.above q p) r (u q) p (λ x. x ≡ true → Counted a b p)
       (λ e v. subst (λ (x : Region). Counted a b x) (sym e) n.here) (λ e v. n.more p (i.born_lower q p v));
-  along = λ x y z. at_region (λ g. w.above y z) r (u y) z (λ v. (if same_region y r then u x else w.above x y) ≡ true → v ≡ true → (if same_region z r then u x else w.above x z) ≡ true)
+  along = λ x y z. at_region (λ g. w.above y z) r (u y) z
+      (λ v. (if same_region y r then u x else w.above x y) ≡ true → v ≡ true → (if same_region z r then u x else w.above x z) ≡ true)
       (λ e v t. subst (λ (g : Bool). (if g then u x else w.above x z) ≡ true) (sym (ap (λ (c : Region). same_region c r) e ∙ region_itself r))
       (elim (cases_Bool (same_region y r)) [
         | inl g ↦ of_new y x (region_is y r g) v
         | inr g ↦ n.up_along x y (of_old y x (not_region y r g) v) t (not_region y r g)
       ]))
-      (λ e v t. at_region (λ g. w.above x z) r (u x) z (λ g. g ≡ true) (λ g. absurd (e g)) (λ g. i.along x y z (of_old y x (not_new y (i.born_upper y z t)) v) t));
+      (λ e v t. at_region (λ g. w.above x z) r (u x) z (λ g. g ≡ true) (λ g. absurd (e g))
+      (λ g. i.along x y z (of_old y x (not_new y (i.born_upper y z t)) v) t));
 }
   where
     not_new : (q : Region) → Known m q → q ≡ r → ⊥
@@ -122,7 +134,8 @@ inv_birth d w m a b r st u o f i n = record {
 
 -- ---- a region is left with its scope
 
-pub inv_death : (d : Tables) (w : Ghost) (m : Memory) (r : Region) → Inv d w m → w.owner r ≡ Nobody → (r ≡ heap → ⊥) → Alone w m r → Inv d w (with_state m r Dead)
+pub inv_death : (d : Tables) (w : Ghost) (m : Memory) (r : Region) → Inv d w m → w.owner r ≡ Nobody → (r ≡ heap → ⊥) → Alone w m r
+    → Inv d w (with_state m r Dead)
 inv_death d w m r i free nh alone = record {
   cells = i.cells;
   counted = i.counted;
@@ -130,7 +143,8 @@ inv_death d w m r i free nh alone = record {
       (λ e. subst (λ (o : Owner). StateOk o (w.keyed q) Dead) (sym (ap w.owner e ∙ free)) (λ z. cc)) (λ n. i.states q);
   closed = λ q p. at_region m.state r Dead q (λ x. x ≡ Live → w.above p q ≡ true → (if same_region p r then Dead else m.state p) ≡ Live)
       (λ e l v. absurd (cc))
-      (λ n l v. at_region m.state r Dead p (λ x. x ≡ Live) (λ e. absurd (alone q l (subst (λ (x : Region). w.above x q ≡ true) e v) (λ z. n z))) (λ e. i.closed q p l v));
+      (λ n l v. at_region m.state r Dead p (λ x. x ≡ Live) (λ e. absurd (alone q l (subst (λ (x : Region). w.above x q ≡ true) e v) (λ z. n z)))
+      (λ e. i.closed q p l v));
   rests = λ q p l v ne. i.rests q p (was q l) v ne;
   sole = i.sole;
   itself = i.itself;

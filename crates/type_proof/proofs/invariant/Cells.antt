@@ -4,14 +4,16 @@ use Rattle.std.specs.Prelude.{nat_eq, ◌&&◌, not, map, length, if◌then◌el
 use Rattle.std.proofs.lemmas.Bool.{false≢true, eq-eqb}
 use Rattle.std.proofs.lemmas.Bool.Decides.{eqb_tells}
 use Rattle.source_meaning.specs.Shapes.{Shape}
-use Rattle.source_meaning.specs.Memory.{Region, Frame, Spot, Scalar, Thin, Content, Holds, Cell, State, Live, Memory, same_spot, with_cell, cell_at, state_is_live, beyond, is_of, is_moved}
+use Rattle.source_meaning.specs.Memory.{Region, Frame, Spot, Scalar, Thin, Content, Holds, Cell, State, Live, Memory, same_spot, with_cell, cell_at}
+use Rattle.source_meaning.specs.Memory.{state_is_live, beyond, is_of, is_moved}
 use Rattle.source_meaning.specs.Steps.{Act, ◌>>=◌, ◌>>◌, need, check}
 use Rattle.source_meaning.specs.Values.{read_cell, read_cells, put_content, write_cell, write_cells, is_lent, value_held}
 use Rattle.source_typing.specs.Types as types
 use Rattle.source_typing.specs.Types.{Int, Unsigned, Char, Void, Null, Fat, Unique, Handle, Key, Struct, Union, shape_of}
 use Rattle.type_proof.specs.Flat.{Tables}
 use Rattle.type_proof.proofs.invariant.Facts.{if_cases, at_spot}
-use Rattle.type_proof.proofs.invariant.Invariant.{RunType, Owner, Flying, InCell, Kept, Reached, Private, type_of, Ghost, Laid, IsNull, HasType, HaveTypes, Full, ContentOk, CellOk, Inv, Grows}
+use Rattle.type_proof.proofs.invariant.Invariant.{RunType, Owner, Flying, InCell, Kept, Reached, Private, type_of, Ghost, Laid, IsNull, HasType, HaveTypes}
+use Rattle.type_proof.proofs.invariant.Invariant.{Full, ContentOk, CellOk, Inv, Grows}
 use Rattle.type_proof.proofs.invariant.Values.{Grown, value_kept, values_kept, copied_kept, laid_kept}
 use Rattle.type_proof.proofs.invariant.Moves.{passing, inv_cells, cell_kept, into, into_class}
 use Rattle.type_proof.proofs.invariant.Growth.{grows_cells, grows_refl, grows_trans}
@@ -27,7 +29,8 @@ thin_is : (n : Bool) (v : Scalar) (owner : _) (to : Shape) → IsNull n v → is
 thin_is true v owner to h = ap (is_of (Rattle.source_meaning.specs.Shapes.Shape.ThinShape true owner to)) h.is
 thin_is false v owner to h = absurd (false≢true h.allowed)
 
-some_is : (n : Bool) (v : Scalar) (at : Spot) (owner : _) (to : Shape) → v ≡ Thin (Some at) → is_of (Rattle.source_meaning.specs.Shapes.Shape.ThinShape n owner to) v ≡ true
+some_is : (n : Bool) (v : Scalar) (at : Spot) (owner : _) (to : Shape) → v ≡ Thin (Some at)
+    → is_of (Rattle.source_meaning.specs.Shapes.Shape.ThinShape n owner to) v ≡ true
 some_is true v at owner to h = ap (is_of (Rattle.source_meaning.specs.Shapes.Shape.ThinShape true owner to)) h
 some_is false v at owner to h = ap (is_of (Rattle.source_meaning.specs.Shapes.Shape.ThinShape false owner to)) h
 
@@ -53,22 +56,27 @@ typed_is d w by v (Union tag rs) h = ap (is_of (shape_of (Union tag rs))) h.is
 pub seen : (m : Memory) (s : Spot) (o : Option Cell) → m.state s.region ≡ Live → m.cells s ≡ o → cell_at m s ≡ o
 seen m s o l e = ap (λ (x : State). if state_is_live x then m.cells s else None) l ∙ e
 
-pub runs_read : {B : Type 0} (n : ℕ) (s : Spot) (sh : Shape) (v : Scalar) (f : Scalar → Act B) (m : Memory) (Q : B → Memory → Type 0) → cell_at m s ≡ Some (record { shape = sh; content = Holds v }) → Runs n (f v) m Q → Runs n (read_cell s >>= f) m Q
+pub runs_read : {B : Type 0} (n : ℕ) (s : Spot) (sh : Shape) (v : Scalar) (f : Scalar → Act B) (m : Memory) (Q : B → Memory → Type 0) → cell_at m s
+    ≡ Some (record { shape = sh; content = Holds v }) → Runs n (f v) m Q → Runs n (read_cell s >>= f) m Q
 runs_read n s sh v f m Q e h = record {
   by = λ next g.
       subst (λ (x : Option Cell). Safe n (need x (λ c. value_held c.content (λ a. f a next)) m)) (sym e) (h.by next g);
 }
 
-pub runs_put : {B : Type 0} (n : ℕ) (s : Spot) (sh : Shape) (c c' : Content) (g : Act B) (m : Memory) (Q : B → Memory → Type 0) → cell_at m s ≡ Some (record { shape = sh; content = c }) → Runs n g (with_cell m s (record { shape = sh; content = c' })) Q → Runs n (put_content s c' >> g) m Q
+pub runs_put : {B : Type 0} (n : ℕ) (s : Spot) (sh : Shape) (c c' : Content) (g : Act B) (m : Memory) (Q : B → Memory → Type 0) → cell_at m s
+    ≡ Some (record { shape = sh; content = c }) → Runs n g (with_cell m s (record { shape = sh; content = c' })) Q → Runs n (put_content s c' >> g) m Q
 runs_put n s sh c c' g m Q e h = record {
   by = λ next k.
       subst (λ (x : Option Cell). Safe n (need x (λ old m2. g next (with_cell m s (record old { content = c' }))) m)) (sym e) (h.by next k);
 }
 
-pub runs_write : {B : Type 0} (n : ℕ) (s : Spot) (sh : Shape) (c : Content) (v : Scalar) (g : Act B) (m : Memory) (Q : B → Memory → Type 0) → cell_at m s ≡ Some (record { shape = sh; content = c }) → is_lent c ≡ false → is_of sh v ≡ true → Runs n g (with_cell m s (record { shape = sh; content = Holds v })) Q → Runs n (write_cell s v >> g) m Q
+pub runs_write : {B : Type 0} (n : ℕ) (s : Spot) (sh : Shape) (c : Content) (v : Scalar) (g : Act B) (m : Memory) (Q : B → Memory → Type 0) → cell_at m s
+    ≡ Some (record { shape = sh; content = c }) → is_lent c ≡ false → is_of sh v ≡ true → Runs n g (with_cell m s (record { shape = sh; content = Holds v })) Q
+    → Runs n (write_cell s v >> g) m Q
 runs_write n s sh c v g m Q e nl is h = record {
   by = λ next k.
-      subst (λ (x : Option Cell). Safe n (need x (λ old. check (not (is_lent old.content)) (λ u. check (is_of old.shape v) (λ u2. put_content s (Holds v) (λ u3. g next)))) m)) (sym e)
+      subst (λ (x : Option Cell). Safe n (need x (λ old. check (not (is_lent old.content))
+      (λ u. check (is_of old.shape v) (λ u2. put_content s (Holds v) (λ u3. g next)))) m)) (sym e)
       (subst (λ (x : Bool). Safe n (check (not x) (λ u. check (is_of sh v) (λ u2. put_content s (Holds v) (λ u3. g next))) m)) (sym nl)
       (subst (λ (x : Bool). Safe n (check x (λ u2. put_content s (Holds v) (λ u3. g next)) m)) (sym is)
       ((runs_put n s sh c (Holds v) g m Q e h).by next k)));
@@ -84,24 +92,32 @@ Copied (t ∷ ts) = (is_moved (shape_of t) ≡ false) × Copied ts
 grown_itself : (w : Ghost) → Grown w w
 grown_itself w = record { types = λ s t e. e; above = λ q r e. e }
 
-pub runs_read_laid : {B : Type 0} (d : Tables) (n : ℕ) (w : Ghost) (m : Memory) (s : Spot) (ts : List RunType) (by : ℕ → Owner) (f : List Scalar → Act B) (Q : B → Memory → Type 0) → Inv d w m → m.state s.region ≡ Live → Laid w s ts → Copied ts → ((vs : List Scalar) → HaveTypes d w by vs ts → Runs n (f vs) m Q) → Runs n (read_cells (length (map shape_of ts)) s >>= f) m Q
+pub runs_read_laid : {B : Type 0} (d : Tables) (n : ℕ) (w : Ghost) (m : Memory) (s : Spot) (ts : List RunType) (by : ℕ → Owner) (f : List Scalar → Act B)
+    (Q : B → Memory → Type 0) → Inv d w m → m.state s.region ≡ Live → Laid w s ts → Copied ts
+    → ((vs : List Scalar) → HaveTypes d w by vs ts → Runs n (f vs) m Q) → Runs n (read_cells (length (map shape_of ts)) s >>= f) m Q
 runs_read_laid d n w m s [] by f Q i l h c k = record { by = λ next g. (k [] tt).by next g }
 runs_read_laid d n w m s (t ∷ ts) by f Q i l h c k =
     let x : CellOk d w s (m.cells s) (Reached t) = i.cells s (Reached t) h.0 in
     let y : Full x.content (λ v. HasType d w (InCell s) v t) = x.ok in
     let there : cell_at m s ≡ Some (cell t (Holds y.value)) = seen m s _ l (x.is ∙ ap (λ (c : Content). Some (cell t c)) y.is) in
-    let tail = runs_read_laid d n w m (beyond s 1) ts (λ j. by (suc j)) (λ vs. f (y.value ∷ vs)) Q i l h.1 c.1 (λ vs hv. k (y.value ∷ vs) (copied_kept d w w (InCell s) (by 0) y.value t (grown_itself w) c.0 y.typed, hv)) in
-    record { by = λ next g. (runs_read n s (shape_of t) y.value (λ v. read_cells (length (map shape_of ts)) (beyond s 1) >>= λ vs. f (v ∷ vs)) m Q there (record { by = λ next2 g2. tail.by next2 g2 })).by next g }
+    let tail = runs_read_laid d n w m (beyond s 1) ts (λ j. by (suc j)) (λ vs. f (y.value ∷ vs)) Q i l h.1 c.1
+    (λ vs hv. k (y.value ∷ vs) (copied_kept d w w (InCell s) (by 0) y.value t (grown_itself w) c.0 y.typed, hv)) in
+    record {
+      by = λ next g. (runs_read n s (shape_of t) y.value (λ v. read_cells (length (map shape_of ts)) (beyond s 1) >>= λ vs. f (v ∷ vs)) m Q there
+          (record { by = λ next2 g2. tail.by next2 g2 })).by next g;
+    }
 
 -- ---- a value is stored to cells that pointers may reach
 
 pub into_it : (s : Spot) (i c : ℕ) → into s i c (Flying i c) ≡ InCell s
-into_it s i c = ap (λ (b : Bool). if b && nat_eq c c then InCell s else Flying i c) (eq-eqb i i refl) ∙ ap (λ (b : Bool). if b then InCell s else Flying i c) (eq-eqb c c refl)
+into_it s i c = ap (λ (b : Bool). if b && nat_eq c c then InCell s else Flying i c) (eq-eqb i i refl)
+    ∙ ap (λ (b : Bool). if b then InCell s else Flying i c) (eq-eqb c c refl)
 
 into_later : (s : Spot) (i c j : ℕ) → (j ≡ c → ⊥) → into s i c (Flying i j) ≡ Flying i j
 into_later s i c j n = elim (eqb_tells j c) [
   | inl e ↦ absurd (n e.1)
-  | inr e ↦ if_cases (nat_eq i i && nat_eq j c) (InCell s) (Flying i j) (λ o. o ≡ Flying i j) (λ z. absurd (false≢true (sym e.0 ∙ both (nat_eq i i) (nat_eq j c) z))) (λ z. refl)
+  | inr e ↦ if_cases (nat_eq i i && nat_eq j c) (InCell s) (Flying i j) (λ o. o ≡ Flying i j)
+      (λ z. absurd (false≢true (sym e.0 ∙ both (nat_eq i i) (nat_eq j c) z))) (λ z. refl)
 ]
   where
     both : (a b : Bool) → a && b ≡ true → b ≡ true
@@ -118,25 +134,35 @@ into_below s k c i j l = elim (eqb_tells i k) [
 abbrev pub stored : Spot → ℕ → ℕ → Ghost → Ghost
 stored s k c w = passing (into s k c) w
 
-pub inv_stored : (d : Tables) (w : Ghost) (m : Memory) (s : Spot) (kept : Kept) (k c : ℕ) (v : Scalar) → Inv d w m → w.types s ≡ Some kept → HasType d w (Flying k c) v (type_of kept) → Inv d (stored s k c w) (with_cell m s (cell (type_of kept) (Holds v)))
+pub inv_stored : (d : Tables) (w : Ghost) (m : Memory) (s : Spot) (kept : Kept) (k c : ℕ) (v : Scalar) → Inv d w m → w.types s ≡ Some kept
+    → HasType d w (Flying k c) v (type_of kept) → Inv d (stored s k c w) (with_cell m s (cell (type_of kept) (Holds v)))
 inv_stored d w m s kept k c v i e h =
     inv_cells d w m (into s k c) (λ x. if same_spot x s then Some (cell (type_of kept) (Holds v)) else m.cells x) i (into_class s k c)
     (λ x q t. at_spot m.cells s (Some (cell (type_of kept) (Holds v))) x (λ z. CellOk d (stored s k c w) x z q)
     (λ z. let same : kept ≡ q = cc in subst (λ (y : Kept). CellOk d (stored s k c w) x (Some (cell (type_of kept) (Holds v))) y) same
     (subst (λ (y : Spot). CellOk d (stored s k c w) y (Some (cell (type_of kept) (Holds v))) kept) (sym z) (here kept h)))
-    (λ z. cell_kept d w (stored s k c w) x (m.cells x) q (record { types = λ y u a. a; above = λ a b u. u; owner = λ b u. ap (into s k c) u; keyed = λ b u. refl }) (i.cells x q t)))
+    (λ z. cell_kept d w (stored s k c w) x (m.cells x) q (record
+    { types = λ y u a. a; above = λ a b u. u; owner = λ b u. ap (into s k c) u; keyed = λ b u. refl }) (i.cells x q t)))
   where
     now : (t : RunType) → HasType d w (Flying k c) v t → HasType d (stored s k c w) (InCell s) v t
-    now t x = value_kept d w (stored s k c w) (Flying k c) (InCell s) v t (record { types = λ y u a. a; above = λ a b u. u; owner = λ b u. ap (into s k c) u ∙ into_it s k c; keyed = λ b u. refl }) x
+    now t x = value_kept d w (stored s k c w) (Flying k c) (InCell s) v t
+        (record { types = λ y u a. a; above = λ a b u. u; owner = λ b u. ap (into s k c) u ∙ into_it s k c; keyed = λ b u. refl }) x
 
     here : (q : Kept) → HasType d w (Flying k c) v (type_of q) → CellOk d (stored s k c w) s (Some (cell (type_of q) (Holds v))) q
     here (Reached t) x = record { content = Holds v; is = refl; ok = record { value = v; is = refl; typed = now t x } }
-    here (Private t) x = record { content = Holds v; is = refl; ok = λ u a. let z : v ≡ u = cc in subst (λ (y : Scalar). HasType d (stored s k c w) (InCell s) y t) z (now t x) }
+    here (Private t) x = record {
+      content = Holds v;
+      is = refl;
+      ok = λ u a. let z : v ≡ u =
+          cc in subst (λ (y : Scalar). HasType d (stored s k c w) (InCell s) y t) z (now t x);
+    }
 
-pub grows_stored : (k b : ℕ) (w : Ghost) (m : Memory) (s : Spot) (kept : Kept) (c : ℕ) (x : Cell) → w.types s ≡ Some kept → ((j : ℕ) (t : RunType) → kept ≡ Private t → s.region ≡ Frame j → j < b → ⊥) → Grows k b w m (stored s k c w) (with_cell m s x)
+pub grows_stored : (k b : ℕ) (w : Ghost) (m : Memory) (s : Spot) (kept : Kept) (c : ℕ) (x : Cell) → w.types s ≡ Some kept
+    → ((j : ℕ) (t : RunType) → kept ≡ Private t → s.region ≡ Frame j → j < b → ⊥) → Grows k b w m (stored s k c w) (with_cell m s x)
 grows_stored k b w m s kept c x e ours =
     grows_cells k b w m (into s k c) (λ y. if same_spot y s then Some x else m.cells y) (into_class s k c) (λ i j l. into_below s k c i j l) (λ i. refl)
-    (λ y t j p l h. at_spot m.cells s (Some x) y (λ z. z ≡ m.cells y) (λ z. absurd (ours j t (private y t z h) (sym (ap (λ (u : Spot). u.region) z) ∙ p) l)) (λ z. refl))
+    (λ y t j p l h. at_spot m.cells s (Some x) y (λ z. z ≡ m.cells y) (λ z. absurd (ours j t (private y t z h) (sym (ap (λ (u : Spot). u.region) z) ∙ p) l))
+    (λ z. refl))
     (λ y h. at_spot m.cells s (Some x) y (λ z. z ≡ m.cells y) (λ z. absurd (none y z h)) (λ z. refl))
   where
     private : (y : Spot) (t : RunType) → y ≡ s → w.types y ≡ Some (Private t) → kept ≡ Private t
@@ -148,7 +174,9 @@ grows_stored k b w m s kept c x e ours =
 not_lent : (d : Tables) (w : Ghost) (s : Spot) (c : Content) (t : RunType) → ContentOk d w s c (Reached t) → is_lent c ≡ false
 not_lent d w s c t h = ap is_lent h.is
 
-pub runs_write_laid : {B : Type 0} (d : Tables) (n k b c : ℕ) (w : Ghost) (m : Memory) (s : Spot) (ts : List RunType) (vs : List Scalar) (g : Act B) (Q : B → Memory → Type 0) → Inv d w m → m.state s.region ≡ Live → Laid w s ts → HaveTypes d w (flying k c) vs ts → ((w' : Ghost) (m' : Memory) → Inv d w' m' → Grows k b w m w' m' → Runs n g m' Q) → Runs n (write_cells s vs >> g) m Q
+pub runs_write_laid : {B : Type 0} (d : Tables) (n k b c : ℕ) (w : Ghost) (m : Memory) (s : Spot) (ts : List RunType) (vs : List Scalar) (g : Act B)
+    (Q : B → Memory → Type 0) → Inv d w m → m.state s.region ≡ Live → Laid w s ts → HaveTypes d w (flying k c) vs ts
+    → ((w' : Ghost) (m' : Memory) → Inv d w' m' → Grows k b w m w' m' → Runs n g m' Q) → Runs n (write_cells s vs >> g) m Q
 runs_write_laid d n k b c w m s [] [] g Q i l h t r = record { by = λ next q. (r w m i (grows_refl k b w m)).by next q }
 runs_write_laid d n k b c w m s (t ∷ ts) (v ∷ vs) g Q i l h hv r =
     let x : CellOk d w s (m.cells s) (Reached t) = i.cells s (Reached t) h.0 in
@@ -163,7 +191,9 @@ runs_write_laid d n k b c w m s (t ∷ ts) (v ∷ vs) g Q i l h hv r =
       keyed = λ q u. refl;
       owner = λ q u. ap (into s k c) u ∙ into_later s k c (c + suc j) (λ e. omega arith) ∙ ap (Flying k) (omega arith);
     }) hv.1 in
-    let tail = runs_write_laid d n k b (suc c) w1 m1 (beyond s 1) ts vs g Q i1 l (laid_kept w w1 (beyond s 1) ts (λ y u a. a) h.1) rest (λ w' m' i' g'. r w' m' i' (grows_trans g1 g')) in
-    runs_write n s (shape_of t) x.content v (write_cells (beyond s 1) vs >> g) m Q (seen m s _ l x.is) (not_lent d w s x.content t x.ok) (typed_is d w (Flying k c) v t first) (record { by = λ next q. tail.by next q })
+    let tail = runs_write_laid d n k b (suc c) w1 m1 (beyond s 1) ts vs g Q i1 l (laid_kept w w1 (beyond s 1) ts (λ y u a. a) h.1) rest
+    (λ w' m' i' g'. r w' m' i' (grows_trans g1 g')) in
+    runs_write n s (shape_of t) x.content v (write_cells (beyond s 1) vs >> g) m Q (seen m s _ l x.is) (not_lent d w s x.content t x.ok)
+    (typed_is d w (Flying k c) v t first) (record { by = λ next q. tail.by next q })
 runs_write_laid d n k b c w m s [] (v ∷ vs) g Q i l h t r = absurd t
 runs_write_laid d n k b c w m s (t ∷ ts) [] g Q i l h hv r = absurd hv

@@ -15,10 +15,12 @@ not_region q r e d = false≢true (sym e ∙ ap (λ x. same_region x r) d ∙ re
 pub not_spot : (t s : Spot) → same_spot t s ≡ false → t ≡ s → ⊥
 not_spot t s e d = false≢true (sym e ∙ ap (λ x. same_spot x s) d ∙ spot_itself s)
 
-pub at_region : {A : Type 0} (f : Region → A) (r : Region) (v : A) (q : Region) (P : A → Type 0) → (q ≡ r → P v) → ((q ≡ r → ⊥) → P (f q)) → P (if same_region q r then v else f q)
+pub at_region : {A : Type 0} (f : Region → A) (r : Region) (v : A) (q : Region) (P : A → Type 0) → (q ≡ r → P v) → ((q ≡ r → ⊥) → P (f q))
+    → P (if same_region q r then v else f q)
 at_region f r v q P h k = if_cases (same_region q r) v (f q) P (λ e. h (region_is q r e)) (λ e. k (not_region q r e))
 
-pub at_spot : {A : Type 0} (f : Spot → A) (s : Spot) (v : A) (t : Spot) (P : A → Type 0) → (t ≡ s → P v) → ((t ≡ s → ⊥) → P (f t)) → P (if same_spot t s then v else f t)
+pub at_spot : {A : Type 0} (f : Spot → A) (s : Spot) (v : A) (t : Spot) (P : A → Type 0) → (t ≡ s → P v) → ((t ≡ s → ⊥) → P (f t))
+    → P (if same_spot t s then v else f t)
 at_spot f s v t P h k = if_cases (same_spot t s) v (f t) P (λ e. h (spot_is t s e)) (λ e. k (not_spot t s e))
 
 pub same_here : {A : Type 0} (r : Region) (v u : A) → (if same_region r r then v else u) ≡ v

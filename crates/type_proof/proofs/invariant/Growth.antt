@@ -63,7 +63,9 @@ grows_less x = record {
 }
 
 -- rights pass, and cells change that are no noncopyable locals of callers
-pub grows_cells : (k b : ℕ) (w : Ghost) (m : Memory) (f : Owner → Owner) (c : Spot → Option Cell) → Class f → ((i j : ℕ) → i < k → f (Flying i j) ≡ Flying i j) → ((i : ℕ) → f (Pinned i) ≡ Pinned i) → ((s : Spot) (t : RunType) (j : ℕ) → s.region ≡ Frame j → j < b → w.types s ≡ Some (Private t) → c s ≡ m.cells s) → ((s : Spot) → w.types s ≡ None → c s ≡ m.cells s) → Grows k b w m (passing f w) (with_cells m c)
+pub grows_cells : (k b : ℕ) (w : Ghost) (m : Memory) (f : Owner → Owner) (c : Spot → Option Cell) → Class f → ((i j : ℕ) → i < k → f (Flying i j) ≡ Flying i j)
+    → ((i : ℕ) → f (Pinned i) ≡ Pinned i) → ((s : Spot) (t : RunType) (j : ℕ) → s.region ≡ Frame j → j < b → w.types s ≡ Some (Private t) → c s ≡ m.cells s)
+    → ((s : Spot) → w.types s ≡ None → c s ≡ m.cells s) → Grows k b w m (passing f w) (with_cells m c)
 grows_cells k b w m f c h fl pin kept bare = record {
   types = λ s t e. e;
   above = λ q r e. e;
@@ -82,7 +84,8 @@ grows_cells k b w m f c h fl pin kept bare = record {
 }
 
 -- a right and its region's state change
-pub grows_turn : (k b : ℕ) (w : Ghost) (m : Memory) (r : Region) (o : Owner) (st : State) → (w.owner r ≡ Nobody → ⊥) → (o ≡ Nobody → ⊥) → ((i j : ℕ) → i < k → w.owner r ≡ Flying i j → ⊥) → ((i : ℕ) → i < k → w.owner r ≡ Pinned i → ⊥) → Grows k b w m (owned_by w r o) (with_state m r st)
+pub grows_turn : (k b : ℕ) (w : Ghost) (m : Memory) (r : Region) (o : Owner) (st : State) → (w.owner r ≡ Nobody → ⊥) → (o ≡ Nobody → ⊥)
+    → ((i j : ℕ) → i < k → w.owner r ≡ Flying i j → ⊥) → ((i : ℕ) → i < k → w.owner r ≡ Pinned i → ⊥) → Grows k b w m (owned_by w r o) (with_state m r st)
 grows_turn k b w m r o st had gets nf np = record {
   types = λ s t e. e;
   above = λ q p e. e;
@@ -105,7 +108,8 @@ not_known : (w : Ghost) (m : Memory) (r q : Region) → (Known m r → ⊥) → 
 not_known w m r q n k e = n (subst (λ (x : Region). Known m x) e k)
 
 -- a region with a right is born
-pub grows_birth : (d : Tables) (k b : ℕ) (w : Ghost) (m : Memory) (x y : ℕ) (r : Region) (st : State) (u : Region → Bool) (o : Owner) (f : Bool) → Inv d w m → Births w m x y r st u o f → (o ≡ Nobody → ⊥) → Grows k b w m (bearing w r u o f) (with_birth m x y r st)
+pub grows_birth : (d : Tables) (k b : ℕ) (w : Ghost) (m : Memory) (x y : ℕ) (r : Region) (st : State) (u : Region → Bool) (o : Owner) (f : Bool) → Inv d w m
+    → Births w m x y r st u o f → (o ≡ Nobody → ⊥) → Grows k b w m (bearing w r u o f) (with_birth m x y r st)
 grows_birth d k b w m x y r st u o f i n gets = record {
   types = λ s t e. e;
   above = λ q p e. at_region (λ z. w.above q p) r (u q) p (λ z. z ≡ true) (λ g. absurd (not_known w m r p n.new (i.born_lower q p e) g)) (λ g. e);
@@ -116,8 +120,10 @@ grows_birth d k b w m x y r st u o f i n gets = record {
   nobody = λ q. at_region w.owner r o q (λ z. z ≡ Nobody → w.owner q ≡ Nobody) (λ g e. absurd (gets e)) (λ g e. e);
   state = λ q. at_region w.owner r o q (λ z. z ≡ Nobody → (if same_region q r then st else m.state q) ≡ m.state q)
       (λ g e. absurd (gets e)) (λ g e. at_region m.state r st q (λ z. z ≡ m.state q) (λ y. absurd (g y)) (λ y. refl));
-  flying = λ q c j l e. at_region w.owner r o q (λ z. z ≡ Flying c j) (λ g. absurd (let a : w.owner r ≡ Nobody = i.unowned r n.new in let z = ap w.owner g in cc)) (λ g. e);
-  pinned = λ q c l e. at_region w.owner r o q (λ z. z ≡ Pinned c) (λ g. absurd (let a : w.owner r ≡ Nobody = i.unowned r n.new in let z = ap w.owner g in cc)) (λ g. e);
+  flying = λ q c j l e. at_region w.owner r o q (λ z. z ≡ Flying c j)
+      (λ g. absurd (let a : w.owner r ≡ Nobody = i.unowned r n.new in let z = ap w.owner g in cc)) (λ g. e);
+  pinned = λ q c l e. at_region w.owner r o q (λ z. z ≡ Pinned c) (λ g. absurd (let a : w.owner r ≡ Nobody = i.unowned r n.new in let z = ap w.owner g in cc))
+      (λ g. e);
   kept = λ s t j e l h. refl;
   bare = λ s e l. e;
   blank = λ s e l. refl;
@@ -125,11 +131,13 @@ grows_birth d k b w m x y r st u o f i n gets = record {
 }
 
 -- a scoped region is born, and what comes after it left the region
-pub grows_scope : (d : Tables) (k b : ℕ) (w : Ghost) (m : Memory) (x y : ℕ) (r : Region) (u : Region → Bool) (w2 : Ghost) (m2 : Memory) → Inv d w m → Births w m x y r Live u Nobody false → Grows k b (bearing w r u Nobody false) (with_birth m x y r Live) w2 m2 → Grows k b w m w2 (with_state m2 r Dead)
+pub grows_scope : (d : Tables) (k b : ℕ) (w : Ghost) (m : Memory) (x y : ℕ) (r : Region) (u : Region → Bool) (w2 : Ghost) (m2 : Memory) → Inv d w m
+    → Births w m x y r Live u Nobody false → Grows k b (bearing w r u Nobody false) (with_birth m x y r Live) w2 m2 → Grows k b w m w2 (with_state m2 r Dead)
 grows_scope d k b w m x y r u w2 m2 i n g = record {
   types = g.types;
   above = λ q p e. g.above q p (at_region (λ z. w.above q p) r (u q) p (λ z. z ≡ true) (λ h. absurd (not_known w m r p n.new (i.born_lower q p e) h)) (λ h. e));
-  old = λ q p h e. at_region (λ z. w.above q p) r (u q) p (λ z. z ≡ true → w.above q p ≡ true) (λ z. absurd (not_known w m r p n.new h z)) (λ z v. v) (g.old q p (n.more p h) e);
+  old = λ q p h e. at_region (λ z. w.above q p) r (u q) p (λ z. z ≡ true → w.above q p ≡ true) (λ z. absurd (not_known w m r p n.new h z)) (λ z v. v)
+      (g.old q p (n.more p h) e);
   known = λ q h. g.known q (n.more q h);
   keyed = λ q h. g.keyed q (n.more q h) ∙ at_region w.keyed r false q (λ z. z ≡ w.keyed q) (λ z. absurd (not_known w m r q n.new h z)) (λ z. refl);
   scoped = λ q h e. g.scoped q (n.more q h) (at_region w.owner r Nobody q (λ z. z ≡ Nobody) (λ z. refl) (λ z. e));
@@ -137,8 +145,10 @@ grows_scope d k b w m x y r u w2 m2 i n g = record {
   state = λ q e. at_region m2.state r Dead q (λ z. z ≡ m.state q)
       (λ z. sym (i.unborn r n.new) ∙ sym (ap m.state z))
       (λ z. g.state q e ∙ at_region m.state r Live q (λ v. v ≡ m.state q) (λ v. absurd (z v)) (λ v. refl));
-  flying = λ q c j l e. g.flying q c j l (at_region w.owner r Nobody q (λ z. z ≡ Flying c j) (λ h. absurd (let a : w.owner r ≡ Nobody = i.unowned r n.new in let z = ap w.owner h in cc)) (λ h. e));
-  pinned = λ q c l e. g.pinned q c l (at_region w.owner r Nobody q (λ z. z ≡ Pinned c) (λ h. absurd (let a : w.owner r ≡ Nobody = i.unowned r n.new in let z = ap w.owner h in cc)) (λ h. e));
+  flying = λ q c j l e. g.flying q c j l (at_region w.owner r Nobody q (λ z. z ≡ Flying c j)
+      (λ h. absurd (let a : w.owner r ≡ Nobody = i.unowned r n.new in let z = ap w.owner h in cc)) (λ h. e));
+  pinned = λ q c l e. g.pinned q c l (at_region w.owner r Nobody q (λ z. z ≡ Pinned c)
+      (λ h. absurd (let a : w.owner r ≡ Nobody = i.unowned r n.new in let z = ap w.owner h in cc)) (λ h. e));
   kept = g.kept;
   bare = g.bare;
   blank = g.blank;
@@ -146,7 +156,9 @@ grows_scope d k b w m x y r u w2 m2 i n g = record {
 }
 
 -- nothing that is live rests on a scoped region when it is left
-pub scope_alone : (d : Tables) (k b : ℕ) (w : Ghost) (m : Memory) (x y : ℕ) (r : Region) (u : Region → Bool) (w2 : Ghost) (m2 : Memory) → Inv d w m → Births w m x y r Live u Nobody false → (r ≡ heap → ⊥) → Inv d (bearing w r u Nobody false) (with_birth m x y r Live) → Inv d w2 m2 → Grows k b (bearing w r u Nobody false) (with_birth m x y r Live) w2 m2 → Alone w2 m2 r
+pub scope_alone : (d : Tables) (k b : ℕ) (w : Ghost) (m : Memory) (x y : ℕ) (r : Region) (u : Region → Bool) (w2 : Ghost) (m2 : Memory) → Inv d w m
+    → Births w m x y r Live u Nobody false → (r ≡ heap → ⊥) → Inv d (bearing w r u Nobody false) (with_birth m x y r Live) → Inv d w2 m2
+    → Grows k b (bearing w r u Nobody false) (with_birth m x y r Live) w2 m2 → Alone w2 m2 r
 scope_alone d k b w m x y r u w2 m2 i n nh i1 i2 g q l a ne = elim (nobody_or_not (w2.owner q)) [
   | inl e ↦
       (let was : (if same_region q r then Live else m.state q) ≡ Live = sym (g.state q e) ∙ l in
@@ -157,7 +169,8 @@ scope_alone d k b w m x y r u w2 m2 i n nh i1 i2 g q l a ne = elim (nobody_or_no
 ]
 
 -- nothing that is live rests on a region when its loan ends
-pub loan_alone : (d : Tables) (k b : ℕ) (w : Ghost) (m : Memory) (r : Region) (o : Owner) (st : State) (w2 : Ghost) (m2 : Memory) → Inv d w m → (Steady (w.owner r) → ⊥) → Inv d (owned_by w r o) (with_state m r st) → Inv d w2 m2 → Grows k b (owned_by w r o) (with_state m r st) w2 m2 → Alone w2 m2 r
+pub loan_alone : (d : Tables) (k b : ℕ) (w : Ghost) (m : Memory) (r : Region) (o : Owner) (st : State) (w2 : Ghost) (m2 : Memory) → Inv d w m
+    → (Steady (w.owner r) → ⊥) → Inv d (owned_by w r o) (with_state m r st) → Inv d w2 m2 → Grows k b (owned_by w r o) (with_state m r st) w2 m2 → Alone w2 m2 r
 loan_alone d k b w m r o st w2 m2 i un i1 i2 g q l a ne = elim (nobody_or_not (w2.owner q)) [
   | inl e ↦
       (let was : (if same_region q r then st else m.state q) ≡ Live = sym (g.state q e) ∙ l in

@@ -1,7 +1,8 @@
 -- Well-formed memories: each cell holds a value of its type, and each right is held once.
 use Rattle.std.proofs.Common.{◌≡◌, ℕ, suc, ◌<◌, ◌≤◌, Bool, true, false, ◌⊎◌, Option, Some, None, List, [], ◌∷◌}
 use Rattle.std.specs.Prelude.{slice_get, ◌*◌, length}
-use Rattle.source_meaning.specs.Memory.{IntegerType, AsInt, AsUnsigned, AsChar, Region, Frame, Born, Spot, Span, Scalar, Integer, Thin, Wide, HandleOf, KeyOf, Tagged, Content, Holds, Cell, State, Live, Closed, Dead, Memory, beyond, is_moved}
+use Rattle.source_meaning.specs.Memory.{IntegerType, AsInt, AsUnsigned, AsChar, Region, Frame, Born, Spot, Span, Scalar, Integer, Thin, Wide, HandleOf, KeyOf}
+use Rattle.source_meaning.specs.Memory.{Tagged, Content, Holds, Cell, State, Live, Closed, Dead, Memory, beyond, is_moved}
 use Rattle.source_typing.specs.Types as types
 use Rattle.source_typing.specs.Types.{TypeIn, Int, Unsigned, Char, Void, Null, Fat, Unique, Handle, Key, Struct, Union, shape_of}
 use Rattle.type_proof.specs.Flat.{Tables, flat, union_parts}

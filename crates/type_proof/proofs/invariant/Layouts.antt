@@ -16,7 +16,7 @@ use Rattle.source_typing.specs.Tables.{parts_in, each_part, if_known, begins, ha
 use Rattle.source_typing.specs.Types.{StaticType, Int, Unsigned, Char, Void, Null, Thin, Fat, Unique, Handle, Key, Struct, Union, renamed, shape_of}
 use Rattle.type_proof.specs.Entries.{IsObjectType, PlainTables}
 use Rattle.type_proof.specs.Flat.{Declared, Tables, filled, flat, flat_by, flat_all, struct_flat}
-use Rattle.type_proof.specs.Structs.{declares, IsMemberType, AreMemberTypes, AreInOrder, AreMembers, AreLaidOut}
+use Rattle.type_proof.specs.Structs.{declares, IsMemberType, AreMemberTypes, AreInOrder, AreMembers, AreLaidOut, AreUnions}
 use Rattle.type_proof.proofs.invariant.Invariant.{RunType, heap, Owner, Ghost, HasType}
 use Rattle.type_proof.proofs.invariant.Cells.{Copied}
 use Rattle.type_proof.proofs.invariant.Arguments.{Agrees}
@@ -212,7 +212,7 @@ copied_member ds each f (Unique n t) e = absurd e
 copied_member ds each f (Handle r) e = (refl, tt)
 copied_member ds each f (Key r) e = absurd e
 copied_member ds each f (Struct tag rs) e = each tag (map f rs)
-copied_member ds each f (Union tag rs) e = absurd e
+copied_member ds each f (Union tag rs) e = (refl, tt)
 
 copied_all : (ds : List Declared) → ((tag : List ℕ) (rs : List Region) → Copied (struct_flat heap ds tag rs))
     → (f : names.Region → Region) (ts : List StaticType)
@@ -284,7 +284,7 @@ module _ (tables : typing.Tables) where
   type_begins ds each n f (Key r) o l e = absurd o
   type_begins ds each zero f (Struct tag rs) o l e = no_cells ds tag (map f rs) l
   type_begins ds each (suc n) f (Struct tag rs) o l e = each n tag (map f rs) l e
-  type_begins ds each n f (Union tag rs) o l e = absurd o
+  type_begins ds each n f (Union tag rs) o l e = absurd (false≢true e)
 
   members_begin : (ds : List Declared) → StructsBegin ds → (n : ℕ) (f : names.Region → Region) (ps : List typing.Part) (qs : List shapes.Part)
       (ts : List StaticType) → AreMembers ps qs ts → AreMemberTypes ds ts → length ds ≤ n → each_part (begins n tables) ps ≡ true
@@ -315,12 +315,14 @@ module _ (tables : typing.Tables) where
 
 -- ---- the structs of a program
 
--- what is known of them
+-- what is known of them, and of its unions
 pub record Structs (d : Tables) (world : World) (tables : typing.Tables) : Type 0 where
   pub in_order : AreInOrder d.structs
   pub laid_out : AreLaidOut tables d.structs world.structs
   pub few : length d.structs ≤ length tables
   pub plain : PlainTables world tables
+  pub unions_laid : AreLaidOut tables d.unions world.unions
+  pub unions : AreUnions d.unions world.unions
 
 pub agrees : (d : Tables) (world : World) (tables : typing.Tables) → Structs d world tables → Agrees world d
 agrees d world tables h t = all_agree tables d.structs world.structs h.laid_out t

@@ -6,7 +6,8 @@ use Rattle.source_meaning.specs.Memory.{Region, Born, Spot, Cell, State, Live, D
 use Rattle.source_meaning.proofs.Cases.{region_is}
 use Rattle.type_proof.specs.Flat.{Tables}
 use Rattle.type_proof.proofs.invariant.Facts.{if_cases, at_region, not_region}
-use Rattle.type_proof.proofs.invariant.Invariant.{heap, Owner, Nobody, Flying, Returned, Pinned, InCell, Freed, Kept, Ghost, CellOk, Steady, ByScope, StateOk, Inv}
+use Rattle.type_proof.proofs.invariant.Invariant.{heap, Owner, Nobody, Flying, Returned, Pinned, InCell, Freed, Kept, Ghost, CellOk, Steady, ByScope, StateOk}
+use Rattle.type_proof.proofs.invariant.Invariant.{Inv}
 use Rattle.type_proof.proofs.invariant.Values.{Carries, content_kept}
 
 pub cell_kept : (d : Tables) (w w' : Ghost) (s : Spot) (o : Option Cell) (k : Kept) → Carries w w' (InCell s) (InCell s) → CellOk d w s o k → CellOk d w' s o k
@@ -27,7 +28,8 @@ pub record Class (f : Owner → Owner) : Type 0 where
   pub nobody : (o : Owner) → f o ≡ Nobody → o ≡ Nobody
   pub free : f Nobody ≡ Nobody
 
-pub inv_cells : (d : Tables) (w : Ghost) (m : Memory) (f : Owner → Owner) (c : Spot → Option Cell) → Inv d w m → Class f → ((s : Spot) (k : Kept) → w.types s ≡ Some k → CellOk d (passing f w) s (c s) k) → Inv d (passing f w) (with_cells m c)
+pub inv_cells : (d : Tables) (w : Ghost) (m : Memory) (f : Owner → Owner) (c : Spot → Option Cell) → Inv d w m → Class f
+    → ((s : Spot) (k : Kept) → w.types s ≡ Some k → CellOk d (passing f w) s (c s) k) → Inv d (passing f w) (with_cells m c)
 inv_cells d w m f c i t h = record {
   cells = h;
   counted = i.counted;
@@ -176,13 +178,15 @@ pub record Turns (w : Ghost) (m : Memory) (r : Region) (o : Owner) (st : State) 
   -- no cell has it, before or after
   pub away : (s : Spot) → w.owner r ≡ InCell s → ⊥
 
-both_at : {A B : Type 0} (f : Region → A) (g : Region → B) (r : Region) (a : A) (b : B) (q : Region) (P : A → B → Type 0) → (q ≡ r → P a b) → ((q ≡ r → ⊥) → P (f q) (g q)) → P (if same_region q r then a else f q) (if same_region q r then b else g q)
+both_at : {A B : Type 0} (f : Region → A) (g : Region → B) (r : Region) (a : A) (b : B) (q : Region) (P : A → B → Type 0) → (q ≡ r → P a b)
+    → ((q ≡ r → ⊥) → P (f q) (g q)) → P (if same_region q r then a else f q) (if same_region q r then b else g q)
 both_at f g r a b q P h k = elim (cases_Bool (same_region q r)) [
   | inl e ↦ subst (λ (x : Bool). P (if x then a else f q) (if x then b else g q)) (sym e) (h (region_is q r e))
   | inr e ↦ subst (λ (x : Bool). P (if x then a else f q) (if x then b else g q)) (sym e) (k (not_region q r e))
 ]
 
-pub inv_turn : (d : Tables) (w : Ghost) (m : Memory) (r : Region) (o : Owner) (st : State) → Inv d w m → Turns w m r o st → Inv d (owned_by w r o) (with_state m r st)
+pub inv_turn : (d : Tables) (w : Ghost) (m : Memory) (r : Region) (o : Owner) (st : State) → Inv d w m → Turns w m r o st
+    → Inv d (owned_by w r o) (with_state m r st)
 inv_turn d w m r o st i t = record {
   cells = λ s k e. cell_kept d w (owned_by w r o) s (m.cells s) k (carries s) (i.cells s k e);
   counted = i.counted;
@@ -194,8 +198,10 @@ inv_turn d w m r o st i t = record {
       (λ n l a. at_region m.state r st p (λ y. y ≡ Live) (λ f. lives q (λ x. n x) l (subst (λ (x : Region). w.above x q ≡ true) f a)) (λ k. i.closed q p l a));
   rests = λ q p. at_region m.state r st q (λ x. x ≡ Live → w.above p q ≡ true → (p ≡ q → ⊥) → Steady (if same_region p r then o else w.owner p))
       (λ e l a ne. at_region w.owner r o p (λ y. Steady y) (λ f. absurd (ne (f ∙ sym e)))
-      (λ n. let z : p ≡ heap = i.sole r p t.had (subst (λ (x : Region). w.above p x ≡ true) e a) n in subst Steady (sym (ap w.owner z ∙ i.heap_is_free)) ByScope))
-      (λ n l a ne. at_region w.owner r o p (λ y. Steady y) (λ f. stands q (λ x. n x) l (subst (λ (x : Region). w.above x q ≡ true) f a)) (λ k. i.rests q p l a ne));
+      (λ n. let z : p ≡ heap = i.sole r p t.had (subst (λ (x : Region). w.above p x ≡ true) e a) n in subst Steady (sym (ap w.owner z ∙ i.heap_is_free))
+      ByScope))
+      (λ n l a ne. at_region w.owner r o p (λ y. Steady y) (λ f. stands q (λ x. n x) l (subst (λ (x : Region). w.above x q ≡ true) f a))
+      (λ k. i.rests q p l a ne));
   sole = λ q p n e ne. i.sole q p (λ x. n (at_region w.owner r o q (λ y. y ≡ Nobody) (λ f. absurd (t.had (sym (ap w.owner f) ∙ x))) (λ f. x))) e ne;
   itself = i.itself;
   under_heap = i.under_heap;

@@ -17,12 +17,13 @@ use Rattle.type_proof.proofs.invariant.Runs.{Runs}
 use Rattle.type_proof.proofs.invariant.After.{flying}
 use Rattle.type_proof.proofs.invariant.Cells.{cell, seen, typed_is, runs_write, stored, inv_stored, grows_stored}
 use Rattle.type_proof.proofs.invariant.Rights.{Ours, HeldAt, Apart}
-use Rattle.type_proof.proofs.invariant.Standing.{FreeAt}
+use Rattle.type_proof.proofs.invariant.LocalCells.{FreeAt}
 
 pub into_later : (s : Spot) (i c j : ℕ) → (j ≡ c → ⊥) → into s i c (Flying i j) ≡ Flying i j
 into_later s i c j n = elim (eqb_tells j c) [
   | inl e ↦ absurd (n e.1)
-  | inr e ↦ if_cases (nat_eq i i && nat_eq j c) (InCell s) (Flying i j) (λ o. o ≡ Flying i j) (λ z. absurd (false≢true (sym e.0 ∙ both (nat_eq i i) (nat_eq j c) z))) (λ z. refl)
+  | inr e ↦ if_cases (nat_eq i i && nat_eq j c) (InCell s) (Flying i j) (λ o. o ≡ Flying i j)
+      (λ z. absurd (false≢true (sym e.0 ∙ both (nat_eq i i) (nat_eq j c) z))) (λ z. refl)
 ]
   where
     both : (a b : Bool) → a && b ≡ true → b ≡ true
@@ -60,9 +61,11 @@ runs_write_free d n k b c w m s (t ∷ ts) (v ∷ vs) g Q i l o h hv r =
       keyed = λ q u. refl;
       owner = λ q u. ap (into s k c) u ∙ into_later s k c (c + suc j) (λ e. omega arith) ∙ ap (Flying k) (omega arith);
     }) hv.1 in
-    let tail = runs_write_free d n k b (suc c) w1 m1 (beyond s 1) ts vs g Q i1 l o (free_later w k c m s (beyond s 1) (cell t (Holds v)) ts (omega arith) h.2) rest
+    let tail = runs_write_free d n k b (suc c) w1 m1 (beyond s 1) ts vs g Q i1 l o (free_later w k c m s (beyond s 1) (cell t (Holds v)) ts (omega arith) h.2)
+    rest
     (λ w' m' i' g' older away held. r w' m' i' (grows_trans g1 g')
-    (λ y p. older y (omega (arith, p)) ∙ at_spot m.cells s (Some (cell t (Holds v))) y (λ z. z ≡ m.cells y) (λ z. absurd (let a = ap (λ (q : Spot). q.cell) z in omega (arith, p))) (λ z. refl))
+    (λ y p. older y (omega (arith, p)) ∙ at_spot m.cells s (Some (cell t (Holds v))) y (λ z. z ≡ m.cells y)
+    (λ z. absurd (let a = ap (λ (q : Spot). q.cell) z in omega (arith, p))) (λ z. refl))
     (λ y p. away y p ∙ at_spot m.cells s (Some (cell t (Holds v))) y (λ z. z ≡ m.cells y)
     (λ z. absurd (p (ap (λ (q : Spot). q.region) z) (ap (λ (q : Spot). q.object) z))) (λ z. refl))
     (g'.types s (Private t) h.0, older s (omega arith) ∙ same_at s (Some (cell t (Holds v))) (m.cells s), held)) in

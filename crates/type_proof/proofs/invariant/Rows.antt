@@ -4,8 +4,10 @@ use Rattle.std.specs.Prelude.{◌*◌, ◌-◌, ◌%◌, map, length, slice_get,
 use Rattle.std.proofs.lemmas.Bool.{cases_lt, lt-ltb, le-ltb, ltb-true, ltb-false}
 use Rattle.std.proofs.lemmas.List.{map-append}
 use Rattle.std.proofs.Math.Nat.{suc-mul, add-mod_left, mod-eq_of_lt}
+use Rattle.source_meaning.specs.Shapes.{Shape}
 use Rattle.source_meaning.specs.Memory.{Spot, Cell, array_of, beyond}
 use Rattle.source_meaning.specs.Sizes.{repeated}
+use Rattle.source_typing.specs.Types.{shape_of}
 use Rattle.type_proof.proofs.invariant.Facts.{further, not_further, at_start}
 use Rattle.type_proof.proofs.invariant.Invariant.{RunType, Ghost, Laid, AllLaid}
 
@@ -46,7 +48,7 @@ got_before [] ys k l = absurd (omega (arith, l))
 got_before (x ∷ xs) ys zero l = refl
 got_before (x ∷ xs) ys (suc k) l = got_before xs ys k (omega (arith, l))
 
-got_behind : {A : Type 0} (xs ys : List A) (j : ℕ) → slice_get (xs ++ ys) (length xs + j) ≡ slice_get ys j
+pub got_behind : {A : Type 0} (xs ys : List A) (j : ℕ) → slice_get (xs ++ ys) (length xs + j) ≡ slice_get ys j
 got_behind [] ys j = ap (slice_get ys) (omega arith)
 got_behind (x ∷ xs) ys j =
     let e : length (x ∷ xs) + j ≡ suc (length xs + j) = omega arith in ap (slice_get (x ∷ (xs ++ ys))) e ∙ got_behind xs ys j
@@ -83,3 +85,10 @@ array_cells (suc n) xs k = by_place (array_cells n xs) (cases_lt k (length xs))
         (lt-ltb k (suc n * cells) (more k cells (n * cells) (suc n * cells) (suc-mul n cells) l))
         ∙ (ap (slice_get xs) (mod-eq_of_lt l) ∙ sym (got_before xs (repeated n xs) k l))
     by_place others (inr l) = subst (λ (i : ℕ). array_of (suc n) xs i ≡ slice_get (repeated (suc n) xs) i) (omega (arith, l)) (behind others (k - cells))
+
+-- cells of each element of an array, by the shapes of its types, are in a row
+pub array_row : (c : Shape → Cell) (n : ℕ) (ts : List RunType) (j : ℕ)
+    → array_of n (map c (map shape_of ts)) j ≡ slice_get (map c (map shape_of (repeated n ts))) j
+array_row c n ts j =
+    array_cells n (map c (map shape_of ts)) j
+    ∙ ap (λ cs. slice_get cs j) (sym (ap (map c) (map_repeated shape_of n ts) ∙ map_repeated c n (map shape_of ts)))

@@ -40,7 +40,9 @@ pub safe_less : (n : ℕ) (s : Step) → Safe (suc n) s → Safe n s
 safe_less zero s x = tt
 safe_less (suc n) s x = walk_less (Safe (suc n)) (Safe n) (safe_less n) s x
 
-walk_not_stuck : (P : Step → Type 0) (rest : Step → List ℕ → Outcome SourceEvent) → ((s : Step) (input : List ℕ) → P s → (rest s input).ending ≡ SourceEnding.Stuck → ⊥) → (s : Step) (input : List ℕ) → safe_walk P s → (walk source_bodies rest s input).ending ≡ SourceEnding.Stuck → ⊥
+walk_not_stuck : (P : Step → Type 0) (rest : Step → List ℕ → Outcome SourceEvent)
+    → ((s : Step) (input : List ℕ) → P s → (rest s input).ending ≡ SourceEnding.Stuck → ⊥) → (s : Step) (input : List ℕ) → safe_walk P s
+    → (walk source_bodies rest s input).ending ≡ SourceEnding.Stuck → ⊥
 walk_not_stuck P rest h (Stops (SourceEnding.Ended status)) input x e = cc
 walk_not_stuck P rest h (Stops (SourceEnding.Raised kind)) input x e = cc
 walk_not_stuck P rest h (Stops SourceEnding.Running) input x e = cc
@@ -72,7 +74,8 @@ pub safe_raised : (n : ℕ) (kind : Kind) → Safe n (Stops (SourceEnding.Raised
 safe_raised zero kind = tt
 safe_raised (suc n) kind = tt
 
-pub runs_bind : {A B : Type 0} (n : ℕ) (act : Act A) (f : A → Act B) (m : Memory) (P : A → Memory → Type 0) (Q : B → Memory → Type 0) → Runs n act m P → ((a : A) (m' : Memory) → P a m' → Runs n (f a) m' Q) → Runs n (act >>= f) m Q
+pub runs_bind : {A B : Type 0} (n : ℕ) (act : Act A) (f : A → Act B) (m : Memory) (P : A → Memory → Type 0) (Q : B → Memory → Type 0) → Runs n act m P
+    → ((a : A) (m' : Memory) → P a m' → Runs n (f a) m' Q) → Runs n (act >>= f) m Q
 runs_bind n act f m P Q h k = record { by = λ next g. h.by (λ a. f a next) (λ a m' p. (k a m' p).by next g) }
 
 -- a fact that holds

@@ -1,8 +1,8 @@
 -- What stands for the names in scope: each variable has its cells, in a region that is live.
-use Rattle.std.proofs.Common.{◌≡◌, ℕ, suc, ◌≤◌, Bool, true, false, arith, Option, Some, List, sym, ◌∙◌, subst}
-use Rattle.source_meaning.specs.Shapes.{Shape, ArrayShape}
-use Rattle.source_meaning.specs.Memory.{Region, Spot, Memory}
-use Rattle.source_meaning.specs.Steps.{Entity, Variable, World, Scope}
+use Rattle.std.proofs.Common.{◌≡◌, ℕ, suc, ◌≤◌, Bool, true, false, arith, Option, Some, List, [], ◌∷◌, sym, ◌∙◌, subst}
+use Rattle.source_meaning.specs.Shapes.{Shape, ArrayShape, UnsignedShape}
+use Rattle.source_meaning.specs.Memory.{Region, Spot, Integer, AsUnsigned, Memory}
+use Rattle.source_meaning.specs.Steps.{Binding, Entity, Variable, Fixed, World, Scope}
 use Rattle.source_meaning.specs.Places.{bound_to, entity_of}
 use Rattle.source_typing.specs.Scope.{Env, find_local, meant}
 use Rattle.source_typing.specs.States.{States}
@@ -11,9 +11,11 @@ use Rattle.source_typing.specs.Tables.{What, OfValue, Stored, Arrayed, Counter, 
 use Rattle.source_typing.specs.Types.{StaticType, renamed, shape_of}
 use Rattle.type_proof.specs.Flat.{Tables, flat}
 pub use Rattle.type_proof.proofs.invariant.Alikes.{AllBelow, TypeBelow, Alike, renamed_alike}
-use Rattle.type_proof.proofs.invariant.Standing.{Alongside, Rooms, AllWithin, AllCounted, counted_more, LocalsBelow, Standing, is_own, all_more, all_kept}
-use Rattle.type_proof.proofs.invariant.Invariant.{RunType, heap, Reached, Ghost, Laid, AllLaid, Inv, Grows}
+use Rattle.type_proof.proofs.invariant.Standing.{Alongside, Rooms, AllWithin, AllCounted, counted_more, LocalsBelow, Standing, SameAll, is_own, all_more}
+use Rattle.type_proof.proofs.invariant.Standing.{all_kept, all_same}
+use Rattle.type_proof.proofs.invariant.Invariant.{RunType, heap, Kept, Reached, Private, Ghost, Laid, AllLaid, Inv, Grows}
 use Rattle.type_proof.proofs.invariant.Values.{laid_kept, all_laid_kept}
+use Rattle.type_proof.proofs.Strings.{StringsLaid, strings_kept}
 use Rattle.type_proof.proofs.invariant.Names.{NameOf, Below, NamesOk, names_later, names_more}
 use Rattle.type_proof.proofs.invariant.After.{base_later}
 
@@ -27,11 +29,16 @@ pub record Bound (count : ℕ) (f : NameOf → Region) (e : Option Entity) (s : 
   pub within : Below count r
   pub below : TypeBelow count t
 
--- what a name is bound to: a variable of its type, or an array of so many elements
+-- the index of the elements that are made, which is a number
+pub record Numbered (e : Option Entity) : Type 0 where
+  pub number : ℕ
+  pub is : e ≡ Some (Fixed UnsignedShape (Integer AsUnsigned number))
+
+-- what a name is bound to: a variable of its type, an array of so many elements, or a number
 abbrev pub BoundAs : ℕ → (NameOf → Region) → Option Entity → What → Type 0
 BoundAs count f e (Stored t r) = Bound count f e (shape_of t) t r
 BoundAs count f e (Arrayed t r) = (n : ℕ) × Bound count f e (ArrayShape n (shape_of t)) t r
-BoundAs count f e Counter = Unit {0}
+BoundAs count f e Counter = Numbered e
 BoundAs count f e Unknown = Unit {0}
 
 -- in a region that is live
@@ -58,7 +65,7 @@ pub bound_as_alike : (n m : ℕ) (f h : NameOf → Region) (e : Option Entity) (
     → ((u : StaticType) → TypeBelow n u → TypeBelow m u) → Alike n f h → BoundAs n f e v → BoundAs m h e v
 bound_as_alike n m f h e (Stored t r) up ups same p = bound_alike n m f h e (shape_of t) t r up ups same p
 bound_as_alike n m f h e (Arrayed t r) up ups same p = (p.0, bound_alike n m f h e (ArrayShape p.0 (shape_of t)) t r up ups same p.1)
-bound_as_alike n m f h e Counter up ups same p = tt
+bound_as_alike n m f h e Counter up ups same p = p
 bound_as_alike n m f h e Unknown up ups same p = tt
 
 -- where more is live
@@ -92,9 +99,17 @@ pub record Binds (g : Env) (scope : Scope) (f : NameOf → Region) : Type 0 wher
   pub live : (x : List ℕ) (v : What) → meant g x ≡ Some (OfValue v) → LivesAs g.regions.live v
   pub globals : (x : List ℕ) (v : What) → find g.tables x ≡ Some (OfValue v) → BoundAs 0 (λ a. heap) (bound_to scope.world.globals x) v
 
--- the cells of the globals
-abbrev pub Globals : Tables → typing.Tables → World → Ghost → Type 0
-Globals d tables world w = (x : List ℕ) (v : What) → find tables x ≡ Some (OfValue v) → LaidAs d (λ a. heap) w (bound_to world.globals x) v
+-- the cells of the globals and of the strings
+pub record Globals (d : Tables) (tables : typing.Tables) (world : World) (w : Ghost) : Type 0 where
+  pub named : (x : List ℕ) (v : What) → find tables x ≡ Some (OfValue v) → LaidAs d (λ a. heap) w (bound_to world.globals x) v
+  pub strings : StringsLaid w world.strings
+
+pub globals_kept : (d : Tables) (tables : typing.Tables) (world : World) (w w' : Ghost)
+    → ((s : Spot) (t : RunType) → w.types s ≡ Some (Reached t) → w'.types s ≡ Some (Reached t)) → Globals d tables world w → Globals d tables world w'
+globals_kept d tables world w w' keep h = record {
+  named = λ y v e. laid_as_kept d (λ a. heap) w w' (bound_to world.globals y) v keep (h.named y v e);
+  strings = strings_kept w w' world.strings keep h.strings;
+}
 
 -- What holds of a scope at a point of its function, while k values are on their way: its region names stand for regions; its variables have their cells,
 -- which pointers may reach where they can be copied; and those that can't be copied stand in these states.
@@ -115,11 +130,11 @@ pub record Scene (d : Tables) (g : Env) (scope : Scope) (f : NameOf → Region) 
 
 pub globals_later : (d : Tables) (tables : typing.Tables) (world : World) (k b : ℕ) (w : Ghost) (m : Memory) (w' : Ghost) (m' : Memory) → Grows k b w m w' m'
     → Globals d tables world w → Globals d tables world w'
-globals_later d tables world k b w m w' m' x h =
-    λ y v e. laid_as_kept d (λ a. heap) w w' (bound_to world.globals y) v (λ s u z. x.types s (Reached u) z) (h y v e)
+globals_later d tables world k b w m w' m' x h = globals_kept d tables world w w' (λ s u z. x.types s (Reached u) z) h
 
 -- later memories, in which the locals stand in other states
-pub scene_later : (d : Tables) (g : Env) (scope : Scope) (f : NameOf → Region) (b : ℕ) (s s' : States) (k : ℕ) (w : Ghost) (m : Memory) (w' : Ghost) (m' : Memory)
+pub scene_later : (d : Tables) (g : Env) (scope : Scope) (f : NameOf → Region) (b : ℕ) (s s' : States) (k : ℕ) (w : Ghost) (m : Memory) (w' : Ghost)
+    (m' : Memory)
     → Inv d w' m' → Grows k b w m w' m' → Standing d g scope f s' w' m' → Scene d g scope f b s k w m → Scene d g scope f b s' k w' m'
 scene_later d g scope f b s s' k w m w' m' i x st h = record {
   names = names_later d g.regions f k b w m w' m' i x h.names;
@@ -136,7 +151,8 @@ scene_later d g scope f b s s' k w m w' m' i x st h = record {
 }
 
 -- more may be on its way
-pub scene_more : (d : Tables) (g : Env) (scope : Scope) (f : NameOf → Region) (b : ℕ) (s : States) (k : ℕ) (w : Ghost) (m : Memory) → Scene d g scope f b s k w m
+pub scene_more : (d : Tables) (g : Env) (scope : Scope) (f : NameOf → Region) (b : ℕ) (s : States) (k : ℕ) (w : Ghost) (m : Memory)
+    → Scene d g scope f b s k w m
     → Scene d g scope f b s (suc k) w m
 scene_more d g scope f b s k w m h = record {
   names = names_more g.regions f k w m h.names;
@@ -151,6 +167,16 @@ scene_more d g scope f b s k w m h = record {
   below = h.below;
   stands = h.stands;
 }
+
+-- Where each cell that has a type is as it was, all locals stand as they did.
+pub stands_typed : (d : Tables) (g : Env) (scope : Scope) (f : NameOf → Region) (s : States) (w : Ghost) (m : Memory) (w1 : Ghost) (m1 : Memory)
+    → ((y : Spot) (q : Kept) → w.types y ≡ Some q → w1.types y ≡ Some q) → ((y : Spot) (q : Kept) → w.types y ≡ Some q → m1.cells y ≡ m.cells y)
+    → Standing d g scope f s w m → Standing d g scope f s w1 m1
+stands_typed d g scope f s w m w1 m1 t c st = all_same g.tables d f w m w1 m1 g.locals scope.locals s (each scope.locals) st
+  where
+    each : (bs : List Binding) → SameAll g.tables d f w m w1 m1 bs
+    each [] = tt
+    each (y ∷ bs) = (λ sh p e. record { types = t; cells = λ q u a o z. c q (Private u) z }, each bs)
 
 -- What leaves the private cells of all activations so far alone leaves the locals as they stood.
 pub stands_kept : (d : Tables) (g : Env) (scope : Scope) (f : NameOf → Region) (b : ℕ) (s : States) (k : ℕ) (w : Ghost) (m : Memory) (w' : Ghost) (m' : Memory)

@@ -11,7 +11,8 @@ use Rattle.source_meaning.specs.Regions.{in_region, in_block, region_born, regio
 use Rattle.source_meaning.proofs.Cases.{region_is, region_itself}
 use Rattle.type_proof.specs.Flat.{Tables}
 use Rattle.type_proof.proofs.invariant.Facts.{if_cases, same_here, not_region}
-use Rattle.type_proof.proofs.invariant.Invariant.{heap, Owner, Nobody, Flying, Returned, Pinned, InCell, Freed, Ghost, Steady, ByScope, ByLoan, Counted, Known, Inv, Grows}
+use Rattle.type_proof.proofs.invariant.Invariant.{heap, Owner, Nobody, Flying, Returned, Pinned, InCell, Freed, Ghost, Steady, ByScope, ByLoan, Counted, Known}
+use Rattle.type_proof.proofs.invariant.Invariant.{Inv, Grows}
 use Rattle.type_proof.proofs.invariant.Births.{bearing, with_birth, Births, inv_birth, inv_death, known_live}
 use Rattle.type_proof.proofs.invariant.Growth.{grows_scope, scope_alone}
 use Rattle.type_proof.proofs.invariant.Runs.{Safe, Runs, runs_check}
@@ -57,7 +58,9 @@ live_by Dead h = absurd (false≢true h)
 pub lasts : (w : Ghost) (m : Memory) (r q : Region) → m.state q ≡ Live → Steady (w.owner q) → above_scope w m r q ≡ true
 lasts w m r q l s = if_cases (same_region q r) true (lasting w m q) (λ x. x ≡ true) (λ e. refl) (λ e. both_true (ap state_is_live l) (by_steady _ s))
 
-pub scope_births : (d : Tables) (w : Ghost) (m : Memory) (a b : ℕ) (r : Region) → Inv d w m → (Known m r → ⊥) → Counted a b r → ((q : Region) → Known m q → Counted a b q) → ((q : Region) → Counted a b q → (q ≡ r → ⊥) → Known m q) → Births w m a b r Live (above_scope w m r) Nobody false
+pub scope_births : (d : Tables) (w : Ghost) (m : Memory) (a b : ℕ) (r : Region) → Inv d w m → (Known m r → ⊥) → Counted a b r
+    → ((q : Region) → Known m q → Counted a b q) → ((q : Region) → Counted a b q → (q ≡ r → ⊥) → Known m q)
+    → Births w m a b r Live (above_scope w m r) Nobody false
 scope_births d w m a b r i new here more only = record {
   new = new;
   here = here;
@@ -78,7 +81,8 @@ scope_births d w m a b r i new here more only = record {
     old : (q : Region) → above_scope w m r q ≡ true → (q ≡ r → ⊥) → lasting w m q ≡ true
     old q e n = if_cases (same_region q r) true (lasting w m q) (λ x. x ≡ true → lasting w m q ≡ true) (λ z v. absurd (n (region_is q r z))) (λ z v. v) e
 
-pub frame_births : (d : Tables) (w : Ghost) (m : Memory) → Inv d w m → Births w m (m.activations + 1) m.births (Frame m.activations) Live (above_scope w m (Frame m.activations)) Nobody false
+pub frame_births : (d : Tables) (w : Ghost) (m : Memory) → Inv d w m
+    → Births w m (m.activations + 1) m.births (Frame m.activations) Live (above_scope w m (Frame m.activations)) Nobody false
 frame_births d w m i = scope_births d w m (m.activations + 1) m.births (Frame m.activations) i (λ h. omega (arith, h)) (omega arith) more only
   where
     more : (q : Region) → Known m q → Counted (m.activations + 1) m.births q
@@ -92,7 +96,8 @@ frame_births d w m i = scope_births d w m (m.activations + 1) m.births (Frame m.
         less x y p z = omega (arith, p, z)
     only (Born k) h n = h
 
-pub born_births : (d : Tables) (w : Ghost) (m : Memory) → Inv d w m → Births w m m.activations (m.births + 1) (Born m.births) Live (above_scope w m (Born m.births)) Nobody false
+pub born_births : (d : Tables) (w : Ghost) (m : Memory) → Inv d w m
+    → Births w m m.activations (m.births + 1) (Born m.births) Live (above_scope w m (Born m.births)) Nobody false
 born_births d w m i = scope_births d w m m.activations (m.births + 1) (Born m.births) i (λ h. omega (arith, h)) (omega arith) more only
   where
     more : (q : Region) → Known m q → Counted m.activations (m.births + 1) q
@@ -114,12 +119,17 @@ abbrev pub block_memory : Memory → Memory
 block_memory m = with_birth m (m.activations + 1) m.births (Frame m.activations) Live
 
 -- a block, whatever way it is left
-pub runs_block : (d : Tables) (n k b : ℕ) (w : Ghost) (m : Memory) (body : ℕ → Act Flow) (P R : Flow → Ghost → Memory → Type 0) → Inv d w m → (Inv d (block_ghost w m) (block_memory m) → Runs n (body m.activations) (block_memory m) (λ flow. After d k b (block_ghost w m) (block_memory m) (P flow))) → ((flow : Flow) (w2 : Ghost) (m2 : Memory) → Inv d w2 m2 → Grows k b (block_ghost w m) (block_memory m) w2 m2 → P flow w2 m2 → R flow w2 (with_state m2 (Frame m.activations) Dead)) → Runs n (in_block body) m (λ flow. After d k b w m (R flow))
+pub runs_block : (d : Tables) (n k b : ℕ) (w : Ghost) (m : Memory) (body : ℕ → Act Flow) (P R : Flow → Ghost → Memory → Type 0) → Inv d w m
+    → (Inv d (block_ghost w m) (block_memory m) → Runs n (body m.activations) (block_memory m)
+    (λ flow. After d k b (block_ghost w m) (block_memory m) (P flow)))
+    → ((flow : Flow) (w2 : Ghost) (m2 : Memory) → Inv d w2 m2 → Grows k b (block_ghost w m) (block_memory m) w2 m2 → P flow w2 m2
+    → R flow w2 (with_state m2 (Frame m.activations) Dead)) → Runs n (in_block body) m (λ flow. After d k b w m (R flow))
 runs_block d n k b w m body P R i run finish = record {
   by = λ next g. (run inner).by (λ flow. (set_state r Dead >> give flow) next) (λ flow m2 p.
       g flow (with_state m2 r Dead) (record {
         ghost = p.ghost;
-        inv = inv_death d p.ghost m2 r p.inv (free p.ghost m2 p.grows) (λ e. cc) (scope_alone d k b w m (m.activations + 1) m.births r (above_scope w m r) p.ghost m2 i births (λ e. cc) inner p.inv p.grows);
+        inv = inv_death d p.ghost m2 r p.inv (free p.ghost m2 p.grows) (λ e. cc)
+            (scope_alone d k b w m (m.activations + 1) m.births r (above_scope w m r) p.ghost m2 i births (λ e. cc) inner p.inv p.grows);
         grows = grows_scope d k b w m (m.activations + 1) m.births r (above_scope w m r) p.ghost m2 i births p.grows;
         holds = finish flow p.ghost m2 p.inv p.grows p.holds;
       }));
@@ -147,9 +157,14 @@ not_heap : (d : Tables) (w : Ghost) (m : Memory) → Inv d w m → Born m.births
 not_heap d w m i e = let h : Known m heap = known_live d w m heap i i.heap_lives in let z : m.births ≡ 0 = cc in omega (arith, h)
 
 -- a lexical region, whatever way it is left
-pub runs_region : (d : Tables) (n k b : ℕ) (w : Ghost) (m : Memory) (body : ℕ → Act Flow) (P R : Flow → Ghost → Memory → Type 0) → Inv d w m → (Inv d (region_ghost w m) (region_memory m) → Runs n (body m.births) (region_memory m) (λ flow. After d k b (region_ghost w m) (region_memory m) (P flow))) → ((flow : Flow) (w2 : Ghost) (m2 : Memory) → Inv d w2 m2 → Grows k b (region_ghost w m) (region_memory m) w2 m2 → P flow w2 m2 → R flow w2 (with_state m2 (Born m.births) Dead)) → Runs n (in_region region_born region_freed body) m (λ flow. After d k b w m (R flow))
+pub runs_region : (d : Tables) (n k b : ℕ) (w : Ghost) (m : Memory) (body : ℕ → Act Flow) (P R : Flow → Ghost → Memory → Type 0) → Inv d w m
+    → (Inv d (region_ghost w m) (region_memory m) → Runs n (body m.births) (region_memory m)
+    (λ flow. After d k b (region_ghost w m) (region_memory m) (P flow)))
+    → ((flow : Flow) (w2 : Ghost) (m2 : Memory) → Inv d w2 m2 → Grows k b (region_ghost w m) (region_memory m) w2 m2 → P flow w2 m2
+    → R flow w2 (with_state m2 (Born m.births) Dead)) → Runs n (in_region region_born region_freed body) m (λ flow. After d k b w m (R flow))
 runs_region d n k b w m body P R i run finish = record {
-  by = λ next g. (runs_show n (RegionNew m.births) (body m.births >>= λ flow. region_freed m.births >> give flow) (region_memory m) (λ flow. After d k b w m (R flow))
+  by = λ next g. (runs_show n (RegionNew m.births) (body m.births >>= λ flow. region_freed m.births >> give flow) (region_memory m)
+      (λ flow. After d k b w m (R flow))
       (record { by = λ next2 g2. (run inner).by (λ flow. (region_freed m.births >> give flow) next2) (λ flow m2 p. leaves next2 g2 flow m2 p) })).by next g;
 }
   where
@@ -162,16 +177,19 @@ runs_region d n k b w m body P R i run finish = record {
     inner : Inv d (region_ghost w m) (region_memory m)
     inner = inv_birth d w m m.activations (m.births + 1) r Live (above_scope w m r) Nobody false i births
 
-    leaves : (next : Flow → Memory → Step) → ((flow : Flow) (m' : Memory) → After d k b w m (R flow) m' → Safe n (next flow m')) → (flow : Flow) (m2 : Memory) → After d k b (region_ghost w m) (region_memory m) (P flow) m2 → Safe n ((region_freed m.births >> give flow) next m2)
+    leaves : (next : Flow → Memory → Step) → ((flow : Flow) (m' : Memory) → After d k b w m (R flow) m' → Safe n (next flow m')) → (flow : Flow) (m2 : Memory)
+        → After d k b (region_ghost w m) (region_memory m) (P flow) m2 → Safe n ((region_freed m.births >> give flow) next m2)
     leaves next g flow m2 p =
         let free : p.ghost.owner r ≡ Nobody = p.grows.scoped r (omega arith) (same_here r Nobody (w.owner r)) in
         let alive : m2.state r ≡ Live = p.grows.state r free ∙ same_here r Live (m.state r) in
-        (runs_check n (is_live m2 r) (show (RegionFree m.births) >> (λ next2 m3. next2 flow (with_state m3 r Dead))) m2 (λ f. After d k b w m (R f)) (ap state_is_live alive)
+        (runs_check n (is_live m2 r) (show (RegionFree m.births) >> (λ next2 m3. next2 flow (with_state m3 r Dead))) m2 (λ f. After d k b w m (R f))
+        (ap state_is_live alive)
         (runs_show n (RegionFree m.births) (λ next2 m3. next2 flow (with_state m3 r Dead)) m2 (λ f. After d k b w m (R f))
         (record {
           by = λ next2 g2. g2 flow (with_state m2 r Dead) (record {
             ghost = p.ghost;
-            inv = inv_death d p.ghost m2 r p.inv free (not_heap d w m i) (scope_alone d k b w m m.activations (m.births + 1) r (above_scope w m r) p.ghost m2 i births (not_heap d w m i) inner p.inv p.grows);
+            inv = inv_death d p.ghost m2 r p.inv free (not_heap d w m i)
+                (scope_alone d k b w m m.activations (m.births + 1) r (above_scope w m r) p.ghost m2 i births (not_heap d w m i) inner p.inv p.grows);
             grows = grows_scope d k b w m m.activations (m.births + 1) r (above_scope w m r) p.ghost m2 i births p.grows;
             holds = finish flow p.ghost m2 p.inv p.grows p.holds;
           });

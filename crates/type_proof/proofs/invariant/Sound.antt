@@ -83,7 +83,8 @@ module _ (n : ℕ) (d : Tables) (g : Env) (scope : Scope) (f : NameOf → Region
 
   -- a value on its way is stored to a place, which is found after it
   abbrev pub Stores : States → States → StaticType → Act Spot → Type 0
-  Stores s s' t place = (k : ℕ) (w : Ghost) (m : Memory) (vs : List Scalar) → Inv d w m → Scene d g scope f b s k w m → HaveTypes d w (flying k 0) vs (cells_type d f t)
+  Stores s s' t place = (k : ℕ) (w : Ghost) (m : Memory) (vs : List Scalar) → Inv d w m → Scene d g scope f b s k w m
+      → HaveTypes d w (flying k 0) vs (cells_type d f t)
       → Runs n (place >>= λ at. write_cells at vs >> give (tt {0})) m (λ u. After d k b w m (λ w' m'. Standing d g scope f s' w' m'))
 
   -- ---- by what the rules of flow say of a use: from all states from which it has no fault
@@ -147,7 +148,8 @@ module _ (n : ℕ) (d : Tables) (g : Env) (scope : Scope) (f : NameOf → Region
   }
 
   -- a value that is just given
-  pub gives_at_once : (t : StaticType) (vs : List Scalar) → ((k : ℕ) (w : Ghost) → HaveTypes d w (flying k 0) vs (cells_type d f t)) → GivesBy nothing t (give vs)
+  pub gives_at_once : (t : StaticType) (vs : List Scalar) → ((k : ℕ) (w : Ghost) → HaveTypes d w (flying k 0) vs (cells_type d f t))
+      → GivesBy nothing t (give vs)
   gives_at_once t vs h = λ s e k w m i x.
       record { by = λ next q. q vs m (record { ghost = w; inv = i; grows = grows_refl k b w m; holds = (h k w, x.stands) }) }
 

@@ -2,9 +2,7 @@
 use Rattle.std.proofs.Common.{◌≡◌, ℕ, zero, suc, ◌<◌, ◌≤◌, Bool, true, false, Some, List, [], ◌∷◌, refl, sym, ◌∙◌, subst, arith}
 use Rattle.std.specs.Prelude.{bytes_eq, not, Option, None, if◌then◌else◌}
 use Rattle.source_meaning.specs.Shapes.{Shape}
-use Rattle.source_meaning.specs.Memory.{Region, Frame, Spot, Scalar, Content, Cell, Memory, beyond}
-use Rattle.source_meaning.specs.Memory as memory
-use Rattle.source_meaning.specs.Values.{is_lent}
+use Rattle.source_meaning.specs.Memory.{Region, Frame, Spot, Memory}
 use Rattle.source_meaning.specs.Steps.{Entity, Variable, Fixed, Binding, Scope}
 use Rattle.source_meaning.specs.Places.{bound_to}
 use Rattle.source_typing.specs.States.{State, Plain, Held, Gone, Lent, States, state_of, with_state, meet, meet_all}
@@ -14,115 +12,10 @@ use Rattle.source_typing.specs.Tables.{What, Stored, Arrayed, Counter, Unknown, 
 use Rattle.flow_summaries.specs.Effects.{Effect, Effects, Keeps, Holds, Loses, MayLose, becomes, states_after}
 use Rattle.type_proof.specs.Flat.{Tables, flat}
 use Rattle.type_proof.proofs.invariant.Invariant.{RunType, Kept, Private, Ghost, Grows}
-use Rattle.type_proof.proofs.invariant.Cells.{cell}
 use Rattle.type_proof.proofs.invariant.Names.{NameOf}
 use Rattle.type_proof.proofs.invariant.Alikes.{TypeBelow, Alike, renamed_alike, cells_type}
-use Rattle.type_proof.proofs.invariant.Rights.{HeldAt, GoneAt, Apart}
-
--- ---- the cells of one local
-
--- no pointer reaches them
-abbrev pub PrivateAt : Ghost → Spot → List RunType → Type 0
-PrivateAt w s [] = Unit {0}
-PrivateAt w s (t ∷ ts) = (w.types s ≡ Some (Private t)) × PrivateAt w (beyond s 1) ts
-
-pub record Unlent (m : Memory) (s : Spot) (t : RunType) : Type 0 where
-  pub content : Content
-  pub there : m.cells s ≡ Some (cell t content)
-  pub unlent : is_lent content ≡ false
-
--- and none of them is lent
-abbrev pub FreeAt : Ghost → Memory → Spot → List RunType → Type 0
-FreeAt w m s [] = Unit {0}
-FreeAt w m s (t ∷ ts) = (w.types s ≡ Some (Private t)) × Unlent m s t × FreeAt w m (beyond s 1) ts
-
--- and each holds a value
-pub record Whole (w : Ghost) (m : Memory) (s : Spot) (ts : List RunType) : Type 0 where
-  pub values : List Scalar
-  pub held : HeldAt w m s ts values
-
--- what is held may be gone, and what is gone may be lent: each says less than the one before
-abbrev pub CellsStand : State → Ghost → Memory → Spot → List RunType → Type 0
-CellsStand Plain w m s ts = ⊥
-CellsStand Held w m s ts = Whole w m s ts
-CellsStand Gone w m s ts = FreeAt w m s ts
-CellsStand Lent w m s ts = PrivateAt w s ts
-
-pub held_free : (w : Ghost) (m : Memory) (s : Spot) (ts : List RunType) (vs : List Scalar) → HeldAt w m s ts vs → FreeAt w m s ts
-held_free w m s [] [] h = tt
-held_free w m s (t ∷ ts) (v ∷ vs) h = (h.0, record { content = memory.Holds v; there = h.1; unlent = refl }, held_free w m (beyond s 1) ts vs h.2)
-held_free w m s [] (v ∷ vs) h = absurd h
-held_free w m s (t ∷ ts) [] h = absurd h
-
-pub free_private : (w : Ghost) (m : Memory) (s : Spot) (ts : List RunType) → FreeAt w m s ts → PrivateAt w s ts
-free_private w m s [] h = tt
-free_private w m s (t ∷ ts) h = (h.0, free_private w m (beyond s 1) ts h.2)
-
-pub gone_free : (w : Ghost) (m : Memory) (s : Spot) (ts : List RunType) → GoneAt w m s ts → FreeAt w m s ts
-gone_free w m s [] h = tt
-gone_free w m s (t ∷ ts) h = (h.0, record { content = Rattle.source_meaning.specs.Memory.Gone; there = h.1; unlent = refl }, gone_free w m (beyond s 1) ts h.2)
-
--- ---- where ways meet
-
--- from the first way
-pub met_first : (a b : State) (w : Ghost) (m : Memory) (s : Spot) (ts : List RunType) → (b ≡ Plain → ⊥) → CellsStand a w m s ts → CellsStand (meet a b) w m s ts
-met_first Plain b w m s ts n h = absurd h
-met_first Lent b w m s ts n h = h
-met_first Held Plain w m s ts n h = absurd (n refl)
-met_first Held Held w m s ts n h = h
-met_first Held Gone w m s ts n h = held_free w m s ts h.values h.held
-met_first Held Lent w m s ts n h = free_private w m s ts (held_free w m s ts h.values h.held)
-met_first Gone Plain w m s ts n h = h
-met_first Gone Held w m s ts n h = h
-met_first Gone Gone w m s ts n h = h
-met_first Gone Lent w m s ts n h = free_private w m s ts h
-
--- from the second one
-pub met_second : (a b : State) (w : Ghost) (m : Memory) (s : Spot) (ts : List RunType) → (a ≡ Plain → ⊥) → CellsStand b w m s ts → CellsStand (meet a b) w m s ts
-met_second Plain b w m s ts n h = absurd (n refl)
-met_second Lent Plain w m s ts n h = absurd h
-met_second Lent Held w m s ts n h = free_private w m s ts (held_free w m s ts h.values h.held)
-met_second Lent Gone w m s ts n h = free_private w m s ts h
-met_second Lent Lent w m s ts n h = h
-met_second Held b w m s ts n h = h
-met_second Gone Plain w m s ts n h = absurd h
-met_second Gone Held w m s ts n h = held_free w m s ts h.values h.held
-met_second Gone Gone w m s ts n h = h
-met_second Gone Lent w m s ts n h = h
-
--- ---- cells that are as they were
-
--- the types of cells, and the cells of this object, are as they were
-pub record Same (w : Ghost) (m : Memory) (w' : Ghost) (m' : Memory) (s : Spot) : Type 0 where
-  pub types : (y : Spot) (k : Kept) → w.types y ≡ Some k → w'.types y ≡ Some k
-  pub cells : (y : Spot) (t : RunType) → y.region ≡ s.region → y.object ≡ s.object → w.types y ≡ Some (Private t) → m'.cells y ≡ m.cells y
-
-same_next : (w : Ghost) (m : Memory) (w' : Ghost) (m' : Memory) (s : Spot) → Same w m w' m' s → Same w m w' m' (beyond s 1)
-same_next w m w' m' s h = record { types = h.types; cells = λ y t e o p. h.cells y t e o p }
-
-held_same : (w : Ghost) (m : Memory) (w' : Ghost) (m' : Memory) (s : Spot) (ts : List RunType) (vs : List Scalar) → Same w m w' m' s → HeldAt w m s ts vs → HeldAt w' m' s ts vs
-held_same w m w' m' s [] [] k h = tt
-held_same w m w' m' s (t ∷ ts) (v ∷ vs) k h = (k.types s (Private t) h.0, k.cells s t refl refl h.0 ∙ h.1, held_same w m w' m' (beyond s 1) ts vs (same_next w m w' m' s k) h.2)
-held_same w m w' m' s [] (v ∷ vs) k h = absurd h
-held_same w m w' m' s (t ∷ ts) [] k h = absurd h
-
-free_same : (w : Ghost) (m : Memory) (w' : Ghost) (m' : Memory) (s : Spot) (ts : List RunType) → Same w m w' m' s → FreeAt w m s ts → FreeAt w' m' s ts
-free_same w m w' m' s [] k h = tt
-free_same w m w' m' s (t ∷ ts) k h = (
-  k.types s (Private t) h.0,
-  record { content = h.1.content; there = k.cells s t refl refl h.0 ∙ h.1.there; unlent = h.1.unlent },
-  free_same w m w' m' (beyond s 1) ts (same_next w m w' m' s k) h.2,
-)
-
-private_same : (w : Ghost) (m : Memory) (w' : Ghost) (m' : Memory) (s : Spot) (ts : List RunType) → Same w m w' m' s → PrivateAt w s ts → PrivateAt w' s ts
-private_same w m w' m' s [] k h = tt
-private_same w m w' m' s (t ∷ ts) k h = (k.types s (Private t) h.0, private_same w m w' m' (beyond s 1) ts (same_next w m w' m' s k) h.1)
-
-pub cells_same : (a : State) (w : Ghost) (m : Memory) (w' : Ghost) (m' : Memory) (s : Spot) (ts : List RunType) → Same w m w' m' s → CellsStand a w m s ts → CellsStand a w' m' s ts
-cells_same Plain w m w' m' s ts k h = h
-cells_same Held w m w' m' s ts k h = record { values = h.values; held = held_same w m w' m' s ts h.values k h.held }
-cells_same Gone w m w' m' s ts k h = free_same w m w' m' s ts k h
-cells_same Lent w m w' m' s ts k h = private_same w m w' m' s ts k h
+use Rattle.type_proof.proofs.invariant.Rights.{Apart}
+use Rattle.type_proof.proofs.invariant.LocalCells.{CellsStand, met_first, met_second, Same, cells_same}
 
 -- ---- all locals in scope
 
@@ -189,7 +82,8 @@ module _ (tables : typing.Tables) (d : Tables) (f : NameOf → Region) where
       → find_local ls x ≡ Some l → bound_to bs x ≡ Some e → AllStand ls bs s w m → LocalStands l.what e (state_of ls x s) w m
   found_stands [] [] [] x l e w m al fl be h = absurd cc
   found_stands (y ∷ ls) (z ∷ bs) (a ∷ s) x l e w m al fl be h =
-      by (bytes_eq y.name x) (λ p q. found_stands ls bs s x l e w m al.1 p q h.1) fl (subst (λ (n : List ℕ). (if bytes_eq n x then Some z.entity else bound_to bs x) ≡ Some e) al.0 be)
+      by (bytes_eq y.name x) (λ p q. found_stands ls bs s x l e w m al.1 p q h.1) fl
+      (subst (λ (n : List ℕ). (if bytes_eq n x then Some z.entity else bound_to bs x) ≡ Some e) al.0 be)
     where
       by : (c : Bool) → (find_local ls x ≡ Some l → bound_to bs x ≡ Some e → LocalStands l.what e (state_of ls x s) w m)
           → (if c then Some y else find_local ls x) ≡ Some l → (if c then Some z.entity else bound_to bs x) ≡ Some e
@@ -309,7 +203,8 @@ all_more i j (y ∷ bs) l h = (entity_more i j y.entity l h.0, all_more i j bs l
 
 module _ (tables : typing.Tables) (d : Tables) (f : NameOf → Region) where
   -- what grows above all blocks of a function changes none of its locals
-  pub all_kept : (k b j : ℕ) (ls : List Local) (bs : List Binding) (s : States) (w : Ghost) (m : Memory) (w' : Ghost) (m' : Memory) → Rooms b bs → AllWithin j bs
+  pub all_kept : (k b j : ℕ) (ls : List Local) (bs : List Binding) (s : States) (w : Ghost) (m : Memory) (w' : Ghost) (m' : Memory) → Rooms b bs
+      → AllWithin j bs
       → Grows k j w m w' m' → AllStand tables d f ls bs s w m → AllStand tables d f ls bs s w' m'
   all_kept k b j ls bs s w m w' m' rooms l g h = all_same tables d f w m w' m' ls bs s (each bs rooms l) h
     where
@@ -352,7 +247,8 @@ module _ (tables : typing.Tables) (d : Tables) (f : NameOf → Region) where
   all_met_first (l ∷ ls) [] s t w m n h = absurd h
   all_met_first (l ∷ ls) (y ∷ bs) [] t w m n h = absurd h
 
-  pub all_met_second : (ls : List Local) (bs : List Binding) (s t : States) (w : Ghost) (m : Memory) → AreKinds tables d f ls s → AllStand tables d f ls bs t w m
+  pub all_met_second : (ls : List Local) (bs : List Binding) (s t : States) (w : Ghost) (m : Memory) → AreKinds tables d f ls s
+      → AllStand tables d f ls bs t w m
       → AllStand tables d f ls bs (meet_all s t) w m
   all_met_second [] [] [] [] w m n h = tt
   all_met_second (l ∷ ls) (y ∷ bs) (a ∷ s) (c ∷ t) w m n h = (second_kind l.what y.entity a c w m n.0 h.0, all_met_second ls bs s t w m n.1 h.1)
@@ -425,7 +321,8 @@ LocalsBelow c (l ∷ ls) = WhatBelow c l.what × LocalsBelow c ls
 module _ (tables : typing.Tables) (d : Tables) (f h : NameOf → Region) (c : ℕ) where
   local_alike : (v : What) (e : Entity) (a : State) (w : Ghost) (m : Memory) → Alike c f h → WhatBelow c v
       → LocalStands tables d f v e a w m → LocalStands tables d h v e a w m
-  local_alike (Stored t r) (Variable sh at) a w m same below s = λ q. subst (λ (u : RunType). CellsStand a w m at (flat (Rattle.type_proof.proofs.invariant.Invariant.heap) d u))
+  local_alike (Stored t r) (Variable sh at) a w m same below s = λ q.
+      subst (λ (u : RunType). CellsStand a w m at (flat (Rattle.type_proof.proofs.invariant.Invariant.heap) d u))
       (sym (renamed_alike c f h t same below)) (s q)
   local_alike (Stored t r) (Fixed sh v) a w m same below s = s
   local_alike (Arrayed t r) e a w m same below s = tt

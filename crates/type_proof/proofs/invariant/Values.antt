@@ -15,7 +15,8 @@ pub record Carries (w w' : Ghost) (by to : Owner) : Type 0 where
   pub owner : (b : ℕ) → w.owner (Born b) ≡ by → w'.owner (Born b) ≡ to
   pub keyed : (b : ℕ) → w.owner (Born b) ≡ by → w'.keyed (Born b) ≡ w.keyed (Born b)
 
-pub laid_kept : (w w' : Ghost) (s : Spot) (ts : List RunType) → ((s : Spot) (t : RunType) → w.types s ≡ Some (Reached t) → w'.types s ≡ Some (Reached t)) → Laid w s ts → Laid w' s ts
+pub laid_kept : (w w' : Ghost) (s : Spot) (ts : List RunType) → ((s : Spot) (t : RunType) → w.types s ≡ Some (Reached t) → w'.types s ≡ Some (Reached t))
+    → Laid w s ts → Laid w' s ts
 laid_kept w w' s [] g h = tt
 laid_kept w w' s (t ∷ ts) g h = (g s t h.0, laid_kept w w' (beyond s 1) ts g h.1)
 
@@ -23,7 +24,8 @@ pub all_laid_kept : (w w' : Ghost) (s : Spot) (count : ℕ) (ts : List RunType)
     → ((s : Spot) (t : RunType) → w.types s ≡ Some (Reached t) → w'.types s ≡ Some (Reached t)) → AllLaid w s count ts → AllLaid w' s count ts
 all_laid_kept w w' s count ts g h = λ i l. laid_kept w w' (beyond s (i * length ts)) ts g (h i l)
 
-reaches_kept : (d : Tables) (w w' : Ghost) (by to : Owner) (at : Spot) (r : Region) (t : RunType) → Carries w w' by to → Reaches d w at r t → Reaches d w' at r t
+reaches_kept : (d : Tables) (w w' : Ghost) (by to : Owner) (at : Spot) (r : Region) (t : RunType) → Carries w w' by to → Reaches d w at r t
+    → Reaches d w' at r t
 reaches_kept d w w' by to at r t c h = record { typed = laid_kept w w' at (flat heap d t) c.types h.typed; above = c.above _ _ h.above }
 
 plain_kept : (d : Tables) (w w' : Ghost) (by to : Owner) (v : Scalar) (t : RunType) → Carries w w' by to → HasPlain d w by v t → HasPlain d w' to v t
@@ -58,7 +60,8 @@ grown_reaches : (d : Tables) (w w' : Ghost) (at : Spot) (r : Region) (t : RunTyp
 grown_reaches d w w' at r t c h = record { typed = laid_kept w w' at (flat heap d t) c.types h.typed; above = c.above _ _ h.above }
 
 -- a value that carries no right may be of any owner
-pub copied_plain : (d : Tables) (w w' : Ghost) (by to : Owner) (v : Scalar) (t : RunType) → Grown w w' → is_moved (shape_of t) ≡ false → HasPlain d w by v t → HasPlain d w' to v t
+pub copied_plain : (d : Tables) (w w' : Ghost) (by to : Owner) (v : Scalar) (t : RunType) → Grown w w' → is_moved (shape_of t) ≡ false → HasPlain d w by v t
+    → HasPlain d w' to v t
 copied_plain d w w' by to v Int c n h = h
 copied_plain d w w' by to v Unsigned c n h = h
 copied_plain d w w' by to v Char c n h = h
@@ -85,7 +88,8 @@ member_kept d w w' v tag rs c h = record {
   typed = copied_plain d w w' Nobody Nobody h.value h.type c h.copied h.typed;
 }
 
-pub copied_kept : (d : Tables) (w w' : Ghost) (by to : Owner) (v : Scalar) (t : RunType) → Grown w w' → is_moved (shape_of t) ≡ false → HasType d w by v t → HasType d w' to v t
+pub copied_kept : (d : Tables) (w w' : Ghost) (by to : Owner) (v : Scalar) (t : RunType) → Grown w w' → is_moved (shape_of t) ≡ false → HasType d w by v t
+    → HasType d w' to v t
 copied_kept d w w' by to v Int c n h = h
 copied_kept d w w' by to v Unsigned c n h = h
 copied_kept d w w' by to v Char c n h = h
@@ -113,13 +117,19 @@ value_kept d w w' by to v (Key r) c h = plain_kept d w w' by to v (Key r) c h
 value_kept d w w' by to v (Struct tag rs) c h = h
 value_kept d w w' by to v (Union tag rs) c h = member_kept d w w' v tag rs (record { types = c.types; above = c.above }) h
 
-pub values_kept : (d : Tables) (w w' : Ghost) (by to : ℕ → Owner) (vs : List Scalar) (ts : List RunType) → ((k : ℕ) → Carries w w' (by k) (to k)) → HaveTypes d w by vs ts → HaveTypes d w' to vs ts
+pub values_kept : (d : Tables) (w w' : Ghost) (by to : ℕ → Owner) (vs : List Scalar) (ts : List RunType) → ((k : ℕ) → Carries w w' (by k) (to k))
+    → HaveTypes d w by vs ts → HaveTypes d w' to vs ts
 values_kept d w w' by to [] [] c h = h
-values_kept d w w' by to (v ∷ vs) (t ∷ ts) c h = (value_kept d w w' (by 0) (to 0) v t (c 0) h.0, values_kept d w w' (λ k. by (suc k)) (λ k. to (suc k)) vs ts (λ k. c (suc k)) h.1)
+values_kept d w w' by to (v ∷ vs) (t ∷ ts) c h = (
+  value_kept d w w' (by 0) (to 0) v t (c 0) h.0,
+  values_kept d w w' (λ k. by (suc k)) (λ k. to (suc k)) vs ts
+      (λ k. c (suc k)) h.1,
+)
 values_kept d w w' by to [] (t ∷ ts) c h = absurd h
 values_kept d w w' by to (v ∷ vs) [] c h = absurd h
 
 -- a cell whose own rights stay
-pub content_kept : (d : Tables) (w w' : Ghost) (s : Spot) (c : Content) (k : Kept) → Carries w w' (InCell s) (InCell s) → ContentOk d w s c k → ContentOk d w' s c k
+pub content_kept : (d : Tables) (w w' : Ghost) (s : Spot) (c : Content) (k : Kept) → Carries w w' (InCell s) (InCell s) → ContentOk d w s c k
+    → ContentOk d w' s c k
 content_kept d w w' s c (Reached t) h x = record { value = x.value; is = x.is; typed = value_kept d w w' (InCell s) (InCell s) x.value t h x.typed }
 content_kept d w w' s c (Private t) h x = λ v e. value_kept d w w' (InCell s) (InCell s) v t h (x v e)

@@ -2,20 +2,19 @@
 use Rattle.std.proofs.Common.{◌≡◌, ℕ, suc, ◌+◌, ◌<◌, ◌≤◌, Bool, Option, Some, None, List, [], ◌∷◌, refl, sym, ◌∙◌, ap, subst, arith}
 use Rattle.std.specs.Prelude.{nat_eq, ◌&&◌, if◌then◌else◌, map, slice_get}
 use Rattle.std.proofs.lemmas.Bool.{eq-eqb}
-use Rattle.source_meaning.specs.Memory.{Region, Spot, Holds, Cell, Object, Live, Memory, beyond, with_cell, with_object, next_spot, is_live, state_is_live}
-use Rattle.source_meaning.specs.Memory.{array_of, first_cell}
-use Rattle.source_meaning.specs.Sizes.{repeated}
+use Rattle.source_meaning.specs.Memory.{Region, Spot, Scalar, Holds, Cell, Object, Live, Memory, beyond, with_cell, with_object, next_spot, is_live}
+use Rattle.source_meaning.specs.Memory.{state_is_live}
+use Rattle.source_meaning.specs.Memory.{first_cell}
 use Rattle.source_meaning.specs.Steps.{Act, ◌>>=◌}
 use Rattle.source_meaning.specs.Making.{make_object}
 use Rattle.source_typing.specs.Types.{shape_of}
 use Rattle.source_meaning.proofs.Cases.{region_itself}
 use Rattle.type_proof.specs.Flat.{Tables}
 use Rattle.type_proof.proofs.invariant.Facts.{at_region, at_spot, same_at, further, not_further}
-use Rattle.type_proof.proofs.invariant.Invariant.{RunType, Flying, Kept, Reached, Ghost, Laid, CellOk, Inv, Grows}
+use Rattle.type_proof.proofs.invariant.Invariant.{RunType, Owner, Flying, Kept, Reached, Ghost, Laid, HasType, CellOk, Inv, Grows}
 use Rattle.type_proof.proofs.invariant.Runs.{Runs, runs_check}
 use Rattle.type_proof.proofs.invariant.Moves.{Class, inv_cells}
 use Rattle.type_proof.proofs.invariant.Cells.{cell}
-use Rattle.type_proof.proofs.invariant.Rows.{map_repeated, array_cells}
 use Rattle.type_proof.proofs.invariant.Layouts.{AllBegin}
 use Rattle.type_proof.proofs.invariant.Objects.{New, old_cells, inv_object, grows_object, filled, inv_filled, grows_filled, untyped}
 
@@ -70,13 +69,40 @@ begun_slice w m s (t ∷ ts) none here = (
       (λ j. ap m.cells (further s 1 j (suc j) (omega arith)) ∙ here (suc j)),
 )
 
-begun_later : (w : Ghost) (m : Memory) (s y : Spot) (kept : Kept) (k : ℕ) (ts : List RunType) → s.cell < y.cell → BegunAt w m y ts
-    → BegunAt (filled s kept k 0 w) m y ts
-begun_later w m s y kept k [] l h = tt
-begun_later w m s y kept k (t ∷ ts) l h = (
-  at_spot w.types s (Some kept) y (λ z. z ≡ None) (λ z. absurd (let a = ap (λ (p : Spot). p.cell) z in omega (arith, l))) (λ z. h.0),
-  h.1,
-  begun_later w m s (beyond y 1) kept k ts (omega (arith, l)) h.2,
+-- a cell without a type that holds a value of one, whatever else there is
+pub record Held (w : Ghost) (m : Memory) (s : Spot) (t : RunType) : Type 0 where
+  pub none : w.types s ≡ None
+  pub value : Scalar
+  pub is : m.cells s ≡ Some (cell t (Holds value))
+  pub typed : (d : Tables) (w' : Ghost) (by : Owner) → HasType d w' by value t
+
+abbrev pub HeldAt : Ghost → Memory → Spot → List RunType → Type 0
+HeldAt w m s [] = Unit {0}
+HeldAt w m s (t ∷ ts) = Held w m s t × HeldAt w m (beyond s 1) ts
+
+held_begun : (w : Ghost) (m : Memory) (s : Spot) (ts : List RunType) → AllBegin ts → BegunAt w m s ts → HeldAt w m s ts
+held_begun w m s [] a h = tt
+held_begun w m s (t ∷ ts) a h = (
+  record {
+    none = h.0;
+    value = a.0.value;
+    is = h.1 ∙ ap (λ c. Some (record { shape = shape_of t; content = c })) a.0.first;
+    typed = a.0.typed;
+  },
+  held_begun w m (beyond s 1) ts a.1 h.2,
+)
+
+held_later : (w : Ghost) (m : Memory) (s y : Spot) (kept : Kept) (k : ℕ) (ts : List RunType) → s.cell < y.cell → HeldAt w m y ts
+    → HeldAt (filled s kept k 0 w) m y ts
+held_later w m s y kept k [] l h = tt
+held_later w m s y kept k (t ∷ ts) l h = (
+  record {
+    none = at_spot w.types s (Some kept) y (λ z. z ≡ None) (λ z. absurd (let a = ap (λ (p : Spot). p.cell) z in omega (arith, l))) (λ z. h.0.none);
+    value = h.0.value;
+    is = h.0.is;
+    typed = h.0.typed;
+  },
+  held_later w m s (beyond y 1) kept k ts (omega (arith, l)) h.1,
 )
 
 -- the ghost in which they have types; where the object is new, nothing else grows by it
@@ -88,23 +114,23 @@ pub record Typed (d : Tables) (k b : ℕ) (w : Ghost) (m : Memory) (s : Spot) (t
   pub keeps : (y : Spot) (q : Kept) → w.types y ≡ Some q → ghost.types y ≡ Some q
   pub others : (y : Spot) → (y.object ≡ s.object → ⊥) → ghost.types y ≡ w.types y
 
-pub cells_typed : (d : Tables) (k b : ℕ) (w : Ghost) (m : Memory) (s : Spot) (ts : List RunType) → Inv d w m → s.object < m.objects s.region
-    → AllBegin ts → BegunAt w m s ts → Typed d k b w m s ts
-cells_typed d k b w m s [] i there a h =
+pub held_typed : (d : Tables) (k b : ℕ) (w : Ghost) (m : Memory) (s : Spot) (ts : List RunType) → Inv d w m → s.object < m.objects s.region
+    → HeldAt w m s ts → Typed d k b w m s ts
+held_typed d k b w m s [] i there h =
     record { ghost = w; inv = i; grows = λ w0 m0 new g. g; laid = tt; keeps = λ y q e. e; others = λ y n. refl }
-cells_typed d k b w m s (t ∷ ts) i there a h =
-    let x : Cell = cell t (Holds a.0.value) in
-    let here : m.cells s ≡ Some x = h.1 ∙ ap (λ c. Some (record { shape = shape_of t; content = c })) a.0.first in
+held_typed d k b w m s (t ∷ ts) i there h =
+    let x : Cell = cell t (Holds h.0.value) in
     let w1 : Ghost = filled s (Reached t) k 0 w in
-    let i1 : Inv d w1 m = inv_same d w1 m s x here (inv_filled d w m s (Reached t) k 0 a.0.value i h.0 there (a.0.typed d w (Flying k 0))) in
+    let i1 : Inv d w1 m =
+    inv_same d w1 m s x h.0.is (inv_filled d w m s (Reached t) k 0 h.0.value i h.0.none there (h.0.typed d w (Flying k 0))) in
     let kept : (y : Spot) (q : Kept) → w.types y ≡ Some q → w1.types y ≡ Some q =
-    (λ y q e. at_spot w.types s (Some (Reached t)) y (λ z. z ≡ Some q) (λ z. absurd (bare h.0 (ap w.types z) e)) (λ z. e)) in
+    (λ y q e. at_spot w.types s (Some (Reached t)) y (λ z. z ≡ Some q) (λ z. absurd (bare h.0.none (ap w.types z) e)) (λ z. e)) in
     let r : Typed d k b w1 m (beyond s 1) ts =
-    cells_typed d k b w1 m (beyond s 1) ts i1 there a.1 (begun_later w m s (beyond s 1) (Reached t) k ts (omega arith) h.2) in
+    held_typed d k b w1 m (beyond s 1) ts i1 there (held_later w m s (beyond s 1) (Reached t) k ts (omega arith) h.1) in
     record {
       ghost = r.ghost;
       inv = r.inv;
-      grows = λ w0 m0 new g. r.grows w0 m0 new (grows_same k b w0 m0 w1 m s x here (grows_filled k b w0 w m0 m s (Reached t) 0 x g h.0 new));
+      grows = λ w0 m0 new g. r.grows w0 m0 new (grows_same k b w0 m0 w1 m s x h.0.is (grows_filled k b w0 w m0 m s (Reached t) 0 x g h.0.none new));
       laid = (r.keeps s (Reached t) (same_at s (Some (Reached t)) (w.types s)), r.laid);
       keeps = λ y q e. r.keeps y q (kept y q e);
       others = λ y n. r.others y n
@@ -114,10 +140,15 @@ cells_typed d k b w m s (t ∷ ts) i there a h =
     bare : {o p : Option Kept} {q : Kept} → o ≡ None → p ≡ o → p ≡ Some q → ⊥
     bare a b c = cc
 
+pub cells_typed : (d : Tables) (k b : ℕ) (w : Ghost) (m : Memory) (s : Spot) (ts : List RunType) → Inv d w m → s.object < m.objects s.region
+    → AllBegin ts → BegunAt w m s ts → Typed d k b w m s ts
+cells_typed d k b w m s ts i there a h = held_typed d k b w m s ts i there (held_begun w m s ts a h)
+
 -- a new object whose cells hold their first values
 pub runs_begun : {B : Type 0} (d : Tables) (n k b : ℕ) (w : Ghost) (m : Memory) (r : Region) (o : Object) (ts : List RunType) (rest : Spot → Act B)
     (Q : B → Memory → Type 0) → Inv d w m → m.state r ≡ Live → AllBegin ts → ((j : ℕ) → o j ≡ slice_get (map first_cell (map shape_of ts)) j)
-    → ((at : Spot) (w' : Ghost) (m' : Memory) → Inv d w' m' → Grows k b w m w' m' → New m m' r at → ((y : Spot) (q : Kept) → w.types y ≡ Some q → m'.cells y ≡ m.cells y) → Laid w' at ts → Runs n (rest at) m' Q)
+    → ((at : Spot) (w' : Ghost) (m' : Memory) → Inv d w' m' → Grows k b w m w' m' → New m m' r at
+    → ((y : Spot) (q : Kept) → w.types y ≡ Some q → m'.cells y ≡ m.cells y) → Laid w' at ts → Runs n (rest at) m' Q)
     → Runs n (make_object r o >>= rest) m Q
 runs_begun d n k b w m r o ts rest Q i l begins first go =
     let m1 : Memory = with_object m r o in
@@ -129,13 +160,9 @@ runs_begun d n k b w m r o ts rest Q i l begins first go =
     (begun_slice w m1 at ts (λ j. untyped d w m (beyond at j) i (omega arith) (w.types (beyond at j)) refl) (λ j.
     ap (λ (c : Bool). if c && nat_eq (m.objects r) (m.objects r) then o (0 + j) else m.cells (beyond at j)) (region_itself r)
     ∙ (ap (λ (c : Bool). if c then o (0 + j) else m.cells (beyond at j)) (eq-eqb (m.objects r) (m.objects r) refl) ∙ (ap o (omega arith) ∙ first j)))) in
-    let done = go at z.ghost m1 z.inv (z.grows w m (omega arith) (grows_object d k b w m r o i)) (record { region = refl; object = refl; counted = there }) (λ y q e. old_cells m r o y (i.counted y q e)) z.laid in
-    record { by = λ next q. (runs_check n (is_live m r) (λ next2 m2. rest at next2 m1) m Q (ap state_is_live l) (record { by = λ next2 q2. done.by next2 q2 })).by next q }
-
--- the cells of an array that begins, in a row
-pub array_begins : (n : ℕ) (ts : List RunType) (j : ℕ)
-    → array_of n (map first_cell (map shape_of ts)) j ≡ slice_get (map first_cell (map shape_of (repeated n ts))) j
-array_begins n ts j =
-    array_cells n (map first_cell (map shape_of ts)) j
-    ∙ ap (λ cs. slice_get cs j)
-    (sym (ap (map first_cell) (map_repeated shape_of n ts) ∙ map_repeated first_cell n (map shape_of ts)))
+    let done = go at z.ghost m1 z.inv (z.grows w m (omega arith) (grows_object d k b w m r o i)) (record { region = refl; object = refl; counted = there })
+    (λ y q e. old_cells m r o y (i.counted y q e)) z.laid in
+    record {
+      by = λ next q. (runs_check n (is_live m r) (λ next2 m2. rest at next2 m1) m Q (ap state_is_live l)
+          (record { by = λ next2 q2. done.by next2 q2 })).by next q;
+    }

@@ -5,7 +5,7 @@ use Rattle.cyc_tree.specs.Tree as tree
 use Rattle.source_meaning.specs.Memory.{Region, Memory}
 use Rattle.source_meaning.specs.Steps.{Entity, Scope, Flow, Falls, Breaks, Continues, Returns}
 use Rattle.source_meaning.specs.Places.{with_binding}
-use Rattle.source_typing.specs.Left.{Left, on_ways, dropped, begins_as, states_of, entering}
+use Rattle.source_typing.specs.Left.{Left, left, on_ways, dropped, begins_as, states_of, entering}
 use Rattle.source_typing.specs.Scope.{Env, Local}
 use Rattle.source_typing.specs.States.{States}
 use Rattle.source_typing.specs.Tables.{What}
@@ -17,13 +17,37 @@ use Rattle.type_proof.proofs.invariant.Standing.{Standing}
 use Rattle.type_proof.proofs.statements.Flows.{WayStands, WaysStand}
 
 -- one more local in a scope
-pub entering_one : (g y : Env) (l : Local) → y.locals ≡ l ∷ g.locals → (rest : States → Left) (s : States) → entering g y rest s ≡ on_ways (dropped 1) (rest (begins_as y l.what ∷ s))
+pub entering_one : (g y : Env) (l : Local) → y.locals ≡ l ∷ g.locals → (rest : States → Left) (s : States) → entering g y rest s
+    ≡ on_ways (dropped 1) (rest (begins_as y l.what ∷ s))
 entering_one g y l e rest s =
-    ap (λ (ls : List Local). on_ways (dropped (length (states_of y (take (length ls - length g.locals) ls)))) (rest (states_of y (take (length ls - length g.locals) ls) ++ s))) e
-    ∙ ap (λ (n : ℕ). on_ways (dropped (length (states_of y (take n (l ∷ g.locals))))) (rest (states_of y (take n (l ∷ g.locals)) ++ s))) (less (length g.locals))
+    ap (λ (ls : List Local). on_ways (dropped (length (states_of y (take (length ls - length g.locals) ls))))
+    (rest (states_of y (take (length ls - length g.locals) ls) ++ s))) e
+    ∙ ap (λ (n : ℕ). on_ways (dropped (length (states_of y (take n (l ∷ g.locals))))) (rest (states_of y (take n (l ∷ g.locals)) ++ s)))
+    (less (length g.locals))
   where
     less : (n : ℕ) → suc n - n ≡ 1
     less n = omega arith
+
+-- no more locals in a scope
+pub entering_none : (g y : Env) → y.locals ≡ g.locals → (rest : States → Left) (s : States) → entering g y rest s ≡ rest s
+entering_none g y e rest s =
+    ap (λ (ls : List Local). on_ways (dropped (length (states_of y (take (length ls - length g.locals) ls))))
+    (rest (states_of y (take (length ls - length g.locals) ls) ++ s))) e
+    ∙ (ap (λ (n : ℕ). on_ways (dropped (length (states_of y (take n g.locals)))) (rest (states_of y (take n g.locals) ++ s))) (less (length g.locals))
+    ∙ itself (rest s))
+  where
+    less : (n : ℕ) → n - n ≡ 0
+    less n = omega arith
+
+    same : (o : Option States) → option_map (dropped 0) o ≡ o
+    same None = refl
+    same (Some t) = refl
+
+    itself : (l : Left) → on_ways (dropped 0) l ≡ l
+    itself l =
+        ap (λ (o : Option States). left o (option_map (dropped 0) l.breaks) (option_map (dropped 0) l.continues) l.faults) (same l.falls)
+        ∙ (ap (λ (o : Option States). left l.falls o (option_map (dropped 0) l.continues) l.faults) (same l.breaks)
+        ∙ ap (λ (o : Option States). left l.falls l.breaks o l.faults) (same l.continues))
 
 module _ (d : Tables) (gives : RunType) (g : Env) (scope : Scope) (f : NameOf → Region) (x : tree.Name) (v : What) (e : Entity) where
   -- it goes out of scope

@@ -1,9 +1,10 @@
 -- How statements are left, what they return, and how the locals that can't be copied stand on each way.
 use Rattle.std.proofs.Common.{◌≡◌, ℕ, true, Option, Some, List, []}
-use Rattle.std.specs.Prelude.{◌||◌}
+use Rattle.std.specs.Prelude.{◌||◌, ◌++◌}
 use Rattle.cyc_tree.specs.Tree.{Expression, Statement}
 use Rattle.source_meaning.specs.Memory.{Region, Scalar, Memory}
 use Rattle.source_meaning.specs.Steps.{World, Scope, Flow, Falls, Breaks, Continues, Returns, Act, take_turn}
+use Rattle.source_meaning.specs.Strings.{expression_strings, statement_strings}
 use Rattle.source_typing.specs.Flow.{use_of}
 use Rattle.source_typing.specs.Left.{Left, left_by, turn_of, back_of, loop_from}
 use Rattle.source_typing.specs.Scope.{Env}
@@ -18,6 +19,7 @@ use Rattle.type_proof.proofs.invariant.Runs.{Runs}
 use Rattle.type_proof.proofs.invariant.After.{After}
 use Rattle.type_proof.proofs.invariant.Names.{NameOf}
 use Rattle.type_proof.proofs.invariant.Standing.{Standing, AreKinds}
+use Rattle.type_proof.proofs.Strings.{AreFound}
 use Rattle.type_proof.proofs.invariant.Scenes.{Scene}
 use Rattle.type_proof.proofs.statements.Surroundings.{Surrounds}
 
@@ -55,6 +57,8 @@ Turns n d gives g scope f b c l act = (h : States) → Head d g f c l h → (k :
 -- Each turn of a loop, and what follows it, runs safely with n units.
 abbrev pub Turning : ℕ → Tables → World → typing.Tables → Type 0
 Turning n d world tables =
-    (gives : RunType) (g : Env) (scope : Scope) (f : NameOf → Region) (b : ℕ) (condition : Expression) (body : Statement) → Surrounds d world tables g scope f gives
+    (gives : RunType) (g : Env) (scope : Scope) (f : NameOf → Region) (b : ℕ) (condition : Expression) (body : Statement)
+    → Surrounds d world tables g scope f gives
     → Condition g condition
-    → StatementJudged (in_a_loop g) body → Turns n d gives g scope f b (use_of g condition).look (left_by (in_a_loop g) body) (take_turn condition body scope)
+    → StatementJudged (in_a_loop g) true body → AreFound world.strings (expression_strings condition ++ statement_strings body)
+    → Turns n d gives g scope f b (use_of g condition).look (left_by (in_a_loop g) body) (take_turn condition body scope)

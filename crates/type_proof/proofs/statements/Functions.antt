@@ -4,8 +4,10 @@ use Rattle.std.specs.Prelude.{map, if◌then◌else◌}
 use Rattle.std.proofs.lemmas.Bool.{eq-eqb}
 use Rattle.std.proofs.lemmas.Option.{same_Some}
 use Rattle.source_meaning.specs.Memory.{Region, Frame, Memory}
-use Rattle.source_meaning.specs.Steps.{Entity, World, Scope}
+use Rattle.source_meaning.specs.Steps.{Entity, Routine, World, Scope}
 use Rattle.source_meaning.specs.Places.{bound_to}
+use Rattle.source_meaning.specs.Calls.{function_of}
+use Rattle.source_meaning.specs.Strings.{items_strings}
 use Rattle.source_typing.specs.Regions.{Regions, TheHeap, Level, with_scope}
 use Rattle.source_typing.specs.Left.{begins_as}
 use Rattle.source_typing.specs.Scope.{Env, Local, with_locals, meant, block_entered}
@@ -20,15 +22,18 @@ use Rattle.type_proof.proofs.invariant.Invariant.{heap, Ghost, Inv}
 use Rattle.type_proof.proofs.invariant.Scopes.{block_ghost, block_memory, frame_births}
 use Rattle.type_proof.proofs.invariant.Layouts.{Structs}
 use Rattle.type_proof.proofs.invariant.Names.{NameOf, Below, NamesOk, naming, names_scope, names_entered}
-use Rattle.type_proof.proofs.invariant.Scenes.{TypeBelow, Alike, renamed_alike, BoundAs, LivesAs, bound_as_alike, laid_as_later, laid_as_kept, Globals, Scene}
-use Rattle.type_proof.proofs.Entries.{Function, Enters}
+use Rattle.type_proof.proofs.Strings.{AreFound}
+use Rattle.type_proof.proofs.invariant.Scenes.{TypeBelow, Alike, renamed_alike, BoundAs, LivesAs, bound_as_alike, laid_as_later, Globals, globals_kept, Scene}
+use Rattle.type_proof.proofs.Entries.{Function, Enters, declared_means}
 use Rattle.type_proof.proofs.statements.Surroundings.{ResultIs, Surrounds, below_zero, type_up, type_zero, naming_alike, naming_itself}
 
--- What holds of the program: its structs are known, its globals lie in the heap, and its functions are in order.
+-- What holds of the program: its structs are known, its globals lie in the heap, its functions are in order, and their strings are there.
 pub record Sources (d : Tables) (world : World) (tables : typing.Tables) : Type 0 where
   pub structs : Structs d world tables
   pub globals : (x : List ℕ) (v : What) → find tables x ≡ Some (OfValue v) → BoundAs 0 (λ a. heap) (bound_to world.globals x) v
   pub functions : (x : List ℕ) (s : Signature) (F : Function world x s) → find tables x ≡ Some (OfFunction s) → FunctionJudged world tables x s F
+  -- the literals of each function's body are found by their places
+  pub spelled : (x : List ℕ) (f : Routine) → function_of world.functions x ≡ Some f → AreFound world.strings (items_strings f.body)
 
 module _ (d : Tables) (world : World) (tables : typing.Tables) (sources : Sources d world tables) (x : List ℕ) (s : Signature) (F : Function world x s)
     (judged : FunctionJudged world tables x s F) (h : NameOf → Region) (heap_is : h TheHeap ≡ heap) (a : ℕ)
@@ -90,21 +95,24 @@ module _ (d : Tables) (world : World) (tables : typing.Tables) (sources : Source
         live = λ y u e. global_lives (bound_to world.globals y) u (sources.globals y u (sym (means y) ∙ e));
         globals = λ y u e. sources.globals y u (subst (λ (t : typing.Tables). find t y ≡ Some (OfValue u)) judged.tables_are e);
       };
-      plain = λ y e z. sources.structs.plain y e (sym (means y) ∙ z);
+      plain = λ y e z. declared_means world y e (sources.structs.plain y e (sym (means y) ∙ z));
       functions = λ y c z. ap (λ (t : typing.Tables). find t y) judged.tables_are ∙ (sym (means y) ∙ z);
       result = λ t e. result_is t (let q : Some F.gives ≡ Some t = sym judged.result ∙ e in same_Some F.gives t q);
       strict = judged.strict;
       inside = judged.enclosing;
       frame = naming_itself h judged.outside.regions.count (Frame a);
-      frame_lives = ap (λ (c : Bool). if c then true else judged.outside.regions.live (Level judged.outside.regions.count)) (eq-eqb judged.outside.regions.count judged.outside.regions.count refl);
+      frame_lives = ap (λ (c : Bool). if c then true else judged.outside.regions.live (Level judged.outside.regions.count))
+          (eq-eqb judged.outside.regions.count judged.outside.regions.count refl);
       frame_below = omega arith;
     }
 
 -- the scene where the body begins
 pub scene_entry : (d : Tables) (world : World) (tables : typing.Tables) (sources : Sources d world tables) (x : List ℕ) (s : Signature) (F : Function world x s)
-    (judged : FunctionJudged world tables x s F) (h : NameOf → Region) (k : ℕ) (w : Ghost) (m : Memory) → Inv d w m → Globals d tables world w → (e : Enters s h k w m)
+    (judged : FunctionJudged world tables x s F) (h : NameOf → Region) (k : ℕ) (w : Ghost) (m : Memory) → Inv d w m → Globals d tables world w
+    → (e : Enters s h k w m)
     → (top : Env) → Scene d (block_entered judged.outside) (entry_scope d world tables sources x s F judged h e.heap_is m.activations)
-    (entry_names d world tables sources x s F judged h e.heap_is m.activations) m.activations (map (λ l. begins_as top l.what) judged.outside.locals) k (block_ghost w m) (block_memory m)
+    (entry_names d world tables sources x s F judged h e.heap_is m.activations) m.activations (map (λ l. begins_as top l.what) judged.outside.locals) k
+    (block_ghost w m) (block_memory m)
 scene_entry d world tables sources x s F judged h k w m i globals enters top = record {
   names = names_scope d judged.outside.regions h k w m (m.activations + 1) m.births (Frame m.activations) i (frame_births d w m i)
       (subst (λ (r : Regions). NamesOk r h k w m) (sym judged.regions)
@@ -113,15 +121,16 @@ scene_entry d world tables sources x s F judged h k w m i globals enters top = r
   variables = λ y u e o.
       let there : find tables y ≡ Some (OfValue u) = sym (means d world tables sources x s F judged h enters.heap_is m.activations y) ∙ e in
       laid_as_later 0 d (λ c. heap) (naming h judged.outside.regions.count (Frame m.activations)) w (block_ghost w m) (bound_to world.globals y) u
-      (heap_alike d world tables sources x s F judged h enters.heap_is m.activations) (sources.globals y u there) (λ p t l. l) (globals y u there);
+      (heap_alike d world tables sources x s F judged h enters.heap_is m.activations) (sources.globals y u there) (λ p t l. l) (globals.named y u there);
   alongside = subst (λ (ls : List Local). Alongside ls []) (sym judged.locals) tt;
   rooms = tt;
   inside = tt;
   counted = tt;
   own = omega arith;
   below = subst (λ (ls : List Local). LocalsBelow (judged.outside.regions.count + 1) ls) (sym judged.locals) tt;
-  stands = subst (λ (ls : List Local). standing.AllStand judged.outside.tables d (naming h judged.outside.regions.count (Frame m.activations)) ls [] (map (λ l. begins_as top l.what) ls) (block_ghost w m) (block_memory m))
+  stands = subst (λ (ls : List Local). standing.AllStand judged.outside.tables d (naming h judged.outside.regions.count (Frame m.activations)) ls []
+      (map (λ l. begins_as top l.what) ls) (block_ghost w m) (block_memory m))
       (sym judged.locals) tt;
-  globals = λ y u e. laid_as_kept d (λ c. heap) w (block_ghost w m) (bound_to world.globals y) u (λ p t l. l)
-      (globals y u (subst (λ (t : typing.Tables). find t y ≡ Some (OfValue u)) judged.tables_are e));
+  globals = subst (λ (t : typing.Tables). Globals d t world (block_ghost w m)) (sym judged.tables_are)
+      (globals_kept d tables world w (block_ghost w m) (λ p t l. l) globals);
 }

@@ -4,7 +4,7 @@ use Rattle.std.specs.Prelude.{is_some}
 use Rattle.cyc_tree.specs.Tree as tree
 use Rattle.source_meaning.specs.Memory.{Region, Born, Memory}
 use Rattle.source_meaning.specs.Steps.{World, Scope}
-use Rattle.source_meaning.specs.Places.{bound_to, entity_of}
+use Rattle.source_meaning.specs.Places.{entity_of}
 use Rattle.source_typing.specs.Declarations.{name_added, with_region}
 use Rattle.source_typing.specs.Regions.{Level, same_id, with_scope}
 use Rattle.source_typing.specs.Scope.{Env, next_region}
@@ -13,10 +13,10 @@ use Rattle.source_typing.specs.Written.{RegionNamed, find_region}
 use Rattle.source_typing.specs.States.{States}
 use Rattle.type_proof.specs.Flat.{Tables}
 use Rattle.type_proof.proofs.invariant.Facts.{if_cases}
-use Rattle.type_proof.proofs.invariant.Invariant.{RunType, heap, Ghost, Inv}
+use Rattle.type_proof.proofs.invariant.Invariant.{RunType, Ghost, Inv}
 use Rattle.type_proof.proofs.invariant.Scopes.{region_ghost, region_memory, born_births}
 use Rattle.type_proof.proofs.invariant.Names.{NameOf, below_up, naming, names_scope}
-use Rattle.type_proof.proofs.invariant.Scenes.{renamed_alike, bound_as_alike, lives_more, laid_as_later, laid_as_kept, Scene}
+use Rattle.type_proof.proofs.invariant.Scenes.{renamed_alike, bound_as_alike, lives_more, laid_as_later, globals_kept, Scene}
 use Rattle.type_proof.proofs.statements.Surroundings.{ResultIs, Surrounds, type_up, locals_up, stands_in, naming_alike, lives_in_scope}
 
 -- a scope with one more region, and these names
@@ -34,7 +34,8 @@ with_region_is (tree.Named x) g = refl
 with_region_is (tree.Heap at) g = refl
 with_region_is (tree.Unique at) g = refl
 
-pub surrounds_region : (d : Tables) (world : World) (tables : typing.Tables) (g : Env) (scope : Scope) (f : NameOf → Region) (gives : RunType) (names : List RegionNamed) (a : ℕ)
+pub surrounds_region : (d : Tables) (world : World) (tables : typing.Tables) (g : Env) (scope : Scope) (f : NameOf → Region) (gives : RunType)
+    (names : List RegionNamed) (a : ℕ)
     → Surrounds d world tables g scope f gives → Surrounds d world tables (lexical g names) scope (naming f g.regions.count (Born a)) gives
 surrounds_region d world tables g scope f gives names a h = record {
   tables_are = h.tables_are;
@@ -62,7 +63,8 @@ surrounds_region d world tables g scope f gives names a h = record {
   frame_below = below_up g.regions.count g.frame h.frame_below;
 }
 
-pub scene_region : (d : Tables) (world : World) (tables : typing.Tables) (g : Env) (scope : Scope) (f : NameOf → Region) (gives : RunType) (names : List RegionNamed) (b : ℕ) (s : States) (k : ℕ) (w : Ghost) (m : Memory)
+pub scene_region : (d : Tables) (world : World) (tables : typing.Tables) (g : Env) (scope : Scope) (f : NameOf → Region) (gives : RunType)
+    (names : List RegionNamed) (b : ℕ) (s : States) (k : ℕ) (w : Ghost) (m : Memory)
     → Surrounds d world tables g scope f gives → Inv d w m → Scene d g scope f b s k w m
     → Scene d (lexical g names) scope (naming f g.regions.count (Born m.births)) b s k (region_ghost w m) (region_memory m)
 scene_region d world tables g scope f gives names b s k w m h i z = record {
@@ -70,7 +72,7 @@ scene_region d world tables g scope f gives names b s k w m h i z = record {
   base = z.base;
   variables = λ y u e o. laid_as_later g.regions.count d f (naming f g.regions.count (Born m.births)) w (region_ghost w m) (entity_of scope y) u
       (naming_alike f g.regions.count (Born m.births)) (h.binds.variables y u e) (λ p t l. l) (z.variables y u e o);
-  globals = λ y u e. laid_as_kept d (λ a. heap) w (region_ghost w m) (bound_to scope.world.globals y) u (λ p t l. l) (z.globals y u e);
+  globals = globals_kept d g.tables scope.world w (region_ghost w m) (λ p t l. l) z.globals;
   alongside = z.alongside;
   rooms = z.rooms;
   inside = z.inside;

@@ -141,7 +141,8 @@ module _ (d : Tables) (world : World) (tables : typing.Tables) (f : NameOf → R
     pub result : g'.result ≡ g.result
 
   pub all_bound : (o : ℕ) (ps : List Part) (ts : List StaticType) (ss : List Spot) (vss : List (List Scalar)) (g : Env) (scope : Scope) (w : Ghost) (m : Memory)
-      → Surrounds d world tables g scope f gives → scope.frame ≡ a → AreObjects ts → TypesBelow g.regions.count ts → part_shapes ps ≡ map shape_of ts → AllUnder o scope.locals
+      → Surrounds d world tables g scope f gives → scope.frame ≡ a → AreObjects ts → TypesBelow g.regions.count ts → part_shapes ps ≡ map shape_of ts
+      → AllUnder o scope.locals
       → Landed d (λ t u. Reached u) a o w m ss (map (renamed f) ts) vss → AllBound g (with_all ps ts g) scope (bound_all scope ps ss) w m
   all_bound o [] [] [] [] g scope w m h at_frame i q e under l = record { surrounds = h; scene = λ b k z. z; in_loop = refl; in_switch = refl; result = refl }
   all_bound o (p ∷ ps) (t ∷ ts) (s ∷ ss) (vs ∷ vss) g scope w m h at_frame i q e under l =
@@ -152,13 +153,17 @@ module _ (d : Tables) (world : World) (tables : typing.Tables) (f : NameOf → R
       let counted : s.object < m.objects s.region = subst (λ (r : Region). s.object < m.objects r) (sym l.0) l.4 in
       let h1 = surrounds_local d world tables g scope f (name_alone p.name) t s gives h i.0 q.0 there in
       let more : AllUnder (suc s.object) scope.locals = under_more o (suc s.object) scope.locals (let z : o ≤ s.object = l.3 in omega (arith, z)) under in
-      let r : AllBound (extended g (name_alone p.name) t) (with_all ps ts (extended g (name_alone p.name) t)) (with_binding scope p.name (Variable (shape_of t) s))
+      let r : AllBound (extended g (name_alone p.name) t) (with_all ps ts (extended g (name_alone p.name) t))
+      (with_binding scope p.name (Variable (shape_of t) s))
       (bound_all (with_binding scope p.name (Variable (shape_of t) s)) ps ss) w m =
-      all_bound (suc s.object) ps ts ss vss (extended g (name_alone p.name) t) (with_binding scope p.name (Variable (shape_of t) s)) w m h1 at_frame i.1 q.1 others (omega arith, more) l.2 in
-      subst (λ (y : Shape). AllBound g (with_all ps ts (extended g (name_alone p.name) t)) scope (bound_all (with_binding scope p.name (Variable y s)) ps ss) w m) shape
+      all_bound (suc s.object) ps ts ss vss (extended g (name_alone p.name) t) (with_binding scope p.name (Variable (shape_of t) s)) w m h1 at_frame i.1 q.1
+      others (omega arith, more) l.2 in
+      subst (λ (y : Shape). AllBound g (with_all ps ts (extended g (name_alone p.name) t)) scope (bound_all (with_binding scope p.name (Variable y s)) ps ss) w
+      m) shape
       (record {
         surrounds = r.surrounds;
-        scene = λ b k z. r.scene b k (scene_local d world tables g scope f (name_alone p.name) t s gives h i.0 q.0 there b (begins_as top (Stored t g.frame)) (beginning top g.locals) k w m z laid
+        scene = λ b k z. r.scene b k (scene_local d world tables g scope f (name_alone p.name) t s gives h i.0 q.0 there b (begins_as top (Stored t g.frame))
+            (beginning top g.locals) k w m z laid
             (under_apart o s scope.locals l.3 under) counted);
         in_loop = r.in_loop;
         in_switch = r.in_switch;

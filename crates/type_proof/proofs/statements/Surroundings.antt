@@ -11,7 +11,6 @@ use Rattle.source_meaning.specs.Places.{bound_to, or_else, entity_of, with_bindi
 use Rattle.source_typing.specs.Regions.{Regions, TheHeap, Level, same_id, with_scope}
 use Rattle.source_typing.specs.Scope.{Env, InRegion, Local, find_local, meant, block_entered}
 use Rattle.source_typing.specs.States.{State, States}
-use Rattle.source_typing.specs.Statements.{in_a_loop}
 use Rattle.source_typing.specs.Tables as typing
 use Rattle.source_typing.specs.Tables.{What, is_copyable, Counter, Unknown, Entry, OfValue, OfFunction, Stored, Arrayed, Signature, find}
 use Rattle.source_typing.specs.Types.{Int, Unsigned, Char, Void, Null, Thin, Fat, Unique, Handle, Key, Struct, Union, StaticType, renamed, shape_of}
@@ -35,14 +34,15 @@ use Rattle.type_proof.proofs.invariant.Scenes.{
   bound_as_alike,
   lives_more,
   laid_as_later,
-  laid_as_kept,
+  globals_kept,
   Binds,
   Scene,
 }
 use Rattle.type_proof.proofs.invariant.Copyable.{object_copyable}
-use Rattle.type_proof.proofs.invariant.Standing.{owns, is_own, InRoom, Room, ApartFrom, EntityWithin, EntityCounted, WhatBelow, LocalsBelow, LocalStands, SameAll, Standing, all_same, all_more}
+use Rattle.type_proof.proofs.invariant.Standing.{owns, is_own, InRoom, Room, ApartFrom, EntityWithin, EntityCounted, WhatBelow, LocalsBelow, LocalStands}
+use Rattle.type_proof.proofs.invariant.Standing.{SameAll, Standing, all_same, all_more}
 use Rattle.type_proof.proofs.invariant.Standing as standing
-use Rattle.type_proof.proofs.Entries.{IsObjectType, PlainEntry, MeansPlain}
+use Rattle.type_proof.proofs.Entries.{IsObjectType, MeansEntry, MeansPlain}
 
 -- a function's result: its shape, and its type in this run
 pub record ResultIs (g : Env) (scope : Scope) (f : NameOf → Region) (gives : RunType) (t : StaticType) : Type 0 where
@@ -73,44 +73,10 @@ pub agrees_here : (d : Tables) (world : World) (tables : typing.Tables) (g : Env
     → Surrounds d world tables g scope f gives → Agrees scope.world d
 agrees_here d world tables g scope f gives h = subst (λ (y : World). Agrees y d) (sym h.world_is) (agrees d world tables h.structs)
 
--- in a loop nothing of it changes
-pub surrounds_loop : (d : Tables) (world : World) (tables : typing.Tables) (g : Env) (scope : Scope) (f : NameOf → Region) (gives : RunType)
-    → Surrounds d world tables g scope f gives → Surrounds d world tables (in_a_loop g) scope f gives
-surrounds_loop d world tables g scope f gives h = record {
-  tables_are = h.tables_are;
-  world_is = h.world_is;
-  structs = h.structs;
-  binds = record { variables = h.binds.variables; live = h.binds.live; globals = h.binds.globals };
-  plain = h.plain;
-  functions = h.functions;
-  result = λ t e. let r : ResultIs g scope f gives t = h.result t e in record { shape = r.shape; below = r.below; run = r.run };
-  strict = h.strict;
-  inside = h.inside;
-  frame = h.frame;
-  frame_lives = h.frame_lives;
-  frame_below = h.frame_below;
-}
-
-pub scene_loop : (d : Tables) (g : Env) (scope : Scope) (f : NameOf → Region) (b : ℕ) (s : States) (k : ℕ) (w : Ghost) (m : Memory) → Scene d g scope f b s k w m
-    → Scene d (in_a_loop g) scope f b s k w m
-scene_loop d g scope f b s k w m h = record {
-  names = h.names;
-  base = h.base;
-  variables = h.variables;
-  globals = h.globals;
-  alongside = h.alongside;
-  rooms = h.rooms;
-  inside = h.inside;
-  counted = h.counted;
-  own = h.own;
-  below = h.below;
-  stands = h.stands;
-}
-
 -- ---- a local is declared
 
 module _ (d : Tables) (world : World) (tables : typing.Tables) (g : Env) (scope : Scope) (f : NameOf → Region) (x : tree.Name) (v : What) (e : Entity)
-    (gives : RunType) (h : Surrounds d world tables g scope f gives) (plain : (y : List ℕ) → PlainEntry scope.world y (OfValue v))
+    (gives : RunType) (h : Surrounds d world tables g scope f gives) (plain : (y : List ℕ) → MeansEntry scope.world y (OfValue v))
     (bound : BoundAs g.regions.count f (Some e) v) (lives : LivesAs g.regions.live v)
   where
     name_bound : (y : List ℕ) (u : What) (c : Bool) → (if c then Some (OfValue v) else meant g y) ≡ Some (OfValue u)
@@ -122,8 +88,8 @@ module _ (d : Tables) (world : World) (tables : typing.Tables) (g : Env) (scope 
     name_live y u true z = let a : v ≡ u = cc in subst (λ (q : What). LivesAs g.regions.live q) a lives
     name_live y u false z = h.binds.live y u z
 
-    entry_plain : (y : List ℕ) (o : Entry) (c : Bool) → (if c then Some (OfValue v) else meant g y) ≡ Some o → PlainEntry scope.world y o
-    entry_plain y o true z = let q : OfValue v ≡ o = cc in subst (λ (u : Entry). PlainEntry scope.world y u) q (plain y)
+    entry_plain : (y : List ℕ) (o : Entry) (c : Bool) → (if c then Some (OfValue v) else meant g y) ≡ Some o → MeansEntry scope.world y o
+    entry_plain y o true z = let q : OfValue v ≡ o = cc in subst (λ (u : Entry). MeansEntry scope.world y u) q (plain y)
     entry_plain y o false z = h.plain y o z
 
     function_found : (y : List ℕ) (s : Signature) (c : Bool) → (if c then Some (OfValue v) else meant g y) ≡ Some (OfFunction s)
@@ -151,7 +117,8 @@ module _ (d : Tables) (world : World) (tables : typing.Tables) (g : Env) (scope 
       frame_below = h.frame_below;
     }
 
-    name_laid : (b : ℕ) (s : States) (k : ℕ) (w : Ghost) (m : Memory) → Scene d g scope f b s k w m → (owns g.tables v ≡ false → LaidAs d f w (Some e) v) → (y : List ℕ) (u : What) (c : Bool)
+    name_laid : (b : ℕ) (s : States) (k : ℕ) (w : Ghost) (m : Memory) → Scene d g scope f b s k w m → (owns g.tables v ≡ false → LaidAs d f w (Some e) v)
+        → (y : List ℕ) (u : What) (c : Bool)
         → (if c then Some (OfValue v) else meant g y) ≡ Some (OfValue u)
         → is_own g.tables (if c then Some (record { name = x.text; what = v; block = g.block }) else find_local g.locals y) ≡ false
         → LaidAs d f w (or_else (if c then Some e else bound_to scope.locals y) (bound_to scope.world.globals y)) u
@@ -159,7 +126,8 @@ module _ (d : Tables) (world : World) (tables : typing.Tables) (g : Env) (scope 
     name_laid b s k w m z laid y u false q o = z.variables y u q o
 
     -- the new local has a place of its own, and stands in some state
-    pub scene_named : (b : ℕ) (a : State) (s : States) (k : ℕ) (w : Ghost) (m : Memory) → Scene d g scope f b s k w m → (owns g.tables v ≡ false → LaidAs d f w (Some e) v)
+    pub scene_named : (b : ℕ) (a : State) (s : States) (k : ℕ) (w : Ghost) (m : Memory) → Scene d g scope f b s k w m
+        → (owns g.tables v ≡ false → LaidAs d f w (Some e) v)
         → InRoom b e scope.locals → EntityWithin m.activations e → EntityCounted m e → WhatBelow g.regions.count v → LocalStands g.tables d f v e a w m
         → Scene d (named g x v) (with_binding scope x.text e) f b (a ∷ s) k w m
     scene_named b a s k w m z laid room inside counted below stands = record {
@@ -215,7 +183,8 @@ module _ (d : Tables) (world : World) (tables : typing.Tables) (g : Env) (scope 
 
     -- what can be copied has no part in the states
     no_part : (a : State) (sh : Shape) (w : Ghost) (m : Memory) → LocalStands g.tables d f (Stored t g.frame) (Variable sh at) a w m
-    no_part a sh w m = λ c. absurd (false≢true (sym c ∙ subst (λ (y : typing.Tables). is_copyable y t ≡ true) (sym h.tables_are) (object_copyable d world tables h.structs t object)))
+    no_part a sh w m = λ c. absurd (false≢true (sym c ∙ subst (λ (y : typing.Tables). is_copyable y t ≡ true) (sym h.tables_are)
+        (object_copyable d world tables h.structs t object)))
 
     pub scene_local : (b : ℕ) (a : State) (s : States) (k : ℕ) (w : Ghost) (m : Memory) → Scene d g scope f b s k w m → Laid w at (flat heap d (renamed f t))
         → ApartFrom at scope.locals → at.object < m.objects at.region
@@ -224,12 +193,14 @@ module _ (d : Tables) (world : World) (tables : typing.Tables) (g : Env) (scope 
         scene_named d world tables g scope f x (Stored t g.frame) (Variable (shape_of t) at) gives h (λ y. object) (new_bound (shape_of t)) h.frame_lives
         b a s k w m z (λ o. local_laid w laid) (new_room b s k w m z apart) (new_within b s k w m z) counted below (no_part a (shape_of t) w m)
 
-    pub scene_array : (n b : ℕ) (a : State) (s : States) (k : ℕ) (w : Ghost) (m : Memory) → Scene d g scope f b s k w m → AllLaid w at n (flat heap d (renamed f t))
+    pub scene_array : (n b : ℕ) (a : State) (s : States) (k : ℕ) (w : Ghost) (m : Memory) → Scene d g scope f b s k w m
+        → AllLaid w at n (flat heap d (renamed f t))
         → ApartFrom at scope.locals → at.object < m.objects at.region
         → Scene d (arrayed g x t) (with_binding scope x.text (Variable (ArrayShape n (shape_of t)) at)) f b (a ∷ s) k w m
     scene_array n b a s k w m z laid apart counted =
         scene_named d world tables g scope f x (Arrayed t g.frame) (Variable (ArrayShape n (shape_of t)) at) gives h (λ y. object)
-        (n, new_bound (ArrayShape n (shape_of t))) h.frame_lives b a s k w m z (λ o. array_laid w n laid) (new_room b s k w m z apart) (new_within b s k w m z) counted tt tt
+        (n, new_bound (ArrayShape n (shape_of t))) h.frame_lives b a s k w m z (λ o. array_laid w n laid) (new_room b s k w m z apart) (new_within b s k w m z)
+        counted tt tt
 
 -- ---- a block is entered
 
@@ -347,18 +318,21 @@ pub stands_out : (d : Tables) (g : Env) (scope : Scope) (f : NameOf → Region) 
     → Standing d g scope (naming f g.regions.count r) s w m → Standing d g scope f s w m'
 stands_out d g scope f s r w m m' below c st =
     all_same g.tables d f w m w m' g.locals scope.locals s (same_all g.tables d f w m w m' scope.locals (λ y q e. e) c)
-    (standing.all_alike g.tables d (naming f g.regions.count r) f g.regions.count g.locals scope.locals s w m (λ a l. sym (naming_alike f g.regions.count r a l)) below st)
+    (standing.all_alike g.tables d (naming f g.regions.count r) f g.regions.count g.locals scope.locals s w m
+    (λ a l. sym (naming_alike f g.regions.count r a l)) below st)
 
-pub scene_block : (d : Tables) (world : World) (tables : typing.Tables) (g : Env) (scope : Scope) (f : NameOf → Region) (gives : RunType) (b : ℕ) (s : States) (k : ℕ) (w : Ghost)
+pub scene_block : (d : Tables) (world : World) (tables : typing.Tables) (g : Env) (scope : Scope) (f : NameOf → Region) (gives : RunType) (b : ℕ) (s : States)
+    (k : ℕ) (w : Ghost)
     (m : Memory)
     → Surrounds d world tables g scope f gives → Inv d w m → Scene d g scope f b s k w m
-    → Scene d (block_entered g) (record scope { frame = m.activations }) (naming f g.regions.count (Frame m.activations)) b s k (block_ghost w m) (block_memory m)
+    → Scene d (block_entered g) (record scope { frame = m.activations }) (naming f g.regions.count (Frame m.activations)) b s k (block_ghost w m)
+    (block_memory m)
 scene_block d world tables g scope f gives b s k w m h i z = record {
   names = names_scope d g.regions f k w m (m.activations + 1) m.births (Frame m.activations) i (frame_births d w m i) z.names;
   base = let l : b ≤ m.activations = z.base in omega (arith, l);
   variables = λ y u e o. laid_as_later g.regions.count d f (naming f g.regions.count (Frame m.activations)) w (block_ghost w m) (entity_of scope y) u
       (naming_alike f g.regions.count (Frame m.activations)) (h.binds.variables y u e) (λ p t l. l) (z.variables y u e o);
-  globals = λ y u e. laid_as_kept d (λ a. heap) w (block_ghost w m) (bound_to scope.world.globals y) u (λ p t l. l) (z.globals y u e);
+  globals = globals_kept d g.tables scope.world w (block_ghost w m) (λ p t l. l) z.globals;
   alongside = z.alongside;
   rooms = z.rooms;
   inside = all_more m.activations (m.activations + 1) scope.locals (omega arith) z.inside;

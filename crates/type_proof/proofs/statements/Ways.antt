@@ -1,20 +1,19 @@
 -- How statements leave the locals that can't be copied: the ways of an `if` meet, and a loop begins in states that each turn keeps.
-use Rattle.std.proofs.Common.{◌≡◌, ℕ, zero, suc, Bool, true, false, Option, Some, None, [], ◌∷◌, ◌++◌, refl, sym, ◌∙◌, ap, subst}
+use Rattle.std.proofs.Common.{◌≡◌, ℕ, Bool, true, false, Option, Some, None, [], ◌++◌, refl, sym, ◌∙◌, ap, subst}
 use Rattle.std.specs.Prelude.{length}
 use Rattle.source_meaning.specs.Memory.{Region, Memory}
 use Rattle.source_meaning.specs.Steps.{Scope, Flow, Falls, Breaks, Continues, Returns, Step, Act, ◌>>=◌, give, choose}
 use Rattle.source_meaning.specs.Statements.{after_turn, falls_to}
 use Rattle.source_typing.specs.Left as rules
-use Rattle.source_typing.specs.Left.{Left, left, after_passed, either, joined, followed, in_sequence, turn_of, back_of, loop_from}
+use Rattle.source_typing.specs.Left.{Left, after_passed, either, joined, followed, in_sequence, turn_of, back_of, loop_from}
 use Rattle.source_typing.specs.Scope.{Env}
-use Rattle.source_typing.specs.States.{State, Plain, Held, Gone, Lent, States, Passed, meet, meet_all, meet_ways, loop_head}
+use Rattle.source_typing.specs.States.{States, Passed, meet_all, meet_ways, loop_head}
 use Rattle.source_typing.specs.Statements.{in_a_loop}
-use Rattle.flow_summaries.specs.Effects.{Effect, Effects, Keeps, Holds, Loses, MayLose, becomes, met_effect, met_ways, no_effects, states_after, then_way, to_head}
+use Rattle.flow_summaries.specs.Effects.{Effects, met_ways, states_after, then_way}
 use Rattle.flow_summaries.specs.Exits.{Exits}
 use Rattle.flow_summaries.specs.Laws.{DoesAs, LeavesAs, way_after}
 use Rattle.flow_summaries.specs.Passages.{Passage}
-use Rattle.flow_summaries.proofs.Effects.{none_after, after_met, way_then, ways_met, head_is}
-use Rattle.source_typing.proofs.Meeting.{meet_all_itself}
+use Rattle.flow_summaries.proofs.Effects.{way_then, ways_met}
 use Rattle.type_proof.specs.Flat.{Tables}
 use Rattle.type_proof.proofs.invariant.Invariant.{RunType, Ghost, Inv, Grows}
 use Rattle.type_proof.proofs.invariant.Growth.{grows_trans}
@@ -23,26 +22,13 @@ use Rattle.type_proof.proofs.invariant.After.{After}
 use Rattle.type_proof.proofs.invariant.Names.{NameOf}
 use Rattle.type_proof.proofs.invariant.Standing.{Standing, AreKinds, all_met_first, all_met_second, are_kinds, kinds_after}
 use Rattle.type_proof.proofs.invariant.Scenes.{Scene, scene_later}
+use Rattle.type_proof.proofs.invariant.Heads.{head_kept, head_stands}
 use Rattle.type_proof.proofs.invariant.Sound.{none_first, none_second}
 use Rattle.type_proof.proofs.expressions.Operands.{TellsBy}
-use Rattle.type_proof.proofs.statements.Surroundings.{scene_loop}
+use Rattle.type_proof.proofs.statements.Looped.{scene_loop}
 use Rattle.type_proof.proofs.statements.Flows.{WayStands, WaysStand, Leaves, Head, Turns}
 
 -- ---- a loop's head
-
--- the states at the head are those that a turn from there keeps
-head_keeps : (e : Effect) (a : State) → meet (becomes (met_effect Keeps e) a) (becomes e (becomes (met_effect Keeps e) a)) ≡ becomes (met_effect Keeps e) a
-head_keeps Keeps = elim [ Plain ↦ refl | _ ↦ refl ]
-head_keeps Holds = elim [ Plain ↦ refl | _ ↦ refl ]
-head_keeps Loses = elim [ Plain ↦ refl | _ ↦ refl ]
-head_keeps MayLose = elim [ Plain ↦ refl | _ ↦ refl ]
-
-pub heads_keep : (n : ℕ) (e : Effects) (s : States) → meet_all (states_after n (to_head (Some e)) s) (states_after n e (states_after n (to_head (Some e)) s)) ≡ states_after n (to_head (Some e)) s
-heads_keep zero e s = meet_all_itself s
-heads_keep (suc n) e [] = refl
-heads_keep (suc n) e (a ∷ s) =
-    let x = head_keeps (e n) a in let y = heads_keep n e s in
-    ap (λ (b : State). b ∷ meet_all (states_after n (to_head (Some e)) s) (states_after n e (states_after n (to_head (Some e)) s))) x ∙ ap (λ (t : States). becomes (met_effect Keeps (e n)) a ∷ t) y
 
 -- the way back of a turn, by its condition and body
 pub back_told : (n : ℕ) (condition : States → Passed) (body : States → Left) (p : Passage) (v : Exits) → DoesAs n condition p → LeavesAs n body v → (s : States)
@@ -70,7 +56,8 @@ module _ (n : ℕ) (d : Tables) (gives : RunType) (g : Env) (scope : Scope) (f :
 
   way_kinds : (w : Option Effects) (o : Option States) (s : States) → o ≡ way_after (length g.locals) w s → AreKinds g.tables d f g.locals s → WayKinds o
   way_kinds None o s e h = λ t q. absurd (let z : None ≡ Some t = sym e ∙ q in cc)
-  way_kinds (Some x) o s e h = λ t q. let z : states_after (length g.locals) x s ≡ t = (let y : Some (states_after (length g.locals) x s) ≡ Some t = sym e ∙ q in cc) in
+  way_kinds (Some x) o s e h = λ t q. let z : states_after (length g.locals) x s ≡ t =
+      (let y : Some (states_after (length g.locals) x s) ≡ Some t = sym e ∙ q in cc) in
       subst (λ (u : States). AreKinds g.tables d f g.locals u) z (kinds_after g.tables d f (length g.locals) x g.locals s h)
 
   pub kinds_left : (p : States → Left) (v : Exits) → LeavesAs (length g.locals) p v → (s : States) → AreKinds g.tables d f g.locals s → WaysKinds (p s)
@@ -84,15 +71,23 @@ module _ (n : ℕ) (d : Tables) (gives : RunType) (g : Env) (scope : Scope) (f :
   way_first None q w m n2 h = absurd (let z : None ≡ Some h.0 = h.1 in cc)
   way_first (Some s) None w m n2 h = h
   way_first (Some s) (Some t) w m n2 h =
-      let z : s ≡ h.0 = (let y : Some s ≡ Some h.0 = h.1 in cc) in
-      (meet_all s t, refl, all_met_first g.tables d f g.locals scope.locals s t w m (n2 t refl) (subst (λ (u : States). Standing d g scope f u w m) (sym z) h.2))
+      let z : s ≡ h.0 = (let y : Some s ≡ Some h.0 = h.1 in cc) in (
+        meet_all s t,
+        refl,
+        all_met_first g.tables d f g.locals scope.locals s t w m (n2 t refl)
+            (subst (λ (u : States). Standing d g scope f u w m) (sym z) h.2),
+      )
 
   pub way_second : (o q : Option States) (w : Ghost) (m : Memory) → WayKinds o → WayStands d g scope f q w m → WayStands d g scope f (meet_ways o q) w m
   way_second None q w m n1 h = h
   way_second (Some s) None w m n1 h = absurd (let z : None ≡ Some h.0 = h.1 in cc)
   way_second (Some s) (Some t) w m n1 h =
-      let z : t ≡ h.0 = (let y : Some t ≡ Some h.0 = h.1 in cc) in
-      (meet_all s t, refl, all_met_second g.tables d f g.locals scope.locals s t w m (n1 s refl) (subst (λ (u : States). Standing d g scope f u w m) (sym z) h.2))
+      let z : t ≡ h.0 = (let y : Some t ≡ Some h.0 = h.1 in cc) in (
+        meet_all s t,
+        refl,
+        all_met_second g.tables d f g.locals scope.locals s t w m (n1 s refl)
+            (subst (λ (u : States). Standing d g scope f u w m) (sym z) h.2),
+      )
 
   -- where two phrases are joined, all ways but the ends meet
   joined_first : (l r : Left) (o : Option States) (flow : Flow) (w : Ghost) (m : Memory) → WaysKinds r → (flow ≡ Falls → WayStands d g scope f o w m)
@@ -102,24 +97,28 @@ module _ (n : ℕ) (d : Tables) (gives : RunType) (g : Env) (scope : Scope) (f :
   joined_first l r o Continues w m k ends h = (way_first l.continues r.continues w m k.continues h.0, h.1)
   joined_first l r o (Returns vs) w m k ends h = h
 
-  joined_second : (l r : Left) (o : Option States) (flow : Flow) (w : Ghost) (m : Memory) → WaysKinds l → (WayStands d g scope f r.falls w m → WayStands d g scope f o w m)
+  joined_second : (l r : Left) (o : Option States) (flow : Flow) (w : Ghost) (m : Memory) → WaysKinds l
+      → (WayStands d g scope f r.falls w m → WayStands d g scope f o w m)
       → WaysStand d gives g scope f r flow w m → WaysStand d gives g scope f (joined l r o) flow w m
   joined_second l r o Falls w m k ends h = ends h
   joined_second l r o Breaks w m k ends h = (way_second l.breaks r.breaks w m k.breaks h.0, h.1)
   joined_second l r o Continues w m k ends h = (way_second l.continues r.continues w m k.continues h.0, h.1)
   joined_second l r o (Returns vs) w m k ends h = h
 
-  either_first : (l r : Left) (flow : Flow) (w : Ghost) (m : Memory) → WaysKinds r → WaysStand d gives g scope f l flow w m → WaysStand d gives g scope f (either l r) flow w m
+  pub either_first : (l r : Left) (flow : Flow) (w : Ghost) (m : Memory) → WaysKinds r → WaysStand d gives g scope f l flow w m
+      → WaysStand d gives g scope f (either l r) flow w m
   either_first l r Falls w m n2 h = way_first l.falls r.falls w m n2.falls h
   either_first l r Breaks w m n2 h = (way_first l.breaks r.breaks w m n2.breaks h.0, h.1)
   either_first l r Continues w m n2 h = (way_first l.continues r.continues w m n2.continues h.0, h.1)
   either_first l r (Returns vs) w m n2 h = h
 
-  either_second : (l r : Left) (flow : Flow) (w : Ghost) (m : Memory) → WaysKinds l → WaysStand d gives g scope f r flow w m → WaysStand d gives g scope f (either l r) flow w m
+  pub either_second : (l r : Left) (flow : Flow) (w : Ghost) (m : Memory) → WaysKinds l → WaysStand d gives g scope f r flow w m
+      → WaysStand d gives g scope f (either l r) flow w m
   either_second l r flow w m n1 h = joined_second l r (meet_ways l.falls r.falls) flow w m n1 (λ z. way_second l.falls r.falls w m n1.falls z) h
 
   -- faults are no part of it
-  pub as_after : (l : Left) (fs : _) (flow : Flow) (w : Ghost) (m : Memory) → WaysStand d gives g scope f l flow w m → WaysStand d gives g scope f (record l { faults = fs ++ l.faults }) flow w m
+  pub as_after : (l : Left) (fs : _) (flow : Flow) (w : Ghost) (m : Memory) → WaysStand d gives g scope f l flow w m
+      → WaysStand d gives g scope f (record l { faults = fs ++ l.faults }) flow w m
   as_after l fs Falls w m h = h
   as_after l fs Breaks w m h = h
   as_after l fs Continues w m h = h
@@ -144,9 +143,11 @@ module _ (n : ℕ) (d : Tables) (gives : RunType) (g : Env) (scope : Scope) (f :
       both = either (l s1) (r s1)
 
       by : (t : Bool) (m1 : Memory) → After d k b w m (λ w' m'. Standing d g scope f s1 w' m') m1 → (next : Flow → Memory → Step)
-          → ((flow : Flow) (m' : Memory) → After d k b w m (λ w' m'. WaysStand d gives g scope f (after_passed (c s) (λ t2. either (l t2) (r t2))) flow w' m') m' → Safe n (next flow m'))
+          → ((flow : Flow) (m' : Memory) → After d k b w m (λ w' m'. WaysStand d gives g scope f (after_passed (c s) (λ t2. either (l t2) (r t2))) flow w' m')
+          m' → Safe n (next flow m'))
           → Safe n (choose t yes_act no_act next m1)
-      by true m1 y next q = (hy s1 (none_first (l s1).faults (r s1).faults rest) k y.ghost m1 y.inv (scene_later d g scope f b s s1 k w m y.ghost m1 y.inv y.grows y.holds x)).by next
+      by true m1 y next q = (hy s1 (none_first (l s1).faults (r s1).faults rest) k y.ghost m1 y.inv
+          (scene_later d g scope f b s s1 k w m y.ghost m1 y.inv y.grows y.holds x)).by next
           (λ flow m2 z. q flow m2 (record {
             ghost = z.ghost;
             inv = z.inv;
@@ -154,7 +155,8 @@ module _ (n : ℕ) (d : Tables) (gives : RunType) (g : Env) (scope : Scope) (f :
             holds = as_after both (c s).faults flow z.ghost m2 (either_first (l s1) (r s1) flow z.ghost m2
                 (kinds_left r v rv s1 (are_kinds g.tables d f g.locals scope.locals s1 y.ghost m1 y.holds)) z.holds);
           }))
-      by false m1 y next q = (hn s1 (none_second (l s1).faults (r s1).faults rest) k y.ghost m1 y.inv (scene_later d g scope f b s s1 k w m y.ghost m1 y.inv y.grows y.holds x)).by next
+      by false m1 y next q = (hn s1 (none_second (l s1).faults (r s1).faults rest) k y.ghost m1 y.inv
+          (scene_later d g scope f b s s1 k w m y.ghost m1 y.inv y.grows y.holds x)).by next
           (λ flow m2 z. q flow m2 (record {
             ghost = z.ghost;
             inv = z.inv;
@@ -166,7 +168,8 @@ module _ (n : ℕ) (d : Tables) (gives : RunType) (g : Env) (scope : Scope) (f :
   -- ---- loops
 
   -- from its head
-  pub head_leaves : (c : States → Passed) (l : States → Left) (v : Exits) (act : Act Bool) (turn : Act Flow) → TellsBy n d g scope f b c act → LeavesAs (length g.locals) l v
+  pub head_leaves : (c : States → Passed) (l : States → Left) (v : Exits) (act : Act Bool) (turn : Act Flow) → TellsBy n d g scope f b c act
+      → LeavesAs (length g.locals) l v
       → Turns n d gives g scope f b c l turn
       → (h : States) → Head d g f c l h → (k : ℕ) (w : Ghost) (m : Memory) → Inv d w m → Scene d g scope f b h k w m
       → Runs n (act >>= λ t. choose t turn (give Falls)) m (λ flow. After d k b w m (λ w' m'. WaysStand d gives g scope f (loop_from c l h) flow w' m'))
@@ -185,18 +188,21 @@ module _ (n : ℕ) (d : Tables) (gives : RunType) (g : Env) (scope : Scope) (f :
         inv = y.inv;
         grows = y.grows;
         holds = way_first (Some (c h).states) (l (c h).states).breaks y.ghost m1
-            (kinds_left l v lv (c h).states (are_kinds g.tables d f g.locals scope.locals (c h).states y.ghost m1 y.holds)).breaks ((c h).states, refl, y.holds);
+            (kinds_left l v lv (c h).states (are_kinds g.tables d f g.locals scope.locals (c h).states y.ghost m1 y.holds)).breaks
+            ((c h).states, refl, y.holds);
       })
 
   -- a turn's body, and then the loop again
-  pub turn_goes : (c : States → Passed) (l : States → Left) (v : Exits) (body again : Act Flow) → Leaves n d gives (in_a_loop g) scope f b l body → LeavesAs (length g.locals) l v
+  pub turn_goes : (c : States → Passed) (l : States → Left) (v : Exits) (body again : Act Flow) → Leaves n d gives (in_a_loop g) scope f b l body
+      → LeavesAs (length g.locals) l v
       → (h : States) → Head d g f c l h
       → ((k : ℕ) (w : Ghost) (m : Memory) → Inv d w m → Scene d g scope f b h k w m
       → Runs n again m (λ flow. After d k b w m (λ w' m'. WaysStand d gives g scope f (loop_from c l h) flow w' m')))
       → (k : ℕ) (w : Ghost) (m : Memory) → Inv d w m → Scene d g scope f b (c h).states k w m
       → Runs n (body >>= λ flow. after_turn flow again) m (λ flow. After d k b w m (λ w' m'. WaysStand d gives g scope f (loop_from c l h) flow w' m'))
   turn_goes c l v body again leaves lv h head goes k w m i x = record {
-    by = λ next q. (leaves (c h).states (none_second (c h).faults (l (c h).states).faults head.faultless) k w m i (scene_loop d g scope f b (c h).states k w m x)).by (λ flow. after_turn flow again next)
+    by = λ next q. (leaves (c h).states (none_second (c h).faults (l (c h).states).faults head.faultless) k w m i
+        (scene_loop d g scope f b (c h).states k w m x)).by (λ flow. after_turn flow again next)
         (λ flow m1 y. by flow m1 y.ghost y.inv y.grows y.holds next q);
   }
     where
@@ -208,15 +214,19 @@ module _ (n : ℕ) (d : Tables) (gives : RunType) (g : Env) (scope : Scope) (f :
           (all_met_second g.tables d f g.locals scope.locals h y.0 w1 m1 head.kinds y.2)
 
       repeats : (m1 : Memory) (w1 : Ghost) → Inv d w1 m1 → Grows k b w m w1 m1 → Standing d g scope f h w1 m1 → (next : Flow → Memory → Step)
-          → ((flow : Flow) (m' : Memory) → After d k b w m (λ w' m'. WaysStand d gives g scope f (loop_from c l h) flow w' m') m' → Safe n (next flow m')) → Safe n (again next m1)
+          → ((flow : Flow) (m' : Memory) → After d k b w m (λ w' m'. WaysStand d gives g scope f (loop_from c l h) flow w' m') m' → Safe n (next flow m'))
+          → Safe n (again next m1)
       repeats m1 w1 i1 g1 y next q = (goes k w1 m1 i1 (scene_later d g scope f b (c h).states h k w m w1 m1 i1 g1 y x)).by next
           (λ flow m2 z. q flow m2 (record { ghost = z.ghost; inv = z.inv; grows = grows_trans g1 z.grows; holds = z.holds }))
 
-      by : (flow : Flow) (m1 : Memory) (w1 : Ghost) → Inv d w1 m1 → Grows k b w m w1 m1 → WaysStand d gives (in_a_loop g) scope f (l (c h).states) flow w1 m1 → (next : Flow → Memory → Step)
+      by : (flow : Flow) (m1 : Memory) (w1 : Ghost) → Inv d w1 m1 → Grows k b w m w1 m1 → WaysStand d gives (in_a_loop g) scope f (l (c h).states) flow w1 m1
+          → (next : Flow → Memory → Step)
           → ((flow2 : Flow) (m' : Memory) → After d k b w m (λ w' m'. WaysStand d gives g scope f (loop_from c l h) flow2 w' m') m' → Safe n (next flow2 m'))
           → Safe n (after_turn flow again next m1)
-      by Falls m1 w1 i1 g1 y next q = repeats m1 w1 i1 g1 (at_head w1 m1 (way_first (l (c h).states).falls (l (c h).states).continues w1 m1 kinds.continues y)) next q
-      by Continues m1 w1 i1 g1 y next q = repeats m1 w1 i1 g1 (at_head w1 m1 (way_second (l (c h).states).falls (l (c h).states).continues w1 m1 kinds.falls y.0)) next q
+      by Falls m1 w1 i1 g1 y next q = repeats m1 w1 i1 g1 (at_head w1 m1 (way_first (l (c h).states).falls (l (c h).states).continues w1 m1 kinds.continues y))
+          next q
+      by Continues m1 w1 i1 g1 y next q = repeats m1 w1 i1 g1
+          (at_head w1 m1 (way_second (l (c h).states).falls (l (c h).states).continues w1 m1 kinds.falls y.0)) next q
       by Breaks m1 w1 i1 g1 y next q = q Falls m1 (record {
         ghost = w1;
         inv = i1;
@@ -228,41 +238,30 @@ module _ (n : ℕ) (d : Tables) (gives : RunType) (g : Env) (scope : Scope) (f :
       by (Returns vs) m1 w1 i1 g1 y next q = q (Returns vs) m1 (record { ghost = w1; inv = i1; grows = g1; holds = y })
 
   -- the entry implies the head, and each turn keeps it
-  pub head_begins : (c : States → Passed) (l : States → Left) (p : Passage) (v : Exits) → DoesAs (length g.locals) c p → LeavesAs (length g.locals) l v → (s : States) (w : Ghost)
+  pub head_begins : (c : States → Passed) (l : States → Left) (p : Passage) (v : Exits) → DoesAs (length g.locals) c p → LeavesAs (length g.locals) l v
+      → (s : States) (w : Ghost)
       (m : Memory) → Standing d g scope f s w m → (rules.loop c l s).faults ≡ []
       → Head d g f c l (loop_head s (λ h. back_of (turn_of c l h))) × Standing d g scope f (loop_head s (λ h. back_of (turn_of c l h))) w m
   head_begins c l p v cp lv s w m st e = (
     record {
       faultless = e;
-      keeps = λ t q. by_keeps (met_ways (then_way p.effects v.falls) (then_way p.effects v.continues)) (back_told (length g.locals) c l p v cp lv) t q;
+      keeps = head_kept (length g.locals) turn back told s;
       kinds = are_kinds g.tables d f g.locals scope.locals (loop_head s (λ h. back_of (turn_of c l h))) w m stands;
     },
     stands,
   )
     where
-      count : ℕ
-      count = length g.locals
-
       turn : States → Option States
       turn h = back_of (turn_of c l h)
 
-      by_stands : (x : Option Effects) → ((h : States) → turn h ≡ way_after count x h) → Standing d g scope f (loop_head s turn) w m
-      by_stands None told = subst (λ (t : States). Standing d g scope f t w m) (sym (head_is count turn None told s ∙ none_after count s)) st
-      by_stands (Some x) told = subst (λ (t : States). Standing d g scope f t w m)
-          (ap (λ (t : States). meet_all t (states_after count x s)) (sym (none_after count s)) ∙ after_met count no_effects x s ∙ sym (head_is count turn (Some x) told s))
-          (all_met_first g.tables d f g.locals scope.locals s (states_after count x s) w m
-          (kinds_after g.tables d f count x g.locals s (are_kinds g.tables d f g.locals scope.locals s w m st)) st)
+      back : Option Effects
+      back = met_ways (then_way p.effects v.falls) (then_way p.effects v.continues)
+
+      told : (h : States) → turn h ≡ way_after (length g.locals) back h
+      told = back_told (length g.locals) c l p v cp lv
 
       stands : Standing d g scope f (loop_head s turn) w m
-      stands = by_stands (met_ways (then_way p.effects v.falls) (then_way p.effects v.continues)) (back_told count c l p v cp lv)
-
-      by_keeps : (x : Option Effects) → ((h : States) → turn h ≡ way_after count x h) → (t : States) → turn (loop_head s turn) ≡ Some t
-          → meet_all (loop_head s turn) t ≡ loop_head s turn
-      by_keeps None told t q = absurd (let z : None ≡ Some t = sym (told (loop_head s turn)) ∙ q in cc)
-      by_keeps (Some x) told t q =
-          let z : states_after count x (loop_head s turn) ≡ t = (let y : Some (states_after count x (loop_head s turn)) ≡ Some t = sym (told (loop_head s turn)) ∙ q in cc) in
-          subst (λ (u : States). meet_all (loop_head s turn) u ≡ loop_head s turn) z
-          (subst (λ (h : States). meet_all h (states_after count x h) ≡ h) (sym (head_is count turn (Some x) told s)) (heads_keep count x s))
+      stands = head_stands d g scope f turn back told s w m st
 
   -- ---- statements one after another
 
@@ -287,7 +286,8 @@ module _ (n : ℕ) (d : Tables) (gives : RunType) (g : Env) (scope : Scope) (f :
       Post : Option States → Flow → Memory → Type 0
       Post o flow = After d k b w m (λ w' m'. WaysStand d gives g scope f (followed o (p s) q) flow w' m')
 
-      other : (o : Option States) → (p s).falls ≡ o → (flow : Flow) → (flow ≡ Falls → ⊥) → (m1 : Memory) (y : After d k b w m (λ w' m'. WaysStand d gives g scope f (p s) flow w' m') m1)
+      other : (o : Option States) → (p s).falls ≡ o → (flow : Flow) → (flow ≡ Falls → ⊥)
+          → (m1 : Memory) (y : After d k b w m (λ w' m'. WaysStand d gives g scope f (p s) flow w' m') m1)
           → Post o flow m1
       other None z flow elsewhere m1 y = record { ghost = y.ghost; inv = y.inv; grows = y.grows; holds = y.holds }
       other (Some t) z flow elsewhere m1 y = record {
@@ -297,13 +297,15 @@ module _ (n : ℕ) (d : Tables) (gives : RunType) (g : Env) (scope : Scope) (f :
         holds = joined_first (p s) (q t) (q t).falls flow y.ghost m1 (kinds_left q v qv t (kinds.falls t z)) (λ a. absurd (elsewhere a)) y.holds;
       }
 
-      by : (o : Option States) → (p s).falls ≡ o → (flow : Flow) (m1 : Memory) → After d k b w m (λ w' m'. WaysStand d gives g scope f (p s) flow w' m') m1 → (next : Flow → Memory → Step)
+      by : (o : Option States) → (p s).falls ≡ o → (flow : Flow) (m1 : Memory) → After d k b w m (λ w' m'. WaysStand d gives g scope f (p s) flow w' m') m1
+          → (next : Flow → Memory → Step)
           → ((c : Flow) (m' : Memory) → Post o c m' → Safe n (next c m')) → Safe n (falls_to flow rest next m1)
       by None z Falls m1 y next r = absurd (let a : (p s).falls ≡ Some y.holds.0 = y.holds.1 in let c : None ≡ Some y.holds.0 = sym z ∙ a in cc)
       by (Some t) z Falls m1 y next r =
           let same : y.holds.0 ≡ t = (let a : Some y.holds.0 ≡ Some t = sym y.holds.1 ∙ z in cc) in
           let there : Standing d g scope f t y.ghost m1 = subst (λ (a : States). Standing d g scope f a y.ghost m1) same y.holds.2 in
-          (hq s t z t (second t z) k y.ghost m1 y.inv (scene_later d g scope f b s t k w m y.ghost m1 y.inv y.grows there x)).by next (λ c m2 a. r c m2 (record {
+          (hq s t z t (second t z) k y.ghost m1 y.inv (scene_later d g scope f b s t k w m y.ghost m1 y.inv y.grows there x)).by next
+          (λ c m2 a. r c m2 (record {
             ghost = a.ghost;
             inv = a.inv;
             grows = grows_trans y.grows a.grows;

@@ -1,5 +1,10 @@
 -- The globals' constants are stored before `main` is entered; Core's data have them from the start.
-use Rattle.std.proofs.Common.{◌≡◌, inl, None, ℕ, suc, ◌+◌, ◌-◌, ◌%◌, ◌^◌, ◌<◌, List, [], ◌∷◌, true, false, refl, sym, ap, ◌∙◌, subst, arith}
+use Rattle.std.proofs.Common.{◌≡◌, inl, inr, ⊎_elim, ◌⊎◌, Option, Some, None, ℕ, suc, ◌+◌, ◌-◌, ◌%◌, ◌^◌, ◌<◌, List, [], ◌∷◌, true, false, refl, sym, ap}
+use Rattle.std.proofs.Common.{◌∙◌, subst, arith}
+use Rattle.std.specs.Prelude.{nat_lt}
+use Rattle.std.proofs.lemmas.Bool.Decides.{nat_tests}
+use Rattle.cyc_words.specs.Events.{SourceEnding}
+use Rattle.step_trees.specs.Trees.{Stops}
 use Rattle.cyc_tree.specs.Tree as tree
 use Rattle.cyc_tree.specs.Tree.{Initial, Item, Constant}
 use Rattle.source_meaning.specs.Shapes.{
@@ -21,20 +26,24 @@ use Rattle.source_meaning.specs.Shapes.{
 use Rattle.source_meaning.specs.Memory as source
 use Rattle.source_meaning.specs.Memory.{IntegerType, AsInt, AsUnsigned, AsChar, Integer, Thin, Wide, Scalar, Holds}
 use Rattle.source_meaning.specs.Steps as steps
-use Rattle.source_meaning.specs.Steps.{World}
+use Rattle.source_meaning.specs.Steps.{World, need}
 use Rattle.source_meaning.specs.Conversions.{converted}
 use Rattle.source_meaning.specs.Values.{write_cells}
+use Rattle.source_meaning.specs.Places.{span_at, string_at}
 use Rattle.source_meaning.specs.Calls.{number_type}
 use Rattle.source_meaning.specs.Programs.{constant_value, constant_shape, integer_shape, global_shape, global_stored, globals_stored, globals_from, heap_spot}
 use Rattle.core_meaning.specs.Memory as core
 use Rattle.core_meaning.specs.Memory.{Word}
 use Rattle.core_meaning.specs.Core.{Program}
 use Rattle.core_meaning.specs.Steps as core_steps
-use Rattle.source_lowering.specs.Programs.{word_in, constant_word, constant_content}
-use Rattle.source_lowering.specs.Taken.{IsIntegerShape, IsNullable, TakesConstant}
-use Rattle.source_lowering.specs.Lowerable.{IsObject, TakesGlobal, TakesProgram}
-use Rattle.source_lowering.specs.Simulation.{at, Leads, Shown, SameMemory, Grown, AreLed, Same, nothing, VariableLeads}
-use Rattle.source_lowering.proofs.memory.Keeping.{later_self, all_led_later, m_written}
+use Rattle.source_lowering.specs.Programs.{word_in, constant_word, text_content, constant_content}
+use Rattle.source_lowering.specs.Taken.{IsIntegerShape, IsNullable, IsString, TakesConstant}
+use Rattle.source_lowering.specs.Lowerable.{IsObject, AreStructs, TakesGlobal, TakesProgram}
+use Rattle.source_lowering.specs.Simulation.{at, IsTakenObject, Leads, LeadsAll, Shown, SameMemory, Grown, AreLed, IsText, AreTexts, HasStatics, Same, nothing, VariableLeads}
+use Rattle.source_lowering.proofs.Runs.{stuck_same}
+use Rattle.source_lowering.proofs.memory.Members.{lies_here}
+use Rattle.source_lowering.proofs.Texts.{string_found}
+use Rattle.source_lowering.proofs.memory.Keeping.{later_self, all_led_later, statics_later, m_written}
 use Rattle.source_lowering.proofs.memory.CellParts.{agree_shown, later_shown}
 use Rattle.source_lowering.proofs.values.Operators.{modulo_small}
 use Rattle.source_lowering.proofs.values.Integers.{limit, word_shown, integer_word}
@@ -45,12 +54,31 @@ use Rattle.source_lowering.proofs.regions.Heap.{constant_is_value, constant_cont
 
 -- ---- the value of a constant
 
+-- the contents that stand for a string
+abbrev text_contents : Option Scalar → Shape → List core.Content
+text_contents found (FatShape to) = text_content found 0 ∷ text_content found 1 ∷ text_content found 2 ∷ []
+text_contents found s = text_content found 0 ∷ []
+
+contents_of_text : (w : World) (at : ℕ) (bytes : List ℕ) (s : Shape) → IsString s
+    → constant_contents w (Constant.Text at bytes) s ≡ text_contents (string_at w.strings at) s
+contents_of_text w at bytes (FatShape CharShape) h = refl
+contents_of_text w at bytes (ThinShape true owner CharShape) h = refl
+contents_of_text w at bytes _ h = absurd h
+
+is_some : (count : ℕ) → 0 < count → nat_lt 0 count ≡ true
+is_some count some = grind (arith, nat_tests, some)
+
 -- a constant's value, converted to a global's shape
-record IsConverted (w : World) (c : Constant) (s : Shape) : Type 0 where
+record IsConverted (w : World) (m0 : source.Memory) (c0 : core.Memory) (c : Constant) (s : Shape) : Type 0 where
   value : Scalar
-  shown : (m : source.Memory) (k : core.Memory) → Shown w m k s value (constant_contents c s)
+  shown : Shown w m0 c0 s value (constant_contents w c s)
   gives : (k : List Scalar → source.Memory → steps.Step) (m : source.Memory) → constant_value w.strings c (λ v. converted w s (constant_shape c) (v ∷ []) k) m
       ≡ k (value ∷ []) m
+
+-- a string that isn't there has no value
+record HasNoValue (w : World) (c : Constant) (s : Shape) : Type 0 where
+  stops : (k : List Scalar → source.Memory → steps.Step) (m : source.Memory) → constant_value w.strings c (λ v. converted w s (constant_shape c) (v ∷ []) k) m
+      ≡ Stops SourceEnding.Stuck
 
 low_small : (x : ℕ) → x % 256 < 256
 low_small x = omega arith
@@ -74,81 +102,131 @@ integer_converted w (StructShape tag) word t from h small = absurd h
 integer_converted w (UnionShape tag) word t from h small = absurd h
 integer_converted w (ArrayShape count of) word t from h small = absurd h
 
-number_converted : (w : World) (c : Constant) (s : Shape) (t : IntegerType) (from : Shape) → IsIntegerShape s → constant_word c < 2 ^ 32
-    → constant_content c s ≡ Word (word_in s (constant_word c)) → ((k : List Scalar → source.Memory → steps.Step) (m : source.Memory)
+number_converted : (w : World) (m0 : source.Memory) (c0 : core.Memory) (c : Constant) (s : Shape) (t : IntegerType) (from : Shape) → IsIntegerShape s
+    → constant_word c < 2 ^ 32 → constant_content w c s ≡ Word (word_in s (constant_word c))
+    → ((k : List Scalar → source.Memory → steps.Step) (m : source.Memory)
     → constant_value w.strings c (λ v. converted w s (constant_shape c) (v ∷ []) k) m ≡ converted w s from (Integer t (constant_word c) ∷ []) k m)
-    → IsConverted w c s
-number_converted w c s t from h small content gives =
+    → IsConverted w m0 c0 c s ⊎ HasNoValue w c s
+number_converted w m0 c0 c s t from h small content gives =
     let one = integer_converted w s (constant_word c) t from h small in
-    record {
+    inl (record {
       value = Integer one.0 (word_in s (constant_word c));
-      shown = λ m k.
-          subst (λ xs. Shown w m k s (Integer one.0 (word_in s (constant_word c))) xs) (sym (word_contents c s (integer_word s h) ∙ ap (λ x. x ∷ []) content))
-          (subst (λ z. Shown w m k z (Integer one.0 (word_in s (constant_word c))) (Word (word_in s (constant_word c)) ∷ [])) (sym one.1.0)
-          (word_shown w m k one.0 (word_in s (constant_word c)) one.1.1.0));
+      shown =
+          subst (λ xs. Shown w m0 c0 s (Integer one.0 (word_in s (constant_word c))) xs)
+          (sym (word_contents w c s (integer_word s h) ∙ ap (λ x. x ∷ []) content))
+          (subst (λ z. Shown w m0 c0 z (Integer one.0 (word_in s (constant_word c))) (Word (word_in s (constant_word c)) ∷ [])) (sym one.1.0)
+          (word_shown w m0 c0 one.0 (word_in s (constant_word c)) one.1.1.0));
       gives = λ k m. gives k m ∙ one.1.1.1 k m;
-    }
+    })
 
 -- NULL, for a pointer that may be it
-null_converted : (w : World) (at : ℕ) (s : Shape) → IsNullable s → IsConverted w (Constant.Null at) s
-null_converted w at (ThinShape true owner to) h = record {
+null_converted : (w : World) (m0 : source.Memory) (c0 : core.Memory) (at : ℕ) (s : Shape) → IsNullable s → IsConverted w m0 c0 (Constant.Null at) s
+null_converted w m0 c0 at (ThinShape true owner to) h = record {
   value = Thin None;
-  shown = λ m k. inl (record { allowed = refl; value = refl; shown = refl });
+  shown = inl (record { allowed = refl; value = refl; shown = refl });
   gives = λ k m. refl;
 }
-null_converted w at (ThinShape false owner to) h = absurd h
-null_converted w at IntShape h = absurd h
-null_converted w at UnsignedShape h = absurd h
-null_converted w at CharShape h = absurd h
-null_converted w at VoidShape h = absurd h
-null_converted w at (FatShape to) h = record {
+null_converted w m0 c0 at (ThinShape false owner to) h = absurd h
+null_converted w m0 c0 at IntShape h = absurd h
+null_converted w m0 c0 at UnsignedShape h = absurd h
+null_converted w m0 c0 at CharShape h = absurd h
+null_converted w m0 c0 at VoidShape h = absurd h
+null_converted w m0 c0 at (FatShape to) h = record {
   value = Wide None;
-  shown = λ m k. inl (record { word = 0; value = refl; shown = refl; small = omega arith });
+  shown = inl (record { word = 0; value = refl; shown = refl; small = omega arith });
   gives = λ k m. refl;
 }
-null_converted w at HandleShape h = absurd h
-null_converted w at KeyShape h = absurd h
-null_converted w at (StructShape tag) h = absurd h
-null_converted w at (UnionShape tag) h = absurd h
-null_converted w at (ArrayShape count of) h = absurd h
+null_converted w m0 c0 at HandleShape h = absurd h
+null_converted w m0 c0 at KeyShape h = absurd h
+null_converted w m0 c0 at (StructShape tag) h = absurd h
+null_converted w m0 c0 at (UnionShape tag) h = absurd h
+null_converted w m0 c0 at (ArrayShape count of) h = absurd h
 
-constant_converted : (w : World) (c : Constant) (s : Shape) → TakesConstant s c → IsConverted w c s
-constant_converted w (Constant.Number at value suffix) s h =
-    number_converted w (Constant.Number at value suffix) s (number_type value suffix) (integer_shape (number_type value suffix)) h (modulo_small value) refl
-    (λ k m. refl)
-constant_converted w (Constant.Negative at value suffix) s h =
-    number_converted w (Constant.Negative at value suffix) s (number_type value suffix) (integer_shape (number_type value suffix)) h
+-- a string, for a pointer to characters: it has an element, to which a thin pointer leads
+text_converted : (w : World) (m0 : source.Memory) (c0 : core.Memory) (at : ℕ) (bytes : List ℕ) (s : Shape) → AreStructs w.unions w.structs → IsString s
+    → IsObject w.structs s → AreTexts w m0 c0 w.strings
+    → IsConverted w m0 c0 (Constant.Text at bytes) s ⊎ HasNoValue w (Constant.Text at bytes) s
+text_converted w m0 c0 at bytes s structs h object texts = by (string_at w.strings at) refl
+  where
+    lies : IsTakenObject w CharShape
+    lies = lies_here w CharShape structs tt
+
+    IsGiven : Option Scalar → Shape → Type 0
+    IsGiven found z = (value : Scalar) × (Shown w m0 c0 z value (text_contents found z) × ((k : List Scalar → source.Memory → steps.Step) (m : source.Memory)
+        → need found (λ v. converted w z (FatShape CharShape) (v ∷ []) k) m ≡ k (value ∷ []) m))
+
+    span_given : (number count : ℕ) → 0 < count → count < 2 ^ 32 → LeadsAll w m0 c0 CharShape count (heap_spot number) 0 → (z : Shape) → IsString z
+        → IsObject w.structs z → IsGiven (Some (span_at count (heap_spot number))) z
+    span_given number count some few leads (FatShape CharShape) g o = (
+      span_at count (heap_spot number),
+      (
+        inr (record {
+          span = record { first = heap_spot number; count = count; index = 0 };
+          byte = 0;
+          value = refl;
+          shown = refl;
+          small = omega arith;
+          few = few;
+          lies = lies;
+          leads = leads;
+        }),
+        λ k m. refl,
+      ),
+    )
+    span_given number count some few leads (ThinShape true owner CharShape) g o =
+        subst (λ z. IsGiven (Some (span_at count (heap_spot number))) (ThinShape true z CharShape)) (sym o.0) (
+          Thin (Some (heap_spot number)),
+          (
+            inr (record { spot = heap_spot number; byte = 0; value = refl; shown = refl; lies = lies; leads = leads 0 some }),
+            λ k m. rw (is_some count some) refl,
+          ),
+        )
+    span_given number count some few leads _ g o = absurd g
+
+    by : (found : Option Scalar) → string_at w.strings at ≡ found → IsConverted w m0 c0 (Constant.Text at bytes) s ⊎ HasNoValue w (Constant.Text at bytes) s
+    by None e = inr (record { stops = λ k m. ap (λ z. need z (λ v. converted w s (FatShape CharShape) (v ∷ []) k) m) e })
+    by (Some v) e =
+        let text = string_found (λ z. IsText w m0 c0 z) w.strings at v texts e in
+        let o : IsGiven (Some v) s = subst (λ z. IsGiven (Some z) s) (sym text.value)
+        (span_given text.number text.count text.some text.few text.leads s h object) in
+        inl (record {
+          value = o.0;
+          shown = subst (λ xs. Shown w m0 c0 s o.0 xs) (ap (λ z. text_contents z s) (sym e) ∙ sym (contents_of_text w at bytes s h)) o.1.0;
+          gives = λ k m. ap (λ z. need z (λ v. converted w s (FatShape CharShape) (v ∷ []) k) m) e ∙ o.1.1 k m;
+        })
+
+constant_converted : (w : World) (m0 : source.Memory) (c0 : core.Memory) (c : Constant) (s : Shape) → AreStructs w.unions w.structs → TakesConstant s c
+    → IsObject w.structs s → AreTexts w m0 c0 w.strings → IsConverted w m0 c0 c s ⊎ HasNoValue w c s
+constant_converted w m0 c0 (Constant.Number at value suffix) s structs h object texts =
+    number_converted w m0 c0 (Constant.Number at value suffix) s (number_type value suffix) (integer_shape (number_type value suffix)) h (modulo_small value)
+    refl (λ k m. refl)
+constant_converted w m0 c0 (Constant.Negative at value suffix) s structs h object texts =
+    number_converted w m0 c0 (Constant.Negative at value suffix) s (number_type value suffix) (integer_shape (number_type value suffix)) h
     (modulo_small (0 + 2 ^ 32 - value % 2 ^ 32)) refl (λ k m. refl)
-constant_converted w (Constant.Character at byte) s h =
-    number_converted w (Constant.Character at byte) s AsChar CharShape h (byte_small byte) refl (λ k m. refl)
-constant_converted w (Constant.Text at bytes) s h = absurd h
-constant_converted w (Constant.Null at) s h = null_converted w at s h
+constant_converted w m0 c0 (Constant.Character at byte) s structs h object texts =
+    number_converted w m0 c0 (Constant.Character at byte) s AsChar CharShape h (byte_small byte) refl (λ k m. refl)
+constant_converted w m0 c0 (Constant.Text at bytes) s structs h object texts = text_converted w m0 c0 at bytes s structs h object texts
+constant_converted w m0 c0 (Constant.Null at) s structs h object texts = inl (null_converted w m0 c0 at s h)
 
 -- ---- the globals
 
 -- what comes after the globals: memories that agree, where the globals lie
 pub record Begins (w : World) (fs : Program) (n : ℕ) (c : core.Memory) (s : source.Memory → steps.Step) (k : core_steps.Step) : Type 0 where
-  pub go : (m : source.Memory) → SameMemory w m c → AreLed w m c w.globals → Same w fs n (s m) k
+  pub go : (m : source.Memory) → SameMemory w m c → HasStatics w m c → Same w fs n (s m) k
 
 -- one global's constant is stored
 one_stored : (w : World) (fs : Program) (n : ℕ) (initial : Initial) (shape : Shape) (i : ℕ) (m : source.Memory) (c : core.Memory)
-    (s : Unit {0} → source.Memory → steps.Step) (k : core_steps.Step) → TakesGlobal shape initial → IsObject w.structs shape → SameMemory w m c
-    → VariableLeads w m c (global_shape initial shape) (heap_spot i) → IsStored c initial shape i
+    (s : Unit {0} → source.Memory → steps.Step) (k : core_steps.Step) → AreStructs w.unions w.structs → TakesGlobal shape initial → IsObject w.structs shape
+    → SameMemory w m c → AreTexts w m c w.strings → VariableLeads w m c (global_shape initial shape) (heap_spot i) → IsStored w c initial shape i
     → ((m' : source.Memory) → SameMemory w m' c → Grown nothing m c m' c → Same w fs n (s tt m') k) → Same w fs n (global_stored w initial shape (heap_spot i) s m) k
-one_stored w fs n Initial.Unset shape i m c s k h object agree leads part go = go m agree (later_self nothing m c)
-one_stored w fs n (Initial.Elements count) shape i m c s k h object agree leads part go = go m agree (later_self nothing m c)
-one_stored w fs n (Initial.Given constant) shape i m c s k h object agree leads part go =
-    subst (λ z. Same w fs n z k) (sym (o.gives (λ vs. write_cells (heap_spot i) vs s) m))
-    (cell_writes w fs n shape m c (heap_spot i) 0 o.value (constant_contents constant shape) s k one agree leads_to (o.shown m c)
-    (λ y. go (m_written m (heap_spot i) shape o.value)
-    (agree_shown w m c (heap_spot i) shape here.has.content o.value (constant_contents constant shape) agree here.has.is part (o.shown m c))
-    (later_shown nothing m c (heap_spot i) shape here.has.content (Holds o.value) here.has.is)))
+one_stored w fs n Initial.Unset shape i m c s k structs h object agree texts leads part go = go m agree (later_self nothing m c)
+one_stored w fs n (Initial.Elements count) shape i m c s k structs h object agree texts leads part go = go m agree (later_self nothing m c)
+one_stored w fs n (Initial.Given constant) shape i m c s k structs h object agree texts leads part go =
+    ⊎_elim given (λ (o : HasNoValue w constant shape). subst (λ z. Same w fs n z k) (sym (o.stops (λ vs. write_cells (heap_spot i) vs s) m))
+    (stuck_same w fs n k)) (constant_converted w m c constant shape structs h object texts)
   where
     one : IsCell w shape
     one = cell_of w shape (constant_is_value w constant shape h object)
-
-    o : IsConverted w constant shape
-    o = constant_converted w constant shape h
 
     leads_to : Leads w m c shape (heap_spot i) 0
     leads_to = object_leads w.structs w m c shape (heap_spot i) object leads
@@ -156,20 +234,28 @@ one_stored w fs n (Initial.Given constant) shape i m c s k h object agree leads 
     here : CellAt m c (heap_spot i) 0 shape
     here = cell_there w m c (heap_spot i) 0 shape one leads_to
 
+    given : IsConverted w m c constant shape → Same w fs n (global_stored w (Initial.Given constant) shape (heap_spot i) s m) k
+    given o =
+        subst (λ z. Same w fs n z k) (sym (o.gives (λ vs. write_cells (heap_spot i) vs s) m))
+        (cell_writes w fs n shape m c (heap_spot i) 0 o.value (constant_contents w constant shape) s k one agree leads_to o.shown
+        (λ y. go (m_written m (heap_spot i) shape o.value)
+        (agree_shown w m c (heap_spot i) shape here.has.content o.value (constant_contents w constant shape) agree here.has.is part o.shown)
+        (later_shown nothing m c (heap_spot i) shape here.has.content (Holds o.value) here.has.is)))
+
 pub globals_same : (w : World) (fs : Program) (n : ℕ) (items : List Item) (i : ℕ) (m : source.Memory) (c : core.Memory)
-    (s : Unit {0} → source.Memory → steps.Step) (k : core_steps.Step) → TakesProgram w items → SameMemory w m c → AreLed w m c w.globals
-    → AreLed w m c (globals_from items i) → AreStored c items i
+    (s : Unit {0} → source.Memory → steps.Step) (k : core_steps.Step) → AreStructs w.unions w.structs → TakesProgram w items → SameMemory w m c → HasStatics w m c
+    → AreLed w m c (globals_from items i) → AreStored w c items i
     → Begins w fs n c (s tt) k → Same w fs n (globals_stored w items i s m) k
-globals_same w fs n [] i m c s k h agree led here stored begins = begins.go m agree led
-globals_same w fs n (tree.StructItem x ∷ items) i m c s k h agree led here stored begins = globals_same w fs n items i m c s k h.1 agree led here stored
-    begins
-globals_same w fs n (tree.UnionItem u ∷ items) i m c s k h agree led here stored begins = absurd h.0
-globals_same w fs n (tree.FunctionItem f ∷ items) i m c s k h agree led here stored begins = globals_same w fs n items i m c s k h.1 agree led here stored
-    begins
-globals_same w fs n (tree.GlobalItem g ∷ items) i m c s k h agree led here stored begins =
-    one_stored w fs n g.initial (settled (written g.of)) i m c (λ u. globals_stored w items (suc i) s) k h.0.1
-    (object_settled w.structs g.of h.0.0) agree here.0
+globals_same w fs n [] i m c s k structs h agree statics here stored begins = begins.go m agree statics
+globals_same w fs n (tree.StructItem x ∷ items) i m c s k structs h agree statics here stored begins =
+    globals_same w fs n items i m c s k structs h.1 agree statics here stored begins
+globals_same w fs n (tree.UnionItem u ∷ items) i m c s k structs h agree statics here stored begins = absurd h.0
+globals_same w fs n (tree.FunctionItem f ∷ items) i m c s k structs h agree statics here stored begins =
+    globals_same w fs n items i m c s k structs h.1 agree statics here stored begins
+globals_same w fs n (tree.GlobalItem g ∷ items) i m c s k structs h agree statics here stored begins =
+    one_stored w fs n g.initial (settled (written g.of)) i m c (λ u. globals_stored w items (suc i) s) k structs h.0.1
+    (object_settled w.structs g.of h.0.0) agree statics.strings here.0
     stored.0
     (λ m' agree' later.
-    globals_same w fs n items (suc i) m' c s k h.1 agree' (all_led_later nothing w m m' c c w.globals later led) (all_led_later nothing w m m' c c
+    globals_same w fs n items (suc i) m' c s k structs h.1 agree' (statics_later nothing w m m' c c later statics) (all_led_later nothing w m m' c c
     (globals_from items (suc i)) later here.1) stored.1 begins)

@@ -50,8 +50,8 @@ use Rattle.core_meaning.specs.Meaning.{passed_in}
 use Rattle.source_lowering.specs.Lowered.{number_of, all_of}
 use Rattle.source_lowering.specs.Members.{all_words}
 use Rattle.source_lowering.specs.Programs.{no_regions, locals_of, block_shapes, end_code, body_code, function_code, routine_values}
-use Rattle.source_lowering.specs.Simulation.{Shown, SameMemory, Grown, AreLed, Same, Next, BothCalled, BothReturned, Bound, nothing}
-use Rattle.source_lowering.proofs.memory.Keeping.{later_on, all_led_later, IsLess, later_less}
+use Rattle.source_lowering.specs.Simulation.{Shown, SameMemory, Grown, HasStatics, Same, Next, BothCalled, BothReturned, Bound, nothing}
+use Rattle.source_lowering.proofs.memory.Keeping.{later_on, statics_later, IsLess, later_less}
 use Rattle.source_lowering.proofs.Runs.{stuck_same, says_same}
 use Rattle.source_lowering.proofs.values.Integers.{IsTaken, word_shown}
 use Rattle.source_lowering.proofs.expressions.Names.{IsRoutine, IsPlainWorld}
@@ -154,7 +154,7 @@ end_same w fs n number own f m0 c0 s k m c first numbered routine goes a l = by 
 -- the body's block, from memories that agree
 entered_same : (w : World) (fs : Program) (n number : ℕ) (f : Routine) (vss : List (List Scalar)) (m : source.Memory)
     (c : core.Memory) (c0 : Config) (s : List Scalar → source.Memory → steps.Step) (k : List Content → core.Memory → core_steps.Step)
-    → IsPlainWorld w → CallsAs w fs n → slice_get w.functions number ≡ Some f → IsRoutine w f → SameMemory w m c0.memory → AreLed w m c0.memory w.globals
+    → IsPlainWorld w → CallsAs w fs n → slice_get w.functions number ≡ Some f → IsRoutine w f → SameMemory w m c0.memory → HasStatics w m c0.memory
     → AllGiven w m c0.memory (part_shapes f.parameters) vss 0 c0.temps → c0.blocks ≡ []
     → HasOwn w c0 c.calls (routine_values w f) → Grown (called_before m c) m c m c0.memory
     → Returning w fs n m c f.result s k
@@ -165,12 +165,12 @@ entered_same : (w : World) (fs : Program) (n number : ℕ) (f : Routine) (vss : 
       result
           = f.result;
     })) (left_by f s) m) (meaning.statements (body_code w f) (meaning.left number c.calls k) c0)
-entered_same w fs n number f vss m c c0 s k plain calls numbered routine agree led given blocks has later goes =
+entered_same w fs n number f vss m c c0 s k plain calls numbered routine agree statics given blocks has later goes =
     body_same f.parameters f.body scope known (length f.parameters) n 0 (all_words (part_shapes f.parameters))
     vss routine.parameters routine.body values_numbered
     (omega arith) (record { world = plain; locals = tt; words = tt }) routine.result calls (omega arith) (omega arith) (omega arith) refl
     (source_in m) inside (next_out (left_by f s) m.activations) NoStatements (after_out (ended f number c.calls k) c0)
-    (entered_fits w fs [] [] [] shapes m c0 c.calls (routine_values w f) 0 no_regions agree blocks has tt led)
+    (entered_fits w fs [] [] [] shapes m c0 c.calls (routine_values w f) 0 no_regions agree blocks has tt tt statics)
     (given_later nothing w m (source_in m) c0.memory inside.memory (part_shapes f.parameters) vss 0 c0.temps
     (entered_later nothing w m c0.memory (locals_of w shapes) agree) given)
     (ways_out w fs n no_regions inside_bound shapes m c0 f.result (left_by f s) (ended f number c.calls k) agree (omega arith) (record {
@@ -223,7 +223,7 @@ entered_same w fs n number f vss m c c0 s k plain calls numbered routine agree l
 -- a call of a function by its number
 pub enters_same : (w : World) (fs : Program) (n : ℕ) → IsPlainWorld w → fs.functions ≡ map (function_code w) w.functions → CallsAs w fs n → EntersAs w fs n
 enters_same w fs n plain functions calls = record {
-  same = λ name f vss xs m c s k numbered routine agree led many given goes.
+  same = λ name f vss xs m c s k numbered routine agree statics many given goes.
       let number : ℕ = number_of w.functions name in
       let found : slice_get fs.functions number ≡ Some (function_code w f) = ap (λ z. slice_get z number) functions ∙ mapped w w.functions number f numbered in
       let c0 : Config = meaning.entered (function_code w f) xs c in
@@ -234,7 +234,7 @@ enters_same w fs n plain functions calls = record {
       rw (found, counted)
       (says_same w fs n (events.Called f.name) (core_steps.Called number) _ _ (BothCalled number f numbered)
       (entered_same w fs n number f vss m c c0 s k plain calls numbered routine (own_agree w m c locals agree)
-      (all_led_later (called_before m c) w m m c c0.memory w.globals more led)
+      (statics_later (called_before m c) w m m c c0.memory more statics)
       (given_later (called_before m c) w m m c c0.memory (part_shapes f.parameters) vss 0 (passed_in xs) more given) refl (record {
         is = refl;
         called = own_counted c locals;

@@ -1,6 +1,5 @@
 -- The theorem: on each input and with each amount of fuel, Core does what the program does, where the program isn't stuck.
-use Rattle.std.proofs.Common.{◌≡◌, ℕ, suc, ◌⊎◌, ◌^◌, inl, ⊎_elim, List, [], ◌∷◌, ◌++◌, map, Some, None, refl, sym, ap, ◌∙◌, subst, arith}
-use Rattle.std.proofs.lemmas.List.{append-nil}
+use Rattle.std.proofs.Common.{◌≡◌, ℕ, suc, ◌⊎◌, ◌^◌, inl, ⊎_elim, List, [], ◌∷◌, map, Some, None, refl, sym, ap, ◌∙◌, subst, arith}
 use Rattle.std.specs.Prelude.{codes, slice_get}
 use Rattle.cyc_words.specs.Events.{AreBytes, SourceEnding}
 use Rattle.step_trees.specs.Trees.{Stops}
@@ -32,21 +31,7 @@ use Rattle.source_meaning.specs.Steps.{World, Routine, need, ◌>>=◌}
 use Rattle.source_meaning.specs.Conversions.{one, integer, size_of}
 use Rattle.source_meaning.specs.Calls.{function_of}
 use Rattle.source_meaning.specs.Strings.{program_strings}
-use Rattle.source_meaning.specs.Programs.{
-  global_shape,
-  globals_from,
-  functions_of,
-  routine_of,
-  world_of,
-  globals_stored,
-  global_objects,
-  heap_alone,
-  string_object,
-  first_memory,
-  entered,
-  start,
-  source,
-}
+use Rattle.source_meaning.specs.Programs.{global_shape, globals_from, functions_of, routine_of, world_of, entered, start, source}
 use Rattle.core_meaning.specs.Memory as core_memory
 use Rattle.core_meaning.specs.Memory.{Content}
 use Rattle.core_meaning.specs.Core.{Program}
@@ -55,7 +40,7 @@ use Rattle.core_meaning.specs.Meaning as meaning
 use Rattle.core_meaning.specs.Meaning.{core, passed_in}
 use Rattle.source_lowering.specs.Lowered.{number_of}
 use Rattle.source_lowering.specs.Members.{all_words}
-use Rattle.source_lowering.specs.Programs.{data_of, program_code}
+use Rattle.source_lowering.specs.Programs.{program_code}
 use Rattle.source_lowering.specs.Taken.{IsVoidBase}
 use Rattle.source_lowering.specs.Lowerable.{
   IsObject,
@@ -77,7 +62,7 @@ use Rattle.source_lowering.specs.Simulation.{
   AFat,
   Shown,
   SameMemory,
-  AreLed,
+  HasStatics,
   AValue,
   SameOutcome,
   Same,
@@ -89,7 +74,8 @@ use Rattle.source_lowering.proofs.expressions.Calls.{AllGiven, NoResult, ResultI
 use Rattle.source_lowering.proofs.statements.WrittenTypes.{object_settled, value_settled}
 use Rattle.source_lowering.proofs.memory.ObjectShapes.{object_named}
 use Rattle.source_lowering.proofs.Functions.{enters_always}
-use Rattle.source_lowering.proofs.regions.Heap.{heap_of, heap_agrees, heap_stored, heap_led}
+use Rattle.source_lowering.proofs.regions.Heap.{heap_of, heap_agrees, heap_stored, heap_statics}
+use Rattle.source_lowering.proofs.regions.HeapValues.{heap_data}
 use Rattle.source_lowering.proofs.Constants.{globals_same}
 
 -- ---- a program of words
@@ -210,7 +196,7 @@ stuck_entered : (w : World) (fs : Program) (n : ℕ) (name : List ℕ) (result :
 stuck_entered w fs n name result p ps body m k = record { at = λ j h input bytes. inl refl }
 
 main_by : (w : World) (fs : Program) (n : ℕ) (f : Routine) (ps : List Part) (m : source.Memory) (c : core_memory.Memory) → f.parameters ≡ ps → IsRoutine w f
-    → EntersAs w fs n → SameMemory w m c → AreLed w m c w.globals → slice_get w.functions (number_of w.functions (codes "main")) ≡ Some f
+    → EntersAs w fs n → SameMemory w m c → HasStatics w m c → slice_get w.functions (number_of w.functions (codes "main")) ≡ Some f
     → Same w fs n (entered f w [] status m) (meaning.called fs.functions (record { function = number_of w.functions (codes "main"); arguments = [] })
     meaning.status_of c)
 main_by w fs n f [] m c e routine enters agree led numbered =
@@ -225,7 +211,7 @@ main_by w fs n f (p ∷ ps) m c e routine enters agree led numbered =
     (stuck_entered w fs n f.name f.result p ps f.body m _)
 
 main_same : (w : World) (fs : Program) (n : ℕ) (m : source.Memory) (c : core_memory.Memory) → IsPlainWorld w → EntersAs w fs n → SameMemory w m c
-    → AreLed w m c w.globals
+    → HasStatics w m c
     → Same w fs n ((need (function_of w.functions (codes "main")) >>= λ f. entered f w []) status m) (meaning.called fs.functions
     (record { function = number_of w.functions (codes "main"); arguments = [] }) meaning.status_of c)
 main_same w fs n m c plain enters agree led =
@@ -247,23 +233,17 @@ main_same w fs n m c plain enters agree led =
 
 -- ---- programs
 
--- the heap has the globals alone
-heap_is : (p : tree.Program) → program_strings p ≡ [] → first_memory p ≡ heap_of (world_of p) p
-heap_is p e = ap (λ z. heap_alone (global_objects (world_of p) p ++ map string_object z)) e ∙ ap (λ z. heap_alone z)
-    (append-nil (global_objects (world_of p) p))
-
 pub program_same : (p : tree.Program) → IsLowerable p → (n : ℕ) → Same (world_of p) (program_code p) n (start p) (meaning.start (program_code p))
 program_same p h n =
     let w : World = world_of p in
+    let ss = program_strings p in
+    let c = meaning.first_memory (heap_data w p ss) in
     let plain = world_plain p h in
     let enters = enters_always w (program_code p) n plain refl in
-    let led = heap_led w p h.structs h.items in
-    subst (λ z. Same w (program_code p) n (globals_stored w p 0 (λ u. (need (function_of w.functions (codes "main")) >>= λ f. entered f w []) status) z)
-    (meaning.start (program_code p))) (sym (heap_is p h.strings))
-    (globals_same w (program_code p) n p 0 (heap_of w p) (meaning.first_memory (data_of w p)) (λ u. (need (function_of w.functions (codes "main")) >>= λ f.
-    entered f w []) status) (meaning.start (program_code p)) h.items
-    (heap_agrees w p h.structs h.items) led led (heap_stored w p h.items)
-    (record { go = λ m agree globals. main_same w (program_code p) n m (meaning.first_memory (data_of w p)) plain enters agree globals }))
+    let statics = heap_statics p h in
+    globals_same w (program_code p) n p 0 (heap_of w p ss) c (λ u. (need (function_of w.functions (codes "main")) >>= λ f. entered f w []) status)
+    (meaning.start (program_code p)) h.structs h.items (heap_agrees w p ss h.structs h.items) statics statics.globals (heap_stored w p ss h.items)
+    (record { go = λ m agree lasts. main_same w (program_code p) n m c plain enters agree lasts })
 
 -- on each input and with each amount of fuel: the program is stuck, or both show the same and end alike
 pub programs_same : (p : tree.Program) → IsLowerable p → (input : List ℕ) → AreBytes input → (n : ℕ)

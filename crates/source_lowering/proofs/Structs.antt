@@ -23,19 +23,8 @@ use Rattle.source_meaning.specs.Shapes.{
   part_shapes,
   has_tag,
 }
-use Rattle.source_meaning.specs.Sizes.{
-  Extent,
-  rounded_up,
-  cells_by,
-  all_cells,
-  struct_cells,
-  extent_by,
-  laid_out,
-  no_extent,
-  union_extent,
-  struct_extent,
-}
-use Rattle.source_meaning.specs.Placing.{Placed, moved, placed_by, all_placed, struct_placed}
+use Rattle.source_meaning.specs.Sizes.{Extent, rounded_up, all_cells, struct_cells, laid_out, no_extent, struct_extent}
+use Rattle.source_meaning.specs.Placing.{Placed, moved, all_placed, struct_placed}
 use Rattle.source_lowering.specs.Lowerable.{IsObject, AreObjects, HasMember, IsStruct, AreStructs}
 pub use Rattle.source_lowering.specs.ObjectCells.{cells_in, placed_in, extent_in}
 

@@ -1,3 +1,4 @@
+pub mod Taken
 pub mod Costs
 pub mod Counted
 pub mod ValueCosts

@@ -30,3 +30,7 @@ pub mod Numbered
 pub mod WholeForms
 pub mod StoredRequests
 pub mod Requests
+pub mod Homes
+pub mod MadeElements
+pub mod MadeLoops
+pub mod MadeArrays

@@ -1,5 +1,6 @@
 pub mod StructCells
 pub mod Lasting
+pub mod Held
 pub mod Keeping
 pub mod CellParts
 pub mod ObjectShapes
@@ -12,6 +13,7 @@ pub mod Ordered
 pub mod Loading
 pub mod Initialising
 pub mod Overwriting
+pub mod CopiedOver
 pub mod Clearing
 pub mod Copying
 pub mod FirstCells

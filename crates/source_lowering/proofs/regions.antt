@@ -1,3 +1,4 @@
+pub mod Granting
 pub mod Regions
 pub mod HeapValues
 pub mod Heap

@@ -1,3 +1,5 @@
 mod Samples
 mod WholeSamples
 mod RegionSamples
+mod TextSamples
+mod MadeSamples

@@ -1,5 +1,6 @@
 pub mod Layouts
 pub mod Members
+pub mod Naming
 pub mod Pieces
 pub mod Lowered
 pub mod Temporaries
@@ -9,5 +10,6 @@ pub mod Whole
 pub mod Lowerable
 pub mod Bounds
 pub mod Agreeing
+pub mod InScope
 pub mod Simulation
 pub mod ObjectCells

@@ -1,6 +1,6 @@
--- Which programs lowering takes: functions, globals and locals of integers, of structs, of handles, of pointers to these and of arrays of them, with the heap
--- and lexical regions, by the forms of the tree and by shapes.
-use Rattle.std.specs.Prelude.{◌≡◌, ◌<◌, ◌≤◌, ◌^◌, ℕ, suc, Bool, true, false, Some, None, List, [], ◌∷◌, length}
+-- Which programs lowering takes: functions, globals and locals of integers, of structs, of handles, of pointers to these and of arrays of them, with the heap,
+-- lexical regions and arrays that are made there, by the forms of the tree and by shapes.
+use Rattle.std.specs.Prelude.{◌≡◌, ◌<◌, ◌≤◌, ◌^◌, ℕ, suc, ◌+◌, Bool, true, false, Some, None, List, [], ◌∷◌, length}
 use Rattle.cyc_tree.specs.declared.expression.Prefix.{Prefix}
 use Rattle.cyc_tree.specs.declared.expression.Prefix.TheVariants as prefix
 use Rattle.cyc_tree.specs.Tree as tree
@@ -41,8 +41,8 @@ use Rattle.source_meaning.specs.Sizes.{struct_extent}
 use Rattle.source_meaning.specs.Steps.{World, Routine}
 use Rattle.source_meaning.specs.Expressions.{is_unique_region}
 use Rattle.source_meaning.specs.Programs.{is_main, routine_of, world_of}
-use Rattle.source_meaning.specs.Strings.{program_strings}
-use Rattle.source_lowering.specs.Lowered.{Named, static_shape, member_shape, suffixed_shape}
+use Rattle.source_meaning.specs.Strings.{Literal, program_strings}
+use Rattle.source_lowering.specs.Lowered.{Named, number_named, static_shape, member_shape, suffixed_shape}
 use Rattle.source_lowering.specs.Programs.{local_shape, named_here, outward, parameter_names}
 use Rattle.source_lowering.specs.Whole.{makes_struct}
 use Rattle.source_lowering.specs.Taken.{IsVoidType, AreShared, HasFirst, IsIntType, TakesConstant}
@@ -218,6 +218,7 @@ abbrev mutual
   Takes w names (Expression.Variable name) = IsNoStruct (static_shape w names (Expression.Variable name))
   Takes w names (Expression.Call name arguments) = (has_tag w.structs name.text ≡ false) × TakesAll w names arguments
   Takes w names (Expression.NumElts at operand) = Takes w names operand
+  Takes w names (Expression.Text at bytes) = Unit {0}
   Takes w names (Expression.Grouped at inner) = Takes w names inner
   Takes w names (Expression.Suffixed primary suffixes) =
       TakesSuffixes w names suffixes (static_shape w names primary) (Takes w names primary) (TakesPlace w names primary) ×
@@ -241,12 +242,17 @@ abbrev mutual
   TakesLinks w names NoLinks = Unit {0}
   TakesLinks w names (MoreLinks operator operand others) = Takes w names operand × TakesLinks w names others
 
-  -- one object is made: a struct, a word or a fat pointer
+  -- An object is made: a struct, a word or a fat pointer; or an array of them, whichever temporary has the number of the element.
   pub TakesNew : World → List Named → Made → Type 0
   TakesNew w names (One value) =
       IsObject w.structs (static_shape w names value) ×
       TakesMember (static_shape w names value) (TakesWhole w names value) (Takes w names value)
-  TakesNew w names (Array index count element) = ⊥
+  TakesNew w names (Array index count element) =
+      Takes w names count ×
+      ((t : ℕ) →
+      let inner = number_named index.text t ∷ names in
+      IsObject w.structs (static_shape w inner element) ×
+      TakesMember (static_shape w inner element) (TakesWhole w inner element) (Takes w inner element))
 
   -- a struct that is made of its members, or what names one
   pub TakesWhole : World → List Named → Expression → Type 0
@@ -372,8 +378,13 @@ abbrev pub TakesProgram : World → List Item → Type 0
 TakesProgram w [] = Unit {0}
 TakesProgram w (i ∷ items) = TakesItem w i × TakesProgram w items
 
--- the forms that are taken, structs one after the other, and no string
+-- strings whose bytes, with the final 0, a word counts
+abbrev pub AreStrings : List Literal → Type 0
+AreStrings [] = Unit {0}
+AreStrings (s ∷ ss) = (length s.1 + 1 < 2 ^ 32) × AreStrings ss
+
+-- the forms that are taken, structs one after the other, and strings
 pub record IsLowerable (p : Program) : Type 0 where
   pub items : TakesProgram (world_of p) p
   pub structs : AreStructs (world_of p).unions (world_of p).structs
-  pub strings : program_strings p ≡ []
+  pub strings : AreStrings (program_strings p)

@@ -8,9 +8,10 @@ use Rattle.source_meaning.specs.Shapes.{Shape, StructShape, Part, parts_of, poin
 use Rattle.source_meaning.specs.Sizes.{rounded_up}
 use Rattle.source_meaning.specs.Steps.{World}
 use Rattle.source_meaning.specs.Operators.{operator_shape}
-use Rattle.source_meaning.specs.Places.{bound_to}
+use Rattle.source_meaning.specs.Places.{bound_to, string_at}
 use Rattle.source_meaning.specs.Conversions.{cells_of}
-use Rattle.core_meaning.specs.Core.{Constant, Copy, Do, HeapHandle, If, NoStatements, NullPointer, Offset, OwnAddress, RegionAlloc, Statement}
+use Rattle.core_meaning.specs.Core.{Add, Apply, Constant, Copy, Do, Element, HeapHandle, If, LessUnsigned, NoStatements, NullPointer, Offset, OwnAddress, RegionAlloc}
+use Rattle.core_meaning.specs.Core.{Statement, While}
 use Rattle.source_lowering.specs.Layouts.{extent_of, layout_of}
 use Rattle.source_lowering.specs.Members.{words_in}
 pub use Rattle.source_lowering.specs.Pieces.{
@@ -34,7 +35,11 @@ pub use Rattle.source_lowering.specs.Pieces.{
   element_at,
   pointer_to,
   store_to,
+  Home,
+  InBlock,
+  InTemporary,
   Named,
+  number_named,
   local_named,
   number_of,
   entity_shape,
@@ -54,11 +59,14 @@ pub use Rattle.source_lowering.specs.Pieces.{
   put_local,
   store_global,
   get_global,
+  get_home,
   get_by,
   get_code,
   put_global,
+  put_home,
   put_by,
   global_address,
+  home_address,
   address_by,
   narrow_code,
   to_fat_code,
@@ -74,6 +82,7 @@ pub use Rattle.source_lowering.specs.Pieces.{
   null_code,
   fat_code,
   count_code,
+  text_code,
   truth_code,
   word_code,
   not_code,
@@ -129,7 +138,9 @@ abbrev mutual
   -- of what `new` and `rnew` make
   pub new_values : World → List Named → Made → List Shape
   new_values w names (One value) = values_by (static_shape w names value) (whole_values w names value) (expression_values w names value)
-  new_values w names (Array index count element) = []
+  new_values w names (Array index count element) =
+      let inner = number_named index.text 0 ∷ names in
+      expression_values w names count ++ values_by (static_shape w inner element) (whole_values w inner element) (expression_values w inner element)
 
   -- of a struct: its own, and then those of its parts, or of the place that it is read from
   pub whole_values : World → List Named → Expression → List Shape
@@ -175,6 +186,28 @@ new_code_by w (StructShape tag) d whole word =
     whole ++ (request_code w (StructShape tag) d (d + 2) ++ (Do (Copy d (d + 1) (layout_of w (StructShape tag))) ∷ []))
 new_code_by w s d whole word = word ++ (request_code w s d (d + 1 + words_in s) ++ stores_code s d (d + 1) 0 0)
 
+-- An element's value comes into the temporaries behind the array's pointer, its count and the element's number, or a pointer to it does. Then it is stored where
+-- the element lies.
+abbrev pub element_by : World → Shape → ℕ → (whole word : List Statement) → List Statement
+element_by w (StructShape tag) d whole word =
+    whole ++ (Do (Element (d + 4) d (d + 2) (length (cells_of w (StructShape tag))) (extent_of w (StructShape tag)).size) ∷
+    Do (Copy (d + 4) (d + 3) (layout_of w (StructShape tag))) ∷ [])
+element_by w s d whole word =
+    word ++ (Do (Element (d + 3 + words_in s) d (d + 2) (length (cells_of w s)) (extent_of w s).size) ∷ stores_code s (d + 3 + words_in s) (d + 3) 0 0)
+
+-- the number of the next element
+abbrev pub next_number : ℕ → List Statement
+next_number d = Do (Constant (d + 3) 1) ∷ Do (Apply Add (d + 2) (d + 2) (d + 3)) ∷ []
+
+-- each element in its turn, by its number; the index is 0 behind them
+abbrev pub elements_code : ℕ → (each : List Statement) → List Statement
+elements_code d each =
+    While (all_of (Do (Apply LessUnsigned (d + 3) (d + 2) (d + 1)) ∷ [])) (d + 3) (all_of (each ++ next_number d)) ∷ Do (Constant (d + 2) 0) ∷ []
+
+-- A block for so many objects as the next temporary says is asked for in the region of the handle in this one, which gets a pointer to it.
+abbrev pub array_code : World → Shape → ℕ → (each : List Statement) → List Statement
+array_code w s d each = Do (RegionAlloc d d (d + 1) (layout_of w s)) ∷ Do (Constant (d + 2) 0) ∷ elements_code d each
+
 -- ---- expressions
 
 -- the first unnamed value has the number `own`
@@ -188,6 +221,7 @@ abbrev mutual
   expression_code w names (Expression.Call name arguments) d own =
       arguments_code w names (call_parameters w name.text) arguments d own ++ call_code w name.text (argument_words (call_parameters w name.text) arguments) d
   expression_code w names (Expression.Grouped at inner) d own = expression_code w names inner d own
+  expression_code w names (Expression.Text at bytes) d own = text_code (string_at w.strings at) d
   expression_code w names (Expression.NumElts at operand) d own = expression_code w names operand d own ++ count_code d
   expression_code w names (Expression.Suffixed primary suffixes) d own =
       let first = own + length (suffix_values w names suffixes) in
@@ -286,7 +320,12 @@ abbrev mutual
   pub new_code : World → List Named → Made → (d own : ℕ) → List Statement
   new_code w names (One value) d own =
       new_code_by w (static_shape w names value) d (whole_code w names value (d + 1) own) (expression_code w names value (d + 1) own)
-  new_code w names (Array index count element) d own = []
+  new_code w names (Array index count element) d own =
+      let inner = number_named index.text (d + 2) ∷ names in
+      let first = own + length (expression_values w names count) in
+      expression_code w names count (d + 1) own ++
+      array_code w (static_shape w inner element) d
+      (element_by w (static_shape w inner element) d (whole_code w inner element (d + 3) first) (expression_code w inner element (d + 3) first))
 
   -- a struct: made of its members, or copied from a place
   pub whole_code : World → List Named → Expression → (d own : ℕ) → List Statement

@@ -1,5 +1,5 @@
 -- What an object is made of, by the structs that are declared: its cells, where they are placed, and how large it is.
-use Rattle.std.specs.Prelude.{◌≡◌, ℕ, List, [], ◌∷◌}
+use Rattle.std.specs.Prelude.{◌≡◌, List, [], ◌∷◌}
 use Rattle.source_meaning.specs.Shapes.{Shape, Layout}
 use Rattle.source_meaning.specs.Sizes.{Extent, cells_by, struct_cells, extent_by, union_extent, struct_extent}
 use Rattle.source_meaning.specs.Placing.{Placed, placed_by, struct_placed}

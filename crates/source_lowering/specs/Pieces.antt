@@ -8,12 +8,13 @@ use Rattle.cyc_tree.specs.declared.expression.Prefix.TheVariants as prefix
 use Rattle.cyc_tree.specs.Tree.{Expression, Expressions, NoExpressions, MoreExpressions, Links, NoLinks, MoreLinks, Made, One, Array}
 use Rattle.source_meaning.specs.Shapes.{Shape, Shared, IntShape, UnsignedShape, CharShape, VoidShape, ThinShape, FatShape, HandleShape, StructShape, ArrayShape}
 use Rattle.source_meaning.specs.Shapes.{has_tag, pointee, part_shapes}
-use Rattle.source_meaning.specs.Memory.{IntegerType, AsInt, AsUnsigned, AsChar}
+use Rattle.source_meaning.specs.Memory.{IntegerType, AsInt, AsUnsigned, AsChar, Scalar, Wide}
 use Rattle.source_meaning.specs.Steps.{Entity, Variable, Fixed, Routine, World}
 use Rattle.source_meaning.specs.Operators.{common, by_type, operator_shape}
 use Rattle.source_meaning.specs.Places.{bound_to}
 use Rattle.source_meaning.specs.Calls.{number_type, function_of}
 use Rattle.source_meaning.specs.Programs.{integer_shape}
+pub use Rattle.source_lowering.specs.Naming.{Home, InBlock, InTemporary, Named, number_named, local_named}
 pub use Rattle.source_lowering.specs.Members.{
   put,
   all_of,
@@ -45,6 +46,7 @@ use Rattle.core_meaning.specs.Core as core
 use Rattle.core_meaning.specs.Core.{
   Operation,
   Constant,
+  Move,
   Narrow,
   Apply,
   LocalAddress,
@@ -63,18 +65,6 @@ use Rattle.core_meaning.specs.Core.{
 }
 
 -- ---- names
-
--- a local: its name and shape, how many blocks out it is, and its number in that block
-pub record Named : Type 0 where
-  pub name : List ℕ
-  pub shape : Shape
-  pub out : ℕ
-  pub index : ℕ
-
--- the innermost local of a name
-abbrev pub local_named : List Named → List ℕ → Option Named
-local_named [] name = None
-local_named (l ∷ ls) name = (if bytes_eq l.name name then Some l else local_named ls name)
 
 -- the number of a function, from 0 on
 abbrev pub number_of : List Routine → List ℕ → ℕ
@@ -141,14 +131,15 @@ abbrev mutual
   static_shape w names (Expression.Assign place value) = static_shape w names place
   static_shape w names (Expression.HeapRegion at) = HandleShape
   static_shape w names (Expression.NumElts at operand) = UnsignedShape
+  static_shape w names (Expression.Text at bytes) = FatShape CharShape
   static_shape w names (Expression.New at new) = new_shape w names new
   static_shape w names (Expression.NewIn at handle new) = new_shape w names new
   static_shape w names _ = VoidShape
 
-  -- a thin pointer to the one object that is made; no array is made
+  -- a thin pointer to the one object that is made, and a fat one to the first of an array
   pub new_shape : World → List Named → Made → Shape
   new_shape w names (One value) = ThinShape false Shared (static_shape w names value)
-  new_shape w names (Array index count element) = VoidShape
+  new_shape w names (Array index count element) = FatShape (static_shape w (number_named index.text 0 ∷ names) element)
 
   -- that of a chain, from what is on its left
   pub linked_shape : World → List Named → Links → Shape → Shape
@@ -185,8 +176,13 @@ get_global (Some (Variable s at)) d = load_global s d at.object
 get_global (Some (Fixed s v)) d = []
 get_global None d = []
 
+-- what a name stands for is read
+abbrev pub get_home : Shape → Home → ℕ → List Statement
+get_home s (InBlock out index) d = get_local s d out index
+get_home s (InTemporary t) d = Do (Move d t) ∷ []
+
 abbrev pub get_by : Option Named → Option Entity → ℕ → List Statement
-get_by (Some l) global d = get_local l.shape d l.out l.index
+get_by (Some l) global d = get_home l.shape l.home d
 get_by None global d = get_global global d
 
 -- a variable is read
@@ -198,8 +194,13 @@ put_global (Some (Variable s at)) d = store_global s d at.object
 put_global (Some (Fixed s v)) d = []
 put_global None d = []
 
+-- the number of an element is never assigned to, and has no place
+abbrev pub put_home : Shape → Home → ℕ → List Statement
+put_home s (InBlock out index) d = put_local s d out index
+put_home s (InTemporary t) d = []
+
 abbrev pub put_by : Option Named → Option Entity → ℕ → List Statement
-put_by (Some l) global d = put_local l.shape d l.out l.index
+put_by (Some l) global d = put_home l.shape l.home d
 put_by None global d = put_global global d
 
 -- ---- places
@@ -209,9 +210,13 @@ global_address (Some (Variable s at)) d = Do (DataAddress d at.object) ∷ []
 global_address (Some (Fixed s v)) d = []
 global_address None d = []
 
+abbrev pub home_address : Home → ℕ → List Statement
+home_address (InBlock out index) d = Do (LocalAddress d out index) ∷ []
+home_address (InTemporary t) d = []
+
 -- a pointer to a variable
 abbrev pub address_by : Option Named → Option Entity → ℕ → List Statement
-address_by (Some l) global d = Do (LocalAddress d l.out l.index) ∷ []
+address_by (Some l) global d = home_address l.home d
 address_by None global d = global_address global d
 
 -- ---- conversions and operators
@@ -336,6 +341,13 @@ pointed_code w prefix.Complement s d here = []
 pointed_code w prefix.Not s d here = []
 pointed_code w prefix.Dereference s d here = here ++ reach_code w s d
 pointed_code w prefix.AddressOf s d here = []
+
+-- ---- strings
+
+-- a string's object, its bytes with the final 0, and the index 0, as the literal's value says
+abbrev pub text_code : Option Scalar → ℕ → List Statement
+text_code (Some (Wide (Some s))) d = Do (DataAddress d s.first.object) ∷ Do (Constant (d + 1) s.count) ∷ Do (Constant (d + 2) s.index) ∷ []
+text_code _ d = []
 
 -- ---- calls
 

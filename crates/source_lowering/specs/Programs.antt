@@ -1,13 +1,16 @@
 -- What statements, functions, globals and programs are lowered to.
 use Rattle.std.specs.Prelude.{ℕ, zero, suc, ◌+◌, ◌%◌, Bool, true, false, if◌then◌else◌, Option, ◌^◌, Some, None, List, [], ◌∷◌, ◌++◌, map, slice_get, length}
-use Rattle.std.specs.Prelude.{max, codes}
+use Rattle.std.specs.Prelude.{max, codes, unwrap_or}
 use Rattle.cyc_tree.specs.Tree as tree
 use Rattle.cyc_tree.specs.Tree.{Expression, Initializer, Declaration, Statement, BlockItems, NoItems, Declare, Execute, Initial, Item, Program}
 use Rattle.cyc_words.specs.Words.{difference_of}
 use Rattle.source_meaning.specs.Shapes.{Shape, CharShape, VoidShape, ThinShape, FatShape, HandleShape, StructShape, ArrayShape, Part, part_shapes, written}
 use Rattle.source_meaning.specs.Shapes.{settled}
 use Rattle.source_meaning.specs.Steps.{Routine, World}
+use Rattle.source_meaning.specs.Memory.{Span, Scalar, Wide}
+use Rattle.source_meaning.specs.Places.{string_at}
 use Rattle.source_meaning.specs.Programs.{global_shape, world_of}
+use Rattle.source_meaning.specs.Strings.{Literal, program_strings}
 use Rattle.core_meaning.specs.Memory as memory
 use Rattle.core_meaning.specs.Core as core
 use Rattle.core_meaning.specs.Core.{
@@ -36,7 +39,7 @@ use Rattle.core_meaning.specs.Core.{
 use Rattle.source_lowering.specs.Layouts.{layout_of, local_of, first_part}
 use Rattle.source_lowering.specs.Members.{words_in, all_words}
 use Rattle.source_lowering.specs.Whole.{expression_values, is_made, run_code, run_values, whole_code, whole_values}
-use Rattle.source_lowering.specs.Lowered.{Named, number_of, static_shape, all_of, width_of, stored_code, put_local, conversion_code, results_in, place_code}
+use Rattle.source_lowering.specs.Lowered.{Named, Home, InBlock, InTemporary, number_of, static_shape, all_of, width_of, stored_code, put_local, conversion_code, results_in, place_code}
 use Rattle.source_lowering.specs.Lowered.{expression_code}
 pub use Rattle.source_lowering.specs.Temporaries.{last_of, operation_temporaries, statement_temporaries, temporaries_of, statement_passes, passed_by}
 
@@ -60,16 +63,20 @@ block_shapes (Execute s others) = block_shapes others
 abbrev pub locals_of : World → List Shape → List Local
 locals_of w shapes = map (local_of w) shapes
 
--- a block further in, each name is a block further out
+-- a block further in, each local is a block further out
+abbrev pub further_out : Home → Home
+further_out (InBlock out index) = InBlock (suc out) index
+further_out (InTemporary t) = InTemporary t
+
 abbrev pub one_out : Named → Named
-one_out l = record l { out = suc l.out }
+one_out l = record l { home = further_out l.home }
 
 abbrev pub outward : List Named → List Named
 outward names = map one_out names
 
 -- a local of this block
 abbrev pub named_here : List ℕ → Shape → ℕ → Named
-named_here name shape index = record { name = name; shape = shape; out = 0; index = index }
+named_here name shape index = record { name = name; shape = shape; home = InBlock 0 index }
 
 -- ---- declarations: the local of a number gets what it begins with, or its initializer's value, which comes into the first free temporaries
 
@@ -258,7 +265,7 @@ function_code w f = record {
   body = body_code w f;
 }
 
--- ---- globals
+-- ---- globals, and behind them the strings
 
 -- a global of a char keeps the low bits
 abbrev pub word_in : Shape → ℕ → ℕ
@@ -272,15 +279,28 @@ constant_word (tree.Character at byte) = byte % 256
 constant_word (tree.Text at bytes) = 0
 constant_word (tree.Null at) = 0
 
-abbrev pub constant_content : tree.Constant → Shape → memory.Content
-constant_content (tree.Null at) s = memory.Null
-constant_content c s = memory.Word (word_in s (constant_word c))
+-- the parts of a fat pointer to the first element of the heap's object of a number
+abbrev pub span_content : Span → ℕ → memory.Content
+span_content s zero = memory.Pointer (record { region = memory.Born 0; object = s.first.object; cell = 0 }) 0
+span_content s (suc zero) = memory.Word s.count
+span_content s (suc (suc part)) = memory.Word s.index
+
+-- those of a string's value; where there is no string, of NULL
+abbrev pub text_content : Option Scalar → ℕ → memory.Content
+text_content (Some (Wide (Some s))) part = span_content s part
+text_content _ zero = memory.Null
+text_content _ (suc part) = memory.Word 0
+
+abbrev pub constant_content : World → tree.Constant → Shape → memory.Content
+constant_content w (tree.Null at) s = memory.Null
+constant_content w (tree.Text at bytes) s = text_content (string_at w.strings at) 0
+constant_content w c s = memory.Word (word_in s (constant_word c))
 
 -- what a global begins with
-abbrev pub initial_content : Initial → Shape → memory.Content
-initial_content Initial.Unset s = first_part s
-initial_content (Initial.Elements count) s = first_part s
-initial_content (Initial.Given c) s = constant_content c s
+abbrev pub initial_content : World → Initial → Shape → memory.Content
+initial_content w Initial.Unset s = first_part s
+initial_content w (Initial.Elements count) s = first_part s
+initial_content w (Initial.Given c) s = constant_content w c s
 
 abbrev pub datum_of : World → Shape → memory.Content → Datum
 datum_of w s first = record { layout = layout_of w s; count = 1; first = λ cell part. first }
@@ -298,12 +318,18 @@ begun_datum l = record {
   first = λ cell part. first_content (memory.shape_in (slice_get l.layout.cells (cell % length l.layout.cells)) part);
 }
 
+-- a fat pointer that is given a string
+abbrev pub text_datum : World → Shape → Option Scalar → Datum
+text_datum w s (Some (Wide (Some span))) = record { layout = layout_of w s; count = 1; first = λ cell part. span_content span part }
+text_datum w s _ = begun_datum (local_of w s)
+
 -- a global of a struct, of a fat pointer or of an array begins as its layout does
 abbrev pub global_datum : World → Initial → Shape → Datum
 global_datum w initial (StructShape tag) = begun_datum (local_of w (StructShape tag))
+global_datum w (Initial.Given (tree.Text at bytes)) (FatShape to) = text_datum w (FatShape to) (string_at w.strings at)
 global_datum w initial (FatShape to) = begun_datum (local_of w (FatShape to))
 global_datum w initial (ArrayShape count of) = begun_datum (local_of w (ArrayShape count of))
-global_datum w initial s = datum_of w s (initial_content initial s)
+global_datum w initial s = datum_of w s (initial_content w initial s)
 
 -- the globals, in their order
 abbrev pub data_of : World → List Item → List Datum
@@ -311,11 +337,21 @@ data_of w [] = []
 data_of w (tree.GlobalItem g ∷ items) = global_datum w g.initial (global_shape g.initial (settled (written g.of))) ∷ data_of w items
 data_of w (_ ∷ items) = data_of w items
 
+-- ---- strings
+
+-- a string's bytes and one final 0
+abbrev pub string_datum : World → Literal → Datum
+string_datum w s = record {
+  layout = layout_of w CharShape;
+  count = length s.1 + 1;
+  first = λ cell part. memory.Word (unwrap_or (slice_get (s.1 ++ 0 ∷ []) cell) 0 % 256);
+}
+
 -- ---- programs
 
 abbrev pub program_code : Program → core.Program
 program_code p = record {
   functions = map (function_code (world_of p)) (world_of p).functions;
   main = number_of (world_of p).functions (codes "main");
-  data_objects = data_of (world_of p) p;
+  data_objects = data_of (world_of p) p ++ map (string_datum (world_of p)) (program_strings p);
 }

@@ -1,23 +1,10 @@
 -- The relation between a source's memory and Core's, and when both do the same from there on.
 use Rattle.std.proofs.Common.{◌≡◌, ℕ, suc, ◌+◌, ◌*◌, ◌^◌, ◌<◌, ◌≤◌, ◌⊎◌, List, [], ◌∷◌, length, Bool, true, Option, Some, None}
-use Rattle.std.specs.Prelude.{slice_get}
 use Rattle.cyc_words.specs.Events.{AreBytes, SourceEnding}
 pub use Rattle.source_lowering.specs.Agreeing.{SameEvent, BothVisible, BothCalled, BothReturned, SameEvents, SameOutcome}
 use Rattle.step_trees.specs.Trees.{run}
-use Rattle.source_meaning.specs.Shapes.{
-  Shape,
-  IntShape,
-  UnsignedShape,
-  CharShape,
-  VoidShape,
-  ThinShape,
-  FatShape,
-  HandleShape,
-  KeyShape,
-  StructShape,
-  UnionShape,
-  ArrayShape,
-}
+use Rattle.source_meaning.specs.Shapes.{Shape, IntShape, UnsignedShape, CharShape, VoidShape, ThinShape, FatShape, HandleShape, KeyShape}
+use Rattle.source_meaning.specs.Shapes.{StructShape, UnionShape, ArrayShape}
 use Rattle.source_meaning.specs.Memory as source
 use Rattle.source_meaning.specs.Memory.{
   IntegerType,
@@ -37,7 +24,8 @@ use Rattle.source_meaning.specs.Memory.{
 }
 use Rattle.source_meaning.specs.Steps as steps
 use Rattle.source_meaning.specs.Steps.{Entity, World, Binding, Variable, Fixed}
-use Rattle.source_meaning.specs.Programs.{source_bodies}
+use Rattle.source_meaning.specs.Places.{span_at}
+use Rattle.source_meaning.specs.Programs.{source_bodies, heap_spot}
 use Rattle.source_meaning.specs.Conversions.{cells_of, size_of}
 use Rattle.core_meaning.specs.Memory as core
 use Rattle.core_meaning.specs.Memory.{Content, Word, Null, Pointer, Birth, Part}
@@ -50,6 +38,7 @@ use Rattle.source_lowering.specs.Lowered.{Named, put}
 use Rattle.source_lowering.specs.Lowerable.{IsObject}
 use Rattle.source_lowering.specs.Programs.{RegionsAround}
 use Rattle.source_lowering.specs.ObjectCells.{HasCells}
+pub use Rattle.source_lowering.specs.InScope.{IsVariableAt, IsNumber, StandsFor, IsLocal, AreLocals, HoldsNumber, IsHeld, AreHeld}
 
 -- ---- contents
 
@@ -252,18 +241,6 @@ pub record Grown (b : Bound) (m : source.Memory) (c : core.Memory) (m' : source.
 
 -- ---- names in scope
 
-pub record IsLocal (blocks : List ℕ) (b : Binding) (l : Named) : Type 0 where
-  pub frame : ℕ
-  pub in_block : slice_get blocks l.out ≡ Some frame
-  pub named : b.name ≡ l.name
-  pub is : b.entity ≡ Variable l.shape (record { region = source.Frame frame; object = l.index; cell = 0 })
-
-abbrev pub AreLocals : List ℕ → List Binding → List Named → Type 0
-AreLocals blocks [] [] = Unit {0}
-AreLocals blocks (b ∷ bs) (l ∷ ls) = IsLocal blocks b l × AreLocals blocks bs ls
-AreLocals blocks [] (l ∷ ls) = ⊥
-AreLocals blocks (b ∷ bs) [] = ⊥
-
 abbrev pub IsLed : World → source.Memory → core.Memory → Entity → Type 0
 IsLed w m c (Variable shape s) = VariableLeads w m c shape s
 IsLed w m c (Fixed shape v) = Unit {0}
@@ -273,10 +250,35 @@ abbrev pub AreLed : World → source.Memory → core.Memory → List Binding →
 AreLed w m c [] = Unit {0}
 AreLed w m c (b ∷ bs) = IsLed w m c b.entity × AreLed w m c bs
 
+-- ---- strings
+
+-- a string's value: a fat pointer to the first of its characters, of which there is one at least, and which lie in both heaps
+pub record IsText (w : World) (m : source.Memory) (c : core.Memory) (v : Scalar) : Type 0 where
+  pub number : ℕ
+  pub count : ℕ
+  pub value : v ≡ span_at count (heap_spot number)
+  pub some : 0 < count
+  pub few : count < 2 ^ 32
+  pub leads : LeadsAll w m c CharShape count (heap_spot number) 0
+
+-- it holds of each string's value
+abbrev pub AllStrings : (Scalar → Type 0) → List (ℕ × Scalar) → Type 0
+AllStrings holds [] = Unit {0}
+AllStrings holds (s ∷ ss) = holds s.1 × AllStrings holds ss
+
+abbrev pub AreTexts : World → source.Memory → core.Memory → List (ℕ × Scalar) → Type 0
+AreTexts w m c ss = AllStrings (λ v. IsText w m c v) ss
+
+-- what a run has from its start: the globals lie where their names say, and the strings where their values say
+pub record HasStatics (w : World) (m : source.Memory) (c : core.Memory) : Type 0 where
+  pub globals : AreLed w m c w.globals
+  pub strings : AreTexts w m c w.strings
+
 -- ---- a point of both runs
 
 -- What both have in common in a scope: the activation of its block, and those around it; how many locals it has, and the shapes of those to come; the number of
--- its function's activation, and the shapes of its unnamed values; how many of these an expression leaves as they are; and how many regions are in scope.
+-- its function's activation, and the shapes of its unnamed values; how many of these an expression leaves as they are; and how many regions are in scope:
+-- so many of the first temporaries are taken.
 pub record Point : Type 0 where
   pub world : World
   pub program : Program
@@ -295,7 +297,8 @@ pub record SameState (p : Point) (m : source.Memory) (c : Config) : Type 0 where
   pub agree : SameMemory p.world m c.memory
   pub blocks : c.blocks ≡ p.frame ∷ p.outer
   pub locals : AreLed p.world m c.memory p.locals
-  pub globals : AreLed p.world m c.memory p.world.globals
+  pub held : AreHeld p.regions.all c.temps p.locals p.names
+  pub statics : HasStatics p.world m c.memory
   pub begun : p.frame < m.activations
   pub made : m.objects (source.Frame p.frame) ≡ p.made
   pub pending : ArePending p.world c.memory (core.Frame p.frame) p.made p.pending
@@ -370,9 +373,10 @@ pub record ANothing (shape : Shape) (vs : List Scalar) : Type 0 where
 abbrev pub Given : World → source.Memory → core.Memory → Shape → List Scalar → List Content → Type 0
 Given w m c shape vs cs = AValue w m c shape vs cs ⊎ ANothing shape vs
 
--- a value is in the temporaries from one on, and those below are as they were
+-- A value is in the temporaries from one on, and those below are as they were; those that are taken are among them.
 pub record GoesOn (p : Point) (n d : ℕ) (m0 : source.Memory) (c0 : Config) (shape : Shape) (s : List Scalar → source.Memory → steps.Step)
     (k : Config → core_steps.Step) : Type 0 where
+  pub above : p.regions.all ≤ d
   pub go : (m : source.Memory) (c : Config) (vs : List Scalar) → SameState p m c → GrownAt p m0 c0 m c → AreKept d c0 c
       → Given p.world m c.memory shape vs (contents_in d shape c.temps) → SameAt p n (s vs m) (k c)
 

@@ -53,10 +53,15 @@ IsNullable (ThinShape true owner to) = Unit {0}
 IsNullable (FatShape to) = Unit {0}
 IsNullable _ = ⊥
 
--- a number for an integer, and NULL for a pointer that may be NULL
+abbrev pub IsString : Shape → Type 0
+IsString (ThinShape true owner CharShape) = Unit {0}
+IsString (FatShape CharShape) = Unit {0}
+IsString _ = ⊥
+
+-- a number for an integer, NULL for a pointer that may be NULL, and a string for one to characters
 abbrev pub TakesConstant : Shape → tree.Constant → Type 0
 TakesConstant shape (tree.Number at value suffix) = IsIntegerShape shape
 TakesConstant shape (tree.Negative at value suffix) = IsIntegerShape shape
 TakesConstant shape (tree.Character at byte) = IsIntegerShape shape
-TakesConstant shape (tree.Text at bytes) = ⊥
+TakesConstant shape (tree.Text at bytes) = IsString shape
 TakesConstant shape (tree.Null at) = IsNullable shape

@@ -18,6 +18,7 @@ use Rattle.core_meaning.specs.Core.{
   MoreStatements,
   Constant,
   NullPointer,
+  Move,
   Narrow,
   Apply,
   LocalAddress,
@@ -55,6 +56,7 @@ last_of (t ∷ ts) = max (suc t) (last_of ts)
 -- the temporaries of the operations that are used here
 abbrev pub operation_temporaries : Operation → ℕ
 operation_temporaries (Constant t w) = suc t
+operation_temporaries (Move t x) = max (suc t) (suc x)
 operation_temporaries (Narrow t x) = max (suc t) (suc x)
 operation_temporaries (Apply o t x y) = max (suc t) (max (suc x) (suc y))
 operation_temporaries (NullPointer t) = suc t
@@ -83,7 +85,6 @@ operation_temporaries (KeyNew t) = suc t
 operation_temporaries (KeyOpen k) = suc k
 operation_temporaries (KeyClose k) = suc k
 operation_temporaries (KeyFree k) = suc k
-operation_temporaries _ = 0
 
 abbrev mutual
   pub statement_temporaries : core.Statement → ℕ

@@ -1,5 +1,5 @@
 -- Frames and code are within their bounds.
-use Rattle.std.proofs.Common.{◌≡◌, ℕ, suc, ◌+◌, ◌*◌, ◌≤◌, List, [], ◌∷◌, ◌++◌, length, map, Some, None, refl, sym, subst, arith}
+use Rattle.std.proofs.Common.{◌≡◌, ℕ, suc, ◌+◌, ◌*◌, ◌≤◌, List, [], ◌∷◌, ◌++◌, length, map, Some, None, refl, sym, subst, arith, max}
 use Rattle.cyc_tree.specs.Tree as tree
 use Rattle.cyc_tree.specs.Tree.{Statement, BlockItems, NoItems, Declare, Execute, Program}
 use Rattle.source_meaning.specs.Shapes.{Shape, VoidShape, Part, part_shapes}
@@ -37,7 +37,7 @@ use Rattle.source_lowering.specs.Bounds.{
 }
 use Rattle.source_lowering.proofs.expressions.Names.{AreParameters, IsRoutine, AreRoutines}
 use Rattle.source_lowering.proofs.bounds.LocalWords.{many_words, words_same}
-use Rattle.source_lowering.proofs.bounds.Costs.{Costs, no_costs, one_costs, both_cost, more_costs, at_most, does_one, if_costs}
+use Rattle.source_lowering.proofs.bounds.Costs.{Costs, no_costs, one_costs, both_cost, more_costs, at_most, does_one, if_costs, while_costs}
 use Rattle.source_lowering.proofs.bounds.ValueCosts.{words_few, stored_costs}
 use Rattle.source_lowering.proofs.bounds.Counted.{two_nodes}
 use Rattle.source_lowering.proofs.bounds.PartCosts.{results_few, results_last, results_many, conversion_costs}
@@ -45,6 +45,7 @@ use Rattle.source_lowering.proofs.bounds.ExpressionCosts.{expression_costs}
 use Rattle.source_lowering.proofs.bounds.WholeCosts.{run_costs}
 use Rattle.source_lowering.proofs.bounds.DeclarationCosts.{declaration_bounded, ending_costs, regions_paid, leaving_costs}
 use Rattle.source_lowering.proofs.Programs.{routines_are}
+use Rattle.source_lowering.proofs.bounds.Taken.{taken_by, taken_outward, taken_parameters}
 
 -- ---- words of locals
 
@@ -60,14 +61,6 @@ record IsBounded (t p l n : ℕ) (code : List core.Statement) : Type 0 where
   costs : Costs t p l operations code
   less : operations ≤ 8 * n
 
-while_costs : (t p d l l' o o' : ℕ) (test body : List core.Statement) → suc d ≤ t → Costs t p l o test → Costs t p l' o' body
-    → Costs t p (l + l') (1 + (o + o')) (While (all_of test) d (all_of body) ∷ [])
-while_costs t p d l l' o o' test body h x y =
-    let a = x.temporaries in let b = x.passes in let e = x.locals in let f = x.operations in
-    let a' = y.temporaries in let b' = y.passes in let e' = y.locals in let f' = y.operations in
-    one_costs t p (l + l') (1 + (o + o')) (While (all_of test) d (all_of body)) (omega (arith, h, a, a')) (omega (arith, b, b')) (omega (arith, e, e'))
-    (omega (arith, f, f'))
-
 -- the way out, behind the regions that are left
 leaves : (t p all count o : ℕ) (s : core.Statement) → all ≤ t → o ≤ 8 → Costs t p 0 o (s ∷ [])
     → IsBounded t p 0 (1 + count) (leaving_code all count ++ (s ∷ []))
@@ -82,11 +75,12 @@ record ItemsBounded (w : World) (t p n : ℕ) (items : BlockItems) (code : List 
 
 mutual
   statement_bounded : (w : World) (result : Shape) (names : List Named) (r : RegionsAround) (own : ℕ) (s : Statement) (t p : ℕ)
-      → TakesStatement w result names s → r.all + (statement_locals w s + 2 * statement_nodes w s) + 1 ≤ t → 2 * statement_nodes w s ≤ p
+      → TakesStatement w result names s → max (taken_by names) (r.all + (statement_locals w s + 2 * statement_nodes w s) + 1) ≤ t → 2 * statement_nodes w s ≤ p
       → IsBounded t p (statement_locals w s) (statement_size s + statement_left r s) (statement_code w result names r own s)
   statement_bounded w result names r own (Statement.Empty at) t p h f g = record { operations = 0; costs = no_costs t p; less = omega arith }
   statement_bounded w result names r own (Statement.Block at items) t p h f g =
-      let one = items_bounded w result (outward names) r 0 own items t p h f g in
+      let same = taken_outward names in
+      let one = items_bounded w result (outward names) r 0 own items t p h (omega (arith, f, same)) g in
       let b = one.bounded.less in let l = one.locals in
       let m = many_words w (block_shapes items) in
       let a = one.bounded.costs.temporaries in let e = one.bounded.costs.passes in let k = one.bounded.costs.locals in let o = one.bounded.costs.operations in
@@ -161,7 +155,7 @@ mutual
   statement_bounded w result names r own _ t p h f g = absurd h
 
   items_bounded : (w : World) (result : Shape) (names : List Named) (r : RegionsAround) (index own : ℕ) (items : BlockItems) (t p : ℕ)
-      → TakesItems w result names index items → r.all + (item_locals w items + 2 * item_nodes w items) + 1 ≤ t → 2 * item_nodes w items ≤ p
+      → TakesItems w result names index items → max (taken_by names) (r.all + (item_locals w items + 2 * item_nodes w items) + 1) ≤ t → 2 * item_nodes w items ≤ p
       → ItemsBounded w t p (item_size items + items_left r items) items (items_code w result names r index own items)
   items_bounded w result names r index own NoItems t p h f g = record {
     inner = 0;
@@ -253,7 +247,9 @@ body_bounded w f r =
     let shapes = part_shapes f.parameters ++ block_shapes f.body in
     let first = parameters_code f.parameters 0 0 words in
     let body = items_code w f.result (parameter_names f.parameters 0 []) no_regions (length f.parameters) 0 f.body in
-    let items = items_bounded w f.result (parameter_names f.parameters 0 []) no_regions (length f.parameters) 0 f.body t p r.body (omega arith) (omega arith) in
+    let taken = taken_parameters f.parameters 0 [] in
+    let items = items_bounded w f.result (parameter_names f.parameters 0 []) no_regions (length f.parameters) 0 f.body t p r.body (omega (arith, taken))
+    (omega arith) in
     let inside = both_cost t p 0 (4 * length f.parameters) items.inner items.bounded.operations first body
     (parameters_costs f.parameters 0 0 words t p (omega arith) (omega arith)) items.bounded.costs in
     let a = inside.temporaries in let b = inside.passes in let c = inside.locals in let d = inside.operations in

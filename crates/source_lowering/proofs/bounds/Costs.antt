@@ -1,7 +1,7 @@
 -- What code takes: temporaries, words passed to calls, words of locals, operations.
 use Rattle.std.proofs.Common.{◌≡◌, ℕ, suc, ◌+◌, ◌≤◌, List, [], ◌∷◌, ◌++◌, max, arith}
 use Rattle.core_meaning.specs.Core as core
-use Rattle.core_meaning.specs.Core.{Statement, Do, If, Raise, Statements, NoStatements, MoreStatements}
+use Rattle.core_meaning.specs.Core.{Statement, Do, If, While, Raise, Statements, NoStatements, MoreStatements}
 use Rattle.source_lowering.specs.Lowered.{all_of}
 use Rattle.source_lowering.specs.Temporaries.{operation_temporaries, statement_temporaries, temporaries_of, statement_passes, passed_by}
 use Rattle.source_lowering.specs.Bounds.{statement_words, block_words, operation_count, branch_count, statement_operations, operations_of}
@@ -107,3 +107,13 @@ if_costs t p d l l' o o' these those h x y =
     let k' = branch_less (all_of those) (operations_of (all_of those)) in
     one_costs t p (l + l') (1 + (o + o')) (If d (all_of these) (all_of those)) (omega (arith, h, a, a')) (omega (arith, b, b')) (omega (arith, e, e'))
     (omega (arith, f, f', k, k'))
+
+-- ---- loops
+
+pub while_costs : (t p d l l' o o' : ℕ) (test body : List Statement) → suc d ≤ t → Costs t p l o test → Costs t p l' o' body
+    → Costs t p (l + l') (1 + (o + o')) (While (all_of test) d (all_of body) ∷ [])
+while_costs t p d l l' o o' test body h x y =
+    let a = x.temporaries in let b = x.passes in let e = x.locals in let f = x.operations in
+    let a' = y.temporaries in let b' = y.passes in let e' = y.locals in let f' = y.operations in
+    one_costs t p (l + l') (1 + (o + o')) (While (all_of test) d (all_of body)) (omega (arith, h, a, a')) (omega (arith, b, b')) (omega (arith, e, e'))
+    (omega (arith, f, f'))

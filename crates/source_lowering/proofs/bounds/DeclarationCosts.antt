@@ -1,5 +1,5 @@
 -- What the code of declarations takes, and of the ends and ways out of regions.
-use Rattle.std.proofs.Common.{ℕ, zero, suc, ◌+◌, ◌*◌, ◌≤◌, List, [], ◌∷◌, ◌++◌, arith}
+use Rattle.std.proofs.Common.{ℕ, zero, suc, ◌+◌, ◌*◌, ◌≤◌, List, [], ◌∷◌, ◌++◌, arith, max}
 use Rattle.cyc_tree.specs.Tree as tree
 use Rattle.cyc_tree.specs.Tree.{Expression, Initializer, Declaration}
 use Rattle.source_meaning.specs.Shapes.{Shape, ThinShape, FatShape, ArrayShape, HandleShape, StructShape, written, settled}
@@ -19,6 +19,7 @@ use Rattle.source_lowering.proofs.bounds.PartCosts.{conversion_costs}
 use Rattle.source_lowering.proofs.bounds.Counted.{two_nodes}
 use Rattle.source_lowering.proofs.bounds.ExpressionCosts.{expression_costs}
 use Rattle.source_lowering.proofs.bounds.WholeCosts.{source_costs}
+use Rattle.source_lowering.proofs.bounds.Taken.{taken_by}
 
 -- ---- declarations
 
@@ -48,7 +49,7 @@ unset_costs w s d index t p h = by s
     by of = word of
 
 value_bounded : (w : World) (names : List Named) (s : Shape) (e : Expression) (d index own t p : ℕ) → TakesValue w names s e
-    → d + 2 * frame_nodes e ≤ t → 2 * frame_nodes e ≤ p → IsDeclared t p (tokens_of e) (value_code w names s e d index own)
+    → max (taken_by names) (d + 2 * frame_nodes e) ≤ t → 2 * frame_nodes e ≤ p → IsDeclared t p (tokens_of e) (value_code w names s e d index own)
 value_bounded w names s e d index own t p h f g = by s h
   where
     word : (of : Shape) → Takes w names e → IsDeclared t p (tokens_of e)
@@ -78,7 +79,7 @@ value_bounded w names s e d index own t p h f g = by s h
     by of h = word of h
 
 pub declaration_bounded : (w : World) (names : List Named) (declared : Declaration) (d index own t p : ℕ) → TakesDeclaration w names declared
-    → d + 2 * declaration_nodes declared + 1 ≤ t → 2 * declaration_nodes declared ≤ p
+    → max (taken_by names) (d + 2 * declaration_nodes declared + 1) ≤ t → 2 * declaration_nodes declared ≤ p
     → IsDeclared t p (declaration_tokens declared) (declaration_code w names declared d index own)
 declaration_bounded w names (tree.Local of name Initializer.Unset) d index own t p h f g =
     record { operations = 2; costs = unset_costs w (settled (written of)) d index t p (omega (arith, f)); less = omega arith }

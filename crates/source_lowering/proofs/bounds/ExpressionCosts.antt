@@ -1,5 +1,5 @@
 -- What the code of an expression takes: temporaries by its nodes, and operations by its tokens.
-use Rattle.std.proofs.Common.{ℕ, suc, ◌+◌, ◌*◌, ◌%◌, ◌≤◌, List, [], ◌∷◌, ◌++◌, length, arith}
+use Rattle.std.proofs.Common.{ℕ, suc, ◌+◌, ◌*◌, ◌%◌, ◌≤◌, List, [], ◌∷◌, ◌++◌, length, arith, max}
 use Rattle.cyc_tree.specs.declared.expression.Prefix.TheVariants as prefix
 use Rattle.cyc_tree.specs.Tree.{Expression, Expressions, NoExpressions, MoreExpressions, Links, NoLinks, MoreLinks, Suffixes, NoSuffixes, Index, Dot, Arrow}
 use Rattle.cyc_tree.specs.Tree.{Made, One, Array}
@@ -7,11 +7,11 @@ use Rattle.source_meaning.specs.Shapes.{Shape, Part, parts_of, pointee}
 use Rattle.source_meaning.specs.Sizes.{rounded_up}
 use Rattle.source_meaning.specs.Steps.{World}
 use Rattle.source_meaning.specs.Operators.{operator_shape}
-use Rattle.source_meaning.specs.Places.{bound_to}
+use Rattle.source_meaning.specs.Places.{bound_to, string_at}
 use Rattle.source_meaning.specs.Conversions.{cells_of}
 use Rattle.core_meaning.specs.Core.{Statement, Do, If, Constant, HeapHandle, NullPointer, OwnAddress, NoStatements}
 use Rattle.source_lowering.specs.Layouts.{extent_of}
-use Rattle.source_lowering.specs.Lowered.{Named, local_named, static_shape, values_by, expression_values, whole_values, all_of, prefix_shape, suffixed_shape}
+use Rattle.source_lowering.specs.Lowered.{Named, local_named, static_shape, values_by, expression_values, whole_values, all_of, prefix_shape, suffixed_shape, number_named}
 use Rattle.source_lowering.specs.Lowered.{suffix_values, Left, left_of, member_at, member_behind, element_at, suffixed_code, word_code, call_parameters}
 use Rattle.source_lowering.specs.Lowered.{call_shape, expression_code, place_code, put_code, links_code, all_code, any_code, arguments_code, new_code}
 use Rattle.source_lowering.specs.Lowered.{whole_code, members_code}
@@ -23,17 +23,18 @@ use Rattle.source_lowering.proofs.bounds.Costs.{no_costs, both_cost, does_one}
 use Rattle.source_lowering.proofs.bounds.PartCosts.{IsCheap, ArePassed, get_costs, put_costs, conversion_costs, operator_costs, tested_word, results_few}
 use Rattle.source_lowering.proofs.bounds.PrefixCosts.{IsPointed, negate_costs, complement_costs, inverted_costs, contents_costs, loaded_costs}
 use Rattle.source_lowering.specs.Members.{words_in}
-use Rattle.source_lowering.proofs.bounds.ValueCosts.{words_few, kept_costs, count_costs}
+use Rattle.source_lowering.proofs.bounds.ValueCosts.{words_few, kept_costs, count_costs, text_costs}
 use Rattle.source_lowering.proofs.bounds.SuffixCosts.{IsLeft, more_left, member_left, dot_left, arrow_left, element_left, pointed_left, stored_left}
-use Rattle.source_lowering.proofs.bounds.MadeCosts.{IsWhole, IsMade, read_costs, member_costs, made_costs, heap_costs}
+use Rattle.source_lowering.proofs.bounds.MadeCosts.{IsWhole, IsMade, read_costs, member_costs, made_costs, heap_costs, array_costs}
 use Rattle.source_lowering.proofs.bounds.OperandCosts.{tested_costs, IsJoined, tested_less, these_costs, those_costs, AreArguments, one_cheap, called_cheap}
 use Rattle.source_lowering.proofs.bounds.OperandCosts.{variable_costs}
+use Rattle.source_lowering.proofs.bounds.Taken.{taken_by, found_less}
 
 -- ---- all of them
 
 mutual
   -- a value is stored; it takes three temporaries at most
-  pub stores_costs : (w : World) (names : List Named) (e : Expression) (t p d own : ℕ) → TakesPlace w names e → d + 3 + 2 * frame_nodes e ≤ t
+  pub stores_costs : (w : World) (names : List Named) (e : Expression) (t p d own : ℕ) → TakesPlace w names e → max (taken_by names) (d + 3 + 2 * frame_nodes e) ≤ t
       → 2 * frame_nodes e ≤ p → IsCheap t p (tokens_of e) (put_code w names e d own)
   stores_costs w names (Expression.Variable name) t p d own h f g =
       one_cheap t p 1 4 _ (put_costs t p d (local_named names name.text) (bound_to w.globals name.text) (omega (arith, f))) (omega arith)
@@ -55,12 +56,12 @@ mutual
       stored_left t p (frame_nodes primary + suffix_nodes suffixes) (tokens_of primary + suffix_tokens suffixes) (d + words_in s) d _
       (omega (arith, f, few)) (omega (arith, f)) (primary_costs w names suffixes (static_shape w names primary) (λ e. expression_code w names primary e all)
       (λ e. place_code w names primary e all) primary t p (frame_nodes primary) (tokens_of primary) own
-      (two_nodes primary) h (omega (arith, g)) (λ k d r. expression_costs w names primary t p d all k r (omega (arith, g)))
-      (λ k d r. place_costs w names primary t p d all k r (omega (arith, g))))
+      (omega (arith, f)) (two_nodes primary) h (omega (arith, g)) (λ k d r. expression_costs w names primary t p d all k (omega (arith, r, f)) (omega (arith, g)))
+      (λ k d r. place_costs w names primary t p d all k (omega (arith, r, f)) (omega (arith, g))))
   stores_costs w names _ t p d own h f g = absurd h
 
   -- a pointer to a place
-  pub place_costs : (w : World) (names : List Named) (e : Expression) (t p d own : ℕ) → TakesPlace w names e → d + 2 * frame_nodes e ≤ t
+  pub place_costs : (w : World) (names : List Named) (e : Expression) (t p d own : ℕ) → TakesPlace w names e → max (taken_by names) (d + 2 * frame_nodes e) ≤ t
       → 2 * frame_nodes e ≤ p → IsPointed t p (tokens_of e) (place_code w names e d own)
   place_costs w names (Expression.Variable name) t p d own h f g = variable_costs w names name.text t p d (omega (arith, f))
   place_costs w names (Expression.Grouped at inner) t p d own h f g =
@@ -71,23 +72,27 @@ mutual
       (expression_costs w names operand t p d own h (omega (arith, f)) (omega (arith, g)))
   place_costs w names (Expression.Suffixed primary suffixes) t p d own h f g =
       let all = own + length (suffix_values w names suffixes) in
-      pointed_left t p (frame_nodes primary + suffix_nodes suffixes) (tokens_of primary + suffix_tokens suffixes) d _ f
+      pointed_left t p (frame_nodes primary + suffix_nodes suffixes) (tokens_of primary + suffix_tokens suffixes) d _ (omega (arith, f))
       (primary_costs w names suffixes (static_shape w names primary) (λ e. expression_code w names primary e all)
       (λ e. place_code w names primary e all) primary t p (frame_nodes primary) (tokens_of primary) own
-      (two_nodes primary) h (omega (arith, g)) (λ k d r. expression_costs w names primary t p d all k r (omega (arith, g)))
-      (λ k d r. place_costs w names primary t p d all k r (omega (arith, g))))
+      (omega (arith, f)) (two_nodes primary) h (omega (arith, g)) (λ k d r. expression_costs w names primary t p d all k (omega (arith, r, f)) (omega (arith, g)))
+      (λ k d r. place_costs w names primary t p d all k (omega (arith, r, f)) (omega (arith, g))))
   place_costs w names _ t p d own h f g = absurd h
 
-  pub expression_costs : (w : World) (names : List Named) (e : Expression) (t p d own : ℕ) → Takes w names e → d + 2 * frame_nodes e ≤ t
+  pub expression_costs : (w : World) (names : List Named) (e : Expression) (t p d own : ℕ) → Takes w names e → max (taken_by names) (d + 2 * frame_nodes e) ≤ t
       → 2 * frame_nodes e ≤ p → IsCheap t p (tokens_of e) (expression_code w names e d own)
   expression_costs w names (Expression.Number at value suffix) t p d own h f g =
       one_cheap t p 1 1 _ (does_one t p (Constant d value) (omega (arith, f))) (omega arith)
   expression_costs w names (Expression.Character at byte) t p d own h f g =
       one_cheap t p 1 1 _ (does_one t p (Constant d (byte % 256)) (omega (arith, f))) (omega arith)
   expression_costs w names (Expression.Null at) t p d own h f g = one_cheap t p 1 1 _ (does_one t p (NullPointer d) (omega (arith, f))) (omega arith)
+  expression_costs w names (Expression.Text at bytes) t p d own h f g =
+      one_cheap t p 1 3 _ (text_costs t p d (string_at w.strings at) (omega (arith, f))) (omega arith)
   expression_costs w names (Expression.HeapRegion at) t p d own h f g = one_cheap t p 1 1 _ (does_one t p (HeapHandle d) (omega (arith, f))) (omega arith)
   expression_costs w names (Expression.Variable name) t p d own h f g =
-      one_cheap t p 1 4 _ (get_costs t p d (local_named names name.text) (bound_to w.globals name.text) (omega (arith, f))) (omega arith)
+      let found = found_less names name.text in
+      one_cheap t p 1 4 _ (get_costs t p d (local_named names name.text) (bound_to w.globals name.text) (omega (arith, f)) (omega (arith, f, found)))
+      (omega arith)
   expression_costs w names (Expression.Call name arguments) t p d own h f g =
       let few = results_few (call_shape w name.text) in
       called_cheap w name.text (call_parameters w name.text) arguments (arguments_code w names (call_parameters w name.text) arguments d own) t p d
@@ -125,8 +130,8 @@ mutual
       let all = own + length (suffix_values w names suffixes) in
       (primary_costs w names suffixes (static_shape w names primary) (λ e. expression_code w names primary e all)
       (λ e. place_code w names primary e all) primary t p (frame_nodes primary) (tokens_of primary) own
-      (two_nodes primary) h.0 (omega (arith, g)) (λ k d r. expression_costs w names primary t p d all k r (omega (arith, g)))
-      (λ k d r. place_costs w names primary t p d all k r (omega (arith, g)))).value d f
+      (omega (arith, f)) (two_nodes primary) h.0 (omega (arith, g)) (λ k d r. expression_costs w names primary t p d all k (omega (arith, r, f)) (omega (arith, g)))
+      (λ k d r. place_costs w names primary t p d all k (omega (arith, r, f)) (omega (arith, g)))).value d (omega (arith, f))
   expression_costs w names (Expression.New at new) t p d own h f g =
       heap_costs t p d (made_tokens new) _ (omega (arith, f)) (new_costs w names new t p d own h (omega (arith, f)) (omega (arith, g)))
   expression_costs w names (Expression.NewIn at handle new) t p d own h f g =
@@ -168,48 +173,48 @@ mutual
   expression_costs w names _ t p d own h f g = absurd h
 
   -- suffixes on what stands on their left
-  pub suffixes_costs : (w : World) (names : List Named) (suffixes : Suffixes) (left : Left) (t p m n m' n' own : ℕ) → TakesMembers w names suffixes left.shape
-      → 2 * suffix_nodes suffixes ≤ p → m + suffix_nodes suffixes ≤ m' → n + suffix_tokens suffixes ≤ n' → IsLeft t p m n left
+  pub suffixes_costs : (w : World) (names : List Named) (suffixes : Suffixes) (left : Left) (t p m n m' n' own : ℕ) → taken_by names ≤ t
+      → TakesMembers w names suffixes left.shape → 2 * suffix_nodes suffixes ≤ p → m + suffix_nodes suffixes ≤ m' → n + suffix_tokens suffixes ≤ n' → IsLeft t p m n left
       → IsLeft t p m' n' (suffixed_code w names suffixes left own)
-  suffixes_costs w names NoSuffixes left t p m n m' n' own h g e k one = more_left t p m n m' n' left (omega (arith, e)) (omega (arith, k)) one
-  suffixes_costs w names (Index index others) left t p m n m' n' own h g e k one =
+  suffixes_costs w names NoSuffixes left t p m n m' n' own taken h g e k one = more_left t p m n m' n' left (omega (arith, e)) (omega (arith, k)) one
+  suffixes_costs w names (Index index others) left t p m n m' n' own taken h g e k one =
       let first = own + length (suffix_values w names others) in
       suffixes_costs w names others (element_at w (pointee left.shape) (λ d. expression_code w names index d first) left.value) t p
-      (m + (2 + frame_nodes index)) (n + (2 + tokens_of index)) m' n' own h.1.1.1 (omega (arith, g)) (omega (arith, e)) (omega (arith, k))
+      (m + (2 + frame_nodes index)) (n + (2 + tokens_of index)) m' n' own taken h.1.1.1 (omega (arith, g)) (omega (arith, e)) (omega (arith, k))
       (element_left w (pointee left.shape) (λ d. expression_code w names index d first) left.value t p m n (frame_nodes index) (tokens_of index) one.enough
-      (λ d f. expression_costs w names index t p d first h.1.0 f (omega (arith, g))) one.value)
-  suffixes_costs w names (Dot f others) left t p m n m' n' own h g e k one =
-      suffixes_costs w names others (member_at w left.shape left.pointer left.cells left.bytes f.text) t p (m + 2) (n + 2) m' n' own h.1 (omega (arith, g))
+      (λ d f. expression_costs w names index t p d first h.1.0 (omega (arith, f, taken)) (omega (arith, g))) one.value)
+  suffixes_costs w names (Dot f others) left t p m n m' n' own taken h g e k one =
+      suffixes_costs w names others (member_at w left.shape left.pointer left.cells left.bytes f.text) t p (m + 2) (n + 2) m' n' own taken h.1 (omega (arith, g))
       (omega (arith, e)) (omega (arith, k)) (dot_left w left f.text t p m n one)
-  suffixes_costs w names (Arrow f others) left t p m n m' n' own h g e k one =
-      suffixes_costs w names others (member_behind w left f.text) t p (m + 2) (n + 2) m' n' own h.1.1 (omega (arith, g)) (omega (arith, e)) (omega (arith, k))
+  suffixes_costs w names (Arrow f others) left t p m n m' n' own taken h g e k one =
+      suffixes_costs w names others (member_behind w left f.text) t p (m + 2) (n + 2) m' n' own taken h.1.1 (omega (arith, g)) (omega (arith, e)) (omega (arith, k))
       (arrow_left w left f.text t p m n one.enough one.value)
 
   -- suffixes on a primary expression
   pub primary_costs : (w : World) (names : List Named) (suffixes : Suffixes) (s : Shape) (value pointer : ℕ → List Statement) (primary : Expression)
-      (t p m n own : ℕ) → 2 ≤ m → TakesSuffixes w names suffixes s (Takes w names primary) (TakesPlace w names primary) → 2 * suffix_nodes suffixes ≤ p
+      (t p m n own : ℕ) → taken_by names ≤ t → 2 ≤ m → TakesSuffixes w names suffixes s (Takes w names primary) (TakesPlace w names primary) → 2 * suffix_nodes suffixes ≤ p
       → (Takes w names primary → (d : ℕ) → d + 2 * m ≤ t → IsCheap t p n (value d))
       → (TakesPlace w names primary → (d : ℕ) → d + 2 * m ≤ t → IsPointed t p n (pointer d))
       → IsLeft t p (m + suffix_nodes suffixes) (n + suffix_tokens suffixes) (suffixed_code w names suffixes (left_of s value pointer) own)
-  primary_costs w names NoSuffixes s value pointer primary t p m n own enough h g as_value as_place = absurd h
-  primary_costs w names (Index index others) s value pointer primary t p m n own enough h g as_value as_place =
+  primary_costs w names NoSuffixes s value pointer primary t p m n own taken enough h g as_value as_place = absurd h
+  primary_costs w names (Index index others) s value pointer primary t p m n own taken enough h g as_value as_place =
       let first = own + length (suffix_values w names others) in
       suffixes_costs w names others (element_at w (pointee s) (λ d. expression_code w names index d first) value) t p
       (m + (2 + frame_nodes index)) (n + (2 + tokens_of index)) (m + (2 + (frame_nodes index + suffix_nodes others)))
-      (n + (2 + (tokens_of index + suffix_tokens others))) own h.1.1.1 (omega (arith, g)) (omega arith) (omega arith)
+      (n + (2 + (tokens_of index + suffix_tokens others))) own taken h.1.1.1 (omega (arith, g)) (omega arith) (omega arith)
       (element_left w (pointee s) (λ d. expression_code w names index d first) value t p m n (frame_nodes index) (tokens_of index) enough
-      (λ d r. expression_costs w names index t p d first h.1.0 r (omega (arith, g))) (as_value h.0))
-  primary_costs w names (Dot f others) s value pointer primary t p m n own enough h g as_value as_place =
+      (λ d r. expression_costs w names index t p d first h.1.0 (omega (arith, r, taken)) (omega (arith, g))) (as_value h.0))
+  primary_costs w names (Dot f others) s value pointer primary t p m n own taken enough h g as_value as_place =
       suffixes_costs w names others (member_at w s pointer 0 0 f.text) t p (m + 2) (n + 2) (m + (2 + suffix_nodes others)) (n + (2 + suffix_tokens others)) own
-      h.1.1 (omega (arith, g)) (omega arith) (omega arith) (member_left w s pointer 0 0 f.text t p m n enough
+      taken h.1.1 (omega (arith, g)) (omega arith) (omega arith) (member_left w s pointer 0 0 f.text t p m n enough
       (λ d r. let a = as_place h.0 d r in let l = a.less in record { operations = a.operations; costs = a.costs; less = omega (arith, l) }))
-  primary_costs w names (Arrow f others) s value pointer primary t p m n own enough h g as_value as_place =
+  primary_costs w names (Arrow f others) s value pointer primary t p m n own taken enough h g as_value as_place =
       let left : Left = left_of s value pointer in
       suffixes_costs w names others (member_behind w left f.text) t p (m + 2) (n + 2) (m + (2 + suffix_nodes others)) (n + (2 + suffix_tokens others)) own
-      h.1.1 (omega (arith, g)) (omega arith) (omega arith) (arrow_left w left f.text t p m n enough (as_value h.0))
+      taken h.1.1 (omega (arith, g)) (omega arith) (omega arith) (arrow_left w left f.text t p m n enough (as_value h.0))
 
   pub arguments_costs : (w : World) (names : List Named) (shapes : List Shape) (es : Expressions) (t p d own : ℕ) → TakesAll w names es
-      → d + 2 * argument_nodes es ≤ t → 2 * argument_nodes es ≤ p → AreArguments t p es (arguments_code w names shapes es d own)
+      → max (taken_by names) (d + 2 * argument_nodes es) ≤ t → 2 * argument_nodes es ≤ p → AreArguments t p es (arguments_code w names shapes es d own)
   arguments_costs w names [] es t p d own h f g = let n = many_tokens es in record { operations = 0; costs = no_costs t p; less = omega (arith, n) }
   arguments_costs w names (s ∷ ss) NoExpressions t p d own h f g = record { operations = 0; costs = no_costs t p; less = omega arith }
   arguments_costs w names (s ∷ ss) (MoreExpressions e es) t p d own h f g =
@@ -227,7 +232,7 @@ mutual
       }
 
   pub links_costs : (w : World) (names : List Named) (links : Links) (left : Shape) (t p d own : ℕ) → TakesLinks w names links
-      → d + 2 * link_nodes links ≤ t → 2 * link_nodes links ≤ p → ArePassed t p (link_tokens links) (links_code w names links left d own)
+      → max (taken_by names) (d + 2 * link_nodes links) ≤ t → 2 * link_nodes links ≤ p → ArePassed t p (link_tokens links) (links_code w names links left d own)
   links_costs w names NoLinks left t p d own h f g = record { operations = 0; costs = no_costs t p; less = omega arith }
   links_costs w names (MoreLinks operator operand others) left t p d own h f g =
       let few = words_few left in
@@ -242,7 +247,7 @@ mutual
         less = omega (arith, l, k);
       }
 
-  pub all_costs : (w : World) (names : List Named) (es : Expressions) (t p d own : ℕ) → TakesAll w names es → d + 2 * joined_nodes es ≤ t
+  pub all_costs : (w : World) (names : List Named) (es : Expressions) (t p d own : ℕ) → TakesAll w names es → max (taken_by names) (d + 2 * joined_nodes es) ≤ t
       → 2 * joined_nodes es ≤ p → IsJoined t p es (all_code w names es d own)
   all_costs w names NoExpressions t p d own h f g = record { operations = 0; costs = no_costs t p; less = omega arith }
   all_costs w names (MoreExpressions e es) t p d own h f g =
@@ -259,7 +264,7 @@ mutual
         less = omega (arith, l, k);
       }
 
-  pub any_costs : (w : World) (names : List Named) (es : Expressions) (t p d own : ℕ) → TakesAll w names es → d + 2 * joined_nodes es ≤ t
+  pub any_costs : (w : World) (names : List Named) (es : Expressions) (t p d own : ℕ) → TakesAll w names es → max (taken_by names) (d + 2 * joined_nodes es) ≤ t
       → 2 * joined_nodes es ≤ p → IsJoined t p es (any_code w names es d own)
   any_costs w names NoExpressions t p d own h f g = record { operations = 0; costs = no_costs t p; less = omega arith }
   any_costs w names (MoreExpressions e es) t p d own h f g =
@@ -277,7 +282,7 @@ mutual
       }
 
   -- what `new` and `rnew` make, whose value comes into the next temporary
-  pub new_costs : (w : World) (names : List Named) (new : Made) (t p d own : ℕ) → TakesNew w names new → d + 4 + 2 * made_nodes new ≤ t
+  pub new_costs : (w : World) (names : List Named) (new : Made) (t p d own : ℕ) → TakesNew w names new → max (taken_by names) (d + 4 + 2 * made_nodes new) ≤ t
       → 2 * made_nodes new ≤ p → IsMade t p (made_tokens new) (new_code w names new d own)
   new_costs w names (One e) t p d own h f g =
       let n = two_nodes e in
@@ -285,10 +290,19 @@ mutual
       (TakesWhole w names e) (Takes w names e) h.1
       (λ k. whole_costs w names e t p (d + 1) own k (omega (arith, f)) (omega (arith, g)))
       (λ k. expression_costs w names e t p (d + 1) own k (omega (arith, f)) (omega (arith, g))) (omega (arith, f, n))
-  new_costs w names (Array index count element) t p d own h f g = absurd h
+  new_costs w names (Array index count element) t p d own h f g =
+      let n = two_nodes count in
+      let m = two_nodes element in
+      let inner = number_named index.text (d + 2) ∷ names in
+      let first = own + length (expression_values w names count) in
+      array_costs w (static_shape w inner element) t p d (tokens_of count) (tokens_of element) (expression_code w names count (d + 1) own)
+      (whole_code w inner element (d + 3) first) (expression_code w inner element (d + 3) first) (TakesWhole w inner element) (Takes w inner element)
+      (h.1 (d + 2)).1 (expression_costs w names count t p (d + 1) own h.0 (omega (arith, f)) (omega (arith, g)))
+      (λ k. whole_costs w inner element t p (d + 3) first k (omega (arith, f, n)) (omega (arith, g)))
+      (λ k. expression_costs w inner element t p (d + 3) first k (omega (arith, f, n)) (omega (arith, g))) (omega (arith, f, n, m))
 
   -- a struct
-  pub whole_costs : (w : World) (names : List Named) (e : Expression) (t p d own : ℕ) → TakesWhole w names e → d + 2 * frame_nodes e ≤ t
+  pub whole_costs : (w : World) (names : List Named) (e : Expression) (t p d own : ℕ) → TakesWhole w names e → max (taken_by names) (d + 2 * frame_nodes e) ≤ t
       → 2 * frame_nodes e ≤ p → IsWhole t p (tokens_of e) (whole_code w names e d own)
   whole_costs w names (Expression.Call name arguments) t p d own h f g =
       let a = members_costs w names (parts_of w.structs name.text) arguments t p d 0 0 (suc own) h.1 (omega (arith, f)) (omega (arith, g)) in
@@ -308,10 +322,10 @@ mutual
       let m = frame_nodes primary + suffix_nodes suffixes in let n = tokens_of primary + suffix_tokens suffixes in
       let two = two_nodes primary in let all = suc own + length (suffix_values w names suffixes) in
       read_costs w (static_shape w names (Expression.Suffixed primary suffixes)) t p d own n _ (omega (arith, f, two))
-      (pointed_left t p m n d _ f (primary_costs w names suffixes (static_shape w names primary) (λ e. expression_code w names primary e all)
+      (pointed_left t p m n d _ (omega (arith, f)) (primary_costs w names suffixes (static_shape w names primary) (λ e. expression_code w names primary e all)
       (λ e. place_code w names primary e all) primary t p (frame_nodes primary) (tokens_of primary) (suc own)
-      (two_nodes primary) h.0 (omega (arith, g)) (λ k d r. expression_costs w names primary t p d all k r (omega (arith, g)))
-      (λ k d r. place_costs w names primary t p d all k r (omega (arith, g)))))
+      (omega (arith, f)) (two_nodes primary) h.0 (omega (arith, g)) (λ k d r. expression_costs w names primary t p d all k (omega (arith, r, f)) (omega (arith, g)))
+      (λ k d r. place_costs w names primary t p d all k (omega (arith, r, f)) (omega (arith, g)))))
   whole_costs w names (Expression.Prefixed at prefix.Dereference operand) t p d own h f g =
       read_costs w (static_shape w names (Expression.Prefixed at prefix.Dereference operand)) t p d own (1 + tokens_of operand) _ (omega (arith, f))
       (contents_costs w t p d (tokens_of operand) (static_shape w names operand) (expression_code w names operand d (suc own)) (omega (arith, f))
@@ -320,7 +334,7 @@ mutual
   whole_costs w names _ t p d own h f g = absurd h
 
   pub members_costs : (w : World) (names : List Named) (ps : List Part) (arguments : Expressions) (t p d cells bytes own : ℕ)
-      → TakesMade w names ps arguments → d + 4 + 2 * argument_nodes arguments ≤ t → 2 * argument_nodes arguments ≤ p
+      → TakesMade w names ps arguments → max (taken_by names) (d + 4 + 2 * argument_nodes arguments) ≤ t → 2 * argument_nodes arguments ≤ p
       → ArePassed t p (argument_tokens arguments) (members_code w names ps arguments d cells bytes own)
   members_costs w names [] NoExpressions t p d cells bytes own h f g = record { operations = 0; costs = no_costs t p; less = omega arith }
   members_costs w names [] (MoreExpressions first others) t p d cells bytes own h f g = absurd h

@@ -1,16 +1,17 @@
 -- What stands around the code of values takes: structs that are copied, members, and the requests of `new` and `rnew`.
-use Rattle.std.proofs.Common.{ℕ, suc, ◌+◌, ◌*◌, ◌≤◌, List, [], ◌∷◌, ◌++◌, arith}
+use Rattle.std.proofs.Common.{ℕ, suc, ◌+◌, ◌*◌, ◌≤◌, List, [], ◌∷◌, ◌++◌, arith, length}
 use Rattle.source_meaning.specs.Shapes.{Shape, StructShape}
 use Rattle.source_meaning.specs.Steps.{World}
-use Rattle.core_meaning.specs.Core.{Constant, Copy, Do, HeapHandle, Offset, OwnAddress, RegionAlloc, Statement}
-use Rattle.source_lowering.specs.Layouts.{layout_of}
+use Rattle.core_meaning.specs.Core.{Constant, Copy, Do, HeapHandle, Offset, OwnAddress, RegionAlloc, Statement, Add, Apply, Element, LessUnsigned, While}
+use Rattle.source_lowering.specs.Layouts.{layout_of, extent_of}
 use Rattle.source_lowering.specs.Members.{words_in}
-use Rattle.source_lowering.specs.Lowered.{stores_code, copied_code, word_member_code, member_code, request_code, new_code_by}
+use Rattle.source_lowering.specs.Lowered.{stores_code, copied_code, word_member_code, member_code, request_code, new_code_by, all_of, array_code, element_by, next_number}
 use Rattle.source_lowering.specs.Lowerable.{TakesMember}
-use Rattle.source_lowering.proofs.bounds.Costs.{Costs, both_cost, does_one, does_then}
+use Rattle.source_lowering.proofs.bounds.Costs.{Costs, both_cost, does_one, does_then, while_costs}
 use Rattle.source_lowering.proofs.bounds.ValueCosts.{words_few, kept_costs}
 use Rattle.source_lowering.proofs.bounds.PartCosts.{IsCheap, ArePassed, conversion_costs}
 use Rattle.source_lowering.proofs.bounds.PrefixCosts.{IsPointed}
+use Rattle.source_meaning.specs.Conversions.{cells_of}
 
 -- a struct leaves two operations to what is done with it
 pub record IsWhole (t p n : ℕ) (code : List Statement) : Type 0 where
@@ -110,4 +111,59 @@ heap_costs t p d n code h a =
       operations = 1 + a.operations;
       costs = both_cost t p 0 1 0 a.operations (Do (HeapHandle d) ∷ []) code (does_one t p _ h) a.costs;
       less = omega (arith, l);
+    }
+
+-- ---- arrays that are made
+
+-- an element's value is stored
+element_costs : (w : World) (s : Shape) (t p d n : ℕ) (whole word : List Statement) (for_whole for_word : Type 0) → TakesMember s for_whole for_word
+    → (for_whole → IsWhole t p n whole) → (for_word → IsCheap t p n word) → d + 8 ≤ t → ArePassed t p n (element_by w s d whole word)
+element_costs w s t p d n whole word for_whole for_word takes as_whole as_word h = by s takes
+  where
+    as_a_word : (of : Shape) → for_word → ArePassed t p n (word ++ (Do (Element (d + 3 + words_in of) d (d + 2) (length (cells_of w of)) (extent_of w of).size) ∷
+        stores_code of (d + 3 + words_in of) (d + 3) 0 0))
+    as_a_word of takes =
+        let a = as_word takes in let l = a.less in let few = words_few of in
+        record {
+          operations = a.operations + (1 + 3);
+          costs = both_cost t p 0 a.operations 0 (1 + 3) _ _ a.costs
+              (does_then t p 3 (Element (d + 3 + words_in of) d (d + 2) (length (cells_of w of)) (extent_of w of).size) _ (omega (arith, h, few))
+              (kept_costs of t p (d + 3 + words_in of) (d + 3) 0 0 (omega (arith, h, few)) (omega (arith, h))));
+          less = omega (arith, l);
+        }
+
+    by : (of : Shape) → TakesMember of for_whole for_word → ArePassed t p n (element_by w of d whole word)
+    by (StructShape tag) takes =
+        let a = as_whole takes in let l = a.less in
+        record {
+          operations = a.operations + (1 + 1);
+          costs = both_cost t p 0 a.operations 0 (1 + 1) _ _ a.costs
+              (does_then t p 1 (Element (d + 4) d (d + 2) (length (cells_of w (StructShape tag))) (extent_of w (StructShape tag)).size) _ (omega (arith, h))
+              (does_one t p (Copy (d + 4) (d + 3) (layout_of w (StructShape tag))) (omega (arith, h))));
+          less = omega (arith, l);
+        }
+    by of takes = as_a_word of takes
+
+-- its number becomes the next one's
+next_costs : (t p d : ℕ) → d + 8 ≤ t → Costs t p 0 2 (next_number d)
+next_costs t p d h =
+    does_then t p 1 (Constant (d + 3) 1) _ (omega (arith, h)) (does_one t p (Apply Add (d + 2) (d + 2) (d + 3)) (omega (arith, h)))
+
+pub array_costs : (w : World) (s : Shape) (t p d n m : ℕ) (count whole word : List Statement) (for_whole for_word : Type 0) → TakesMember s for_whole for_word
+    → IsCheap t p n count → (for_whole → IsWhole t p m whole) → (for_word → IsCheap t p m word) → d + 8 ≤ t
+    → IsMade t p (6 + (n + m)) (count ++ array_code w s d (element_by w s d whole word))
+array_costs w s t p d n m count whole word for_whole for_word takes counts as_whole as_word h =
+    let a = element_costs w s t p d m whole word for_whole for_word takes as_whole as_word h in
+    let l = a.less in let k = counts.less in
+    let test = does_one t p (Apply LessUnsigned (d + 3) (d + 2) (d + 1)) (omega (arith, h)) in
+    let turn = both_cost t p 0 a.operations 0 2 _ _ a.costs (next_costs t p d h) in
+    record {
+      operations = counts.operations + (2 + (1 + (1 + (1 + (a.operations + 2)) + 1)));
+      costs = both_cost t p 0 counts.operations 0 (2 + (1 + (1 + (1 + (a.operations + 2)) + 1))) _ _ counts.costs
+          (does_then t p (1 + (1 + (1 + (a.operations + 2)) + 1)) (RegionAlloc d d (d + 1) (layout_of w s)) _ (omega (arith, h))
+          (does_then t p (1 + (1 + (a.operations + 2)) + 1) (Constant (d + 2) 0) _ (omega (arith, h))
+          (both_cost t p 0 (1 + (1 + (a.operations + 2))) 0 1 (While (all_of (Do (Apply LessUnsigned (d + 3) (d + 2) (d + 1)) ∷ [])) (d + 3)
+          (all_of (element_by w s d whole word ++ next_number d)) ∷ []) _
+          (while_costs t p (d + 3) 0 0 1 (a.operations + 2) _ _ (omega (arith, h)) test turn) (does_one t p (Constant (d + 2) 0) (omega (arith, h))))));
+      less = omega (arith, l, k);
     }

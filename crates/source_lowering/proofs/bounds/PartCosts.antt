@@ -10,7 +10,7 @@ use Rattle.source_meaning.specs.Steps.{Entity, Variable, Fixed, World, Routine}
 use Rattle.source_meaning.specs.Calls.{function_of}
 use Rattle.core_meaning.specs.Core as core
 use Rattle.core_meaning.specs.Core.{Statement, Do, Call, Constant, Narrow, Apply, Getchar, Putchar}
-use Rattle.source_lowering.specs.Lowered.{Named, number_of, get_by, put_by, address_by, thinned_code, narrow_code, conversion_code, type_of, applied_to}
+use Rattle.source_lowering.specs.Lowered.{Named, number_of, get_by, put_by, address_by, thinned_code, narrow_code, conversion_code, type_of, applied_to, Home, InBlock, InTemporary, get_home, put_home, home_address}
 use Rattle.source_lowering.specs.Lowered.{operator_code, turned_code, pointers_code, truth_code, word_code, not_code, result_shape, call_shape, makes_struct}
 use Rattle.source_lowering.specs.Lowered.{from_on, results_in, function_call, call_code}
 use Rattle.source_lowering.specs.Temporaries.{last_of, operation_temporaries}
@@ -18,6 +18,7 @@ use Rattle.source_lowering.specs.Bounds.{operation_count, result_nodes}
 use Rattle.source_lowering.proofs.bounds.Costs.{Costs, one_costs, does_one, does_then, does_few, at_most, nothing}
 use Rattle.source_lowering.proofs.bounds.ValueCosts.{check_costs, to_fat_costs, to_thin_costs, turned_costs, compared_costs, null_costs, moved_costs, local_costs}
 use Rattle.source_lowering.proofs.bounds.ValueCosts.{global_costs, put_local_costs, put_global_costs}
+use Rattle.source_lowering.proofs.bounds.Taken.{taken_at, taken_found}
 
 -- an expression takes less than eight operations a token, and no local: four are left
 pub record IsCheap (t p n : ℕ) (code : List Statement) : Type 0 where
@@ -33,14 +34,22 @@ pub record ArePassed (t p n : ℕ) (code : List Statement) : Type 0 where
 
 -- ---- parts of expressions
 
-pub get_costs : (t p d : ℕ) (l : Option Named) (e : Option Entity) → d + 4 ≤ t → Costs t p 0 4 (get_by l e d)
-get_costs t p d (Some l) e h = local_costs l.shape t p d l.out l.index h
-get_costs t p d None (Some (Variable s at)) h = global_costs s t p d at.object h
-get_costs t p d None (Some (Fixed s v)) h = nothing t p 4
-get_costs t p d None None h = nothing t p 4
+pub get_costs : (t p d : ℕ) (l : Option Named) (e : Option Entity) → d + 4 ≤ t → taken_found l ≤ t → Costs t p 0 4 (get_by l e d)
+get_costs t p d (Some l) e h k = by l.home k
+  where
+    by : (home : Home) → taken_at home ≤ t → Costs t p 0 4 (get_home l.shape home d)
+    by (InBlock out index) less = local_costs l.shape t p d out index h
+    by (InTemporary at) less = does_few t p 4 (core.Move d at) (omega (arith, h, less)) (omega arith)
+get_costs t p d None (Some (Variable s at)) h k = global_costs s t p d at.object h
+get_costs t p d None (Some (Fixed s v)) h k = nothing t p 4
+get_costs t p d None None h k = nothing t p 4
 
 pub put_costs : (t p d : ℕ) (l : Option Named) (e : Option Entity) → d + 4 ≤ t → Costs t p 0 4 (put_by l e d)
-put_costs t p d (Some l) e h = put_local_costs l.shape t p d l.out l.index h
+put_costs t p d (Some l) e h = by l.home
+  where
+    by : (home : Home) → Costs t p 0 4 (put_home l.shape home d)
+    by (InBlock out index) = put_local_costs l.shape t p d out index h
+    by (InTemporary at) = nothing t p 4
 put_costs t p d None (Some (Variable s at)) h = put_global_costs s t p d at.object h
 put_costs t p d None (Some (Fixed s v)) h = nothing t p 4
 put_costs t p d None None h = nothing t p 4
@@ -101,7 +110,11 @@ not_costs t p d _ h = not_two t p d h
 
 -- a pointer to a variable
 pub address_costs : (t p d : ℕ) (l : Option Named) (e : Option Entity) → suc d ≤ t → Costs t p 0 1 (address_by l e d)
-address_costs t p d (Some l) e h = does_one t p _ h
+address_costs t p d (Some l) e h = by l.home
+  where
+    by : (home : Home) → Costs t p 0 1 (home_address home d)
+    by (InBlock out index) = does_one t p _ h
+    by (InTemporary at) = nothing t p 1
 address_costs t p d None (Some (Variable s at)) h = does_one t p _ h
 address_costs t p d None (Some (Fixed s v)) h = nothing t p 1
 address_costs t p d None None h = nothing t p 1

@@ -1,9 +1,10 @@
 -- What the code of values takes, of one word or of three: loads and stores, checks, conversions, operators and variables.
-use Rattle.std.proofs.Common.{ℕ, suc, ◌+◌, ◌≤◌, [], ◌∷◌, length, true, false, Bool, arith}
+use Rattle.std.proofs.Common.{ℕ, suc, ◌+◌, ◌≤◌, [], ◌∷◌, length, true, false, Bool, Option, Some, arith}
 use Rattle.cyc_words.specs.declared.faults.Kind.TheVariants.{ArrayBounds, NullException}
 use Rattle.cyc_tree.specs.declared.expression.Operator.{Operator}
 use Rattle.cyc_tree.specs.declared.expression.Operator.TheVariants as operator
 use Rattle.source_meaning.specs.Shapes.{Shape, ThinShape, FatShape, ArrayShape}
+use Rattle.source_meaning.specs.Memory.{Scalar, Wide}
 use Rattle.source_meaning.specs.Steps.{World}
 use Rattle.source_meaning.specs.Conversions.{cells_of}
 use Rattle.core_meaning.specs.Core as core
@@ -12,7 +13,7 @@ use Rattle.source_lowering.specs.Layouts.{extent_of}
 use Rattle.source_lowering.specs.Members.{all_of, null_check, check_code, words_in, part_at, loads_code, stores_code, bounds_code, raised, reached_code}
 use Rattle.source_lowering.specs.Members.{element_code, reach_code, index_code}
 use Rattle.source_lowering.specs.Lowered.{stored_code, get_local, load_global, put_local, store_global, turned_code, to_fat_code, to_thin_code, compared_code}
-use Rattle.source_lowering.specs.Lowered.{null_code, fat_code, count_code}
+use Rattle.source_lowering.specs.Lowered.{null_code, fat_code, count_code, text_code}
 use Rattle.source_lowering.specs.Temporaries.{operation_temporaries}
 use Rattle.source_lowering.specs.Bounds.{operation_count}
 use Rattle.source_lowering.proofs.bounds.Costs.{Costs, one_costs, both_cost, does_one, does_then, does_few, at_most, nothing}
@@ -109,6 +110,14 @@ pub count_costs : (t p d : ℕ) → d + 3 ≤ t → Costs t p 0 3 (count_code d)
 count_costs t p d h =
     does_then t p 2 (Apply core.LessUnsigned d (d + 2) (d + 1)) _ (omega (arith, h))
     (does_then t p 1 (Apply core.Subtract (d + 1) (d + 1) (d + 2)) _ (omega (arith, h)) (does_one t p (Apply core.Multiply d d (d + 1)) (omega (arith, h))))
+
+-- ---- strings
+
+pub text_costs : (t p d : ℕ) (found : Option Scalar) → d + 3 ≤ t → Costs t p 0 3 (text_code found d)
+text_costs t p d (Some (Wide (Some s))) h =
+    does_then t p 2 (DataAddress d s.first.object) _ (omega (arith, h))
+    (does_then t p 1 (Constant (d + 1) s.count) _ (omega (arith, h)) (does_one t p (Constant (d + 2) s.index) (omega (arith, h))))
+text_costs t p d _ h = nothing t p 3
 
 -- ---- variables
 

@@ -1,5 +1,5 @@
 -- What the code of initializers and of expressions that are statements takes, structs too.
-use Rattle.std.proofs.Common.{◌≡◌, refl, ℕ, ◌+◌, ◌*◌, ◌≤◌, Bool, true, false, List, length, arith}
+use Rattle.std.proofs.Common.{◌≡◌, refl, ℕ, ◌+◌, ◌*◌, ◌≤◌, Bool, true, false, List, length, arith, max}
 use Rattle.std.specs.Prelude.{if◌then◌else◌}
 use Rattle.cyc_tree.specs.Tree.{Name, Expression, Expressions}
 use Rattle.source_meaning.specs.Shapes.{Shape, StructShape}
@@ -18,11 +18,12 @@ use Rattle.source_lowering.proofs.bounds.Counted.{two_nodes}
 use Rattle.source_lowering.proofs.bounds.ExpressionCosts.{arguments_costs, place_costs, expression_costs, whole_costs}
 use Rattle.source_lowering.proofs.bounds.OperandCosts.{called_cheap}
 use Rattle.source_lowering.proofs.bounds.WholeObjects.{unmade_place}
+use Rattle.source_lowering.proofs.bounds.Taken.{taken_by}
 
 -- ---- initializers
 
 -- a struct's initializer
-pub source_costs : (w : World) (names : List Named) (e : Expression) (t p d own : ℕ) → TakesWhole w names e → d + 2 * frame_nodes e ≤ t → 2 * frame_nodes e ≤ p
+pub source_costs : (w : World) (names : List Named) (e : Expression) (t p d own : ℕ) → TakesWhole w names e → max (taken_by names) (d + 2 * frame_nodes e) ≤ t → 2 * frame_nodes e ≤ p
     → IsWhole t p (tokens_of e) (source_code w names (is_made w e) e d own)
 source_costs w names e t p d own h f g = by (is_made w e) refl
   where
@@ -34,20 +35,20 @@ source_costs w names e t p d own h f g = by (is_made w e) refl
 
 -- ---- expressions that are statements
 
-word_run : (w : World) (names : List Named) (e : Expression) (t p d own : ℕ) → Takes w names e → d + 2 * frame_nodes e ≤ t → 2 * frame_nodes e ≤ p
+word_run : (w : World) (names : List Named) (e : Expression) (t p d own : ℕ) → Takes w names e → max (taken_by names) (d + 2 * frame_nodes e) ≤ t → 2 * frame_nodes e ≤ p
     → ArePassed t p (tokens_of e) (expression_code w names e d own)
 word_run w names e t p d own h f g =
     let a = expression_costs w names e t p d own h f g in let l = a.less in
     record { operations = a.operations; costs = a.costs; less = omega (arith, l) }
 
-whole_run : (w : World) (names : List Named) (e : Expression) (t p d own : ℕ) → TakesWhole w names e → d + 2 * frame_nodes e ≤ t → 2 * frame_nodes e ≤ p
+whole_run : (w : World) (names : List Named) (e : Expression) (t p d own : ℕ) → TakesWhole w names e → max (taken_by names) (d + 2 * frame_nodes e) ≤ t → 2 * frame_nodes e ≤ p
     → ArePassed t p (tokens_of e) (whole_code w names e d own)
 whole_run w names e t p d own h f g =
     let a = whole_costs w names e t p d own h f g in let l = a.less in
     record { operations = a.operations; costs = a.costs; less = omega (arith, l) }
 
 assigned_costs : (w : World) (names : List Named) (s : Shape) (place value : Expression) (t p d own : ℕ) → TakesAssigned w names s place value
-    → d + 2 * (frame_nodes place + (1 + frame_nodes value)) ≤ t → 2 * (frame_nodes place + (1 + frame_nodes value)) ≤ p
+    → max (taken_by names) (d + 2 * (frame_nodes place + (1 + frame_nodes value))) ≤ t → 2 * (frame_nodes place + (1 + frame_nodes value)) ≤ p
     → ArePassed t p (tokens_of place + (1 + tokens_of value)) (assigned_code w names s place value d own)
 assigned_costs w names (StructShape tag) place value t p d own h f g =
     let n = two_nodes value in
@@ -62,7 +63,7 @@ assigned_costs w names (StructShape tag) place value t p d own h f g =
     }
 assigned_costs w names _ place value t p d own h f g = word_run w names (Expression.Assign place value) t p d own h f g
 
-dropped_costs : (w : World) (names : List Named) (s : Shape) (e : Expression) (t p d own : ℕ) → TakesDropped w names s e → d + 2 * frame_nodes e ≤ t
+dropped_costs : (w : World) (names : List Named) (s : Shape) (e : Expression) (t p d own : ℕ) → TakesDropped w names s e → max (taken_by names) (d + 2 * frame_nodes e) ≤ t
     → 2 * frame_nodes e ≤ p → ArePassed t p (tokens_of e) (dropped_code w names s e d own)
 dropped_costs w names (StructShape tag) e t p d own h f g = whole_run w names e t p d own h f g
 dropped_costs w names _ e t p d own h f g = word_run w names e t p d own h f g
@@ -70,7 +71,7 @@ dropped_costs w names _ e t p d own h f g = word_run w names e t p d own h f g
 -- a call may have no value
 call_run : (w : World) (names : List Named) (name : Name) (arguments : Expressions) (t p d own : ℕ)
     → TakesCalled (makes_struct w name.text) (TakesWhole w names (Expression.Call name arguments)) (Takes w names (Expression.Call name arguments))
-    → d + 2 * run_nodes w (Expression.Call name arguments) ≤ t → 2 * run_nodes w (Expression.Call name arguments) ≤ p
+    → max (taken_by names) (d + 2 * run_nodes w (Expression.Call name arguments)) ≤ t → 2 * run_nodes w (Expression.Call name arguments) ≤ p
     → ArePassed t p (tokens_of (Expression.Call name arguments)) (run_code w names (Expression.Call name arguments) d own)
 call_run w names name arguments t p d own h f g = by (makes_struct w name.text) refl h
   where
@@ -88,7 +89,7 @@ call_run w names name arguments t p d own h f g = by (makes_struct w name.text) 
         let l = a.less in
         record { operations = a.operations; costs = a.costs; less = omega (arith, l) }
 
-pub run_costs : (w : World) (names : List Named) (e : Expression) (t p d own : ℕ) → TakesRun w names e → d + 2 * run_nodes w e ≤ t → 2 * run_nodes w e ≤ p
+pub run_costs : (w : World) (names : List Named) (e : Expression) (t p d own : ℕ) → TakesRun w names e → max (taken_by names) (d + 2 * run_nodes w e) ≤ t → 2 * run_nodes w e ≤ p
     → ArePassed t p (tokens_of e) (run_code w names e d own)
 run_costs w names (Expression.Assign place value) t p d own h f g = assigned_costs w names (static_shape w names place) place value t p d own h f g
 run_costs w names (Expression.Grouped at inner) t p d own h f g =

@@ -136,6 +136,23 @@ array_cleared c d index frame outer l count next block live there = rw (block, e
 
 -- ---- what each element begins with
 
+-- its parts, where Core has made it
+pub element_led : (w : World) (c : core.Memory) (r : source.Region) (index count k : ℕ) (of : Shape) → HasCells w.unions w.structs of → k < count
+    → LocalMade w c (region_at r) index (ArrayShape count of)
+    → AreMade c (at (source.beyond (spot_of r index 0) (k * length (cells_of w of)))) (0 + k * size_of w of) (layout_of w of).cells
+element_led w c r index count k of has less made =
+    subst (λ z. AreMade c (spot_in (region_at r) index z) (0 + k * size_of w of) (layout_of w of).cells) cells
+    (subst (λ z. AreMade c (spot_in (region_at r) index (k * length (layout_of w of).cells)) z (layout_of w of).cells) bytes (made k less))
+  where
+    bytes : k * size_of w of ≡ 0 + k * size_of w of
+    bytes = omega arith
+
+    none : k * length (cells_of w of) ≡ 0 + k * length (cells_of w of)
+    none = omega arith
+
+    cells : k * length (layout_of w of).cells ≡ 0 + k * length (cells_of w of)
+    cells = ap (λ z. k * z) (layout_count w of has) ∙ none
+
 -- its cells, where the source has it
 pub array_led : (w : World) (m : source.Memory) (c : core.Memory) (r : source.Region) (index count : ℕ) (of : Shape) → HasCells w.unions w.structs of
     → ((cell : ℕ) → m.cells (spot_of r index cell) ≡ first_array w count of cell) → LocalMade w c (region_at r) index (ArrayShape count of)
@@ -143,18 +160,11 @@ pub array_led : (w : World) (m : source.Memory) (c : core.Memory) (r : source.Re
 array_led w m c r index count of has here made k less = (
   subst (λ z. AreCells m z (cells_of w of)) (λ i. spot_of r index (none i))
       (element_there m r index count k source.first_content (cells_of w of) less here),
-  subst (λ z. AreMade c (spot_in (region_at r) index z) (0 + k * size_of w of) (layout_of w of).cells) cells
-      (subst (λ z. AreMade c (spot_in (region_at r) index (k * length (layout_of w of).cells)) z (layout_of w of).cells) bytes (made k less)),
+  element_led w c r index count k of has less made,
 )
   where
     none : k * length (cells_of w of) ≡ 0 + k * length (cells_of w of)
     none = omega arith
-
-    bytes : k * size_of w of ≡ 0 + k * size_of w of
-    bytes = omega arith
-
-    cells : k * length (layout_of w of).cells ≡ 0 + k * length (cells_of w of)
-    cells = ap (λ z. k * z) (layout_count w of has) ∙ none
 
 -- and where it makes it
 array_leads : (w : World) (m : source.Memory) (c : core.Memory) (frame index count : ℕ) (of : Shape) → HasCells w.unions w.structs of
@@ -252,6 +262,7 @@ array_begins p n scope name count of shapes then_act next m c rest after world f
 
     fits1 : SameState p m c1
     fits1 = fits_later p m m c c1 fits agree1 (later1 (within p)) refl
+        (kept_temp p.regions.all p.regions.all (Pointer (at spot) 0) c c (omega arith) (λ k less. refl))
 
     all1 : ArePending p.world c1.memory (core.Frame p.frame) p.made (shape ∷ shapes)
     all1 = subst (λ z. ArePending p.world c1.memory (core.Frame p.frame) p.made z) pending fits1.pending

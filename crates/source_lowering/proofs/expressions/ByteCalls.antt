@@ -21,7 +21,7 @@ use Rattle.source_lowering.specs.Simulation.{within, Point, SameState, SameAt, N
 use Rattle.source_lowering.proofs.memory.Keeping.{later_self}
 use Rattle.source_lowering.proofs.Runs.{stuck_same, says_same, reads_same, pays_same, less_fuel, put_all}
 use Rattle.source_lowering.proofs.values.Integers.{word_given}
-use Rattle.source_lowering.proofs.values.Values.{put_value}
+use Rattle.source_lowering.proofs.values.Values.{put_value, over}
 use Rattle.source_lowering.proofs.expressions.Calls.{AllGiven, ArgumentsAs}
 
 byte_small : (b : Option ℕ) → IsByte b → byte_value b < 2 ^ 32
@@ -74,6 +74,7 @@ write_gives p n d count es code arguments = record {
   same = λ m c s rest next fits goes.
       subst (λ z. SameAt p n (write_byte p.world es s m) (meaning.statements z next c)) (sym (put_all code (Do (Putchar d d) ∷ []) rest))
       (arguments.same m c (λ vss. one (flat vss) (λ v. integer v (λ x. after x s))) (put (Do (Putchar d d) ∷ []) rest) next fits (record {
+        above = over goes.above (omega arith);
         go = λ m1 c1 vss fits1 later1 kept1 many all. byte m c m1 c1 vss s rest next fits1 later1 kept1 all goes;
       }));
 }

@@ -33,7 +33,7 @@ use Rattle.core_meaning.specs.Meaning as meaning
 use Rattle.core_meaning.specs.Meaning.{values_of, with_results, passed_in}
 use Rattle.source_lowering.specs.Members.{words_in, all_words}
 use Rattle.source_lowering.specs.Lowered.{number_of, put, conversion_code, from_on, results_in}
-use Rattle.source_lowering.specs.Simulation.{SameMemory, AreLed, Bound, within, Grown, Point, SameState, SameAt, Same, Next, AreKept, GrownAt, Shown, ANull, APointer}
+use Rattle.source_lowering.specs.Simulation.{SameMemory, HasStatics, Bound, within, Grown, Point, SameState, SameAt, Same, Next, AreKept, GrownAt, Shown, ANull, APointer}
 use Rattle.source_lowering.specs.Simulation.{AFatNull, AFat, AValue, ANothing, contents_in, GoesOn, GivesAs}
 use Rattle.source_lowering.proofs.memory.Keeping.{IsLess, later_self, later_on, later_less, fits_later}
 use Rattle.source_lowering.proofs.Runs.{stuck_same, calls_same, less_fuel, put_all}
@@ -41,7 +41,7 @@ use Rattle.source_lowering.proofs.values.Integers.{IsTaken, IsTarget, IsWordShap
 use Rattle.source_lowering.proofs.values.AnyValues.{value_void, value_given}
 use Rattle.source_lowering.proofs.expressions.Elements.{these_three}
 use Rattle.source_lowering.proofs.expressions.Names.{IsRoutine}
-use Rattle.source_lowering.proofs.values.Values.{put_temp, other_temp, temp_fits, kept_temp, put_value, put_three, kept_contents, value_later}
+use Rattle.source_lowering.proofs.values.Values.{put_temp, other_temp, temp_fits, kept_temp, put_value, put_three, kept_contents, value_later, over}
 use Rattle.source_lowering.proofs.expressions.Variables.{Agrees}
 use Rattle.source_lowering.proofs.values.Conversions.{converted_gives}
 
@@ -86,7 +86,7 @@ pub record Returning (w : World) (fs : Program) (n : ℕ) (m0 : source.Memory) (
 pub record EntersAs (w : World) (fs : Program) (n : ℕ) : Type 0 where
   pub same : (name : List ℕ) (f : Routine) (vss : List (List Scalar)) (xs : List Content) (m : source.Memory) (c : core.Memory)
       (s : List Scalar → source.Memory → steps.Step) (k : List Content → core.Memory → core_steps.Step)
-      → slice_get w.functions (number_of w.functions name) ≡ Some f → IsRoutine w f → SameMemory w m c → AreLed w m c w.globals
+      → slice_get w.functions (number_of w.functions name) ≡ Some f → IsRoutine w f → SameMemory w m c → HasStatics w m c
       → length xs ≡ all_words (part_shapes f.parameters) → AllGiven w m c (part_shapes f.parameters) vss 0 (passed_in xs) → Returning w fs n m c f.result s k
       → Same w fs n (entered f w vss s m) (meaning.called fs.functions (record { function = number_of w.functions name; arguments = xs }) k c)
 
@@ -94,12 +94,16 @@ pub record EntersAs (w : World) (fs : Program) (n : ℕ) : Type 0 where
 abbrev pub CallsAs : World → Program → ℕ → Type 0
 CallsAs w fs n = (j : ℕ) → suc j ≤ n → EntersAs w fs j
 
+pub calls_less : (w : World) (fs : Program) (n j : ℕ) → j ≤ n → CallsAs w fs n → CallsAs w fs j
+calls_less w fs n j less calls i h = calls i (omega (arith, less, h))
+
 -- ---- arguments
 
 -- so many words are passed, as many as the shapes have where each has its argument
 pub record ArgumentsGo (p : Point) (n d count : ℕ) (m0 : source.Memory) (c0 : Config) (shapes : List Shape)
     (s : List (List Scalar) → source.Memory → steps.Step)
     (k : Config → core_steps.Step) : Type 0 where
+  pub above : p.regions.all ≤ d
   pub go : (m : source.Memory) (c : Config) (vss : List (List Scalar)) → SameState p m c → GrownAt p m0 c0 m c → AreKept d c0 c
       → count ≡ all_words shapes → AllGiven p.world m c.memory shapes vss d c.temps → SameAt p n (s vss m) (k c)
 
@@ -124,9 +128,11 @@ more_arguments p n d count shape shapes e es from first others is_value one more
       (sym (put_three first (conversion_code p.world shape from d) others rest ∙ sym (put_all first (conversion_code p.world shape from d) (put others rest))))
       ((converted_gives p n d shape e from first (value_taken shape is_value) one).same m c (λ vs. converted_all p.world shapes es (λ vss. s (vs ∷ vss)))
       (put others rest) next fits (record {
+        above = over goes.above (omega arith);
         go = λ m1 c1 vs fits1 later1 kept1 given1.
             let v = value_given p.world m1 c1.memory shape vs (contents_in d shape c1.temps) is_value given1 in
             more.same m1 c1 (λ vss. s (vs ∷ vss)) rest next fits1 (record {
+              above = over goes.above (omega arith);
               go = λ m2 c2 vss fits2 later2 kept2 many all.
                   goes.go m2 c2 (vs ∷ vss) fits2 (later_on (within p) m m1 m2 c.memory c1.memory c2.memory later1 later2)
                   (λ k h. kept2 k (omega (arith, h)) ∙ kept1 k h) (ap (λ z. words_in shape + z) many) (
@@ -178,7 +184,8 @@ results_same p n d m0 c0 m c shape vs xs s k taken result fits later kept goes =
         let first : Config = with_temp d x c in
         let second : Config = with_temp (d + 1) y first in
         let third : Config = with_temp (d + 2) z second in
-        go.go m third vs (temp_fits p m second (d + 2) z (temp_fits p m first (d + 1) y (temp_fits p m c d x fits))) later
+        go.go m third vs (temp_fits p m second (d + 2) z (temp_fits p m first (d + 1) y (temp_fits p m c d x fits goes.above)
+        (over goes.above (omega arith))) (over goes.above (omega arith))) later
         (kept_temp d (d + 2) z c0 second (omega arith) (kept_temp d (d + 1) y c0 first (omega arith) (kept_temp d d x c0 c (omega arith) kept)))
         (inl (subst (λ u. AValue p.world m c.memory (FatShape to) vs u) (sym (these_three third d to x y z (record {
           pointer = other_temp (d + 2) d z second (omega arith) ∙ other_temp (d + 1) d y first (omega arith) ∙ put_temp d x c;
@@ -280,6 +287,7 @@ called_gives p n d count name f act code numbered routine enters arguments = rec
   same = λ m c s rest next fits goes.
       subst (λ z. SameAt p n (act (λ vss. invoke f p.world vss s) m) (meaning.statements z next c)) (sym (put_all code calls rest))
       (arguments.same m c (λ vss. invoke f p.world vss s) (put calls rest) next fits (record {
+        above = over goes.above (omega arith);
         go = λ m1 c1 vss fits1 later1 kept1 many all.
             let passed : List Content = values_of c1.temps (from_on d count) in
             let given = passed_given p.world m1 c1.memory (part_shapes f.parameters) vss (passed_in passed) c1.temps d 0
@@ -290,13 +298,13 @@ called_gives p n d count name f act code numbered routine enters arguments = rec
             (λ values memory. with_results (results_in f.result d) values (with_memory memory c1) (meaning.statements rest next)) c1.memory
             (λ j less. (enters j less).same name f vss passed m1 c1.memory s
             (λ values memory. with_results (results_in f.result d) values (with_memory memory c1) (meaning.statements rest next))
-            numbered routine fits1.agree fits1.globals (passed_many c1.temps d count ∙ many) given
+            numbered routine fits1.agree fits1.statics (passed_many c1.temps d count ∙ many) given
             (record {
               go = λ m2 c2 vs xs agree later result.
                   let more = later_less (called_before m1 c1.memory) (within p) m1 m2 c1.memory c2 (within_called p m1 c1 fits1) later in
                   less_fuel p.world p.program n j _ _ (omega (arith, less))
                   (results_same p n d m c m2 (with_memory c2 c1) f.result vs xs s (meaning.statements rest next) routine.result result
-                  (fits_later p m1 m2 c1 (with_memory c2 c1) fits1 agree more refl)
+                  (fits_later p m1 m2 c1 (with_memory c2 c1) fits1 agree more refl (λ k less. refl))
                   (later_on (within p) m m1 m2 c.memory c1.memory c2 later1 more) kept1 goes);
             }));
       }));

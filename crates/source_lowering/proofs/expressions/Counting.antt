@@ -1,5 +1,5 @@
 -- `numelts`: of what is no fat pointer the source is stuck.
-use Rattle.std.proofs.Common.{◌≡◌, ℕ, List, [], ◌∷◌, ◌++◌, refl, sym, subst}
+use Rattle.std.proofs.Common.{◌≡◌, ℕ, List, [], ◌∷◌, ◌++◌, refl, sym, subst, arith}
 use Rattle.source_meaning.specs.Shapes.{
   Shape,
   IntShape,
@@ -31,6 +31,7 @@ use Rattle.source_lowering.proofs.values.AnyValues.{one_same, thin_same}
 use Rattle.source_lowering.proofs.expressions.Variables.{Agrees}
 use Rattle.source_lowering.proofs.expressions.Forms.{value_agrees}
 use Rattle.source_lowering.proofs.values.FatOperators.{count_gives}
+use Rattle.source_lowering.proofs.values.Values.{over}
 
 -- another value is out of order
 not_counted : (p : Point) (n d : ℕ) (shape : Shape) (look : steps.Act (List Scalar)) (code : List Statement) → IsTaken shape
@@ -41,6 +42,7 @@ not_counted p n d shape look code taken apart gives = record {
       let counts : Scalar → source.Memory → steps.Step = λ v. elements_left v (λ k. s (k ∷ [])) in
       subst (λ z. SameAt p n (look (λ vs. one vs counts) m) (meaning.statements z next c)) (sym (put_all code (count_code d) rest))
       (gives.same m c (λ vs. one vs counts) (put (count_code d) rest) next fits (record {
+        above = over goes.above (omega arith);
         go = λ m1 c1 vs fits1 later1 kept1 given1.
             one_same p.world p.program n shape m1 c1.memory vs d c1.temps counts _ taken given1
             (λ t word temp shape_is type_is small. stuck_same p.world p.program n _)

@@ -4,7 +4,7 @@ use Rattle.std.proofs.lemmas.List.{append_assoc, append-nil}
 use Rattle.cyc_tree.specs.declared.expression.Prefix.TheVariants as prefix
 use Rattle.cyc_tree.specs.Tree.{Expression, Expressions, NoExpressions, MoreExpressions, Links, NoLinks, MoreLinks, Suffixes, NoSuffixes, Index, Dot, Arrow}
 use Rattle.cyc_tree.specs.Tree.{Made, One, Array}
-use Rattle.source_meaning.specs.Shapes.{Shape, IntShape, StructShape, Part, part_shapes, parts_of, pointee}
+use Rattle.source_meaning.specs.Shapes.{Shape, IntShape, FatShape, StructShape, Part, part_shapes, parts_of, pointee}
 use Rattle.source_meaning.specs.Sizes.{Extent, rounded_up, laid_out, no_extent}
 use Rattle.source_meaning.specs.Steps.{Act, Scope, ◌>>=◌}
 use Rattle.source_meaning.specs.Operators.{operator_shape}
@@ -18,7 +18,7 @@ use Rattle.source_lowering.specs.Layouts.{extent_of}
 use Rattle.source_lowering.specs.Members.{words_in}
 use Rattle.source_lowering.specs.Lowered.{argument_words, static_shape, new_shape, linked_shape, operator_code, call_parameters, values_by, expression_values}
 use Rattle.source_lowering.specs.Lowered.{suffix_values, all_values, link_values, new_values, whole_values, made_values, expression_code, place_code, put_code}
-use Rattle.source_lowering.specs.Lowered.{links_code, all_code, any_code, arguments_code, new_code, whole_code, members_code, member_code}
+use Rattle.source_lowering.specs.Lowered.{array_code, element_by, number_named, links_code, all_code, any_code, arguments_code, new_code, whole_code, members_code, member_code}
 use Rattle.source_lowering.specs.Lowerable.{AreObjects, TakesPlace, Takes, TakesAll, TakesLinks, TakesNew, TakesWhole, TakesMade}
 use Rattle.source_lowering.proofs.Structs.{struct_made as struct_is_made}
 use Rattle.source_lowering.proofs.memory.StructCells.{AllHaveCells}
@@ -28,6 +28,7 @@ use Rattle.source_lowering.proofs.values.Integers.{IsNoStruct, target_taken}
 use Rattle.source_lowering.proofs.expressions.Variables.{Agrees}
 use Rattle.source_lowering.proofs.expressions.VariableForms.{variable_agrees, variable_stores}
 use Rattle.source_lowering.proofs.expressions.Counting.{counted_agrees}
+use Rattle.source_lowering.proofs.Texts.{text_agrees}
 use Rattle.source_lowering.proofs.expressions.Forms.{number_agrees, character_agrees, applied_agrees, value_agrees, assigned_agrees}
 use Rattle.source_lowering.proofs.expressions.Places.{IsPlaced, variable_placed, address_agrees, null_agrees}
 use Rattle.source_lowering.proofs.expressions.ValuePlaces.{target_stored}
@@ -36,7 +37,7 @@ use Rattle.source_lowering.proofs.expressions.Indices.{TakesIndices, IndicesAs}
 use Rattle.source_lowering.proofs.expressions.Suffixed.{primary_left, left_shape, suffixed_same}
 use Rattle.source_lowering.proofs.values.Joined.{AllAs, all_none, all_more, all_gives, AnyAs, any_none, any_more, any_gives}
 use Rattle.source_lowering.proofs.expressions.EachCall.{Passed, AllValues, call_values, call_agrees}
-use Rattle.source_lowering.proofs.expressions.Calls.{CallsAs, no_arguments, stuck_arguments, more_arguments}
+use Rattle.source_lowering.proofs.expressions.Calls.{CallsAs, calls_less, no_arguments, stuck_arguments, more_arguments}
 use Rattle.source_lowering.proofs.expressions.Numbered.{AreNumbered, numbered_first, numbered_after, numbered_one, numbered_more}
 use Rattle.source_lowering.proofs.expressions.ExpressionForms.{
   IsStored,
@@ -53,7 +54,10 @@ use Rattle.source_lowering.proofs.expressions.ExpressionForms.{
 use Rattle.source_lowering.proofs.expressions.WholeForms.{IsWholeAs, whole_place, member_same, call_whole}
 use Rattle.source_lowering.proofs.expressions.MakingStructs.{MembersGo, no_members, more_members, made_whole}
 use Rattle.source_lowering.proofs.expressions.Requests.{GivesMaker, heap_agrees, heap_gives, handle_gives, made_agrees}
-pub use Rattle.source_lowering.proofs.expressions.Known.{Known, place_in, IsKnown, known_keeping, keeping_known, new_by, takes_one, new_is, new_in_is}
+use Rattle.source_lowering.proofs.expressions.Homes.{element_shape, element_values, same_element}
+use Rattle.source_lowering.proofs.expressions.MadeArrays.{made_array}
+use Rattle.source_lowering.proofs.expressions.Known.{at_known, known_at, scope_at}
+pub use Rattle.source_lowering.proofs.expressions.Known.{Known, place_in, IsKnown, known_keeping, keeping_known, new_by, new_is, new_in_is}
 
 mutual
   pub named_same : (e : Expression) (scope : Scope) (k : Known) → TakesPlace scope.world k.names e → IsNoStruct (static_shape scope.world k.names e)
@@ -121,6 +125,7 @@ mutual
       (λ e. no_shapes scope.world k.names (call_parameters scope.world name.text) arguments d own e)
       (arguments_same arguments scope k h.1 known n calls (call_parameters scope.world name.text) (call_values scope.world name.text known.world) d own
       numbered less)
+  expression_same (Expression.Text at bytes) scope k h known n calls d own numbered less = text_agrees (place_in scope k) n d at known.world.structs
   expression_same (Expression.NumElts at operand) scope k h known n calls d own numbered less =
       counted_agrees (place_in scope k) n d (sense operand scope) (static_shape scope.world k.names operand)
       (expression_code scope.world k.names operand d own) (expression_same operand scope k h known n calls d own numbered less)
@@ -147,14 +152,14 @@ mutual
       to.shape_is to.target to.placed
   expression_same (Expression.New at new) scope k h known n calls d own numbered less =
       subst (λ z. Agrees (place_in scope k) n d z (new_shape scope.world k.names new) (Do (HeapHandle d) ∷ new_code scope.world k.names new d own))
-      (new_is new scope (takes_one scope.world k.names new h))
+      (new_is new scope)
       (new_same new scope k h known n calls heap_maker d own numbered less (Do (HeapHandle d) ∷ []) (heap_gives (place_in scope k) n d))
   expression_same (Expression.NewIn at handle new) scope k h known n calls d own numbered less =
       let values = expression_values scope.world k.names handle in
       let behind = own + length values in
       subst (λ z. Agrees (place_in scope k) n d z (new_shape scope.world k.names new)
       (expression_code scope.world k.names handle d own ++ new_code scope.world k.names new d behind))
-      (new_in_is new scope handle (takes_one scope.world k.names new h.1.1) h.0)
+      (new_in_is new scope handle h.0)
       (new_same new scope k h.1.1 known n calls (handle_maker (sense handle scope)) d behind
       (numbered_after k.owned own values (new_values scope.world k.names new) numbered) (omega (arith, less)) (expression_code scope.world k.names handle d own)
       (handle_gives (place_in scope k) n d (sense handle scope) (static_shape scope.world k.names handle) (expression_code scope.world k.names handle d own)
@@ -283,7 +288,30 @@ mutual
       (expression_code scope.world k.names value (d + 1) own) (TakesWhole scope.world k.names value) (Takes scope.world k.names value) known.world.structs h.0
       less h.1 numbered handle (λ g nums. whole_same value scope k g known n calls (d + 1) own nums)
       (λ g nums. expression_same value scope k g known n calls (d + 1) own nums less)
-  new_same (Array index count element) scope k h known n calls to d own numbered less code handle = absurd h
+  new_same (Array index count element) scope k h known n calls to d own numbered less code handle =
+      let w = scope.world in
+      let inner = number_named index.text (d + 2) ∷ k.names in
+      let counted = expression_values w k.names count in
+      let first = own + length counted in
+      let values = element_values w k.names index.text 0 element in
+      let shape = static_shape w inner element in
+      let takes = h.1 (d + 2) in
+      let count_code = expression_code w k.names count (d + 1) own in
+      let whole = whole_code w inner element (d + 3) first in
+      let word = expression_code w inner element (d + 3) first in
+      subst (λ z. Agrees (place_in scope k) n d (new_by (Array index count element) scope to) (FatShape z)
+      (code ++ (count_code ++ array_code w shape d (element_by w shape d whole word)))) (element_shape w k.names index.text (d + 2) 0 element)
+      (made_array (place_in scope k) n index.text d first to (sense count scope) (λ i. sense element (scope_at scope index.text i))
+      (static_shape w k.names count) shape (whole_values w inner element) (expression_values w inner element) code count_code whole word
+      (TakesWhole w inner element) (Takes w inner element) known.world.structs takes.0 (omega (arith, less)) takes.1
+      (subst (λ z. AreNumbered k.owned first z) (same_element w k.names index.text 0 (d + 2) element) (numbered_after k.owned own counted values numbered)) handle
+      (expression_same count scope k h.0 known n calls (d + 1) own (numbered_first k.owned own counted values numbered) less)
+      (λ g nums j i below small.
+      whole_same element (scope_at scope index.text i) (known_at k index.text d) g (at_known scope k index.text d i small known) j
+      (calls_less w k.program n j below calls) (d + 3) first nums)
+      (λ g nums j i below small.
+      expression_same element (scope_at scope index.text i) (known_at k index.text d) g (at_known scope k index.text d i small known) j
+      (calls_less w k.program n j below calls) (d + 3) first nums (omega (arith, less))))
 
   -- a struct, which has its static shape
   pub whole_same : (e : Expression) (scope : Scope) (k : Known) → TakesWhole scope.world k.names e → IsKnown scope k → (n : ℕ)

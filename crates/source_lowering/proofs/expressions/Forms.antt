@@ -39,7 +39,7 @@ use Rattle.source_lowering.proofs.values.Integers.{IsTaken, limit, word_given, i
 use Rattle.source_lowering.proofs.values.AnyValues.{value_same}
 use Rattle.source_lowering.proofs.expressions.Operands.{operands_same}
 use Rattle.source_lowering.proofs.values.Operators.{modulo_small}
-use Rattle.source_lowering.proofs.values.Values.{put_value, put_three, kept_contents}
+use Rattle.source_lowering.proofs.values.Values.{put_value, put_three, kept_contents, over}
 use Rattle.source_lowering.proofs.values.Conversions.{converted_gives}
 use Rattle.source_lowering.specs.Members.{words_in}
 use Rattle.source_lowering.proofs.expressions.Variables.{Agrees, StoresAs}
@@ -134,10 +134,12 @@ applied_gives p n d o a b sa sb ca cb taken1 taken2 left right = record {
   same = λ m c s rest next fits goes.
       subst (λ z. SameAt p n ((applied o a b).look s m) (meaning.statements z next c)) (sym (put_three ca cb (operator_code o sa sb d) rest))
       (left.same m c (λ vs. first s vs) (put cb (put (operator_code o sa sb d) rest)) next fits (record {
+        above = over goes.above (omega arith);
         go = λ m1 c1 vs1 fits1 later1 kept1 given1.
             value_same p.world p.program n sa m1 c1.memory vs1 (contents_in d sa c1.temps) (λ x. b.look (λ ys. second s x ys)) _ given1
             (λ u shown1.
             right.same m1 c1 (λ ys. second s u ys) (put (operator_code o sa sb d) rest) next fits1 (record {
+              above = over goes.above (omega arith);
               go = λ m2 c2 vs2 fits2 later2 kept2 given2.
                   value_same p.world p.program n sb m2 c2.memory vs2 (contents_in (d + words_in sa) sb c2.temps) (λ y. third s u y) _ given2
                   (λ v shown2.
@@ -186,6 +188,7 @@ assigned_agrees p n d to from shape of code stores same taken place one = value_
           (sym (put_three code (conversion_code p.world shape of d) stores rest ∙ sym (put_all code (conversion_code p.world shape of d) (put stores rest))))
           ((converted_gives p n d shape from of code taken one).same m c (λ us. to.place (λ t. write_cells t us (λ u. s (given_by shape us)))) (put stores rest)
           next fits (record {
+            above = over goes.above (omega arith);
             go = λ m1 c1 us fits1 later1 kept1 given1. place.same m c m1 c1 us s rest next fits1 later1 kept1 given1 goes;
           })));
     })

@@ -1,21 +1,21 @@
 -- What lowering knows where an expression stands, and the senses of what `new` and `rnew` make.
-use Rattle.std.proofs.Common.{◌≡◌, ℕ, List, ◌∷◌, false, refl}
+use Rattle.std.proofs.Common.{◌≡◌, ℕ, ◌+◌, ◌^◌, ◌<◌, List, ◌∷◌, false, refl}
 use Rattle.cyc_tree.specs.Tree.{Array, Expression, Made, One}
-use Rattle.source_meaning.specs.Shapes.{Shape, Shared}
-use Rattle.source_meaning.specs.Steps.{Act, Scope}
+use Rattle.source_meaning.specs.Shapes.{Shape, Shared, UnsignedShape}
+use Rattle.source_meaning.specs.Memory.{AsUnsigned, Integer}
+use Rattle.source_meaning.specs.Steps.{Act, Fixed, Scope}
 use Rattle.source_meaning.specs.Making.{Maker, heap_maker}
-use Rattle.source_meaning.specs.Places.{Sense, no_sense}
-use Rattle.source_meaning.specs.Calls.{handle_maker, made}
+use Rattle.source_meaning.specs.Places.{Sense, with_binding}
+use Rattle.source_meaning.specs.Calls.{array_made, handle_maker, made}
 use Rattle.source_meaning.specs.Expressions.{is_unique_region, new_in_sense, new_sense, sense}
-use Rattle.source_meaning.specs.Steps.{World}
 use Rattle.core_meaning.specs.Core.{Program}
-use Rattle.source_lowering.specs.Lowered.{Named}
+use Rattle.source_lowering.specs.Lowered.{Named, number_named}
 use Rattle.source_lowering.specs.Programs.{RegionsAround}
-use Rattle.source_lowering.specs.Lowerable.{TakesNew}
 use Rattle.source_lowering.specs.Simulation.{AreLocals, Point}
 use Rattle.source_lowering.proofs.expressions.Names.{AreObjectNames, IsPlainWorld}
 
--- what lowering knows beside the scope: the names, the blocks around this one, and how far this one is; the unnamed values that are kept; the regions in scope
+-- What lowering knows beside the scope: the names, the blocks around this one, and how far this one is; the unnamed values that are kept; and the regions in
+-- scope, by which so many of the first temporaries are taken: within the elements of an array that is made, three more behind those before it.
 pub record Known : Type 0 where
   pub program : Program
   pub names : List Named
@@ -56,27 +56,35 @@ known_keeping k values = record k { kept = values }
 pub keeping_known : (scope : Scope) (k : Known) (values : ℕ) → IsKnown scope k → IsKnown scope (known_keeping k values)
 keeping_known scope k values known = record { world = known.world; locals = known.locals; words = known.words }
 
+-- ---- within the elements of an array
+
+-- the name stands for the number of the element
+abbrev pub scope_at : Scope → List ℕ → ℕ → Scope
+scope_at scope name i = with_binding scope name (Fixed UnsignedShape (Integer AsUnsigned i))
+
+-- which is in a temporary, behind the array's pointer and its count
+abbrev pub known_at : Known → List ℕ → ℕ → Known
+known_at k name d = record k { names = number_named name (d + 2) ∷ k.names; regions = record { all = d + 3; inner = k.regions.inner } }
+
+pub at_known : (scope : Scope) (k : Known) (name : List ℕ) (d i : ℕ) → i < 2 ^ 32 → IsKnown scope k → IsKnown (scope_at scope name i) (known_at k name d)
+at_known scope k name d i small known = record {
+  world = known.world;
+  locals = (record { named = refl; stands = record { word = i; is = refl; shape_is = refl; small = small } }, known.locals);
+  words = (tt, known.words);
+}
+
 -- ---- what is made
 
--- with a region to make it in; arrays aren't made here
+-- with a region to make it in
 abbrev pub new_by : Made → Scope → Act Maker → Sense
 new_by (One value) scope to = made scope.world to Shared (sense value scope)
-new_by (Array index count element) scope to = no_sense
+new_by (Array index count element) scope to = array_made scope.world to (sense count scope) (λ i. sense element (scope_at scope index.text i))
 
--- one object
-abbrev pub TakesOne : Made → Type 0
-TakesOne (One value) = Unit {0}
-TakesOne (Array index count element) = ⊥
+pub new_is : (new : Made) (scope : Scope) → new_by new scope heap_maker ≡ new_sense new scope
+new_is (One value) scope = refl
+new_is (Array index count element) scope = refl
 
-pub takes_one : (w : World) (names : List Named) (new : Made) → TakesNew w names new → TakesOne new
-takes_one w names (One value) h = tt
-takes_one w names (Array index count element) h = absurd h
-
-pub new_is : (new : Made) (scope : Scope) → TakesOne new → new_by new scope heap_maker ≡ new_sense new scope
-new_is (One value) scope one = refl
-new_is (Array index count element) scope one = absurd one
-
-pub new_in_is : (new : Made) (scope : Scope) (handle : Expression) → TakesOne new → is_unique_region handle ≡ false
+pub new_in_is : (new : Made) (scope : Scope) (handle : Expression) → is_unique_region handle ≡ false
     → new_by new scope (handle_maker (sense handle scope)) ≡ new_in_sense new scope (is_unique_region handle) (sense handle scope)
-new_in_is (One value) scope handle one shared = rw shared refl
-new_in_is (Array index count element) scope handle one shared = absurd one
+new_in_is (One value) scope handle shared = rw shared refl
+new_in_is (Array index count element) scope handle shared = refl

@@ -1,5 +1,5 @@
 -- A struct is made of its members: one after the other each is converted, and goes where it lies in the unnamed value.
-use Rattle.std.proofs.Common.{◌≡◌, ℕ, suc, ◌+◌, ◌<◌, List, [], ◌∷◌, ◌++◌, length, true, false, nat_eq, None, refl, sym, ◌∙◌, subst, arith}
+use Rattle.std.proofs.Common.{◌≡◌, ℕ, suc, ◌+◌, ◌<◌, List, [], ◌∷◌, ◌++◌, length, true, false, nat_eq, None, refl, sym, ◌∙◌, subst, arith, ◌≤◌}
 use Rattle.std.specs.Prelude.{nat_le}
 use Rattle.std.proofs.lemmas.Bool.{eq-eqb}
 use Rattle.std.proofs.lemmas.Bool.Decides.{nat_tests}
@@ -29,7 +29,7 @@ use Rattle.source_lowering.proofs.values.Integers.{value_taken}
 use Rattle.source_lowering.proofs.values.AnyValues.{value_given}
 use Rattle.source_lowering.proofs.memory.CellParts.{with_values, all_other, none_written, all_hold, later_put}
 use Rattle.source_lowering.proofs.memory.Loading.{stores_does}
-use Rattle.source_lowering.proofs.values.Values.{kept_temp, temp_fits, put_three}
+use Rattle.source_lowering.proofs.values.Values.{kept_temp, temp_fits, put_three, over}
 use Rattle.source_lowering.proofs.expressions.Variables.{Agrees}
 use Rattle.source_lowering.proofs.values.Conversions.{converted_gives}
 use Rattle.source_lowering.proofs.memory.Clearing.{laid_there}
@@ -54,6 +54,7 @@ AreBefore p value cells c0 c = (i j : ℕ) → i < cells → c.memory.parts (mem
 -- a member has its value
 pub record MemberGoesOn (p : Point) (n d value cells : ℕ) (m0 : source.Memory) (c0 : Config) (shape : Shape) (s : List Scalar → source.Memory → steps.Step)
     (k : Config → core_steps.Step) : Type 0 where
+  pub above : p.regions.all ≤ d
   pub go : (m : source.Memory) (c : Config) (vs : List Scalar) → SameState p m c → Grown (before_value p value) m0 c0.memory m c.memory
       → AreBefore p value cells c0 c → AreKept (d + 1) c0 c
       → AllShown p.world m c.memory (member_spot p.own value cells) (cells_of p.world shape) vs → SameAt p n (s vs m) (k c)
@@ -89,6 +90,7 @@ value_member p n d value cells byte shape e from first is_value one = record {
       sym (put_all first (conversion_code p.world shape from (d + 1)) (put stores rest))))
       ((converted_gives (keeping p (suc value)) n (d + 1) shape e from first (value_taken shape is_value) one).same m c s (put stores rest) next
       (fits_keeping p (suc value) m c fits) (record {
+        above = over goes.above (omega arith);
         go = λ m1 c1 vs fits1 later1 kept1 given1.
             stored m c s rest next goes m1 c1 vs (fits_kept p (suc value) m1 c1 fits1)
             (later_less (before_value p (suc value)) (before_value p value) m m1 c.memory c1.memory (before_less p value (suc value) (omega arith)) later1)
@@ -126,7 +128,7 @@ value_member p n d value cells byte shape e from first is_value one = record {
         (λ t j e. none_written c1.memory spot (0 + byte) 0 qs have.contents xs have.are t j e) in
         subst (λ z. SameAt p n (s vs m1) z)
         (sym (stores_does shape is_value c1 d (d + 1) cells byte 0 (own_spot p.own value 0) have.contents rest next temp fits1.stands have.are fit))
-        (goes.go m1 c2 vs (fits_on p m1 m1 c1 c2 fits1 agree around_puts refl)
+        (goes.go m1 c2 vs (fits_on p m1 m1 c1 c2 fits1 agree around_puts refl (λ k less. refl))
         (later_on (before_value p value) m m1 m1 c.memory c1.memory c2.memory later1 puts)
         (λ i j less. all_other c1.memory.parts spot (0 + byte) 0 qs xs (member_spot p.own value i) j (cells_apart p.own value i cells less) ∙ before1 i j less)
         kept1
@@ -173,6 +175,7 @@ struct_member p n d value cells byte other tag e code structs object after one =
   same = λ m c s rest next fits temp made goes.
       subst (λ z. SameAt p n (e.value (λ vs. converted p.world shape e.shape vs s) m) (meaning.statements z next c)) (sym (put_all code copies rest))
       (one.same m c (λ vs. converted p.world shape e.shape vs s) (put copies rest) next fits (record {
+        above = over goes.above (omega arith);
         go = λ m1 c1 vs fits1 later1 kept1 temp1 shown1.
             converted_whole p n tag e.shape vs s m1 (meaning.statements (put copies rest) next c1)
             (λ equal.
@@ -217,7 +220,8 @@ struct_member p n d value cells byte other tag e code structs object after one =
         (first_reached c1.memory spot (0 + byte) first) there fits1.stands
         (laid_there c1.memory spot (0 + byte) layout.cells made) (laid_there c1.memory from 0 layout.cells made_t)
         (values_apart p.own value cells other after)))
-        (goes.go m1 c2 vs (fits_on p m1 m1 middle c2 (temp_fits p m1 c1 (d + 2) (Pointer spot (0 + byte)) fits1) agree around_copying refl)
+        (goes.go m1 c2 vs (fits_on p m1 m1 middle c2 (temp_fits p m1 c1 (d + 2) (Pointer spot (0 + byte)) fits1 (over goes.above (omega arith))) agree around_copying refl
+        (λ k less. refl))
         (later_on (before_value p value) m m1 m1 c.memory c1.memory c2.memory later1 copying)
         (λ i j less.
         copied_nowhere layout spot from c1.memory (member_spot p.own value i) j (cells_before_copied p.own value i cells (length layout.cells) less) ∙

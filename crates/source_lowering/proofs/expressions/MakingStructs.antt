@@ -27,7 +27,7 @@ use Rattle.source_lowering.proofs.Runs.{put_all}
 use Rattle.source_lowering.proofs.Structs.{IsMade, struct_made as struct_is_made}
 use Rattle.source_lowering.proofs.memory.StructCells.{AllHaveCells}
 use Rattle.source_lowering.proofs.memory.Members.{parts_made}
-use Rattle.source_lowering.proofs.values.Values.{put_temp, kept_temp, temp_fits}
+use Rattle.source_lowering.proofs.values.Values.{put_temp, kept_temp, temp_fits, over}
 use Rattle.source_lowering.proofs.memory.Copying.{AllShown, all_shown_kept}
 use Rattle.source_lowering.proofs.expressions.Wholes.{own_spot, IsWhole, value_made}
 use Rattle.source_lowering.proofs.expressions.MakingMembers.{member_spot, AreBefore, MemberGoes}
@@ -48,6 +48,7 @@ all_shown_both w m c t (x ∷ xs) ys (v ∷ vs) us h g = (
 -- members from one on have their values
 pub record MembersGoOn (p : Point) (n d value cells : ℕ) (m0 : source.Memory) (c0 : Config) (xs : List Shape)
     (s : List (List Scalar) → source.Memory → steps.Step) (k : Config → core_steps.Step) : Type 0 where
+  pub above : p.regions.all ≤ d
   pub go : (m : source.Memory) (c : Config) (vss : List (List Scalar)) → SameState p m c → Grown (before_value p value) m0 c0.memory m c.memory
       → AreBefore p value cells c0 c → AreKept (d + 1) c0 c
       → AllShown p.world m c.memory (member_spot p.own value cells) xs (flat vss) → SameAt p n (s vss m) (k c)
@@ -78,12 +79,14 @@ more_members p n d value cells total so_far part ps act acts code codes have roo
       let both = parts_made c.memory p.world.unions p.world.structs total so_far part ps (member_spot p.own value cells) 0 have room made in
       subst (λ z. SameAt p n (act (λ vs. acts (λ vss. s (vs ∷ vss))) m) (meaning.statements z next c)) (sym (put_all code codes rest))
       (one.same m c (λ vs. acts (λ vss. s (vs ∷ vss))) (put codes rest) next fits temp both.0 (record {
+        above = over goes.above (omega arith);
         go = λ m1 c1 vs fits1 later1 before1 kept1 shown1.
             more.same m1 c1 (λ vss. s (vs ∷ vss)) rest next fits1 (kept1 d (omega arith) ∙ temp)
             (subst (λ z. AreMade c1.memory z 0 (padded (extent_of p.world) total (all_placed (placed_of p.world) (extent_of p.world) next_bytes ps)))
             (beyond_both (own_spot p.own value 0) cells count (cells + count) refl)
             (made_later (before_value p value) m m1 c.memory c1.memory (core.beyond (member_spot p.own value cells) count) 0
             (padded (extent_of p.world) total (all_placed (placed_of p.world) (extent_of p.world) next_bytes ps)) later1 both.1)) (record {
+              above = over goes.above (omega arith);
               go = λ m2 c2 vss fits2 later2 before2 kept2 shown2.
                   goes.go m2 c2 (vs ∷ vss) fits2 (later_on (before_value p value) m m1 m2 c.memory c1.memory c2.memory later1 later2)
                   (λ i j less. before2 i j (omega (arith, less)) ∙ before1 i j less) (λ k h. kept2 k h ∙ kept1 k h)
@@ -118,7 +121,7 @@ made_whole p n d value tag es codes structs object numbered members = record {
   numbered = numbered;
   same = λ m c s rest next fits goes.
       let c1 : Config = with_temp d (Pointer (own_spot p.own value 0) 0) c in
-      let fits1 = temp_fits p m c d (Pointer (own_spot p.own value 0) 0) fits in
+      let fits1 = temp_fits p m c d (Pointer (own_spot p.own value 0) 0) fits goes.above in
       subst (λ z. SameAt p n (converted_all p.world (part_shapes parts) es (λ vss. s (flat vss)) m)
       (meaning.statements (put codes rest) next (with_temp d (Pointer (own_spot z value 0) 0) c))) (sym fits.own)
       (members.same m c1 (λ vss. s (flat vss)) rest next fits1 (put_temp d (Pointer (own_spot p.own value 0) 0) c)
@@ -126,6 +129,7 @@ made_whole p n d value tag es codes structs object numbered members = record {
       (all_placed (placed_of p.world) (extent_of p.world) 0 parts))) (beyond_none (own_spot p.own value 0))
       (subst (λ z. AreMade c.memory (own_spot p.own value 0) 0 (padded (extent_of p.world) (extent_of p.world (StructShape tag)).size z)) made.placed
       (value_made p m c value (StructShape tag) fits numbered))) (record {
+        above = over goes.above (omega arith);
         go = λ m2 c2 vss fits2 later2 before2 kept2 shown2.
             goes.go m2 c2 (flat vss) fits2 later2
             (λ k h. kept2 k (omega (arith, h)) ∙ kept_temp d d (Pointer (own_spot p.own value 0) 0) c c (omega arith) (λ j g. refl) k h)

@@ -1,17 +1,19 @@
 -- A name is found by lowering where the source finds it.
-use Rattle.std.proofs.Common.{◌≡◌, ℕ, suc, ◌⊎◌, inl, inr, ⊎_elim, List, [], ◌∷◌, Bool, true, false, Some, None, refl, ap, ◌∙◌, subst}
+use Rattle.std.proofs.Common.{◌≡◌, ℕ, suc, ◌⊎◌, inl, inr, ⊎_elim, List, [], ◌∷◌, Bool, true, false, Some, None, refl, sym, ap, ◌∙◌, subst, ◌^◌, ◌<◌}
 use Rattle.std.specs.Prelude.{slice_get, bytes_eq, if◌then◌else◌}
-use Rattle.source_meaning.specs.Shapes.{Shape, Part, Layout}
+use Rattle.source_meaning.specs.Shapes.{Shape, UnsignedShape, Part, Layout}
 use Rattle.source_meaning.specs.Memory as source
-use Rattle.source_meaning.specs.Steps.{World, Variable, Binding, Routine}
+use Rattle.source_meaning.specs.Memory.{AsUnsigned, Integer}
+use Rattle.source_meaning.specs.Steps.{World, Entity, Variable, Fixed, Binding, Routine}
 use Rattle.source_meaning.specs.Places.{bound_to}
 use Rattle.source_meaning.specs.Calls.{function_of}
 use Rattle.source_meaning.specs.Programs.{is_main, heap_spot}
 use Rattle.source_meaning.specs.Shapes.{IntShape}
 use Rattle.core_meaning.specs.Memory as core
-use Rattle.source_lowering.specs.Lowered.{Named, local_named, number_of}
+use Rattle.core_meaning.specs.Memory.{Content, Word}
+use Rattle.source_lowering.specs.Lowered.{Home, InBlock, InTemporary, Named, number_named, local_named, number_of}
 use Rattle.source_lowering.specs.Lowerable.{IsVariable, AreStructs, TakesBody}
-use Rattle.source_lowering.specs.Simulation.{VariableLeads, IsLed, AreLed, IsLocal, AreLocals}
+use Rattle.source_lowering.specs.Simulation.{VariableLeads, IsLed, AreLed, StandsFor, IsLocal, AreLocals, HoldsNumber, IsHeld, AreHeld}
 use Rattle.source_lowering.proofs.values.Integers.{IsTaken, IsValueShape}
 use Rattle.source_lowering.proofs.expressions.Making.{local_spot}
 
@@ -53,23 +55,42 @@ pub record IsPlainWorld (w : World) : Type 0 where
 
 -- ---- locals
 
+-- a variable of a block
 pub record FoundLocal (structs : List Layout) (blocks : List ℕ) (bs : List Binding) (ls : List Named) (name : List ℕ) : Type 0 where
-  pub local : Named
+  pub key : List ℕ
+  pub shape : Shape
+  pub out : ℕ
+  pub index : ℕ
   pub frame : ℕ
-  pub found : local_named ls name ≡ Some local
-  pub bound : bound_to bs name ≡ Some (Variable local.shape (local_spot frame local.index))
-  pub in_block : slice_get blocks local.out ≡ Some frame
-  pub is_variable : IsVariable structs local.shape
-  pub led : (v : World) (m : source.Memory) (c : core.Memory) → AreLed v m c bs → VariableLeads v m c local.shape (local_spot frame local.index)
+  pub found : local_named ls name ≡ Some (record { name = key; shape = shape; home = InBlock out index })
+  pub bound : bound_to bs name ≡ Some (Variable shape (local_spot frame index))
+  pub in_block : slice_get blocks out ≡ Some frame
+  pub is_variable : IsVariable structs shape
+  pub led : (v : World) (m : source.Memory) (c : core.Memory) → AreLed v m c bs → VariableLeads v m c shape (local_spot frame index)
+
+-- the number of an element that is being made
+pub record FoundNumber (bs : List Binding) (ls : List Named) (name : List ℕ) : Type 0 where
+  pub key : List ℕ
+  pub t : ℕ
+  pub word : ℕ
+  pub found : local_named ls name ≡ Some (number_named key t)
+  pub bound : bound_to bs name ≡ Some (Fixed UnsignedShape (Integer AsUnsigned word))
+  pub small : word < 2 ^ 32
+  pub holds : (taken : ℕ) (temps : ℕ → Content) → AreHeld taken temps bs ls → temps t ≡ Word word
 
 pub record MissingLocal (bs : List Binding) (ls : List Named) (name : List ℕ) : Type 0 where
   pub found : local_named ls name ≡ None
   pub bound : bound_to bs name ≡ None
 
+abbrev pub Found : (structs : List Layout) (blocks : List ℕ) (bs : List Binding) (ls : List Named) (name : List ℕ) → Type 0
+Found structs blocks bs ls name = FoundLocal structs blocks bs ls name ⊎ (FoundNumber bs ls name ⊎ MissingLocal bs ls name)
+
+same_word : (e : Entity) (i j : ℕ) → e ≡ Fixed UnsignedShape (Integer AsUnsigned i) → e ≡ Fixed UnsignedShape (Integer AsUnsigned j) → i ≡ j
+same_word e i j f g = let one : Fixed UnsignedShape (Integer AsUnsigned i) ≡ Fixed UnsignedShape (Integer AsUnsigned j) = sym f ∙ g in cc one
+
 pub find_local : (structs : List Layout) (blocks : List ℕ) (bs : List Binding) (ls : List Named) (name : List ℕ) → AreLocals blocks bs ls
-    → AreObjectNames structs ls
-    → FoundLocal structs blocks bs ls name ⊎ MissingLocal bs ls name
-find_local structs blocks [] [] name all integers = inr (record { found = refl; bound = refl })
+    → AreObjectNames structs ls → Found structs blocks bs ls name
+find_local structs blocks [] [] name all integers = inr (inr (record { found = refl; bound = refl }))
 find_local structs blocks [] (l ∷ ls) name all integers = absurd all
 find_local structs blocks (b ∷ bs) [] name all integers = absurd all
 find_local structs blocks (b ∷ bs) (l ∷ ls) name all integers = by (bytes_eq l.name name) refl (find_local structs blocks bs ls name all.1 integers.1)
@@ -77,13 +98,15 @@ find_local structs blocks (b ∷ bs) (l ∷ ls) name all integers = by (bytes_eq
     one : IsLocal blocks b l
     one = all.0
 
-    other : bytes_eq l.name name ≡ false → FoundLocal structs blocks bs ls name ⊎ MissingLocal bs ls name
-        → FoundLocal structs blocks (b ∷ bs) (l ∷ ls) name ⊎ MissingLocal (b ∷ bs) (l ∷ ls) name
+    other : bytes_eq l.name name ≡ false → Found structs blocks bs ls name → Found structs blocks (b ∷ bs) (l ∷ ls) name
     other e rest =
         let same : bytes_eq b.name name ≡ false = ap (λ z. bytes_eq z name) one.named ∙ e in
         ⊎_elim
         (λ (f : FoundLocal structs blocks bs ls name). inl (record {
-          local = f.local;
+          key = f.key;
+          shape = f.shape;
+          out = f.out;
+          index = f.index;
           frame = f.frame;
           found = ap (λ z. if z then Some l else local_named ls name) e ∙ f.found;
           bound = ap (λ z. if z then Some b.entity else bound_to bs name) same ∙ f.bound;
@@ -91,23 +114,52 @@ find_local structs blocks (b ∷ bs) (l ∷ ls) name all integers = by (bytes_eq
           is_variable = f.is_variable;
           led = λ w m c h. f.led w m c h.1;
         }))
+        (λ (g : FoundNumber bs ls name ⊎ MissingLocal bs ls name). inr (⊎_elim
+        (λ (f : FoundNumber bs ls name). inl (record {
+          key = f.key;
+          t = f.t;
+          word = f.word;
+          found = ap (λ z. if z then Some l else local_named ls name) e ∙ f.found;
+          bound = ap (λ z. if z then Some b.entity else bound_to bs name) same ∙ f.bound;
+          small = f.small;
+          holds = λ taken temps h. f.holds taken temps h.1;
+        }))
         (λ (f : MissingLocal bs ls name). inr (record {
           found = ap (λ z. if z then Some l else local_named ls name) e ∙ f.found;
           bound = ap (λ z. if z then Some b.entity else bound_to bs name) same ∙ f.bound;
         }))
+        g))
         rest
 
-    by : (t : Bool) → bytes_eq l.name name ≡ t → FoundLocal structs blocks bs ls name ⊎ MissingLocal bs ls name
-        → FoundLocal structs blocks (b ∷ bs) (l ∷ ls) name ⊎ MissingLocal (b ∷ bs) (l ∷ ls) name
-    by true e rest = inl (record {
-      local = l;
-      frame = one.frame;
-      found = ap (λ z. if z then Some l else local_named ls name) e;
-      bound = ap (λ z. if z then Some b.entity else bound_to bs name) (ap (λ z. bytes_eq z name) one.named ∙ e) ∙ ap (λ z. Some z) one.is;
-      in_block = one.in_block;
+    here : bytes_eq l.name name ≡ true → (h : Home) → l.home ≡ h → StandsFor blocks b.entity l.shape h → Found structs blocks (b ∷ bs) (l ∷ ls) name
+    here e (InBlock out index) is stands = inl (record {
+      key = l.name;
+      shape = l.shape;
+      out = out;
+      index = index;
+      frame = stands.frame;
+      found = ap (λ z. if z then Some l else local_named ls name) e ∙ ap (λ z. Some (record { name = l.name; shape = l.shape; home = z })) is;
+      bound = ap (λ z. if z then Some b.entity else bound_to bs name) (ap (λ z. bytes_eq z name) one.named ∙ e) ∙ ap (λ z. Some z) stands.is;
+      in_block = stands.in_block;
       is_variable = integers.0;
-      led = λ w m c h. subst (λ z. IsLed w m c z) one.is h.0;
+      led = λ w m c h. subst (λ z. IsLed w m c z) stands.is h.0;
     })
+    here e (InTemporary t) is stands = inr (inl (record {
+      key = l.name;
+      t = t;
+      word = stands.word;
+      found = ap (λ z. if z then Some l else local_named ls name) e ∙
+          (ap (λ z. Some (record { name = l.name; shape = l.shape; home = z })) is ∙
+          ap (λ z. Some (record { name = l.name; shape = z; home = InTemporary t })) stands.shape_is);
+      bound = ap (λ z. if z then Some b.entity else bound_to bs name) (ap (λ z. bytes_eq z name) one.named ∙ e) ∙ ap (λ z. Some z) stands.is;
+      small = stands.small;
+      holds = λ taken temps h.
+          let g : HoldsNumber taken temps b.entity t = subst (λ z. IsHeld taken temps b.entity z) is h.0 in
+          g.holds ∙ ap (λ z. Word z) (same_word b.entity g.word stands.word g.is stands.is);
+    }))
+
+    by : (t : Bool) → bytes_eq l.name name ≡ t → Found structs blocks bs ls name → Found structs blocks (b ∷ bs) (l ∷ ls) name
+    by true e rest = here e l.home refl one.stands
     by false e rest = other e rest
 
 -- ---- globals

@@ -1,5 +1,5 @@
 -- Places and the pointers to them: a variable, `*e`, what is read and stored there, and `&e`.
-use Rattle.std.proofs.Common.{◌≡◌, ℕ, ◌+◌, inl, inr, ⊎_elim, List, [], ◌∷◌, ◌++◌, length, Bool, true, false, Some, None, refl, sym, ap, ◌∙◌, subst, arith}
+use Rattle.std.proofs.Common.{◌≡◌, ℕ, ◌+◌, inl, inr, ⊎_elim, List, [], ◌∷◌, ◌++◌, length, Bool, true, false, Some, None, refl, sym, ap, ◌∙◌, subst, arith, ◌≤◌}
 use Rattle.std.specs.Prelude.{slice_get}
 use Rattle.step_trees.specs.Trees.{Stops}
 use Rattle.std.proofs.lemmas.Bool.{false≢true}
@@ -47,9 +47,9 @@ use Rattle.source_lowering.proofs.values.Integers.{IsTaken, IsTarget, object_tar
 use Rattle.source_lowering.proofs.values.AnyValues.{one_same, thin_same}
 use Rattle.source_lowering.proofs.memory.Members.{lies_here}
 use Rattle.source_lowering.proofs.expressions.Making.{local_spot}
-use Rattle.source_lowering.proofs.values.Values.{put_temp, kept_temp, temp_fits, put_value}
+use Rattle.source_lowering.proofs.values.Values.{put_temp, kept_temp, temp_fits, put_value, over}
 use Rattle.source_lowering.proofs.expressions.Elements.{element_same}
-use Rattle.source_lowering.proofs.expressions.Names.{AreObjectNames, AreGlobals, FoundLocal, MissingLocal, find_local, FoundGlobal, find_global}
+use Rattle.source_lowering.proofs.expressions.Names.{AreObjectNames, AreGlobals, FoundLocal, FoundNumber, MissingLocal, find_local, FoundGlobal, find_global}
 use Rattle.source_lowering.proofs.expressions.Variables.{Agrees}
 
 -- ---- forms
@@ -57,6 +57,7 @@ use Rattle.source_lowering.proofs.expressions.Variables.{Agrees}
 -- a pointer to a place is in a temporary, and those below it are as they were
 pub record PlaceGoesOn (p : Point) (n d : ℕ) (m0 : source.Memory) (c0 : Config) (shape : Shape) (s : Spot → source.Memory → steps.Step)
     (k : Config → core_steps.Step) : Type 0 where
+  pub above : p.regions.all ≤ d
   pub go : (m : source.Memory) (c : Config) (t : Spot) (byte : ℕ) → SameState p m c → GrownAt p m0 c0 m c → AreKept d c0 c → c.temps d ≡ Pointer (at t) byte
       → IsTakenObject p.world shape → Leads p.world m c.memory shape t byte → SameAt p n (s t m) (k c)
 
@@ -81,7 +82,7 @@ pointer_put : (p : Point) (n d : ℕ) (m : source.Memory) (c : Config) (shape : 
     (k : Config → core_steps.Step) → SameState p m c → IsTakenObject p.world shape → Leads p.world m c.memory shape t 0 → PlaceGoesOn p n d m c shape s k
     → SameAt p n (s t m) (k (with_temp d (Pointer (at t) 0) c))
 pointer_put p n d m c shape t s k fits word leads goes =
-    goes.go m (with_temp d (Pointer (at t) 0) c) t 0 (temp_fits p m c d (Pointer (at t) 0) fits) (later_self (within p) m c.memory)
+    goes.go m (with_temp d (Pointer (at t) 0) c) t 0 (temp_fits p m c d (Pointer (at t) 0) fits goes.above) (later_self (within p) m c.memory)
     (kept_temp d d (Pointer (at t) 0) c c (omega arith) (λ k h. refl)) (put_temp d (Pointer (at t) 0) c) word leads
 
 pub addressed : (c : Config) (d out index frame : ℕ) (next : Config → core_steps.Step) → slice_get c.blocks out ≡ Some frame
@@ -103,7 +104,7 @@ pub global_placed : (p : Point) (n d number : ℕ) (shape : Shape) → IsTakenOb
     → Leads p.world m c shape (heap_spot number) 0) → PlacedAs p n d shape (give (heap_spot number)) (Do (DataAddress d number) ∷ [])
 global_placed p n d number shape word led = record {
   same = λ m c s rest next fits goes.
-      pointer_put p n d m c shape (heap_spot number) s (meaning.statements rest next) fits word (led m c.memory fits.globals) goes;
+      pointer_put p n d m c shape (heap_spot number) s (meaning.statements rest next) fits word (led m c.memory fits.statics.globals) goes;
 }
 
 -- what is stuck has no place
@@ -157,13 +158,18 @@ pub variable_placed : (p : Point) (n d : ℕ) (name : List ℕ) → AreLocals (p
     → IsPlaced p n d (entity_sense p.world (or_else (bound_to p.locals name) (bound_to p.world.globals name))) (valued (shape_by (local_named p.names name)
     (bound_to p.world.globals name))) (address_by (local_named p.names name) (bound_to p.world.globals name) d)
 variable_placed p n d name locals words globals structs =
-    ⊎_elim here missing (find_local p.world.structs (p.frame ∷ p.outer) p.locals p.names name locals words)
+    ⊎_elim here (λ g. ⊎_elim number missing g) (find_local p.world.structs (p.frame ∷ p.outer) p.locals p.names name locals words)
   where
     here : FoundLocal p.world.structs (p.frame ∷ p.outer) p.locals p.names name → IsPlaced p n d (entity_sense p.world
         (or_else (bound_to p.locals name) (bound_to p.world.globals name))) (valued (shape_by (local_named p.names name) (bound_to p.world.globals name)))
         (address_by (local_named p.names name) (bound_to p.world.globals name) d)
     here f = rw (f.bound, f.found)
-        (local_variable p n d f.local.out f.local.index f.frame f.local.shape structs f.is_variable f.in_block (f.led p.world))
+        (local_variable p n d f.out f.index f.frame f.shape structs f.is_variable f.in_block (f.led p.world))
+
+    number : FoundNumber p.locals p.names name → IsPlaced p n d (entity_sense p.world
+        (or_else (bound_to p.locals name) (bound_to p.world.globals name))) (valued (shape_by (local_named p.names name) (bound_to p.world.globals name)))
+        (address_by (local_named p.names name) (bound_to p.world.globals name) d)
+    number f = rw (f.bound, f.found) (record { shape_is = refl; target = tt; placed = stuck_placed p n d UnsignedShape []; value = λ whole s m. absurd whole })
 
     missing : MissingLocal p.locals p.names name → IsPlaced p n d (entity_sense p.world
         (or_else (bound_to p.locals name) (bound_to p.world.globals name))) (valued (shape_by (local_named p.names name) (bound_to p.world.globals name)))
@@ -199,6 +205,7 @@ contents_reached p n d e shape code agrees = record {
       subst (λ z. SameAt p n (e.look (λ vs. one vs (λ v. accessed cells v s)) m) (meaning.statements z next c))
       (sym (put_all code (reach_code p.world shape d) rest))
       (agrees.looks.same m c (λ vs. one vs (λ v. accessed cells v s)) (put (reach_code p.world shape d) rest) next fits (record {
+        above = over goes.above (omega arith);
         go = λ m1 c1 vs fits1 later1 kept1 given1.
             one_same p.world p.program n shape m1 c1.memory vs d c1.temps (λ v. accessed cells v s) _ agrees.taken given1
             (λ t word temp shape_is type_is small. stuck_same p.world p.program n _)
@@ -220,7 +227,7 @@ contents_reached p n d e shape code agrees = record {
                   let here : Config = with_temp (d + 1) (Word 1) c1 in
                   (subst (λ z. PlaceGoesOn p n d m c (pointee z) s (meaning.statements rest next)) o.shape_is goes).go m1
                   (with_temp d (Pointer (at t) byte) here) t byte
-                  (temp_fits p m1 here d (Pointer (at t) byte) (temp_fits p m1 c1 (d + 1) (Word 1) fits1)) later1
+                  (temp_fits p m1 here d (Pointer (at t) byte) (temp_fits p m1 c1 (d + 1) (Word 1) fits1 (over goes.above (omega arith))) goes.above) later1
                   (kept_temp d d (Pointer (at t) byte) c here (omega arith) (kept_temp d (d + 1) (Word 1) c c1 (omega arith) kept1))
                   (put_temp d (Pointer (at t) byte) here) lies leads;
             })));
@@ -263,6 +270,7 @@ address_agrees p n d e shape code same taken placed = record {
     gives = record {
       same = λ m c s rest next fits goes.
           placed.same m c (λ t. s (Thin (Some t) ∷ [])) rest next fits (record {
+            above = over goes.above (omega arith);
             go = λ m1 c1 t byte fits1 later1 kept1 temp word leads.
                 goes.go m1 c1 (Thin (Some t) ∷ []) fits1 later1 kept1 (inl (record {
                   value = Thin (Some t);

@@ -1,5 +1,5 @@
 -- Places at a distance from a pointer, members among them, and the pointers to them.
-use Rattle.std.proofs.Common.{◌≡◌, ℕ, zero, suc, ◌+◌, List, ◌++◌, refl, sym, subst, arith}
+use Rattle.std.proofs.Common.{◌≡◌, ℕ, zero, suc, ◌+◌, List, ◌++◌, refl, sym, subst, arith, ◌≤◌}
 use Rattle.source_meaning.specs.Shapes.{Shape}
 use Rattle.source_meaning.specs.Sizes.{cells_before}
 use Rattle.source_meaning.specs.Memory as source
@@ -21,7 +21,7 @@ use Rattle.source_lowering.specs.Lowerable.{IsObject, AreStructs}
 use Rattle.source_lowering.specs.Simulation.{at, IsTakenObject, Leads, Point, SameState, SameAt, Next, AreKept, GrownAt}
 use Rattle.source_lowering.proofs.Runs.{put_all}
 use Rattle.source_lowering.proofs.memory.Members.{FirstPart, first_part_of, first_reached, beyond_on, beyond_zero, member_is}
-use Rattle.source_lowering.proofs.values.Values.{put_temp, kept_temp, temp_fits}
+use Rattle.source_lowering.proofs.values.Values.{put_temp, kept_temp, temp_fits, over}
 use Rattle.source_lowering.proofs.expressions.Places.{PlaceGoesOn, PlacedAs}
 
 -- ---- forms
@@ -29,6 +29,7 @@ use Rattle.source_lowering.proofs.expressions.Places.{PlaceGoesOn, PlacedAs}
 -- a pointer is in a temporary, and the place lies so many cells and bytes on from where it leads; the temporaries below are as they were
 pub record ReachGoesOn (p : Point) (n d cells bytes : ℕ) (m0 : source.Memory) (c0 : Config) (shape : Shape) (s : Spot → source.Memory → steps.Step)
     (k : Config → core_steps.Step) : Type 0 where
+  pub above : p.regions.all ≤ d
   pub go : (m : source.Memory) (c : Config) (t : Spot) (byte : ℕ) → SameState p m c → GrownAt p m0 c0 m c → AreKept d c0 c → c.temps d ≡ Pointer (at t) byte
       → IsTakenObject p.world shape → Leads p.world m c.memory shape (source.beyond t cells) (byte + bytes)
       → SameAt p n (s (source.beyond t cells) m) (k c)
@@ -47,6 +48,7 @@ pub placed_reached : (p : Point) (n d : ℕ) (shape : Shape) (act : steps.Act Sp
 placed_reached p n d shape act code placed = record {
   same = λ m c s rest next fits goes.
       placed.same m c s rest next fits (record {
+        above = over goes.above (omega arith);
         go = λ m1 c1 t byte fits1 later1 kept1 temp lies leads.
             subst (λ z. SameAt p n (s z m1) (meaning.statements rest next c1)) (sym (beyond_zero t))
             (goes.go m1 c1 t byte fits1 later1 kept1 temp lies
@@ -67,6 +69,7 @@ reached_placed p n d cells bytes shape act code reached = record {
   same = λ m c s rest next fits goes.
       subst (λ z. SameAt p n (act s m) (meaning.statements z next c)) (sym (put_all code (offset_code d cells bytes) rest))
       (reached.same m c s (put (offset_code d cells bytes) rest) next fits (record {
+        above = over goes.above (omega arith);
         go = λ m1 c1 t byte fits1 later1 kept1 temp lies leads. by cells bytes m c s rest next goes m1 c1 t byte fits1 later1 kept1 temp lies leads;
       }));
 }
@@ -81,7 +84,7 @@ reached_placed p n d cells bytes shape act code reached = record {
         subst (λ z. SameAt p n (s (source.beyond t i) m1) z)
         (sym (offset_does c1 d i j byte (at t) (meaning.statements rest next) temp
         (first_part_of p.world c1.memory shape (at (source.beyond t i)) (byte + j) lies.cells leads.1)))
-        (goes.go m1 (with_temp d x c1) (source.beyond t i) (byte + j) (temp_fits p m1 c1 d x fits1) later1 (kept_temp d d x c c1 (omega arith) kept1)
+        (goes.go m1 (with_temp d x c1) (source.beyond t i) (byte + j) (temp_fits p m1 c1 d x fits1 goes.above) later1 (kept_temp d d x c c1 (omega arith) kept1)
         (put_temp d x c1) lies leads)
 
     by : (i j : ℕ) (m : source.Memory) (c : Config) (s : Spot → source.Memory → steps.Step) (rest : Statements) (next : Next)
@@ -110,6 +113,7 @@ pub member_reached : (p : Point) (n d cells bytes : ℕ) (shape : Shape) (f : Li
 member_reached p n d cells bytes shape f act code structs object reached = record {
   same = λ m c s rest next fits goes.
       reached.same m c (λ t. s (source.beyond t before)) rest next fits (record {
+        above = over goes.above (omega arith);
         go = λ m1 c1 t byte fits1 later1 kept1 temp lies leads.
             let at_member = member_is p.world m1 c1.memory shape (source.beyond t cells) (byte + bytes) f structs object lies leads in
             let here = beyond_on t cells before (cells + before) refl in

@@ -35,7 +35,7 @@ use Rattle.source_lowering.proofs.memory.Keeping.{later_self}
 use Rattle.source_lowering.proofs.Runs.{stuck_same, put_all}
 use Rattle.source_lowering.proofs.values.Integers.{object_target}
 use Rattle.source_lowering.proofs.values.AnyValues.{one_same, thin_same, fat_same}
-use Rattle.source_lowering.proofs.values.Values.{put_temp, kept_temp, temp_fits, put_value}
+use Rattle.source_lowering.proofs.values.Values.{put_temp, kept_temp, temp_fits, put_value, over}
 use Rattle.source_lowering.proofs.expressions.Variables.{Agrees}
 use Rattle.source_lowering.proofs.expressions.Numbered.{AreNumbered}
 use Rattle.source_lowering.proofs.expressions.WholeForms.{IsWholeAs}
@@ -44,6 +44,7 @@ use Rattle.source_lowering.proofs.expressions.StoredRequests.{MakesAs, made_act,
 -- the handle of a region is in a temporary
 pub record MakerGoesOn (p : Point) (n d : ℕ) (m0 : source.Memory) (c0 : Config) (s : Maker → source.Memory → steps.Step)
     (k : Config → core_steps.Step) : Type 0 where
+  pub above : p.regions.all ≤ d
   pub go : (m : source.Memory) (c : Config) (r : ℕ) → SameState p m c → GrownAt p m0 c0 m c → AreKept d c0 c → c.temps d ≡ Birth r
       → SameAt p n (s (InRegion r) m) (k c)
 
@@ -69,7 +70,7 @@ heap_agrees p n d = record { shape_is = refl; taken = tt; looks = gives; values 
 pub heap_gives : (p : Point) (n d : ℕ) → GivesMaker p n d heap_maker (Do (HeapHandle d) ∷ [])
 heap_gives p n d = record {
   same = λ m c s rest next fits goes.
-      goes.go m (with_temp d (Birth 0) c) 0 (temp_fits p m c d (Birth 0) fits) (later_self (within p) m c.memory)
+      goes.go m (with_temp d (Birth 0) c) 0 (temp_fits p m c d (Birth 0) fits goes.above) (later_self (within p) m c.memory)
       (kept_temp d d (Birth 0) c c (omega arith) (λ k h. refl)) (put_temp d (Birth 0) c);
 }
 
@@ -79,6 +80,7 @@ pub handle_gives : (p : Point) (n d : ℕ) (e : Sense) (shape : Shape) (code : L
 handle_gives p n d e shape code agrees = record {
   same = λ m c s rest next fits goes.
       agrees.looks.same m c (λ vs. one vs (λ v. maker_of v s)) rest next fits (record {
+        above = over goes.above (omega arith);
         go = λ m1 c1 vs fits1 later1 kept1 given1.
             one_same p.world p.program n shape m1 c1.memory vs d c1.temps (λ v. maker_of v s) _ agrees.taken given1
             (λ t word temp shape_is type_is small. stuck_same p.world p.program n _)
@@ -120,6 +122,7 @@ made_agrees p n d own to e shape whole_values word_values code whole word takes_
               subst (λ x. SameAt p n (to (λ maker. made_act p.world e maker s) m) (meaning.statements x next c))
               (sym (put_all code (new_code_by p.world z d whole word) rest))
               (handle.same m c (λ maker. made_act p.world e maker s) (put (new_code_by p.world z d whole word) rest) next fits (record {
+                above = over goes.above (omega arith);
                 go = λ m1 c1 r fits1 later1 kept1 temp. makes.same m c m1 c1 r s rest next fits1 later1 kept1 temp goes;
               }));
         }

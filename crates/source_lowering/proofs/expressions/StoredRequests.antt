@@ -48,7 +48,7 @@ use Rattle.source_lowering.proofs.memory.CellParts.{PartsAre, with_values}
 use Rattle.source_lowering.proofs.memory.ValueCells.{CellWritten, cell_of, cell_writes}
 use Rattle.source_lowering.proofs.memory.Loading.{after_temp, stores_does}
 use Rattle.source_lowering.proofs.memory.Members.{lies_here}
-use Rattle.source_lowering.proofs.values.Values.{between_contents, other_temp, put_temp, put_three, temp_fits}
+use Rattle.source_lowering.proofs.values.Values.{between_contents, kept_temp, other_temp, over, put_temp, put_three, temp_fits}
 use Rattle.source_lowering.proofs.expressions.Variables.{Agrees}
 use Rattle.source_lowering.proofs.expressions.Making.{is_here}
 use Rattle.source_lowering.proofs.memory.Clearing.{laid_there}
@@ -87,13 +87,14 @@ asked w m c d e r shape =
     with_temp d (Pointer (at (new_spot m r)) 0) (with_memory (core_granted w c.memory r shape) (with_temp e (Word 1) c))
 
 -- both are at the same place still
-asked_fits : (p : Point) (m : source.Memory) (c : Config) (d e r : ℕ) (shape : Shape) → SameState p m c
+asked_fits : (p : Point) (m : source.Memory) (c : Config) (d e r : ℕ) (shape : Shape) → SameState p m c → p.regions.all ≤ d → p.regions.all ≤ e
     → SameState p (source_granted p.world m r shape) (asked p.world m c d e r shape)
-asked_fits p m c d e r shape fits =
+asked_fits p m c d e r shape fits above more =
     temp_fits p (source_granted p.world m r shape) (with_memory (core_granted p.world c.memory r shape) (with_temp e (Word 1) c)) d
     (Pointer (at (new_spot m r)) 0)
     (fits_later p m (source_granted p.world m r shape) c (with_memory (core_granted p.world c.memory r shape) (with_temp e (Word 1) c)) fits
-    (block_granted_agree p.world m c.memory r shape fits.agree) (block_granted_later (within p) p.world m c.memory r shape fits.agree) refl)
+    (block_granted_agree p.world m c.memory r shape fits.agree) (block_granted_later (within p) p.world m c.memory r shape fits.agree) refl
+    (kept_temp p.regions.all e (Word 1) c c more (λ k less. refl))) above
 
 -- the temporaries between the pointer and the count have what they had
 asked_between : (w : World) (m : source.Memory) (c : Config) (d e r k : ℕ) (shape : Shape) → d < k → k < e
@@ -173,7 +174,7 @@ value_there_stored p n d e r shape m0 c0 m c vs s rest next structs is_value bel
     step = meaning.statements (put (stores_code shape d (d + 1) 0 0) rest) next c1
 
     fits1 : SameState p m1 c1
-    fits1 = asked_fits p m c d e r shape fits
+    fits1 = asked_fits p m c d e r shape fits goes.above (over goes.above (omega (arith, above)))
 
     later1 : GrownAt p m c m1 c1
     later1 = block_granted_later (within p) p.world m c.memory r shape fits.agree
@@ -196,7 +197,7 @@ value_there_stored p n d e r shape m0 c0 m c vs s rest next structs is_value bel
         (subst (λ z. PartsAre c1.memory z 0 0 (pieces_of shape) o.old) (sym same) o.parts) o.fit ∙
         ap (λ z. meaning.statements rest next (with_memory (with_values c1.memory z 0 (pieces_of shape) xs) c1)) same))
         (pointer_given p n d m0 c0 shape m2 c2 t s (meaning.statements rest next) structs object
-        (fits_later p m1 m2 c1 c2 fits1 o.agree (o.later (within p)) refl)
+        (fits_later p m1 m2 c1 c2 fits1 o.agree (o.later (within p)) refl (λ k less. refl))
         (later_on (within p) m0 m m2 c0.memory c.memory c2.memory later
         (later_on (within p) m m1 m2 c.memory c1.memory c2.memory later1 (o.later (within p))))
         (asked_kept p.world m c0 c d e r shape above kept) there
@@ -211,6 +212,7 @@ value_makes p n d shape e code structs is_value one = record {
       subst (λ z. SameAt p n (e.value (λ vs. stored_act p.world e.shape (InRegion r) vs s) m) (meaning.statements z next c))
       (sym (put_three code asks stores rest))
       (one.values.same m c (λ vs. stored_act p.world e.shape (InRegion r) vs s) (put asks (put stores rest)) next fits (record {
+        above = over goes.above (omega arith);
         go = λ m1 c1 vs fits1 later1 kept1 given1.
             subst (λ z. SameAt p n (stored_act p.world z (InRegion r) vs s m1) (meaning.statements (put asks (put stores rest)) next c1)) (sym one.shape_is)
             (value_there_stored p n d (d + 1 + words_in shape) r shape m0 c0 m1 c1 vs s rest next structs is_value (omega arith) fits1
@@ -293,7 +295,7 @@ struct_stored p n d value r tag m0 c0 m c vs s rest next structs object numbered
     c2 = with_memory (copied layout (at t) own c1.memory) c1
 
     fits1 : SameState p m1 c1
-    fits1 = asked_fits p m c d (d + 2) r shape fits
+    fits1 = asked_fits p m c d (d + 2) r shape fits goes.above (over goes.above (omega arith))
 
     later1 : GrownAt p m c m1 c1
     later1 = block_granted_later (within p) p.world m c.memory r shape fits.agree
@@ -305,7 +307,7 @@ struct_stored p n d value r tag m0 c0 m c vs s rest next structs object numbered
     later2 = copied_later (within p) m1 c1.memory layout (at t) own (named_free (within p) t)
 
     fits2 : SameState p m1 c2
-    fits2 = fits_later p m1 m1 c1 c2 fits1 (copied_agree p.world m c1.memory r shape layout own fits1.agree) later2 refl
+    fits2 = fits_later p m1 m1 c1 c2 fits1 (copied_agree p.world m c1.memory r shape layout own fits1.agree) later2 refl (λ k less. refl)
 
     leads2 : Leads p.world m1 c2.memory (StructShape tag) t 0
     leads2 = leads_later (within p) p.world m1 m1 c1.memory c2.memory shape t 0 later2 leads1
@@ -328,7 +330,7 @@ struct_stored p n d value r tag m0 c0 m c vs s rest next structs object numbered
         (write_all p.world p.program n (within p) (cells_of p.world shape) vs m1 c2.memory t (λ u. s (Thin (Some t) ∷ []))
         (meaning.statements rest next c2) live fits2.agree leads2.0 shown2
         (λ m2 agree2 more.
-        pointer_given p n d m0 c0 shape m2 c2 t s (meaning.statements rest next) structs object (fits_later p m1 m2 c2 c2 fits2 agree2 more refl)
+        pointer_given p n d m0 c0 shape m2 c2 t s (meaning.statements rest next) structs object (fits_later p m1 m2 c2 c2 fits2 agree2 more refl (λ k less. refl))
         (later_on (within p) m0 m m2 c0.memory c.memory c2.memory later
         (later_on (within p) m m1 m2 c.memory c1.memory c2.memory later1
         (later_on (within p) m1 m1 m2 c1.memory c2.memory c2.memory later2 more)))
@@ -353,6 +355,7 @@ struct_makes p n d value tag e code structs object less one = record {
       (sym (put_three code (request_code p.world shape d (d + 2)) stores rest))
       (one.whole.same m c (λ vs. stored_act p.world e.shape (InRegion r) vs s)
       (put (request_code p.world shape d (d + 2)) (put stores rest)) next fits (record {
+        above = over goes.above (omega arith);
         go = λ m1 c1 vs fits1 later1 kept1 from shown1.
             let same : StructShape one.whole.tag ≡ StructShape tag = sym one.whole.shape_is ∙ one.shape_is in
             let within1 : GrownAt p m c m1 c1 =

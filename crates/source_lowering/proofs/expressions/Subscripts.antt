@@ -19,7 +19,7 @@ use Rattle.source_lowering.specs.Simulation.{at, AFatNull, AFat, Shown, Point, S
 use Rattle.source_lowering.proofs.memory.Keeping.{later_on}
 use Rattle.source_lowering.proofs.Runs.{stuck_same, put_all}
 use Rattle.source_lowering.proofs.values.AnyValues.{IsFat, one_same, thin_same, fat_same, three_in}
-use Rattle.source_lowering.proofs.values.Values.{put_temp, kept_temp, temp_fits}
+use Rattle.source_lowering.proofs.values.Values.{put_temp, kept_temp, temp_fits, over}
 use Rattle.source_lowering.proofs.values.FatOperators.{moved_value, moved, index_same}
 use Rattle.source_lowering.proofs.expressions.Variables.{Agrees}
 use Rattle.source_lowering.proofs.expressions.Places.{PlaceGoesOn, PlacedAs}
@@ -51,7 +51,8 @@ both_there p n d k m0 c0 m c sa v s rest next fits later kept operand o goes =
           let there : Config = moved c (d + 1) index in
           let here : Config = with_temp (d + 1 + 1) (Word 1) there in
           on.go m (with_temp d pointer here) t byte
-          (temp_fits p m here d pointer (temp_fits p m there (d + 1 + 1) (Word 1) (temp_fits p m c (d + 1 + 2) (Word index) fits))) later
+          (temp_fits p m here d pointer (temp_fits p m there (d + 1 + 1) (Word 1) (temp_fits p m c (d + 1 + 2) (Word index) fits (over goes.above (omega arith)))
+          (over goes.above (omega arith))) goes.above) later
           (kept_temp d d pointer c0 here (omega arith) (kept_temp d (d + 1 + 1) (Word 1) c0 there (omega arith)
           (kept_temp d (d + 1 + 2) (Word index) c0 c (omega arith) kept))) (put_temp d pointer here) lies leads;
     })))
@@ -68,10 +69,12 @@ indexed_placed p n d a b sa sb ca cb x y = record {
       subst (λ z. SameAt p n (b.look (λ ys. one ys indices) m) (meaning.statements z next c))
       (sym (put_all cb (ca ++ end) rest ∙ ap (λ z. put cb z) (put_all ca end rest)))
       (y.looks.same m c (λ ys. one ys indices) (put ca (put end rest)) next fits (record {
+        above = over goes.above (omega arith);
         go = λ m1 c1 ys fits1 later1 kept1 given1.
             one_same p.world p.program n sb m1 c1.memory ys d c1.temps indices (meaning.statements (put ca (put end rest)) next c1) y.taken given1
             (λ t word temp shape_is type_is small.
             x.looks.same m1 c1 (λ xs. one xs (spans word)) (put end rest) next fits1 (record {
+              above = over goes.above (omega arith);
               go = λ m2 c2 xs fits2 later2 kept2 given2.
                   one_same p.world p.program n sa m2 c2.memory xs (d + 1) c2.temps (spans word) (meaning.statements (put end rest) next c2) x.taken given2
                   (λ t i temp shape_is type_is small. stuck_same p.world p.program n _)

@@ -1,5 +1,5 @@
 -- A value of one part or three at a distance from a pointer: it is read into temporaries, and stored from there.
-use Rattle.std.proofs.Common.{◌≡◌, ℕ, ◌+◌, inl, List, [], ◌∷◌, ◌++◌, length, refl, sym, ◌∙◌, subst, ⊎_elim, arith}
+use Rattle.std.proofs.Common.{◌≡◌, ℕ, ◌+◌, inl, List, [], ◌∷◌, ◌++◌, length, refl, sym, ◌∙◌, subst, ⊎_elim, arith, ◌≤◌}
 use Rattle.source_meaning.specs.Shapes.{
   Shape,
   IntShape,
@@ -48,25 +48,29 @@ use Rattle.source_lowering.specs.Simulation.{
   contents_in,
   within,
 }
+use Rattle.source_lowering.proofs.memory.Held.{numbers_kept}
 use Rattle.source_lowering.proofs.memory.Keeping.{later_on, fits_later, m_written}
 use Rattle.source_lowering.proofs.memory.CellParts.{with_values}
 use Rattle.source_lowering.proofs.Runs.{put_all}
 use Rattle.source_lowering.proofs.memory.ValueCells.{IsCell, CellRead, CellWritten, cell_of, cell_reads, cell_writes}
 use Rattle.source_lowering.proofs.values.Integers.{value_taken}
 use Rattle.source_lowering.proofs.values.AnyValues.{value_void}
-use Rattle.source_lowering.proofs.values.Values.{value_later, kept_contents}
+use Rattle.source_lowering.proofs.values.Values.{value_later, kept_contents, over}
 use Rattle.source_lowering.proofs.memory.Loading.{with_contents, other_contents, contents_are, loads_does, stores_does}
 use Rattle.source_lowering.proofs.expressions.Variables.{Agrees, StoresAs}
 use Rattle.source_lowering.proofs.expressions.Reaching.{ReachedAs}
 
 -- ---- temporaries
 
-contents_fits : (p : Point) (m : source.Memory) (c : Config) (d : ℕ) (xs : List Content) → SameState p m c → SameState p m (with_contents d xs c)
-contents_fits p m c d xs f = record {
+contents_fits : (p : Point) (m : source.Memory) (c : Config) (d : ℕ) (xs : List Content) → SameState p m c
+    → p.regions.all ≤ d → SameState p m (with_contents d xs c)
+contents_fits p m c d xs f above = record {
   agree = f.agree;
   blocks = f.blocks;
   locals = f.locals;
-  globals = f.globals;
+  held = numbers_kept p.regions.all c (with_contents d xs c) p.locals p.names
+      (λ i less. other_contents d i xs c (omega (arith, less, above))) f.held;
+  statics = f.statics;
   begun = f.begun;
   made = f.made;
   pending = f.pending;
@@ -82,7 +86,7 @@ pub put_contents : (p : Point) (n d : ℕ) (m0 : source.Memory) (c0 : Config) (m
     → contents_in d shape (with_contents d xs c).temps ≡ xs → Given p.world m c.memory shape vs xs → GoesOn p n d m0 c0 shape s k
     → SameAt p n (s vs m) (k (with_contents d xs c))
 put_contents p n d m0 c0 m c shape vs xs s k fits later kept are given goes =
-    goes.go m (with_contents d xs c) vs (contents_fits p m c d xs fits) later (λ i less. other_contents d i xs c less ∙ kept i less)
+    goes.go m (with_contents d xs c) vs (contents_fits p m c d xs fits goes.above) later (λ i less. other_contents d i xs c less ∙ kept i less)
     (subst (λ z. Given p.world m c.memory shape vs z) (sym are) given)
 
 -- ---- a value is read
@@ -97,6 +101,7 @@ value_read p n d cells bytes shape act code reads is_value reached same = record
       let loads : List Statement = loads_code shape d cells bytes in
       subst (λ z. SameAt p n (act (λ t. reads t s) m) (meaning.statements z next c)) (sym (put_all code loads rest))
       (reached.same m c (λ t. reads t s) (put loads rest) next fits (record {
+        above = over goes.above (omega arith);
         go = λ m1 c1 t byte fits1 later1 kept1 temp lies leads.
             let step : core_steps.Step = meaning.statements (put loads rest) next c1 in
             subst (λ z. SameAt p n z step) (sym (same (source.beyond t cells) s m1))
@@ -121,6 +126,32 @@ reached_value p n d cells bytes shape act code is_value reached = record {
 
 -- ---- a value is stored
 
+-- a value is in temporaries, and a pointer behind it
+pub value_put : (p : Point) (n d cells bytes : ℕ) (shape : Shape) (m0 : source.Memory) (c0 : Config) (m1 : source.Memory) (c1 : Config) (t : Spot) (byte : ℕ)
+    (vs : List Scalar) (s : List Scalar → source.Memory → steps.Step) (rest : Statements) (next : Next) → IsValueShape shape → SameState p m1 c1
+    → GrownAt p m0 c0 m1 c1 → AreKept d c0 c1 → c1.temps (d + words_in shape) ≡ core.Pointer (at t) byte
+    → Leads p.world m1 c1.memory shape (source.beyond t cells) (byte + bytes) → AValue p.world m1 c1.memory shape vs (contents_in d shape c1.temps)
+    → GoesOn p n d m0 c0 shape s (meaning.statements rest next)
+    → SameAt p n (write_cells (source.beyond t cells) vs (λ u. s (given_by shape vs)) m1)
+    (meaning.statements (put (stores_code shape (d + words_in shape) d cells bytes) rest) next c1)
+value_put p n d cells bytes shape m0 c0 m1 c1 t byte vs s rest next is_value fits1 later1 kept1 temp leads v goes =
+    let u : Spot = source.beyond t cells in
+    let xs : List Content = contents_in d shape c1.temps in
+    let one : IsCell p.world shape = cell_of p.world shape is_value in
+    let step : core_steps.Step = meaning.statements (put (stores_code shape (d + words_in shape) d cells bytes) rest) next c1 in
+    subst (λ z. SameAt p n (write_cells u z (λ w. s (given_by shape vs)) m1) step) (sym v.alone)
+    (cell_writes p.world p.program n shape m1 c1.memory u (byte + bytes) v.value xs (λ w. s (given_by shape vs)) step one fits1.agree leads v.shown
+    (λ (o : CellWritten p.world m1 c1.memory shape u (byte + bytes) v.value xs).
+    let m2 : source.Memory = m_written m1 u shape v.value in
+    let c2 : Config = with_memory (with_values c1.memory (at u) (byte + bytes) (pieces_of shape) xs) c1 in
+    let more = o.later (within p) in
+    subst (λ z. SameAt p n (s (given_by shape vs) m2) z)
+    (sym (stores_does shape is_value c1 (d + words_in shape) d cells bytes byte (at t) o.old rest next temp o.live o.parts o.fit))
+    (subst (λ z. SameAt p n (s z m2) (meaning.statements rest next c2)) (sym (one.given vs))
+    (goes.go m2 c2 vs (fits_later p m1 m2 c1 c2 fits1 o.agree more refl (λ k less. refl))
+    (later_on (within p) m0 m1 m2 c0.memory c1.memory c2.memory later1 more) kept1
+    (inl (value_later (within p) p.world m1 m2 c1.memory c2.memory shape vs xs more v))))))
+
 pub value_stored : (p : Point) (n d cells bytes : ℕ) (shape : Shape) (act : steps.Act Spot) (code : List Statement) → IsValueShape shape
     → ReachedAs p n (d + words_in shape) cells bytes shape act code
     → StoresAs p n d shape act (code ++ stores_code shape (d + words_in shape) d cells bytes)
@@ -130,40 +161,18 @@ value_stored p n d cells bytes shape act code is_value reached = record {
       let stores : List Statement = stores_code shape (d + words_in shape) d cells bytes in
       subst (λ z. SameAt p n (act then_act m) (meaning.statements z next c)) (sym (put_all code stores rest))
       (reached.same m c then_act (put stores rest) next fits (record {
+        above = over goes.above (omega arith);
         go = λ m1 c1 t byte fits1 later1 kept1 temp lies leads.
             ⊎_elim
             (λ (v : AValue p.world m c.memory shape vs (contents_in d shape c.temps)).
-            stored m0 c0 m1 c1 t byte vs s rest next fits1 (later_on (within p) m0 m m1 c0.memory c.memory c1.memory later later1)
+            value_put p n d cells bytes shape m0 c0 m1 c1 t byte vs s rest next is_value fits1
+            (later_on (within p) m0 m m1 c0.memory c.memory c1.memory later later1)
             (λ k h. kept1 k (omega (arith, h)) ∙ kept k h) temp leads (subst (λ z. AValue p.world m1 c1.memory shape vs z)
             (sym (kept_contents shape d c c1 kept1)) (value_later (within p) p.world m m1 c.memory c1.memory shape vs (contents_in d shape c.temps) later1 v))
             goes)
             (λ (v : ANothing shape vs). absurd (value_void shape is_value v.void)) given;
       }));
 }
-  where
-    stored : (m0 : source.Memory) (c0 : Config) (m1 : source.Memory) (c1 : Config) (t : Spot) (byte : ℕ) (vs : List Scalar)
-        (s : List Scalar → source.Memory → steps.Step) (rest : Statements) (next : Next) → SameState p m1 c1 → GrownAt p m0 c0 m1 c1 → AreKept d c0 c1
-        → c1.temps (d + words_in shape) ≡ core.Pointer (at t) byte → Leads p.world m1 c1.memory shape
-        (source.beyond t cells) (byte + bytes) → AValue p.world m1 c1.memory shape vs (contents_in d shape c1.temps)
-        → GoesOn p n d m0 c0 shape s (meaning.statements rest next)
-        → SameAt p n (write_cells (source.beyond t cells) vs (λ u. s (given_by shape vs)) m1)
-        (meaning.statements (put (stores_code shape (d + words_in shape) d cells bytes) rest) next c1)
-    stored m0 c0 m1 c1 t byte vs s rest next fits1 later1 kept1 temp leads v goes =
-        let u : Spot = source.beyond t cells in
-        let xs : List Content = contents_in d shape c1.temps in
-        let one : IsCell p.world shape = cell_of p.world shape is_value in
-        let step : core_steps.Step = meaning.statements (put (stores_code shape (d + words_in shape) d cells bytes) rest) next c1 in
-        subst (λ z. SameAt p n (write_cells u z (λ w. s (given_by shape vs)) m1) step) (sym v.alone)
-        (cell_writes p.world p.program n shape m1 c1.memory u (byte + bytes) v.value xs (λ w. s (given_by shape vs)) step one fits1.agree leads v.shown
-        (λ (o : CellWritten p.world m1 c1.memory shape u (byte + bytes) v.value xs).
-        let m2 : source.Memory = m_written m1 u shape v.value in
-        let c2 : Config = with_memory (with_values c1.memory (at u) (byte + bytes) (pieces_of shape) xs) c1 in
-        let more = o.later (within p) in
-        subst (λ z. SameAt p n (s (given_by shape vs) m2) z)
-        (sym (stores_does shape is_value c1 (d + words_in shape) d cells bytes byte (at t) o.old rest next temp o.live o.parts o.fit))
-        (subst (λ z. SameAt p n (s z m2) (meaning.statements rest next c2)) (sym (one.given vs))
-        (goes.go m2 c2 vs (fits_later p m1 m2 c1 c2 fits1 o.agree more refl) (later_on (within p) m0 m1 m2 c0.memory c1.memory c2.memory later1 more) kept1
-        (inl (value_later (within p) p.world m1 m2 c1.memory c2.memory shape vs xs more v))))))
 
 -- ---- what a pointer leads to
 
@@ -174,6 +183,7 @@ nothing_read p n d cells bytes act code loads reads reached = record {
   same = λ m c s rest next fits goes.
       subst (λ z. SameAt p n (act (λ t. reads t s) m) (meaning.statements z next c)) (sym (put_all code loads rest))
       (reached.same m c (λ t. reads t s) (put loads rest) next fits (record {
+        above = over goes.above (omega arith);
         go = λ m1 c1 t byte fits1 later1 kept1 temp lies leads. absurd lies.object;
       }));
 }
@@ -198,12 +208,13 @@ target_read p n d cells bytes (UnionShape tag) act code h g reached = absurd h
 target_read p n d cells bytes (ArrayShape count of) act code h g reached = absurd h
 
 nothing_stored : (p : Point) (n d e cells bytes : ℕ) (act : steps.Act Spot) (code stores : List Statement)
-    → ReachedAs p n e cells bytes VoidShape act code → StoresAs p n d VoidShape act (code ++ stores)
-nothing_stored p n d e cells bytes act code stores reached = record {
+    → d ≤ e → ReachedAs p n e cells bytes VoidShape act code → StoresAs p n d VoidShape act (code ++ stores)
+nothing_stored p n d e cells bytes act code stores below reached = record {
   same = λ m0 c0 m c vs s rest next fits later kept given goes.
       let then_act : Spot → source.Memory → steps.Step = λ t. write_cells t vs (λ u. s (given_by VoidShape vs)) in
       subst (λ z. SameAt p n (act then_act m) (meaning.statements z next c)) (sym (put_all code stores rest))
       (reached.same m c then_act (put stores rest) next fits (record {
+        above = over goes.above below;
         go = λ m1 c1 t byte fits1 later1 kept1 temp lies leads. absurd lies.object;
       }));
 }
@@ -215,7 +226,7 @@ target_stored p n d cells bytes IntShape act code h g reached = value_stored p n
 target_stored p n d cells bytes UnsignedShape act code h g reached = value_stored p n d cells bytes UnsignedShape act code tt reached
 target_stored p n d cells bytes CharShape act code h g reached = value_stored p n d cells bytes CharShape act code tt reached
 target_stored p n d cells bytes VoidShape act code h g reached =
-    nothing_stored p n d (d + 1) cells bytes act code (stores_code VoidShape (d + 1) d cells bytes) reached
+    nothing_stored p n d (d + 1) cells bytes act code (stores_code VoidShape (d + 1) d cells bytes) (omega arith) reached
 target_stored p n d cells bytes (ThinShape b owner to) act code h g reached = value_stored p n d cells bytes (ThinShape b owner to) act code h reached
 target_stored p n d cells bytes (FatShape to) act code h g reached = value_stored p n d cells bytes (FatShape to) act code h reached
 target_stored p n d cells bytes HandleShape act code h g reached = value_stored p n d cells bytes HandleShape act code tt reached

@@ -17,16 +17,16 @@ use Rattle.source_meaning.specs.Shapes.{
   ArrayShape,
 }
 use Rattle.source_meaning.specs.Memory as source
-use Rattle.source_meaning.specs.Memory.{Scalar, Spot}
+use Rattle.source_meaning.specs.Memory.{AsUnsigned, Integer, Scalar, Spot}
 use Rattle.source_meaning.specs.Steps as steps
-use Rattle.source_meaning.specs.Steps.{Variable, give}
+use Rattle.source_meaning.specs.Steps.{Variable, Fixed, give}
 use Rattle.source_meaning.specs.Conversions.{cells_of}
 use Rattle.source_meaning.specs.Values.{read_cells}
 use Rattle.source_meaning.specs.Places.{span_at, place_sense, entity_sense, bound_to, or_else}
 use Rattle.source_meaning.specs.Programs.{heap_spot}
 use Rattle.core_meaning.specs.Memory as core
 use Rattle.core_meaning.specs.Memory.{Content, Word, Pointer}
-use Rattle.core_meaning.specs.Core.{LocalAddress, DataAddress, Do, Statement, Statements}
+use Rattle.core_meaning.specs.Core.{LocalAddress, DataAddress, Do, Move, Statement, Statements}
 use Rattle.core_meaning.specs.Steps.{Config, with_temp}
 use Rattle.core_meaning.specs.Meaning as meaning
 use Rattle.source_lowering.specs.Members.{loads_code, bounds_code, words_in, valued}
@@ -36,14 +36,14 @@ use Rattle.source_lowering.specs.Simulation.{at, IsTakenObject, Leads, AreLed, P
 use Rattle.source_lowering.specs.Simulation.{LeadsAll}
 use Rattle.source_lowering.proofs.memory.Keeping.{later_self}
 use Rattle.source_lowering.proofs.expressions.Making.{local_spot}
-use Rattle.source_lowering.proofs.values.Values.{put_temp, kept_temp, temp_fits}
+use Rattle.source_lowering.proofs.values.Values.{put_temp, kept_temp, temp_fits, put_value}
 use Rattle.source_lowering.proofs.expressions.Variables as variables
 use Rattle.source_lowering.proofs.expressions.Variables.{Agrees, StoresAs, stuck_agrees}
 use Rattle.source_lowering.proofs.Runs.{stuck_same}
 use Rattle.source_lowering.proofs.values.Integers.{value_taken, object_value, object_target}
 use Rattle.source_lowering.proofs.memory.ValueCells.{cell_of}
 use Rattle.source_lowering.proofs.memory.Members.{lies_here}
-use Rattle.source_lowering.proofs.expressions.Names.{AreObjectNames, AreGlobals, FoundLocal, MissingLocal, find_local, FoundGlobal, find_global}
+use Rattle.source_lowering.proofs.expressions.Names.{AreObjectNames, AreGlobals, FoundLocal, FoundNumber, MissingLocal, find_local, FoundGlobal, find_global}
 use Rattle.source_lowering.proofs.expressions.Places.{LocalVariable, GlobalVariable, addressed, local_placed, global_placed}
 use Rattle.source_lowering.proofs.expressions.Reaching.{placed_reached}
 use Rattle.source_lowering.proofs.expressions.ValuePlaces.{value_read, value_stored}
@@ -137,7 +137,7 @@ array_given : (p : Point) (n d count : ℕ) (of : Shape) (spot : Spot) (m0 : sou
 array_given p n d count of spot m0 c0 m c s rest next few lies fits later kept temp leads goes =
     let same : count % 2 ^ 32 ≡ count = mod-eq_of_lt few in
     subst (λ z. SameAt p n (s (span_at count spot ∷ []) m) (meaning.statements rest next (bounded c d z))) (sym same)
-    (goes.go m (bounded c d count) (span_at count spot ∷ []) (bounded_fits p m c d count fits) later (bounded_kept c0 c d count kept) (inl (record {
+    (goes.go m (bounded c d count) (span_at count spot ∷ []) (bounded_fits p m c d count fits goes.above) later (bounded_kept c0 c d count kept) (inl (record {
       value = span_at count spot;
       alone = refl;
       shown = inr (record {
@@ -163,20 +163,28 @@ array_local p n d out index frame count of few lies block led = record {
       let here : Config = with_temp d x c in
       subst (λ z. SameAt p n (s (span_at count spot ∷ []) m) z)
       (sym (addressed c d out index frame (meaning.statements (put (bounds_code d count) rest) next) (ap (λ z. slice_get z out) fits.blocks ∙ block)))
-      (array_given p n d count of spot m c m here s rest next few lies (temp_fits p m c d x fits) (later_self (within p) m c.memory)
+      (array_given p n d count of spot m c m here s rest next few lies (temp_fits p m c d x fits goes.above) (later_self (within p) m c.memory)
       (kept_temp d d x c c (omega arith) (λ k h. refl)) (put_temp d x c) (led m c.memory fits.locals) goes);
 }
+
+-- that of an object of the data
+pub array_pointed : (p : Point) (n d number count : ℕ) (of : Shape) (m : source.Memory) (c : Config) (s : List Scalar → source.Memory → steps.Step)
+    (rest : Statements) (next : Next) → count < 2 ^ 32 → IsTakenObject p.world of → SameState p m c → LeadsAll p.world m c.memory of count (heap_spot number) 0
+    → GoesOn p n d m c (FatShape of) s (meaning.statements rest next)
+    → SameAt p n (s (span_at count (heap_spot number) ∷ []) m) (meaning.statements (put (load_global (ArrayShape count of) d number) rest) next c)
+array_pointed p n d number count of m c s rest next few lies fits leads goes =
+    let spot : Spot = heap_spot number in
+    let x : Content = Pointer (at spot) 0 in
+    let here : Config = with_temp d x c in
+    array_given p n d count of spot m c m here s rest next few lies (temp_fits p m c d x fits goes.above) (later_self (within p) m c.memory)
+    (kept_temp d d x c c (omega arith) (λ k h. refl)) (put_temp d x c) leads goes
 
 pub array_global : (p : Point) (n d number count : ℕ) (of : Shape) → count < 2 ^ 32 → IsTakenObject p.world of
     → ((m : source.Memory) (c : core.Memory) → AreLed p.world m c p.world.globals → LeadsAll p.world m c of count (heap_spot number) 0)
     → GivesAs p n d (FatShape of) (give (span_at count (heap_spot number) ∷ [])) (load_global (ArrayShape count of) d number)
 array_global p n d number count of few lies led = record {
   same = λ m c s rest next fits goes.
-      let spot : Spot = heap_spot number in
-      let x : Content = Pointer (at spot) 0 in
-      let here : Config = with_temp d x c in
-      array_given p n d count of spot m c m here s rest next few lies (temp_fits p m c d x fits) (later_self (within p) m c.memory)
-      (kept_temp d d x c c (omega arith) (λ k h. refl)) (put_temp d x c) (led m c.memory fits.globals) goes;
+      array_pointed p n d number count of m c s rest next few lies fits (led m c.memory fits.statics.globals) goes;
 }
 
 -- ---- a name's value
@@ -225,7 +233,7 @@ global_agrees p n d number s structs h single led =
 
 -- lowering knows a name's shape
 local_single : (p : Point) {name : List ℕ} (f : FoundLocal p.world.structs (p.frame ∷ p.outer) p.locals p.names name)
-    → IsNoStruct (valued (shape_by (local_named p.names name) (bound_to p.world.globals name))) → IsNoStruct (valued f.local.shape)
+    → IsNoStruct (valued (shape_by (local_named p.names name) (bound_to p.world.globals name))) → IsNoStruct (valued f.shape)
 local_single p {name} f single = subst (λ z. IsNoStruct (valued (shape_by z (bound_to p.world.globals name)))) f.found single
 
 global_single : (p : Point) {name : List ℕ} → local_named p.names name ≡ None → (g : FoundGlobal p.world.structs p.world.globals name)
@@ -234,19 +242,40 @@ global_single p {name} none g single =
     subst (λ z. IsNoStruct (valued (shape_by None z))) g.bound
     (subst (λ z. IsNoStruct (valued (shape_by z (bound_to p.world.globals name)))) none single)
 
+-- the number of an element is read from its temporary
+number_agrees : (p : Point) (n d : ℕ) {name : List ℕ} (f : FoundNumber p.locals p.names name)
+    → Agrees p n d (entity_sense p.world (Some (Fixed UnsignedShape (Integer AsUnsigned f.word)))) UnsignedShape (Do (Move d f.t) ∷ [])
+number_agrees p n d f = record { shape_is = refl; taken = tt; looks = gives; values = gives }
+  where
+    gives : GivesAs p n d UnsignedShape (give (Integer AsUnsigned f.word ∷ [])) (Do (Move d f.t) ∷ [])
+    gives = record {
+      same = λ m c s rest next fits goes.
+          put_value p n d m c m c UnsignedShape (Integer AsUnsigned f.word ∷ []) (c.temps f.t) s (meaning.statements rest next) fits
+          (later_self (within p) m c.memory) (λ k h. refl) refl
+          (inl (record {
+            value = Integer AsUnsigned f.word;
+            alone = refl;
+            shown = record { word = f.word; value = refl; shown = ap (λ z. z ∷ []) (f.holds p.regions.all c.temps fits.held); small = f.small };
+          })) goes;
+    }
+
 pub variable_agrees : (p : Point) (n d : ℕ) (name : List ℕ) → AreLocals (p.frame ∷ p.outer) p.locals p.names → AreObjectNames p.world.structs p.names
     → AreGlobals p.world.structs p.world.globals → AreStructs p.world.unions p.world.structs
     → IsNoStruct (valued (shape_by (local_named p.names name) (bound_to p.world.globals name)))
     → Agrees p n d (entity_sense p.world (or_else (bound_to p.locals name) (bound_to p.world.globals name))) (valued (shape_by (local_named p.names name)
     (bound_to p.world.globals name))) (get_by (local_named p.names name) (bound_to p.world.globals name) d)
 variable_agrees p n d name locals objects globals structs single =
-    ⊎_elim here missing (find_local p.world.structs (p.frame ∷ p.outer) p.locals p.names name locals objects)
+    ⊎_elim here (λ g. ⊎_elim number missing g) (find_local p.world.structs (p.frame ∷ p.outer) p.locals p.names name locals objects)
   where
     here : FoundLocal p.world.structs (p.frame ∷ p.outer) p.locals p.names name → Agrees p n d (entity_sense p.world (or_else (bound_to p.locals name)
         (bound_to p.world.globals name))) (valued (shape_by (local_named p.names name) (bound_to p.world.globals name)))
         (get_by (local_named p.names name) (bound_to p.world.globals name) d)
     here f = rw (f.bound, f.found)
-        (local_agrees p n d f.local.out f.local.index f.frame f.local.shape structs f.is_variable (local_single p f single) f.in_block (f.led p.world))
+        (local_agrees p n d f.out f.index f.frame f.shape structs f.is_variable (local_single p f single) f.in_block (f.led p.world))
+
+    number : FoundNumber p.locals p.names name → Agrees p n d (entity_sense p.world (or_else (bound_to p.locals name) (bound_to p.world.globals name)))
+        (valued (shape_by (local_named p.names name) (bound_to p.world.globals name))) (get_by (local_named p.names name) (bound_to p.world.globals name) d)
+    number f = rw (f.bound, f.found) (number_agrees p n d f)
 
     missing : MissingLocal p.locals p.names name → Agrees p n d (entity_sense p.world (or_else (bound_to p.locals name) (bound_to p.world.globals name)))
         (valued (shape_by (local_named p.names name) (bound_to p.world.globals name))) (get_by (local_named p.names name) (bound_to p.world.globals name) d)
@@ -284,14 +313,19 @@ pub variable_stores : (p : Point) (n d : ℕ) (name : List ℕ) → AreLocals (p
     → StoresAs p n d (valued (shape_by (local_named p.names name) (bound_to p.world.globals name))) (entity_sense p.world
     (or_else (bound_to p.locals name) (bound_to p.world.globals name))).place (put_by (local_named p.names name) (bound_to p.world.globals name) d)
 variable_stores p n d name locals objects globals structs single =
-    ⊎_elim here missing (find_local p.world.structs (p.frame ∷ p.outer) p.locals p.names name locals objects)
+    ⊎_elim here (λ g. ⊎_elim number missing g) (find_local p.world.structs (p.frame ∷ p.outer) p.locals p.names name locals objects)
   where
     here : FoundLocal p.world.structs (p.frame ∷ p.outer) p.locals p.names name
         → StoresAs p n d (valued (shape_by (local_named p.names name) (bound_to p.world.globals name)))
         (entity_sense p.world (or_else (bound_to p.locals name) (bound_to p.world.globals name))).place (put_by (local_named p.names name)
         (bound_to p.world.globals name) d)
     here f = rw (f.bound, f.found)
-        (local_stores p n d f.local.out f.local.index f.frame f.local.shape structs f.is_variable (local_single p f single) f.in_block (f.led p.world))
+        (local_stores p n d f.out f.index f.frame f.shape structs f.is_variable (local_single p f single) f.in_block (f.led p.world))
+
+    number : FoundNumber p.locals p.names name → StoresAs p n d (valued (shape_by (local_named p.names name) (bound_to p.world.globals name)))
+        (entity_sense p.world (or_else (bound_to p.locals name) (bound_to p.world.globals name))).place (put_by (local_named p.names name)
+        (bound_to p.world.globals name) d)
+    number f = rw (f.bound, f.found) (stuck_stores p n d UnsignedShape [])
 
     missing : MissingLocal p.locals p.names name → StoresAs p n d (valued (shape_by (local_named p.names name) (bound_to p.world.globals name)))
         (entity_sense p.world (or_else (bound_to p.locals name) (bound_to p.world.globals name))).place (put_by (local_named p.names name)

@@ -106,7 +106,7 @@ written_on p n d shape m0 c0 m c t byte width vs s k v one plain fits later kept
     let c' : Config = with_memory (with_part c.memory (at t) 0 (part_at_byte byte width (c.temps d))) c in
     let more = o.later (within p) in
     subst (λ z. SameAt p n (s z m') (k c')) (sym (plain.given vs))
-    (goes.go m' c' vs (fits_later p m m' c c' fits o.agree more refl) (later_on (within p) m0 m m' c0.memory c.memory c'.memory later more) kept
+    (goes.go m' c' vs (fits_later p m m' c c' fits o.agree more refl (λ k less. refl)) (later_on (within p) m0 m m' c0.memory c.memory c'.memory later more) kept
     (given_one p.world m' c'.memory shape vs d c'.temps one (inl (value_later (within p) p.world m m' c.memory c'.memory shape vs (c.temps d ∷ []) more v))))
 
 pub put_local : (p : Point) (n d out index frame : ℕ) (shape : Shape) → IsWordShape shape → slice_get (p.frame ∷ p.outer) out ≡ Some frame

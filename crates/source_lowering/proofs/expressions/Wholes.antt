@@ -43,7 +43,7 @@ use Rattle.source_lowering.specs.Simulation.{
 }
 use Rattle.source_lowering.proofs.memory.Keeping.{IsLess, later_on, shown_later, free_nothing, fits_on}
 use Rattle.source_lowering.proofs.Runs.{put_all}
-use Rattle.source_lowering.proofs.values.Values.{put_temp, kept_temp, temp_fits}
+use Rattle.source_lowering.proofs.values.Values.{put_temp, kept_temp, temp_fits, over}
 use Rattle.source_lowering.proofs.memory.Clearing.{laid_there, held_still}
 use Rattle.source_lowering.proofs.memory.Copying.{whole_taken, IsLiveFor, read_all, AllShown, held_shown, copied_later, copied_none, copied_other, whole_copied}
 use Rattle.source_lowering.proofs.expressions.Places.{IsPlaced}
@@ -57,6 +57,7 @@ own_spot own value cell = record { region = core.Own own; object = value; cell =
 -- A struct is an unnamed value to which there is a pointer in a temporary; temporaries below it, and values before it, are as they were.
 pub record WholeGoesOn (p : Point) (n d value : ℕ) (m0 : source.Memory) (c0 : Config) (shape : Shape) (s : List Scalar → source.Memory → steps.Step)
     (k : Config → core_steps.Step) : Type 0 where
+  pub above : p.regions.all ≤ d
   pub go : (m : source.Memory) (c : Config) (vs : List Scalar) → SameState p m c → Grown (before_value p value) m0 c0.memory m c.memory → AreKept d c0 c
       → c.temps d ≡ Pointer (own_spot p.own value 0) 0 → AllShown p.world m c.memory (own_spot p.own value 0) (cells_of p.world shape) vs
       → SameAt p n (s vs m) (k c)
@@ -85,7 +86,8 @@ fits_keeping p values m c f = record {
   agree = f.agree;
   blocks = f.blocks;
   locals = f.locals;
-  globals = f.globals;
+  held = f.held;
+  statics = f.statics;
   begun = f.begun;
   made = f.made;
   pending = f.pending;
@@ -100,7 +102,8 @@ fits_kept p values m c f = record {
   agree = f.agree;
   blocks = f.blocks;
   locals = f.locals;
-  globals = f.globals;
+  held = f.held;
+  statics = f.statics;
   begun = f.begun;
   made = f.made;
   pending = f.pending;
@@ -225,6 +228,7 @@ place_whole p n d value e tag code structs object numbered one = record {
       (meaning.statements (put code (put (copied_code p.world shape d value) rest)) next c)) (sym one.shape_is)
       (one.placed.same m c (λ t. take_cells (cells_of p.world shape) t s) (put (copied_code p.world shape d value) rest) next
       (fits_keeping p value m c fits) (record {
+        above = over goes.above (omega arith);
         go = λ m1 c1 t byte fits1' later1 kept1 temp lies leads.
             let fits1 = fits_kept p value m1 c1 fits1' in
             let has = lies.cells in
@@ -261,7 +265,8 @@ place_whole p n d value e tag code structs object numbered one = record {
         let copies = copied_later (before_value p value) m1 c1.memory layout spot (at t) (own_free p value value 0 (omega arith)) in
         let around_copies = copied_later (around p (suc p.frame)) m1 c1.memory layout spot (at t) (own_free p 0 value 0 (omega arith)) in
         let agree = agree_own_copied p.world m1 c1.memory layout p.own value 0 (at t) fits1.agree in
-        let fits2 = temp_fits p m1 middle d (Pointer spot 0) (fits_on p m1 m1 c1 middle fits1 agree around_copies refl) in
+        let fits2 = temp_fits p m1 middle d (Pointer spot 0) (fits_on p m1 m1 c1 middle fits1 agree around_copies refl
+        (kept_temp p.regions.all (d + 1) (Pointer spot 0) c1 c1 (over goes.above (omega arith)) (λ k less. refl))) goes.above in
         subst (λ z. SameAt p n (s vs m1) z)
         (sym (value_copied c1 d p.own value byte (at t) layout (meaning.statements rest next) fits1.own temp fits1.stands live
         (laid_there c1.memory spot 0 layout.cells here) (laid_there c1.memory (at t) byte layout.cells made) (apart_own t p.own value 0)))

@@ -172,6 +172,7 @@ word_begins p n scope name shape shapes then_act next m c rest after world frame
 
     fits1 : SameState p m c1
     fits1 = fits_later p m m c c1 fits agree1 (later1 (within p)) refl
+        (kept_temp p.regions.all p.regions.all first.content c c (omega arith) (λ k less. refl))
 
     values : AreValueShapes (cells_of p.world shape)
     values = subst AreValueShapes (sym plain.cells) (word_value shape is_word, tt)
@@ -250,6 +251,7 @@ object_begins p n scope name shape shapes then_act next m c rest after world fra
 
     fits1 : SameState p m c1
     fits1 = fits_later p m m c c1 fits agree1 (later1 (within p)) refl
+        (kept_temp p.regions.all p.regions.all (Pointer (at spot) 0) c c (omega arith) (λ k less. refl))
 
     values : AreValueShapes (cells_of p.world shape)
     values = (object_cells p.world.unions p.world.structs shape structs object).values

@@ -195,7 +195,7 @@ local_made w (UnionShape tag) c r index here = one_made c r index (layout_of w (
 local_made w (ArrayShape count of) c r index here = λ k less. element_made c r index (layout_of w of) count k less here
 
 -- what was made last
-last_made : (c : core.Memory) (r : core.Region) (index : ℕ) (o : ℕ → ℕ → Option Part) → c.objects r ≡ index → (cell j : ℕ)
+pub last_made : (c : core.Memory) (r : core.Region) (index : ℕ) (o : ℕ → ℕ → Option Part) → c.objects r ≡ index → (cell j : ℕ)
     → (with_object c r o).parts (spot_in r index cell) j ≡ o cell j
 last_made c r index o e cell j =
     ap (λ z. if z && nat_eq index (c.objects r) then o cell j else c.parts (spot_in r index cell) j) (region_self r) ∙

@@ -117,6 +117,7 @@ struct_with_same p n scope name tag shapes t byte vs then_act next m c rest afte
 
     fits1 : SameState p m c1
     fits1 = fits_later p m m c c1 fits agree1 (later1 (within p)) refl
+        (kept_temp p.regions.all (p.regions.all + 1) (Pointer (at spot) 0) c c (omega arith) (λ k less. refl))
 
     m1 : source.Memory
     m1 = m_made m p.frame (object_with p.world (λ s. source.Blank) shape)
@@ -143,7 +144,7 @@ struct_with_same p n scope name tag shapes t byte vs then_act next m c rest afte
         (λ u. then_act (with_binding scope name (Variable shape spot)) next) (meaning.statements rest after c1) here fits2.agree
         (cells_here m p.frame p.made (λ s. source.Blank) (cells_of p.world shape) fits.made) shown
         (λ m2 agree2 more.
-        goes.go m2 c1 (fits_later q m1 m2 c1 c1 fits2 agree2 more refl)
+        goes.go m2 c1 (fits_later q m1 m2 c1 c1 fits2 agree2 more refl (λ k less. refl))
         (later_on (around p p.frame) m m m2 c.memory c1.memory c1.memory (later1 (around p p.frame))
         (later_on (around p p.frame) m m1 m2 c1.memory c1.memory c1.memory later2 (later_items p m1 m2 c1 c1 more)))
         refl (kept_temp p.regions.all (p.regions.all + 1) (Pointer (at spot) 0) c c (omega arith) (λ k less. refl))))
@@ -185,6 +186,7 @@ placed_begins p n scope name tag shapes e from code then_act next m c rest after
     (subst (λ z. SameAt p n (e.place (λ t. take_cells (cells_of p.world z) t convert) m) whole) (sym one.shape_is)
     (one.placed.same m c (λ t. take_cells (cells_of p.world from) t convert)
     (put (copy_code p (layout_of p.world (StructShape tag))) rest) after fits (record {
+      above = omega arith;
       go = λ m1 c1 t byte fits1 later1 kept1 temp lies leads.
           let has = lies.cells in
           subst (λ z. SameAt p n z (meaning.statements copies after c1)) (sym (whole_taken (cells_of p.world from) t convert m1 has.values))

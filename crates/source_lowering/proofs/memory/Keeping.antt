@@ -31,6 +31,7 @@ pub use Rattle.source_lowering.proofs.memory.Lasting.{
   shown_later,
   led_later,
   all_led_later,
+  statics_later,
   pending_later,
   same_own,
   same_blocks,

@@ -26,7 +26,9 @@ use Rattle.core_meaning.specs.Steps.{Config}
 use Rattle.core_meaning.specs.Operations.{same_object}
 use Rattle.core_meaning.proofs.Spots.{region_same, spot_same}
 use Rattle.source_lowering.specs.Layouts.{layout_of}
+use Rattle.source_lowering.proofs.memory.Held.{numbers_kept}
 use Rattle.source_lowering.specs.Simulation.{
+  AreKept,
   region_at,
   at,
   AreShaped,
@@ -51,6 +53,8 @@ use Rattle.source_lowering.specs.Simulation.{
   ArePending,
   IsLed,
   AreLed,
+  AreTexts,
+  HasStatics,
   VariableLeads,
   LocalMade,
 }
@@ -257,6 +261,27 @@ pub all_led_later : (b : Bound) (w : World) (m m' : source.Memory) (c c' : core.
 all_led_later b w m m' c c' [] l h = tt
 all_led_later b w m m' c c' (x ∷ bs) l (one, others) = (led_later b w m m' c c' x.entity l one, all_led_later b w m m' c c' bs l others)
 
+texts_later : (b : Bound) (w : World) (m m' : source.Memory) (c c' : core.Memory) (ss : List (ℕ × Scalar)) → Grown b m c m' c' → AreTexts w m c ss
+    → AreTexts w m' c' ss
+texts_later b w m m' c c' [] l h = tt
+texts_later b w m m' c c' (s ∷ ss) l (one, others) = (
+  record {
+    number = one.number;
+    count = one.count;
+    value = one.value;
+    some = one.some;
+    few = one.few;
+    leads = λ k less. leads_later b w m m' c c' CharShape _ _ l (one.leads k less);
+  },
+  texts_later b w m m' c c' ss l others,
+)
+
+pub statics_later : (b : Bound) (w : World) (m m' : source.Memory) (c c' : core.Memory) → Grown b m c m' c' → HasStatics w m c → HasStatics w m' c'
+statics_later b w m m' c c' l h = record {
+  globals = all_led_later b w m m' c c' w.globals l h.globals;
+  strings = texts_later b w m m' c c' w.strings l h.strings;
+}
+
 pub pending_later : (b : Bound) (w : World) (m m' : source.Memory) (c c' : core.Memory) (r : core.Region) (index : ℕ) (ss : List Shape) → Grown b m c m' c'
     → ArePending w c r index ss → ArePending w c' r index ss
 pending_later b w m m' c c' r index [] l h = tt
@@ -284,12 +309,13 @@ blocks_of p m m' c c' f g = ap (λ z. z ∷ c'.blocks) (g.own ∙ sym f.own) ∙
 
 -- a place fits later memories that agree
 pub fits_on : (p : Point) (m m' : source.Memory) (c c' : Config) → SameState p m c → SameMemory p.world m' c'.memory
-    → Grown (around p (suc p.frame)) m c.memory m' c'.memory → activation c' ≡ activation c → SameState p m' c'
-fits_on p m m' c c' f a l active = record {
+    → Grown (around p (suc p.frame)) m c.memory m' c'.memory → activation c' ≡ activation c → AreKept p.regions.all c c' → SameState p m' c'
+fits_on p m m' c c' f a l active kept = record {
   agree = a;
   blocks = same_blocks c c' active ∙ f.blocks;
   locals = all_led_later (around p (suc p.frame)) p.world m m' c.memory c'.memory p.locals l f.locals;
-  globals = all_led_later (around p (suc p.frame)) p.world m m' c.memory c'.memory p.world.globals l f.globals;
+  held = numbers_kept p.regions.all c c' p.locals p.names kept f.held;
+  statics = statics_later (around p (suc p.frame)) p.world m m' c.memory c'.memory l f.statics;
   begun = let g = f.begun in let h = l.begun in omega (arith, g, h);
   made = l.objects p.frame (omega arith) ∙ f.made;
   pending = pending_later (around p (suc p.frame)) p.world m m' c.memory c'.memory (core.Frame p.frame) p.made p.pending l f.pending;
@@ -306,6 +332,6 @@ pub later_items : (p : Point) (m m' : source.Memory) (c c' : Config) → GrownAt
 later_items p m m' c c' l = later_less (within p) (around p p.frame) m m' c.memory c'.memory (within_items p) l
 
 pub fits_later : (p : Point) (m m' : source.Memory) (c c' : Config) → SameState p m c → SameMemory p.world m' c'.memory → GrownAt p m c m' c'
-    → activation c' ≡ activation c → SameState p m' c'
-fits_later p m m' c c' f a l active =
-    fits_on p m m' c c' f a (later_around p m m' c c' l) active
+    → activation c' ≡ activation c → AreKept p.regions.all c c' → SameState p m' c'
+fits_later p m m' c c' f a l active kept =
+    fits_on p m m' c c' f a (later_around p m m' c c' l) active kept

@@ -22,7 +22,7 @@ use Rattle.source_meaning.specs.Shapes.{
 }
 use Rattle.source_meaning.specs.Sizes.{rounded_up, all_cells, struct_cells}
 use Rattle.source_meaning.specs.Placing.{Placed, moved, all_placed, struct_placed}
-use Rattle.source_lowering.specs.Lowerable.{IsValueShape, IsObject, AreObjects, HasMember, IsStruct, AreStructs}
+use Rattle.source_lowering.specs.Lowerable.{IsObject, AreObjects, HasMember, IsStruct, AreStructs}
 use Rattle.source_lowering.specs.ObjectCells.{cells_in, placed_in, extent_in}
 pub use Rattle.source_lowering.specs.ObjectCells.{shapes_in, AreValueShapes, HasCells}
 use Rattle.source_lowering.proofs.Structs.{rounded_zero}

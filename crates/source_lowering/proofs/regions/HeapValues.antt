@@ -1,7 +1,6 @@
--- What a global's cells hold at the start, in the source and in Core.
-use Rattle.std.proofs.Common.{◌≡◌, ℕ, zero, suc, ◌+◌, List, [], ◌∷◌, length, map, true, false, Option, Some, None, refl, sym, ap, ◌∙◌, subst, ◌++◌, arith, ◌<◌}
-use Rattle.std.specs.Prelude.{◌*◌, slice_get, option_and_then}
-use Rattle.std.proofs.lemmas.Option.{none-some}
+-- What the cells of globals and strings hold at the start, in the source and in Core.
+use Rattle.std.proofs.Common.{◌≡◌, ℕ, zero, suc, ◌+◌, List, [], ◌∷◌, length, map, true, false, Some, None, refl, sym, ap, ◌∙◌, subst, ◌++◌, arith, ◌<◌}
+use Rattle.std.specs.Prelude.{◌*◌, slice_get}
 use Rattle.cyc_tree.specs.Tree as tree
 use Rattle.cyc_tree.specs.Tree.{Initial, Item}
 use Rattle.source_meaning.specs.Shapes.{
@@ -21,18 +20,19 @@ use Rattle.source_meaning.specs.Shapes.{
   settled,
 }
 use Rattle.source_meaning.specs.Memory as source
-use Rattle.source_meaning.specs.Memory.{Scalar, Holds, Cell, Object, first_cell}
+use Rattle.source_meaning.specs.Memory.{Scalar, Holds, Object, first_cell}
 use Rattle.source_meaning.specs.Steps.{World}
 use Rattle.source_meaning.specs.Conversions.{cells_of}
-use Rattle.source_meaning.specs.Programs.{global_shape, global_object, global_objects}
+use Rattle.source_meaning.specs.Strings.{Literal}
+use Rattle.source_meaning.specs.Programs.{global_shape, global_object, global_objects, string_object}
 use Rattle.core_meaning.specs.Memory as core
 use Rattle.core_meaning.specs.Memory.{Content, Part, Layout}
 use Rattle.core_meaning.specs.Core.{Datum}
 use Rattle.core_meaning.specs.Meaning.{datum_parts}
 use Rattle.source_lowering.specs.Layouts.{layout_of, first_part, Piece, pieces_of, part_shape_of}
 use Rattle.source_lowering.specs.Lowered.{width_of}
-use Rattle.source_lowering.specs.Programs.{datum_of, first_content, global_datum, data_of, begun_datum}
-use Rattle.source_lowering.specs.Taken.{IsNullable, TakesConstant}
+use Rattle.source_lowering.specs.Programs.{datum_of, first_content, global_datum, data_of, begun_datum, string_datum}
+use Rattle.source_lowering.specs.Taken.{IsNullable, IsString, TakesConstant}
 use Rattle.source_lowering.specs.Lowerable.{IsObject, AreStructs, TakesGlobal, TakesProgram}
 use Rattle.source_lowering.specs.Simulation.{Shown, HoldsFrom}
 use Rattle.source_lowering.proofs.values.Integers.{IsWordShape, IsValueShape, word_value, integer_word}
@@ -49,12 +49,11 @@ use Rattle.source_lowering.proofs.expressions.ArrayCells.{InElement, in_element}
 use Rattle.source_meaning.specs.Statements.{first_array}
 use Rattle.std.proofs.lemmas.List.{length-map}
 use Rattle.source_lowering.proofs.statements.WrittenTypes.{object_settled}
+pub use Rattle.source_lowering.proofs.HeapStrings.{cell_of, cell_in, IsHeapValue}
+use Rattle.source_lowering.proofs.HeapStrings.{string_value}
 
 abbrev pub part_of : ℕ → Content → Part
 part_of width x = record { offset = 0; width = width; content = x }
-
-abbrev pub cell_of : Shape → source.Content → Cell
-cell_of shape content = record { shape = shape; content = content }
 
 -- ---- one global
 
@@ -79,7 +78,12 @@ pub constant_is_value : (w : World) (c : tree.Constant) (s : Shape) → TakesCon
 constant_is_value w (tree.Number place value suffix) s h object = word_value s (integer_word s h)
 constant_is_value w (tree.Negative place value suffix) s h object = word_value s (integer_word s h)
 constant_is_value w (tree.Character place byte) s h object = word_value s (integer_word s h)
-constant_is_value w (tree.Text place bytes) s h object = absurd h
+constant_is_value w (tree.Text place bytes) s h object = string_is_value s h object
+  where
+    string_is_value : (z : Shape) → IsString z → IsObject w.structs z → IsValueShape z
+    string_is_value (ThinShape true owner CharShape) g o = o
+    string_is_value (FatShape CharShape) g o = o
+    string_is_value _ g o = absurd g
 constant_is_value w (tree.Null place) s h object = nullable_value s h object
   where
     nullable_value : (z : Shape) → IsNullable z → IsObject w.structs z → IsValueShape z
@@ -97,15 +101,6 @@ constant_is_value w (tree.Null place) s h object = nullable_value s h object
     nullable_value (ArrayShape count of) g o = absurd g
 
 -- ---- each global
-
-abbrev pub cell_in : ℕ → Option Object → Option Cell
-cell_in cell o = option_and_then (λ f. f cell) o
-
--- a global's cell holds what its parts in Core's data have
-pub record IsHeapValue (w : World) (ds : List Datum) (i cell : ℕ) (shape : Shape) (v : Scalar) : Type 0 where
-  pub contents : List Content
-  pub held : HoldsFrom (datum_parts ds i cell) 0 contents
-  pub shown : (m : source.Memory) (c : core.Memory) → Shown w m c shape v contents
 
 -- what begins by its shape: a word
 word_global : (w : World) (s : Shape) (ds : List Datum) (cell : ℕ) (shape : Shape) (v : Scalar) → IsWordShape s
@@ -234,14 +229,22 @@ global_value w Initial.Unset s ds cell shape v structs h object e = unset_value 
 global_value w (Initial.Elements count) s ds cell shape v structs h object e = array_value w s count ds cell shape v structs object e
 global_value w (Initial.Given c) s ds cell shape v structs h object e = absurd (blank_holds (cells_of w s) cell shape v e)
 
-pub heap_value : (w : World) (items : List Item) (i cell : ℕ) (shape : Shape) (v : Scalar) → AreStructs w.unions w.structs → TakesProgram w items
-    → cell_in cell (slice_get (global_objects w items) i) ≡ Some (cell_of shape (Holds v)) → IsHeapValue w (data_of w items) i cell shape v
-heap_value w [] i cell shape v structs h e = absurd (none-some (cell_of shape (Holds v)) e)
-heap_value w (tree.StructItem s ∷ items) i cell shape v structs h e = heap_value w items i cell shape v structs h.1 e
-heap_value w (tree.UnionItem u ∷ items) i cell shape v structs h e = absurd h.0
-heap_value w (tree.FunctionItem f ∷ items) i cell shape v structs h e = heap_value w items i cell shape v structs h.1 e
-heap_value w (tree.GlobalItem g ∷ items) zero cell shape v structs h e =
-    global_value w g.initial (settled (written g.of)) (data_of w items) cell shape v structs h.0.1 (object_settled w.structs g.of h.0.0) e
-heap_value w (tree.GlobalItem g ∷ items) (suc i) cell shape v structs h e =
-    let one = heap_value w items i cell shape v structs h.1 e in
+-- the objects of the heap: the globals', and behind them the strings'
+abbrev pub heap_objects : World → List Item → List Literal → List Object
+heap_objects w items ss = global_objects w items ++ map string_object ss
+
+abbrev pub heap_data : World → List Item → List Literal → List Datum
+heap_data w items ss = data_of w items ++ map (string_datum w) ss
+
+pub heap_value : (w : World) (items : List Item) (ss : List Literal) (i cell : ℕ) (shape : Shape) (v : Scalar) → AreStructs w.unions w.structs
+    → TakesProgram w items → cell_in cell (slice_get (heap_objects w items ss) i) ≡ Some (cell_of shape (Holds v))
+    → IsHeapValue w (heap_data w items ss) i cell shape v
+heap_value w [] ss i cell shape v structs h e = string_value w ss i cell shape v e
+heap_value w (tree.StructItem s ∷ items) ss i cell shape v structs h e = heap_value w items ss i cell shape v structs h.1 e
+heap_value w (tree.UnionItem u ∷ items) ss i cell shape v structs h e = absurd h.0
+heap_value w (tree.FunctionItem f ∷ items) ss i cell shape v structs h e = heap_value w items ss i cell shape v structs h.1 e
+heap_value w (tree.GlobalItem g ∷ items) ss zero cell shape v structs h e =
+    global_value w g.initial (settled (written g.of)) (heap_data w items ss) cell shape v structs h.0.1 (object_settled w.structs g.of h.0.0) e
+heap_value w (tree.GlobalItem g ∷ items) ss (suc i) cell shape v structs h e =
+    let one = heap_value w items ss i cell shape v structs h.1 e in
     record { contents = one.contents; held = one.held; shown = one.shown }

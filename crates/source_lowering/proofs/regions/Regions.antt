@@ -1,7 +1,6 @@
 -- Regions are born, freed, and give blocks for one object, in the source and in Core.
-use Rattle.std.proofs.Common.{◌≡◌, ℕ, ◌+◌, ◌*◌, ◌^◌, ◌<◌, ◌≤◌, Bool, true, false, not, nat_eq, nat_lt, Some, None, refl, sym, ap, ◌∙◌, subst, arith}
+use Rattle.std.proofs.Common.{◌≡◌, ℕ, ◌+◌, ◌*◌, ◌^◌, ◌<◌, ◌≤◌, Bool, true, false, not, nat_eq, nat_lt, refl, sym, ap, ◌∙◌, subst, arith}
 use Rattle.std.specs.Prelude.{◌&&◌, ◌-◌, if◌then◌else◌, map, slice_get}
-use Rattle.std.proofs.lemmas.Bool.{eqb-true, and_parts}
 use Rattle.std.proofs.lemmas.Bool.Decides.{nat_tests}
 use Rattle.cyc_words.specs.Events as events
 use Rattle.step_trees.specs.Trees.{Says}
@@ -20,18 +19,18 @@ use Rattle.core_meaning.specs.Steps as core_steps
 use Rattle.core_meaning.specs.Steps.{Config, with_temp, with_memory}
 use Rattle.core_meaning.specs.Meaning as meaning
 use Rattle.core_meaning.specs.Operations.{born, saturated, does}
-use Rattle.core_meaning.proofs.Spots.{region_same, region_self}
 use Rattle.source_lowering.specs.Layouts.{layout_of}
 use Rattle.source_lowering.specs.Lowered.{put, request_code}
 use Rattle.source_lowering.specs.Lowerable.{IsObject, AreStructs}
 use Rattle.source_lowering.proofs.Structs.{object_small}
-use Rattle.source_lowering.specs.Simulation.{region_at, at, BothVisible, Leads, IsShown, IsLexical, SameMemory, Bound, nothing, Grown, Same, Next}
+use Rattle.source_lowering.specs.Simulation.{region_at, at, BothVisible, Leads, IsLexical, SameMemory, Bound, nothing, Grown, Same, Next}
 use Rattle.source_lowering.proofs.memory.Keeping.{shown_later, held_same, ended_later, ended_agree}
 use Rattle.source_lowering.proofs.Runs.{stuck_same, says_same}
 use Rattle.source_lowering.proofs.values.Values.{put_temp, other_temp}
-use Rattle.source_lowering.proofs.memory.Entering.{held_on, live_in, block_made}
-use Rattle.source_lowering.proofs.expressions.Making.{spot_of, is_here, made_cell, still_unmade, here_is, cells_in}
+use Rattle.source_lowering.proofs.memory.Entering.{live_in, block_made}
+use Rattle.source_lowering.proofs.expressions.Making.{spot_of, here_is, cells_in}
 use Rattle.source_lowering.proofs.statements.Declaring.{blank_holds}
+use Rattle.source_lowering.proofs.regions.Granting.{more_agree, more_later}
 
 -- ---- a region is born
 
@@ -140,111 +139,14 @@ source_granted w m d s = source.with_object m (source.Born d) (blank_object (cel
 abbrev pub core_granted : World → core.Memory → ℕ → Shape → core.Memory
 core_granted w c d s = core.with_object c (core.Born d) (blanks (layout_of w s) 1)
 
--- what Core gives is at a new spot
-abbrev is_given : core.Memory → ℕ → core.Spot → Bool
-is_given c d t = core.same_region t.region (core.Born d) && nat_eq t.object (c.objects (core.Born d))
-
-granted_other : (w : World) (c : core.Memory) (d : ℕ) (s : Shape) (t : core.Spot) (j : ℕ) → core.same_region t.region (core.Born d) ≡ false
-    → (core_granted w c d s).parts t j ≡ c.parts t j
-granted_other w c d s t j e =
-    ap (λ b. if b && nat_eq t.object (c.objects (core.Born d)) then blanks (layout_of w s) 1 t.cell j else c.parts t j) e
-
-granted_part : (w : World) (m : source.Memory) (c : core.Memory) (d : ℕ) (s : Shape) → SameMemory w m c → (t : core.Spot) (j : ℕ) (p : Part)
-    → c.parts t j ≡ Some p → (core_granted w c d s).parts t j ≡ Some p
-granted_part w m c d s a t j p is = by (is_given c d t) refl
-  where
-    by : (b : Bool) → is_given c d t ≡ b → (core_granted w c d s).parts t j ≡ Some p
-    by true e =
-        let two = and_parts (core.same_region t.region (core.Born d)) (nat_eq t.object (c.objects (core.Born d))) e in
-        let n = eqb-true t.object (c.objects (core.Born d)) two.1 in
-        let none : None ≡ Some p = sym (a.ungranted d t j (region_same t.region (core.Born d) two.0) (omega (arith, n))) ∙ is in
-        absurd (cc none)
-    by false e = ap (λ b. if b then blanks (layout_of w s) 1 t.cell j else c.parts t j) e ∙ is
-
 pub block_granted_later : (b : Bound) (w : World) (m : source.Memory) (c : core.Memory) (d : ℕ) (s : Shape) → SameMemory w m c
     → Grown b m c (source_granted w m d s) (core_granted w c d s)
-block_granted_later b w m c d s a = record {
-  shapes = λ t other h. record { content = h.content; is = made_cell m (source.Born d) (blank_object (cells_of w s)) t _ a.unmade h.is };
-  parts = λ t j o width h. record { content = h.content; is = granted_part w m c d s a t j _ h.is };
-  objects = λ k h. refl;
-  begun = omega arith;
-  called = omega arith;
-  stands = λ k h. refl;
-  owned = λ k t j r h. granted_other w c d s t j (ap (λ z. core.same_region z (core.Born d)) r);
-}
-
--- no region has fewer objects
-counted : (w : World) (c : core.Memory) (d j : ℕ) (s : Shape) → c.objects (core.Born j) ≤ (core_granted w c d s).objects (core.Born j)
-counted w c d j s = by (nat_eq j d) refl
-  where
-    by : (b : Bool) → nat_eq j d ≡ b → c.objects (core.Born j) ≤ (core_granted w c d s).objects (core.Born j)
-    by true e =
-        let same : (core_granted w c d s).objects (core.Born j) ≡ c.objects (core.Born d) + 1 =
-        ap (λ b. if b then c.objects (core.Born d) + 1 else c.objects (core.Born j)) e in
-        subst (λ z. c.objects (core.Born j) ≤ z) (sym same)
-        (subst (λ z. c.objects (core.Born z) ≤ c.objects (core.Born d) + 1) (sym (eqb-true j d e)) (omega arith))
-    by false e = subst (λ z. c.objects (core.Born j) ≤ z) (sym (ap (λ b. if b then c.objects (core.Born d) + 1 else c.objects (core.Born j)) e)) (omega arith)
-
-still_ungranted : (w : World) (m : source.Memory) (c : core.Memory) (d : ℕ) (s : Shape) → SameMemory w m c → (j : ℕ) (t : core.Spot) (i : ℕ)
-    → t.region ≡ core.Born j → (core_granted w c d s).objects (core.Born j) ≤ t.object → (core_granted w c d s).parts t i ≡ None
-still_ungranted w m c d s a j t i r h = by (is_given c d t) refl
-  where
-    c' : core.Memory
-    c' = core_granted w c d s
-
-    here : c'.objects (core.Born d) ≡ c.objects (core.Born d) + 1
-    here = ap (λ b. if b then c.objects (core.Born d) + 1 else c.objects (core.Born d)) (region_self (core.Born d))
-
-    by : (b : Bool) → is_given c d t ≡ b → c'.parts t i ≡ None
-    by true e =
-        let two = and_parts (core.same_region t.region (core.Born d)) (nat_eq t.object (c.objects (core.Born d))) e in
-        let n = eqb-true t.object (c.objects (core.Born d)) two.1 in
-        let same : core.Born j ≡ core.Born d = sym r ∙ region_same t.region (core.Born d) two.0 in
-        let more : c.objects (core.Born d) + 1 ≤ t.object = subst (λ z. z ≤ t.object) here (subst (λ q. c'.objects q ≤ t.object) same h) in
-        absurd (omega (arith, n, more))
-    by false e =
-        let less : c.objects (core.Born j) ≤ t.object = let g = counted w c d j s in omega (arith, g, h) in
-        ap (λ b. if b then blanks (layout_of w s) 1 t.cell i else c.parts t i) e ∙ a.ungranted j t i r less
+block_granted_later b w m c d s a = more_later b w m c d (blank_object (cells_of w s)) (blanks (layout_of w s) 1) a
 
 pub block_granted_agree : (w : World) (m : source.Memory) (c : core.Memory) (d : ℕ) (s : Shape) → SameMemory w m c
     → SameMemory w (source_granted w m d s) (core_granted w c d s)
-block_granted_agree w m c d s a = record {
-  cells = λ t shape v h. by (is_here m (source.Born d) t) t shape v refl h;
-  live = a.live;
-  activations = a.activations;
-  unmade = still_unmade m (source.Born d) o a.unmade;
-  unentered = λ k t j h r. granted_other w c d s t j (ap (λ z. core.same_region z (core.Born d)) r) ∙ a.unentered k t j h r;
-  unbegun = a.unbegun;
-  uncalled = λ k t j h r. granted_other w c d s t j (ap (λ z. core.same_region z (core.Born d)) r) ∙ a.uncalled k t j h r;
-  unowned = a.unowned;
-  births = a.births;
-  heap = a.heap;
-  lexical = a.lexical;
-  blocks = λ j.
-      ap (λ z. if nat_eq j d then z + 1 else m.objects (source.Born j)) (a.blocks d) ∙
-      ap (λ z. if nat_eq j d then c.objects (core.Born d) + 1 else z) (a.blocks j);
-  ungranted = still_ungranted w m c d s a;
-}
-  where
-    o : Object
-    o = blank_object (cells_of w s)
-
-    m' : source.Memory
-    m' = source_granted w m d s
-
-    c' : core.Memory
-    c' = core_granted w c d s
-
-    by : (b : Bool) (t : Spot) (shape : Shape) (v : Scalar) → is_here m (source.Born d) t ≡ b
-        → m'.cells t ≡ Some (record { shape = shape; content = Holds v }) → IsShown w m' c' t shape v
-    by true t shape v e h = absurd (blank_holds (cells_of w s) t.cell shape v (sym (ap (λ b. if b then o t.cell else m.cells t) e) ∙ h))
-    by false t shape v e h =
-        let one = a.cells t shape v (sym (ap (λ b. if b then o t.cell else m.cells t) e) ∙ h) in
-        record {
-          contents = one.contents;
-          shown = shown_later nothing w m m' c c' shape v one.contents (block_granted_later nothing w m c d s a) one.shown;
-          held = held_on c c' (at t) 0 one.contents (granted_part w m c d s a) one.held;
-        }
+block_granted_agree w m c d s a =
+    more_agree w m c d (blank_object (cells_of w s)) (blanks (layout_of w s) 1) (λ cell shape v e. blank_holds (cells_of w s) cell shape v e) a
 
 -- ---- the new object
 

@@ -94,7 +94,7 @@ all_forms_taken = record {
     ),
   );
   structs = tt;
-  strings = refl;
+  strings = tt;
 }
 
 -- ---- pointers
@@ -283,5 +283,5 @@ struct_forms_taken = record {
     record { new = refl; some = tt; members = (refl, ((refl, tt), (tt, tt))); small = omega arith },
     (record { new = refl; some = tt; members = (tt, (tt, tt)); small = omega arith }, tt),
   );
-  strings = refl;
+  strings = tt;
 }

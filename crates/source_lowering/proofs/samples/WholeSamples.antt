@@ -231,5 +231,5 @@ whole_forms_taken = record {
     record { new = refl; some = tt; members = (tt, (refl, tt)); small = omega arith },
     (record { new = refl; some = tt; members = (tt, (tt, tt)); small = omega arith }, tt),
   );
-  strings = refl;
+  strings = tt;
 }

@@ -67,13 +67,13 @@ use Rattle.source_lowering.specs.Simulation.{
   contents_in,
   VariableLeads,
 }
-use Rattle.source_lowering.proofs.memory.Keeping.{later_on, later_items, shown_later, all_led_later, fits_later, m_written}
+use Rattle.source_lowering.proofs.memory.Keeping.{later_on, later_items, shown_later, all_led_later, statics_later, fits_later, m_written}
 use Rattle.source_lowering.proofs.Runs.{stuck_same}
 use Rattle.source_lowering.proofs.values.Integers.{IsTarget, IsValueShape, IsObject, value_object}
 use Rattle.source_lowering.proofs.memory.ObjectShapes.{object_leads, leads_object, object_made}
 use Rattle.source_lowering.proofs.memory.CellParts.{PartsAre, FitPieces, with_values}
 use Rattle.source_lowering.proofs.memory.ValueCells.{CellWritten, cell_of, cell_writes}
-use Rattle.source_lowering.proofs.values.Values.{put_temp, other_temp, kept_contents}
+use Rattle.source_lowering.proofs.values.Values.{put_temp, other_temp, kept_contents, over}
 use Rattle.source_lowering.proofs.memory.Loading.{stores_does}
 use Rattle.source_lowering.proofs.memory.Cells.{IsPlain}
 use Rattle.source_lowering.proofs.expressions.Making.{local_spot, cell_spot, cell_with, cells_here, m_made, objects_here, grown_later, agree_made}
@@ -126,7 +126,8 @@ object_fits p m c name shape shapes o e fits leads shown =
       agree = agree_made p.world m c.memory p.frame p.made o fits.agree fits.made fits.begun shown;
       blocks = fits.blocks;
       locals = (leads, all_led_later (around p p.frame) p.world m (m_made m p.frame o) c.memory c.memory p.locals later fits.locals);
-      globals = all_led_later (around p p.frame) p.world m (m_made m p.frame o) c.memory c.memory p.world.globals later fits.globals;
+      held = (tt, fits.held);
+      statics = statics_later (around p p.frame) p.world m (m_made m p.frame o) c.memory c.memory later fits.statics;
       begun = fits.begun;
       made = objects_here m p.frame o ∙ ap (λ z. z + 1) fits.made ∙ omega arith;
       pending = all.1;
@@ -153,6 +154,7 @@ local_fits p m c name shape shapes g object e fits shown =
 
 -- what comes after a declaration: the temporaries below one stay
 pub record GoesOnIn (p q : Point) (n d : ℕ) (m0 : source.Memory) (c0 : Config) (s : source.Memory → steps.Step) (k : Config → core_steps.Step) : Type 0 where
+  pub above : p.regions.all ≤ d
   pub go : (m : source.Memory) (c : Config) → SameState q m c → Grown (around p p.frame) m0 c0.memory m c.memory → AreKept d c0 c
       → activation c ≡ activation c0
       → SameAt p n (s m) (k c)
@@ -324,7 +326,8 @@ local_with_same p n address d scope name shape shapes vs then_act next m c rest 
         let m2 : source.Memory = m_written m1 spot shape v.value in
         let more = o.later (within p) in
         subst (λ z. SameAt p n (then_act (with_binding scope name (Variable shape spot)) next m2) z) (sym before.done)
-        (goes.go m2 c' (fits_later q m1 m2 c c' fits1 o.agree more before.frames)
+        (goes.go m2 c' (fits_later q m1 m2 c c' fits1 o.agree more before.frames
+        (λ k less. before.temps k (over less goes.above)))
         (later_on (around p p.frame) m m1 m2 c.memory c.memory c'.memory later1 (later_items p m1 m2 c c' more))
         before.temps before.frames)
 

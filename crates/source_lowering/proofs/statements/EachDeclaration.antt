@@ -76,7 +76,7 @@ pub known_still : (scope : Scope) (k : Known) (name : List ℕ) (shape : Shape) 
     → IsKnown (scope_more scope k name shape) (known_more k name shape pending)
 known_still scope k name shape pending object known = record {
   world = known.world;
-  locals = (record { frame = scope.frame; in_block = refl; named = refl; is = refl }, known.locals);
+  locals = (record { named = refl; stands = record { frame = scope.frame; in_block = refl; is = refl } }, known.locals);
   words = (object, known.words);
 }
 
@@ -136,9 +136,11 @@ value_same n scope k result name shape shapes e from first then_act others is_va
       ∙ sym (put_all first (conversion_code scope.world shape from d) (put stores (put others rest)))))
       ((converted_gives p n d shape e from first (value_taken shape is_value) one).same m c (λ vs. local_with scope name shape vs then_act next)
       (put stores (put others rest)) after fits (record {
+        above = omega arith;
         go = λ m1 c1 vs fits1 later1 kept1 given1.
             local_with_same p n (d + words_in shape) d scope name shape shapes vs then_act next m1 c1 (put others rest) after refl refl is_value (omega arith)
             pending fits1 (value_given p.world m1 c1.memory shape vs (contents_in d shape c1.temps) is_value given1) (record {
+              above = omega arith;
               go = λ m2 c2 fits2 later2 temps2 blocks2.
                   more.same m2 c2 next rest after fits2
                   (ways_later scope.world k.program n k.regions (around p scope.frame) (around p scope.frame) m m2 c c2 result next

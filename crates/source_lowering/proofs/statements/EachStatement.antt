@@ -24,7 +24,7 @@ use Rattle.source_lowering.proofs.memory.Keeping.{less_self}
 use Rattle.source_lowering.proofs.Runs.{stuck_same}
 use Rattle.source_lowering.proofs.values.Integers.{IsTaken, value_object}
 use Rattle.source_lowering.proofs.expressions.Names.{AreParameters}
-use Rattle.source_lowering.proofs.expressions.Calls.{AllGiven, CallsAs}
+use Rattle.source_lowering.proofs.expressions.Calls.{AllGiven, CallsAs, calls_less}
 use Rattle.source_lowering.specs.Members.{words_in, all_words}
 use Rattle.source_lowering.proofs.values.Values.{value_later, kept_contents}
 use Rattle.source_lowering.proofs.Runs.{put_all}
@@ -65,9 +65,6 @@ known_in_block scope k frame shapes known = record {
   locals = locals_outward frame (scope.frame ∷ k.outer) scope.locals k.names known.locals;
   words = objects_outward scope.world.structs k.names known.words;
 }
-
-calls_less : (w : World) (fs : Program) (n j : ℕ) → j ≤ n → CallsAs w fs n → CallsAs w fs j
-calls_less w fs n j less calls i h = calls i (omega (arith, less, h))
 
 -- within a loop
 abbrev pub known_looped : Known → Known
@@ -215,6 +212,7 @@ body_same (p ∷ ps) items scope k total n t free (vs ∷ vss) values h numbered
     ∙ put_all (stored_code p.shape free t 0 k.made) code rest))
     (local_with_same (place_in scope k) n free t scope p.name p.shape shapes vs (with_arguments ps vss (meaning_of.block_items items)) next m c (put code rest)
     after refl refl values.0 (omega (arith, below)) pending fits given.0 (record {
+      above = regions;
       go = λ m2 c2 fits2 later2 temps2 blocks2.
           body_same ps items (scope_more scope k p.name p.shape) more total n (t + words_in p.shape) free vss values.1 h numbered less
           (known_still scope k p.name p.shape shapes (object_named scope.world.structs p.shape (value_object scope.world.structs p.shape values.0)) known)

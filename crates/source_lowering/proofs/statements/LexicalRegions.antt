@@ -22,6 +22,7 @@ use Rattle.source_lowering.proofs.expressions.Making.{local_spot}
 use Rattle.source_lowering.proofs.statements.Declaring.{local_with_same, with_local}
 use Rattle.source_lowering.proofs.regions.Regions.{core_born, core_freed, region_born_agree, region_born_later, region_born_same, region_freed_agree}
 use Rattle.source_lowering.proofs.regions.Regions.{region_freed_later}
+use Rattle.source_lowering.proofs.memory.Held.{numbers_more}
 use Rattle.source_lowering.proofs.regions.Regions.{region_freed_same, source_born, source_freed}
 use Rattle.source_lowering.proofs.statements.Ways.{Onward, RunsAs, WaysOn, freed}
 use Rattle.source_lowering.proofs.statements.Blocks.{result_later}
@@ -36,11 +37,12 @@ in_scope_of p name shapes = record (with_local p name HandleShape shapes) { regi
 
 fits_in_scope : (p : Point) (name : List ℕ) (shapes : List Shape) (m : source.Memory) (c : Config) → SameState (with_local p name HandleShape shapes) m c
     → SameState (in_scope_of p name shapes) m c
-fits_in_scope p name shapes m c f = record {
+fits_in_scope p name shapes m c f = let q = with_local p name HandleShape shapes in record {
   agree = f.agree;
   blocks = f.blocks;
   locals = f.locals;
-  globals = f.globals;
+  held = numbers_more p.regions.all (suc p.regions.all) c.temps q.locals q.names (omega arith) f.held;
+  statics = f.statics;
   begun = f.begun;
   made = f.made;
   pending = f.pending;
@@ -114,7 +116,7 @@ region_declared p n scope name shapes result then_act others world frame pending
       let c1 = with_temp d (Birth r) (with_memory (core_born c.memory) c) in
       let fits1 = temp_fits p m1 (with_memory (core_born c.memory) c) d (Birth r)
       (fits_later p m m1 c (with_memory (core_born c.memory) c) fits (region_born_agree p.world m c.memory fits.agree)
-      (region_born_later (within p) m c.memory) refl) in
+      (region_born_later (within p) m c.memory) refl (λ k less. refl)) (omega arith) in
       let inside = put (others ++ free_code d) rest in
       region_born_same p.world p.program n d m c (λ z. local_with scope name HandleShape (HandleOf z ∷ []) then_act (after_scope next z))
       (meaning.statements (MoreStatements (Do (Put 0 p.made 4 d)) inside) after) fits.agree
@@ -126,6 +128,7 @@ region_declared p n scope name shapes result then_act others world frame pending
         shown = record { birth = r; value = refl; shown = ap (λ z. z ∷ []) (put_temp d (Birth r) (with_memory (core_born c.memory) c)) };
       })
       (record {
+        above = omega arith;
         go = λ m2 c2 fits2 later2 temps2 active2.
             subst (λ z. SameAt p n (then_act (with_binding scope name (Variable HandleShape (local_spot p.frame p.made))) (after_scope next r) m2)
             (meaning.statements z after c2)) (sym (put_all others (free_code d) rest))

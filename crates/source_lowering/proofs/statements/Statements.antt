@@ -78,6 +78,7 @@ pub run_same : (p : Point) (n : ℕ) (result : Shape) (e : Sense) (shape : Shape
 run_same p n result e shape code one = record {
   same = λ m c next rest after fits ways.
       one.same m c (λ vs. next steps.Falls) rest after fits (record {
+        above = omega arith;
         go = λ m2 c2 vs fits2 later2 kept2 given2. ways.falls m2 c2 (onward_behind p m m2 c c2 fits fits2 later2 kept2);
       });
 }
@@ -119,6 +120,7 @@ return_same p n result e from code taken one = record {
       (sym (put_three code (conversion_code p.world result from d) leaves rest ∙ sym (put_all code (conversion_code p.world result from d) (put leaves rest))))
       ((converted_gives p n d result e from code taken one).same m c (λ us. next (steps.Returns us)) (put leaves rest) after fits
       (record {
+        above = omega arith;
         go = λ m2 c2 vs fits2 later2 kept2 given2.
             subst (λ z. SameAt p n (next (steps.Returns vs) m2) z) (sym (leaves_run rest after c2))
             (ways.returns m2 c2 vs (values_of c2.temps (results_in result d)) (onward_behind p m m2 c c2 fits fits2 later2 kept2)
@@ -179,6 +181,7 @@ choice_same p n result condition shape test first second these those looks one o
       (truth_decided p n p.regions.all condition shape test m c (λ t. choose t first second next)
       (MoreStatements (If p.regions.all (all_of these) (all_of those)) rest) after
       looks.taken looks.looks fits (record {
+        above = omega arith;
         go = λ m2 c2 t fits2 later2 kept2 decides2.
             choice_by t p n (suc p.frame) result first second these those m2 c2 next rest after decides2 one other fits2
             (ways_later p.world p.program n p.regions (around p (suc p.frame)) (around p (suc p.frame)) m m2 c c2 result next (meaning.statements rest after)
@@ -197,7 +200,7 @@ sequence_same p n result first second these those one other = record {
       subst (λ z. SameAt p n (first (λ flow. source_statements.falls_to flow second next) m) (meaning.statements z after c)) (sym (put_all these those rest))
       (one.same m c (λ flow. source_statements.falls_to flow second next) (put those rest) after fits (record {
         falls = λ m2 c2 o.
-            other.same m2 c2 next rest after (fits_on p m m2 c c2 fits o.agree o.later o.active)
+            other.same m2 c2 next rest after (fits_on p m m2 c c2 fits o.agree o.later o.active o.kept)
             (ways_later p.world p.program n p.regions (around p p.frame) (around p p.frame) m m2 c c2 result next (meaning.statements rest after) after
             (less_self (around p p.frame)) (later_less (around p (suc p.frame)) (around p p.frame) m m2 c.memory c2.memory (around_items p) o.later) o.active
             o.kept ways);
@@ -218,7 +221,8 @@ fits_looped p m c f = record {
   agree = f.agree;
   blocks = f.blocks;
   locals = f.locals;
-  globals = f.globals;
+  held = f.held;
+  statics = f.statics;
   begun = f.begun;
   made = f.made;
   pending = f.pending;
@@ -251,7 +255,7 @@ turn_same p n j result scope condition body test these m c next after less runs 
     let code : Statement = loop_code p test these in
     let once : (m2 : source.Memory) (c2 : Config) → Onward p.world p.regions.all b m c m2 c2
     → SameAt p j (source_statements.loop condition body scope next m2) (meaning.statement code after c2) =
-    λ m2 c2 o. again.same m2 c2 next after (fits_on p m m2 c c2 fits o.agree o.later o.active) (ways_later p.world p.program j p.regions b b m m2 c c2
+    λ m2 c2 o. again.same m2 c2 next after (fits_on p m m2 c c2 fits o.agree o.later o.active o.kept) (ways_later p.world p.program j p.regions b b m m2 c c2
     result next (after core_steps.Falls) after (less_self b) o.later o.active o.kept fewer) in
     runs.same m c (λ flow m2. source_statements.after_turn flow (source_statements.loop condition body scope) next m2) NoStatements
     (λ exit. meaning.after_turn exit (meaning.statement code after) after) (fits_looped p m c fits) (record {
@@ -272,6 +276,7 @@ one_loop p n result scope condition body shape test these looks runs again = rec
       λ exit. meaning.falls_to exit (λ now. meaning.branch (now.temps p.regions.all) (Turns loop after now) (after core_steps.Falls now)) after in
       truth_decided p n p.regions.all (sense condition scope) shape test m c (λ t. choose t (steps.take_turn condition body scope) (give steps.Falls) next)
       NoStatements tested looks.taken looks.looks fits (record {
+        above = omega arith;
         go = λ m2 c2 t fits2 later2 kept2 decides2.
             by t m2 c2 next after decides2 fits2
             (ways_later p.world p.program n p.regions (around p (suc p.frame)) (around p (suc p.frame)) m m2 c c2 result next (after core_steps.Falls) after

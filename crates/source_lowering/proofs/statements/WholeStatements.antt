@@ -11,18 +11,17 @@ use Rattle.source_meaning.specs.Places.{Sense, with_binding, assigned}
 use Rattle.source_meaning.specs.Regions.{local_with, initialised}
 use Rattle.core_meaning.specs.Memory as core
 use Rattle.core_meaning.specs.Memory.{Pointer, Layout}
-use Rattle.core_meaning.specs.Core.{Program, Statement, Do, Copy, Statements}
-use Rattle.core_meaning.specs.Steps as core_steps
+use Rattle.core_meaning.specs.Core.{Statement, Do, Copy, Statements}
 use Rattle.core_meaning.specs.Steps.{Config, with_memory}
-use Rattle.core_meaning.specs.Operations.{does, are_laid, same_object, copied}
+use Rattle.core_meaning.specs.Operations.{copied}
 use Rattle.core_meaning.specs.Meaning as meaning
 use Rattle.source_lowering.specs.Layouts.{layout_of}
 use Rattle.source_lowering.specs.Lowered.{put}
 use Rattle.source_lowering.specs.Lowerable.{IsObject, AreStructs}
 use Rattle.source_lowering.proofs.memory.StructCells.{shapes_in, HasCells}
-use Rattle.source_lowering.specs.Simulation.{at, AreMade, Leads, Grown, Point, SameState, SameAt, Same, Next, around, before_value, keeping}
+use Rattle.source_lowering.specs.Simulation.{at, AreMade, Leads, Grown, Point, SameState, SameAt, Next, around, before_value, keeping}
 use Rattle.source_lowering.proofs.memory.Keeping.{IsLess, later_on, later_less, blocks_of}
-use Rattle.source_lowering.proofs.Runs.{stuck_same, put_all}
+use Rattle.source_lowering.proofs.Runs.{put_all}
 use Rattle.source_lowering.proofs.expressions.Making.{local_spot}
 use Rattle.source_lowering.proofs.memory.Clearing.{laid_there}
 use Rattle.source_lowering.proofs.memory.Copying.{AllShown, all_shown_kept, whole_copied}
@@ -31,6 +30,7 @@ use Rattle.source_lowering.proofs.memory.Beginning.{BeginsIn}
 use Rattle.source_lowering.proofs.memory.SameShapes.{shapes_same}
 use Rattle.source_lowering.proofs.expressions.Places.{IsPlaced}
 use Rattle.source_lowering.proofs.memory.Initialising.{copy_code, converted_whole, struct_with_same}
+use Rattle.source_lowering.proofs.memory.CopiedOver.{copy_over, dead_stuck, shown_count}
 use Rattle.source_lowering.proofs.memory.Overwriting.{all_written, writes_all, overwritten}
 use Rattle.source_lowering.proofs.expressions.Wholes.{own_spot, IsWhole, fits_keeping, fits_kept, before_less, own_apart, value_made}
 use Rattle.source_lowering.proofs.memory.Members.{layout_count}
@@ -55,6 +55,7 @@ pub whole_dropped : (p : Point) (n value : ℕ) (result : Shape) (e : Sense) (co
 whole_dropped p n value result e code one = record {
   same = λ m c next rest after fits ways.
       one.same m c (λ vs. next steps.Falls) rest after fits (record {
+        above = omega arith;
         go = λ m2 c2 vs fits2 later2 kept2 temp2 shown2.
             ways.falls m2 c2 (record {
               agree = fits2.agree;
@@ -78,6 +79,7 @@ pub whole_begins : (p : Point) (n value : ℕ) (scope : Scope) (name tag : List 
 whole_begins p n value scope name tag shapes e code then_act next m c rest after world frame structs object pending fits one goes =
     one.same m c (λ vs. converted scope.world (StructShape tag) e.shape vs (λ us. local_with scope name (StructShape tag) us then_act next)) copies after fits
     (record {
+      above = omega arith;
       go = λ m1 c1 vs fits1 later1 kept1 temp shown.
           subst (λ z. SameAt p n (converted z (StructShape tag) e.shape vs (λ us. local_with scope name (StructShape tag) us then_act next) m1)
           (meaning.statements copies after c1)) (sym world)
@@ -102,26 +104,6 @@ whole_begins p n value scope name tag shapes e code then_act next m c rest after
 
 -- ---- a struct is assigned
 
-shown_count : (w : World) (m : source.Memory) (c : core.Memory) (t : core.Spot) (xs : List Shape) (vs : List Scalar) → AllShown w m c t xs vs
-    → length vs ≡ length xs
-shown_count w m c t [] [] h = refl
-shown_count w m c t [] (v ∷ vs) h = absurd h
-shown_count w m c t (x ∷ xs) [] h = absurd h
-shown_count w m c t (x ∷ xs) (v ∷ vs) h = ap suc (shown_count w m c (core.beyond t 1) xs vs h.1)
-
--- nothing is written through a region that isn't live
-dead_stuck : (w : World) (fs : Program) (n : ℕ) (x : Shape) (xs : List Shape) (vs : List Scalar) (m : source.Memory) (t : Spot)
-    (s : Unit {0} → source.Memory → steps.Step) (k : core_steps.Step) → length vs ≡ suc (length xs) → is_live m t.region ≡ false
-    → Same w fs n (write_cells t vs s m) k
-dead_stuck w fs n x xs [] m t s k count dead = absurd (cc count)
-dead_stuck w fs n x xs (v ∷ vs) m t s k count dead = rw dead (stuck_same w fs n k)
-
-copy_over : (c : Config) (d : ℕ) (t from : core.Spot) (byte : ℕ) (l : Layout) (next : Config → core_steps.Step) → c.temps (d + 1) ≡ Pointer t byte
-    → c.temps d ≡ Pointer from 0 → core.is_live (c.memory.standing t.region) ≡ true → core.is_live (c.memory.standing from.region) ≡ true
-    → are_laid c.memory t byte l.cells ≡ true → are_laid c.memory from 0 l.cells ≡ true → same_object t from ≡ false
-    → does (Copy (d + 1) d l) next c ≡ next (with_memory (copied l t from c.memory) c)
-copy_over c d t from byte l next temp temp_from live live_from laid laid_from apart = rw (temp, temp_from, live, laid, live_from, laid_from, apart) refl
-
 -- the value is an unnamed one, which stays while its place is evaluated
 pub whole_assigned : (p : Point) (n value : ℕ) (result : Shape) (to from : Sense) (tag : List ℕ) (code place : List Statement)
     → AreStructs p.world.unions p.world.structs → IsObject p.world.structs (StructShape tag) → IsWhole p n p.regions.all value from code
@@ -135,11 +117,13 @@ whole_assigned p n value result to from tag code place structs object one placed
       (subst (λ z. SameAt p n (from.value (λ vs. converted p.world z from.shape vs (λ us. stores us next)) m)
       (meaning.statements (put code (put place (put copies rest))) after c)) (sym placed.shape_is)
       (one.same m c (λ vs. converted p.world shape from.shape vs (λ us. stores us next)) (put place (put copies rest)) after fits (record {
+        above = omega arith;
         go = λ m1 c1 vs fits1 later1 kept1 temp shown.
             converted_whole p n tag from.shape vs (λ us. stores us next) m1 (meaning.statements (put place (put copies rest)) after c1)
             (λ equal.
             let same : shape ≡ StructShape one.tag = shapes_same shape from.shape equal ∙ one.shape_is in
             placed.placed.same m1 c1 (λ t. write_cells t vs (λ u. next steps.Falls)) (put copies rest) after (fits_keeping p (suc value) m1 c1 fits1) (record {
+              above = omega arith;
               go = λ m2 c2 t byte fits2' later2 kept2 temp2 lies leads.
                   let fits2 = fits_kept p (suc value) m2 c2 fits2' in
                   copy_same m c next rest after fits ways m2 c2 vs t byte fits2
@@ -205,7 +189,7 @@ whole_assigned p n value result to from tag code place structs object one placed
             let over = overwritten p.world m2 c2.memory t from_spot layout xs vs (layout_count p.world shape has) fits2.agree leads.0
             (whole_copied p.world m2 c2.memory (at t) from_spot byte shape vs structs object leads.1 shown) in
             subst (λ z. SameAt p n (write_cells t vs (λ u. next steps.Falls) m2) z)
-            (sym (copy_over c2 p.regions.all (at t) from_spot byte layout (meaning.statements rest after) temp temp_from
+            (sym (copy_over c2 (p.regions.all + 1) p.regions.all (at t) from_spot byte layout (meaning.statements rest after) temp temp_from
             (sym (fits2.agree.live t.region) ∙ live) fits2.stands
             (laid_there c2.memory (at t) byte layout.cells leads.1) (laid_there c2.memory from_spot 0 layout.cells made) (own_apart t p.own value 0)))
             (writes_all p.world p.program n xs vs m2 t (λ u. next steps.Falls) (meaning.statements rest after c3)

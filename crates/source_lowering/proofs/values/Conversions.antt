@@ -1,5 +1,5 @@
 -- A value in a temporary is converted to another shape.
-use Rattle.std.proofs.Common.{◌≡◌, Bool, true, false, ℕ, List, [], ◌++◌, refl, sym, subst}
+use Rattle.std.proofs.Common.{◌≡◌, Bool, true, false, ℕ, List, [], ◌++◌, refl, sym, subst, arith}
 use Rattle.source_meaning.specs.Shapes.{Owner, Shape, IntShape, UnsignedShape, CharShape, VoidShape, ThinShape, FatShape, HandleShape, KeyShape, StructShape}
 use Rattle.source_meaning.specs.Shapes.{UnionShape, ArrayShape}
 use Rattle.source_meaning.specs.Memory.{AsInt, AsUnsigned}
@@ -17,6 +17,7 @@ use Rattle.source_lowering.proofs.values.ThinConversions.{stuck_thin, thin_conve
 use Rattle.source_lowering.proofs.values.FatConversions.{stuck_fat, never_null, maybe_null, fat_stays}
 use Rattle.source_lowering.proofs.values.Widening.{widened}
 use Rattle.source_lowering.proofs.values.NumberConversions.{ConvertsAs, stuck_converts, kept_converts, low_converts, char_converts, void_converts}
+use Rattle.source_lowering.proofs.values.Values.{over}
 
 int_void : IntShape ≡ VoidShape → ⊥
 int_void e = cc e
@@ -136,6 +137,7 @@ converted_gives p n d to e from code taken one = record {
       subst (λ z. SameAt p n (e.value (λ vs. converted p.world to e.shape vs s) m) (meaning.statements z next c))
       (sym (put_all code (conversion_code p.world to from d) rest))
       (one.values.same m c (λ vs. converted p.world to e.shape vs s) (put (conversion_code p.world to from d) rest) next fits (record {
+        above = over goes.above (omega arith);
         go = λ m1 c1 vs fits1 later1 kept1 given1.
             subst (λ z. SameAt p n (converted p.world to z vs s m1) (meaning.statements (put (conversion_code p.world to from d) rest) next c1))
             (sym one.shape_is)

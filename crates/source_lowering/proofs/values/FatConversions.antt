@@ -26,7 +26,7 @@ use Rattle.source_lowering.specs.Simulation.{at, Leads, AFatNull, AFat, IsTakenO
 use Rattle.source_lowering.specs.Simulation.{GoesOn, contents_in}
 use Rattle.source_lowering.proofs.Runs.{stuck_same, stops_same}
 use Rattle.source_lowering.proofs.memory.SameShapes.{shapes_same}
-use Rattle.source_lowering.proofs.values.Values.{put_temp, kept_temp, temp_fits}
+use Rattle.source_lowering.proofs.values.Values.{put_temp, kept_temp, temp_fits, over}
 use Rattle.source_lowering.proofs.values.NumberConversions.{ConvertsAs}
 use Rattle.source_lowering.proofs.expressions.Elements.{AreThree, three_are, tested, compared, otherwise_done, element_reached, element_spot, element_there, ElementGoesOn}
 use Rattle.source_lowering.proofs.expressions.Elements.{element_same}
@@ -67,7 +67,7 @@ element_goes p n d b o to m0 c0 m c s k fits later kept goes = record {
   go = λ t byte lies leads.
       let here : Config = with_temp (d + 1) (Word 1) c in
       spot_goes p n d b o to m0 c0 m (with_temp d (Pointer (at t) byte) here) t byte s k
-      (temp_fits p m here d (Pointer (at t) byte) (temp_fits p m c (d + 1) (Word 1) fits)) later
+      (temp_fits p m here d (Pointer (at t) byte) (temp_fits p m c (d + 1) (Word 1) fits (over goes.above (omega arith))) goes.above) later
       (kept_temp d d (Pointer (at t) byte) c0 here (omega arith) (kept_temp d (d + 1) (Word 1) c0 c (omega arith) kept))
       (put_temp d (Pointer (at t) byte) here) lies leads goes;
 }

@@ -26,7 +26,7 @@ use Rattle.source_lowering.specs.Simulation.{at, AFatNull, AFat, Shown, Point, S
 use Rattle.source_lowering.proofs.Runs.{put_all}
 use Rattle.source_lowering.proofs.values.Integers.{word_given}
 use Rattle.source_lowering.proofs.values.Operators.{modulo_small}
-use Rattle.source_lowering.proofs.values.Values.{put_temp, other_temp, kept_temp, temp_fits, put_value}
+use Rattle.source_lowering.proofs.values.Values.{put_temp, other_temp, kept_temp, temp_fits, put_value, over}
 use Rattle.source_lowering.proofs.memory.Loading.{after_temp}
 use Rattle.source_lowering.proofs.values.Tests.{two_words}
 use Rattle.source_lowering.proofs.expressions.Elements.{AreThree, three_are, these_three, head_in, second_in, third_in, ElementGoesOn, element_same}
@@ -149,7 +149,7 @@ fat_moves p n d k to o v m0 c0 m c s rest next small operand shown fits later ke
     let both = both_moved p m c d (d + 3) k to o v small operand shown in
     let value = moved_value v (λ i. words.two o i k) in
     subst (λ z. SameAt p n (s (value ∷ []) m) z) (sym (both.done (meaning.statements rest next)))
-    (goes.go m (moved c d both.index) (value ∷ []) (temp_fits p m c (d + 2) (Word both.index) fits) later
+    (goes.go m (moved c d both.index) (value ∷ []) (temp_fits p m c (d + 2) (Word both.index) fits (over goes.above (omega arith))) later
     (kept_temp d (d + 2) (Word both.index) c0 c (omega arith) kept) (inl (record { value = value; alone = refl; shown = both.shown })))
 
 -- ---- `a[b]`
@@ -232,6 +232,7 @@ count_gives p n d to look code gives = record {
       let counts : Scalar → source.Memory → steps.Step = λ v. elements_left v (λ k. s (k ∷ [])) in
       subst (λ z. SameAt p n (look (λ vs. one vs counts) m) (meaning.statements z next c)) (sym (put_all code (count_code d) rest))
       (gives.same m c (λ vs. one vs counts) (put (count_code d) rest) next fits (record {
+        above = over goes.above (omega arith);
         go = λ m1 c1 vs fits1 later1 kept1 given1.
             let v = fat_value p.world m1 c1.memory to vs (contents_in d (FatShape to) c1.temps) given1 in
             let x = c1.temps d in
@@ -250,7 +251,8 @@ count_gives p n d to look code gives = record {
             (sym (count_does c1 d has.index has.count rest next has.count_is has.index_is ∙
             ap (λ z. meaning.statements rest next (with_temp d (Word z) second)) (counted has.index has.count has.small has.few)))
             (put_value p n d m c m1 second UnsignedShape (Integer AsUnsigned left ∷ []) (Word left) s (meaning.statements rest next)
-            (temp_fits p m1 first (d + 1) (Word (difference_of has.count has.index)) (temp_fits p m1 c1 d test fits1)) later1
+            (temp_fits p m1 first (d + 1) (Word (difference_of has.count has.index)) (temp_fits p m1 c1 d test fits1 goes.above)
+            (over goes.above (omega arith))) later1
             (kept_temp d (d + 1) (Word (difference_of has.count has.index)) c first (omega arith) (kept_temp d d test c c1 (omega arith) kept1)) refl
             (word_given p.world m1 c1.memory AsUnsigned left (Word left) (omega (arith, few)) refl) goes)));
       }));

@@ -1,5 +1,5 @@
 -- `&&` and `||`: operands that are tested one after the other.
-use Rattle.std.proofs.Common.{◌≡◌, ℕ, List, [], ◌∷◌, ◌++◌, Bool, true, false, not, nat_eq, refl, sym, ◌∙◌, subst}
+use Rattle.std.proofs.Common.{◌≡◌, ℕ, List, [], ◌∷◌, ◌++◌, Bool, true, false, not, nat_eq, refl, sym, ◌∙◌, subst, arith}
 use Rattle.source_meaning.specs.Shapes.{Shape, IntShape}
 use Rattle.source_meaning.specs.Memory as source
 use Rattle.source_meaning.specs.Memory.{Scalar}
@@ -16,7 +16,7 @@ use Rattle.source_lowering.specs.Lowered.{put, all_of, truth_code, word_code}
 use Rattle.source_lowering.specs.Simulation.{Point, SameState, SameAt, Next, AreKept, GrownAt, GoesOn, GivesAs, within}
 use Rattle.source_lowering.proofs.memory.Keeping.{later_on}
 use Rattle.source_lowering.proofs.values.Integers.{IsTaken}
-use Rattle.source_lowering.proofs.values.Values.{put_three}
+use Rattle.source_lowering.proofs.values.Values.{put_three, over}
 use Rattle.source_lowering.proofs.values.Tests.{branch_by, truth_same, truth_tested}
 
 -- ---- &&
@@ -70,6 +70,7 @@ all_more p n d e es shape code others taken gives more = record {
         (sym test)
         (truth_tested p n d e shape code m c (λ t. choose t (all_true es) (give false) (λ u. s (truth_value u ∷ []))) NoStatements after taken gives fits
         (record {
+          above = over goes.above (omega arith);
           go = λ m2 c2 w2 fits2 later2 kept2 temp2.
               more.same m0 c0 m2 c2 w2 s rest next fits2 (later_on (within p) m0 m m2 c0.memory c.memory c2.memory later later2)
               (λ k h. kept2 k h ∙ kept k h) temp2 goes;
@@ -84,6 +85,7 @@ all_gives p n d e es shape first others taken gives more = record {
       (sym (put_three (first ++ word_code shape d) others (truth_code d) rest))
       (truth_tested p n d e shape first m c (λ t. choose t (all_true es) (give false) (λ u. s (truth_value u ∷ []))) (put others (put (truth_code d) rest))
       next taken gives fits (record {
+        above = over goes.above (omega arith);
         go = λ m2 c2 w2 fits2 later2 kept2 temp2. more.same m c m2 c2 w2 s rest next fits2 later2 kept2 temp2 goes;
       }));
 }
@@ -138,6 +140,7 @@ any_more p n d e es shape code others taken gives more = record {
         (sym test)
         (truth_tested p n d e shape code m c (λ t. choose t (give true) (any_true es) (λ u. s (truth_value u ∷ []))) NoStatements after taken gives fits
         (record {
+          above = over goes.above (omega arith);
           go = λ m2 c2 w2 fits2 later2 kept2 temp2.
               more.same m0 c0 m2 c2 w2 s rest next fits2 (later_on (within p) m0 m m2 c0.memory c.memory c2.memory later later2)
               (λ k h. kept2 k h ∙ kept k h) temp2 goes;
@@ -152,6 +155,7 @@ any_gives p n d e es shape first others taken gives more = record {
       (sym (put_three (first ++ word_code shape d) others (truth_code d) rest))
       (truth_tested p n d e shape first m c (λ t. choose t (give true) (any_true es) (λ u. s (truth_value u ∷ []))) (put others (put (truth_code d) rest))
       next taken gives fits (record {
+        above = over goes.above (omega arith);
         go = λ m2 c2 w2 fits2 later2 kept2 temp2. more.same m c m2 c2 w2 s rest next fits2 later2 kept2 temp2 goes;
       }));
 }

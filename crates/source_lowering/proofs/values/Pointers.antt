@@ -49,7 +49,7 @@ use Rattle.source_lowering.proofs.memory.Keeping.{spot_as}
 use Rattle.source_lowering.proofs.Runs.{stuck_same}
 use Rattle.source_lowering.proofs.values.Integers.{IsThin, null_is, pointer_is}
 use Rattle.source_lowering.proofs.memory.Members.{first_part_of}
-use Rattle.source_lowering.proofs.values.Values.{put_temp, temp_fits, kept_temp}
+use Rattle.source_lowering.proofs.values.Values.{put_temp, temp_fits, kept_temp, over}
 use Rattle.source_lowering.proofs.values.Tests.{put_truth, turned_does}
 
 -- ---- what a comparison gives
@@ -164,13 +164,13 @@ answered p n d operator.Equal sa sb b same m0 c0 m c s rest next is fits later k
     (put_truth p n d m0 c0 m c b s (meaning.statements rest next) fits later kept goes)
 answered p n d operator.NotEqual sa sb b same m0 c0 m c s rest next is fits later kept goes =
     let here : Config = with_temp d (Word (words.truth b)) c in
-    let over : Config = with_temp (d + 1) (Word 0) here in
+    let turned : Config = with_temp (d + 1) (Word 0) here in
     subst (λ z. SameAt p n (s (truth_value (not b) ∷ []) m) z)
     (sym (is (meaning.statements (put (turned_code d) rest) next) ∙
     turned_does d (words.truth b) here rest next (put_temp d (Word (words.truth b)) c) ∙
-    ap (λ z. meaning.statements rest next (with_temp d (Word z) over)) (turned_truth b)))
-    (put_truth p n d m0 c0 m over (not b) s (meaning.statements rest next)
-    (temp_fits p m here (d + 1) (Word 0) (temp_fits p m c d (Word (words.truth b)) fits)) later
+    ap (λ z. meaning.statements rest next (with_temp d (Word z) turned)) (turned_truth b)))
+    (put_truth p n d m0 c0 m turned (not b) s (meaning.statements rest next)
+    (temp_fits p m here (d + 1) (Word 0) (temp_fits p m c d (Word (words.truth b)) fits goes.above) (over goes.above (omega arith))) later
     (kept_temp d (d + 1) (Word 0) c0 here (omega arith) (kept_temp d d (Word (words.truth b)) c0 c (omega arith) kept)) goes)
 answered p n d operator.BitOr sa sb b same m0 c0 m c s rest next is fits later kept goes = stuck_same p.world p.program n _
 answered p n d operator.BitXor sa sb b same m0 c0 m c s rest next is fits later kept goes = stuck_same p.world p.program n _

@@ -1,5 +1,5 @@
 -- Conditions: an operand that is tested, and `!`.
-use Rattle.std.proofs.Common.{◌≡◌, ℕ, ◌+◌, List, [], ◌∷◌, ◌++◌, Bool, true, false, not, nat_eq, refl, sym, ap, ◌∙◌, subst, arith}
+use Rattle.std.proofs.Common.{◌≡◌, ℕ, ◌+◌, List, [], ◌∷◌, ◌++◌, Bool, true, false, not, nat_eq, refl, sym, ap, ◌∙◌, subst, arith, ◌≤◌}
 use Rattle.std.specs.Prelude.{if◌then◌else◌}
 use Rattle.std.proofs.lemmas.Bool.Decides.{nat_tests}
 use Rattle.source_meaning.specs.Shapes.{Shape, IntShape}
@@ -28,7 +28,7 @@ use Rattle.core_meaning.proofs.Results.{truth_below}
 use Rattle.source_lowering.proofs.values.Operators.{truth_is}
 use Rattle.source_lowering.proofs.values.Integers.{IsTaken, word_given}
 use Rattle.source_lowering.proofs.values.AnyValues.{one_same, thin_same, fat_same}
-use Rattle.source_lowering.proofs.values.Values.{put_temp, other_temp, kept_temp, temp_fits, put_value}
+use Rattle.source_lowering.proofs.values.Values.{put_temp, other_temp, kept_temp, temp_fits, put_value, over}
 
 -- 0 or 1 is put where a test's value goes
 pub put_truth : (p : Point) (n d : ℕ) (m0 : source.Memory) (c0 : Config) (m : source.Memory) (c : Config) (b : Bool)
@@ -54,7 +54,7 @@ truth_same p n d m0 c0 m c word s rest next temp fits later kept goes =
     subst (λ z. SameAt p n (s (truth_value (not (nat_eq word 0)) ∷ []) m) z)
     (sym (two_words core.NotEqual here d d (d + 1) word 0 (meaning.statements rest next) (other_temp (d + 1) d (Word 0) c (omega arith) ∙ temp)
     (put_temp (d + 1) (Word 0) c)))
-    (put_truth p n d m0 c0 m here (not (nat_eq word 0)) s (meaning.statements rest next) (temp_fits p m c (d + 1) (Word 0) fits) later
+    (put_truth p n d m0 c0 m here (not (nat_eq word 0)) s (meaning.statements rest next) (temp_fits p m c (d + 1) (Word 0) fits (over goes.above (omega arith))) later
     (kept_temp d (d + 1) (Word 0) c0 c (omega arith) kept) goes)
 
 -- ---- a tested operand
@@ -78,6 +78,7 @@ word_decides word x e = record { branches = λ these those. ap (λ z. meaning.br
 -- what comes after a condition: the source has a truth, by which Core branches
 pub record Decided (p : Point) (n d : ℕ) (m0 : source.Memory) (c0 : Config)
     (s : Bool → source.Memory → steps.Step) (k : Config → core_steps.Step) : Type 0 where
+  pub above : p.regions.all ≤ d
   pub go : (m : source.Memory) (c : Config) (b : Bool) → SameState p m c → GrownAt p m0 c0 m c → AreKept d c0 c → Decides b (c.temps d) → SameAt p n (s b m) (k c)
 
 pub truth_decided : (p : Point) (n d : ℕ) (e : Sense) (shape : Shape) (code : List Statement) (m : source.Memory) (c : Config)
@@ -85,6 +86,7 @@ pub truth_decided : (p : Point) (n d : ℕ) (e : Sense) (shape : Shape) (code : 
     → Decided p n d m c s (meaning.statements rest next) → SameAt p n (truth e s m) (meaning.statements (put code rest) next c)
 truth_decided p n d e shape code m c s rest next taken gives fits tests =
     gives.same m c (λ vs. one vs (λ v. need (is_true v) s)) rest next fits (record {
+      above = tests.above;
       go = λ m1 c1 vs fits1 later1 kept1 given1.
           one_same p.world p.program n shape m1 c1.memory vs d c1.temps (λ v. need (is_true v) s) _ taken given1
           (λ t word temp shape_is type_is small.
@@ -104,6 +106,7 @@ truth_decided p n d e shape code m c s rest next taken gives fits tests =
 
 -- what comes after a test: the source has a truth, Core a word
 pub record Tested (p : Point) (n d : ℕ) (m0 : source.Memory) (c0 : Config) (s : Bool → source.Memory → steps.Step) (k : Config → core_steps.Step) : Type 0 where
+  pub above : p.regions.all ≤ d
   pub go : (m : source.Memory) (c : Config) (word : ℕ) → SameState p m c → GrownAt p m0 c0 m c → AreKept d c0 c → c.temps d ≡ Word word
       → SameAt p n (s (not (nat_eq word 0)) m) (k c)
 
@@ -118,9 +121,11 @@ turned_does d word c rest next temp =
     two_words core.Equal here d d (d + 1) word 0 (meaning.statements rest next) (other_temp (d + 1) d (Word 0) c (omega arith) ∙ temp)
     (put_temp (d + 1) (Word 0) c)
 
-pub turned_fits : (p : Point) (m : source.Memory) (d word : ℕ) (c : Config) → SameState p m c → SameState p m (turned d word c)
-turned_fits p m d word c fits =
-    temp_fits p m (with_temp (d + 1) (Word 0) c) d (Word (words.truth (nat_eq word 0))) (temp_fits p m c (d + 1) (Word 0) fits)
+pub turned_fits : (p : Point) (m : source.Memory) (d word : ℕ) (c : Config) → SameState p m c → p.regions.all ≤ d
+    → SameState p m (turned d word c)
+turned_fits p m d word c fits above =
+    temp_fits p m (with_temp (d + 1) (Word 0) c) d (Word (words.truth (nat_eq word 0))) (temp_fits p m c (d + 1) (Word 0) fits (over above (omega arith)))
+    above
 
 pub turned_kept : (d word : ℕ) (c0 c : Config) → AreKept d c0 c → AreKept d c0 (turned d word c)
 turned_kept d word c0 c kept =
@@ -144,7 +149,7 @@ pointer_tested p n d word m0 c0 m c s rest next fits later kept is tests =
     let here : Config = with_temp d (Word word) c in
     subst (λ z. SameAt p n (s (not (nat_eq (words.truth (nat_eq word 0)) 0)) m) z)
     (sym (is ∙ turned_does d word here rest next (put_temp d (Word word) c)))
-    (tests.go m (turned d word here) (words.truth (nat_eq word 0)) (turned_fits p m d word here (temp_fits p m c d (Word word) fits)) later
+    (tests.go m (turned d word here) (words.truth (nat_eq word 0)) (turned_fits p m d word here (temp_fits p m c d (Word word) fits tests.above) tests.above) later
     (turned_kept d word c0 here (kept_temp d d (Word word) c0 c (omega arith) kept)) (put_temp d (Word (words.truth (nat_eq word 0)))
     (with_temp (d + 1) (Word 0) here)))
 
@@ -163,6 +168,7 @@ pub truth_tested : (p : Point) (n d : ℕ) (e : Sense) (shape : Shape) (code : L
 truth_tested p n d e shape code m c s rest next taken gives fits tests =
     subst (λ z. SameAt p n (truth e s m) (meaning.statements z next c)) (sym (put_all code (word_code shape d) rest))
     (gives.same m c (λ vs. one vs (λ v. need (is_true v) s)) (put (word_code shape d) rest) next fits (record {
+      above = tests.above;
       go = λ m1 c1 vs fits1 later1 kept1 given1.
           one_same p.world p.program n shape m1 c1.memory vs d c1.temps (λ v. need (is_true v) s) _ taken given1
           (λ t word temp shape_is type_is small.
@@ -218,6 +224,7 @@ not_gives p n d e shape code taken gives = record {
   same = λ m c s rest next fits goes.
       subst (λ z. SameAt p n ((tested (inverted (truth e))).look s m) (meaning.statements z next c)) (sym (put_all code (not_code shape d) rest))
       (gives.same m c (λ vs. one vs (λ v. need (is_true v) (after s))) (put (not_code shape d) rest) next fits (record {
+        above = over goes.above (omega arith);
         go = λ m2 c2 vs fits2 later2 kept2 given2.
             one_same p.world p.program n shape m2 c2.memory vs (d + 1) c2.temps (λ v. need (is_true v) (after s)) _ taken given2
             (λ t word temp shape_is type_is small.
@@ -264,4 +271,4 @@ not_gives p n d e shape code taken gives = record {
         let here : Config = with_temp d (Word 0) c2 in
         not_put p n d (nat_eq word 0) m c m2 c2 here s _ (meaning.statements rest next)
         (two_words core.Equal here d (d + 1) d word 0 (meaning.statements rest next) (above_temp c2 ∙ temp) (put_temp d (Word 0) c2))
-        (temp_fits p m2 c2 d (Word 0) fits2) later2 (kept_temp d d (Word 0) c c2 (omega arith) kept2) goes
+        (temp_fits p m2 c2 d (Word 0) fits2 goes.above) later2 (kept_temp d d (Word 0) c c2 (omega arith) kept2) goes

@@ -28,6 +28,7 @@ use Rattle.core_meaning.specs.Steps as core_steps
 use Rattle.core_meaning.specs.Steps.{Config, with_temp}
 use Rattle.source_lowering.specs.Lowered.{put}
 use Rattle.source_lowering.specs.Simulation.{Point, SameState, SameAt, AreKept, GrownAt, AValue, Given, GoesOn, Grown, Bound, contents_in}
+use Rattle.source_lowering.proofs.memory.Held.{numbers_kept}
 use Rattle.source_lowering.proofs.memory.Keeping.{shown_later}
 use Rattle.source_lowering.specs.Members.{words_in}
 use Rattle.source_lowering.proofs.values.Integers.{given_one}
@@ -42,12 +43,17 @@ other_temp d k x c h = let no : nat_eq k d ≡ false = grind (arith, nat_tests, 
 pub kept_temp : (d e : ℕ) (x : Content) (c0 c : Config) → d ≤ e → AreKept d c0 c → AreKept d c0 (with_temp e x c)
 kept_temp d e x c0 c h kept = λ k g. other_temp e k x c (omega (arith, h, g)) ∙ kept k g
 
-pub temp_fits : (p : Point) (m : source.Memory) (c : Config) (d : ℕ) (x : Content) → SameState p m c → SameState p m (with_temp d x c)
-temp_fits p m c d x f = record {
+pub over : {low middle high : ℕ} → low ≤ middle → middle ≤ high → low ≤ high
+over less more = omega (arith, less, more)
+
+pub temp_fits : (p : Point) (m : source.Memory) (c : Config) (d : ℕ) (x : Content) → SameState p m c → p.regions.all ≤ d
+    → SameState p m (with_temp d x c)
+temp_fits p m c d x f above = record {
   agree = f.agree;
   blocks = f.blocks;
   locals = f.locals;
-  globals = f.globals;
+  held = numbers_kept p.regions.all c (with_temp d x c) p.locals p.names (kept_temp p.regions.all d x c c above (λ k less. refl)) f.held;
+  statics = f.statics;
   begun = f.begun;
   made = f.made;
   pending = f.pending;
@@ -68,7 +74,7 @@ pub put_value : (p : Point) (n d : ℕ) (m0 : source.Memory) (c0 : Config) (m : 
     → SameState p m c → GrownAt p m0 c0 m c → AreKept d c0 c → words_in shape ≡ 1 → Given p.world m c.memory shape vs (x ∷ []) → GoesOn p n d m0 c0 shape s k
     → SameAt p n (s vs m) (k (with_temp d x c))
 put_value p n d m0 c0 m c shape vs x s k fits later kept one given goes =
-    goes.go m (with_temp d x c) vs (temp_fits p m c d x fits) later (kept_temp d d x c0 c (omega arith) kept)
+    goes.go m (with_temp d x c) vs (temp_fits p m c d x fits goes.above) later (kept_temp d d x c0 c (omega arith) kept)
     (given_one p.world m c.memory shape vs d (with_temp d x c).temps one
     (subst (λ z. Given p.world m c.memory shape vs (z ∷ [])) (sym (put_temp d x c)) given))
 

@@ -1,5 +1,5 @@
 -- A thin pointer becomes a fat one: to one element, or NULL.
-use Rattle.std.proofs.Common.{◌≡◌, ⊎_elim, inl, inr, ℕ, zero, suc, ◌+◌, ◌*◌, ◌<◌, List, [], ◌∷◌, length, Bool, true, false, Some, None, refl, sym, ◌∙◌, subst}
+use Rattle.std.proofs.Common.{◌≡◌, ⊎_elim, inl, inr, ℕ, zero, suc, ◌+◌, ◌*◌, ◌<◌, List, [], ◌∷◌, length, Bool, true, false, Some, None, refl, sym, ◌∙◌, subst, ◌≤◌}
 use Rattle.std.proofs.Common.{arith}
 use Rattle.std.proofs.lemmas.Bool.{false≢true}
 use Rattle.source_meaning.specs.Shapes.{Owner, Shape, ThinShape, FatShape, same_shape}
@@ -18,7 +18,7 @@ use Rattle.source_lowering.specs.Simulation.{at, Leads, ANull, IsTakenObject, AP
 use Rattle.source_lowering.proofs.Runs.{stuck_same}
 use Rattle.source_lowering.proofs.values.Integers.{null_is, pointer_is}
 use Rattle.source_lowering.proofs.memory.SameShapes.{shapes_same}
-use Rattle.source_lowering.proofs.values.Values.{put_temp, other_temp, kept_temp, temp_fits}
+use Rattle.source_lowering.proofs.values.Values.{put_temp, other_temp, kept_temp, temp_fits, over}
 use Rattle.source_lowering.proofs.values.NumberConversions.{ConvertsAs}
 use Rattle.source_lowering.proofs.values.ThinConversions.{thin_value}
 use Rattle.source_lowering.proofs.values.Tests.{two_words, null_is_one, spot_is_zero}
@@ -37,9 +37,10 @@ bounded_three c d count x temp = record {
   index = put_temp (d + 2) (Word 0) (with_temp (d + 1) (Word count) c);
 }
 
-pub bounded_fits : (p : Point) (m : source.Memory) (c : Config) (d count : ℕ) → SameState p m c → SameState p m (bounded c d count)
-bounded_fits p m c d count fits =
-    temp_fits p m (with_temp (d + 1) (Word count) c) (d + 2) (Word 0) (temp_fits p m c (d + 1) (Word count) fits)
+pub bounded_fits : (p : Point) (m : source.Memory) (c : Config) (d count : ℕ) → SameState p m c → p.regions.all ≤ d → SameState p m (bounded c d count)
+bounded_fits p m c d count fits above =
+    temp_fits p m (with_temp (d + 1) (Word count) c) (d + 2) (Word 0) (temp_fits p m c (d + 1) (Word count) fits (over above (omega arith)))
+    (over above (omega arith))
 
 pub bounded_kept : (c0 c : Config) (d count : ℕ) → AreKept d c0 c → AreKept d c0 (bounded c d count)
 bounded_kept c0 c d count kept =
@@ -72,7 +73,7 @@ one_element : (p : Point) (n d : ℕ) (to : Shape) (m0 : source.Memory) (c0 : Co
     → c.temps d ≡ Pointer (at t) byte → IsTakenObject p.world to → Leads p.world m c.memory to t byte → GoesOn p n d m0 c0 (FatShape to) s k
     → SameAt p n (s (Wide (Some (record { first = t; count = 1; index = 0 })) ∷ []) m) (k (bounded c d 1))
 one_element p n d to m0 c0 m c t byte s k fits later kept temp lies leads goes =
-    goes.go m (bounded c d 1) (Wide (Some span) ∷ []) (bounded_fits p m c d 1 fits) later (bounded_kept c0 c d 1 kept) (inl (record {
+    goes.go m (bounded c d 1) (Wide (Some span) ∷ []) (bounded_fits p m c d 1 fits goes.above) later (bounded_kept c0 c d 1 kept) (inl (record {
       value = Wide (Some span);
       alone = refl;
       shown = inr (record {
@@ -111,7 +112,7 @@ no_element : (p : Point) (n d : ℕ) (to : Shape) (m0 : source.Memory) (c0 : Con
     (s : List Scalar → source.Memory → steps.Step) (k : Config → core_steps.Step) → SameState p m c → GrownAt p m0 c0 m c → AreKept d c0 c
     → c.temps d ≡ Null → GoesOn p n d m0 c0 (FatShape to) s k → SameAt p n (s (Wide None ∷ []) m) (k (bounded c d 0))
 no_element p n d to m0 c0 m c s k fits later kept temp goes =
-    goes.go m (bounded c d 0) (Wide None ∷ []) (bounded_fits p m c d 0 fits) later (bounded_kept c0 c d 0 kept) (inl (record {
+    goes.go m (bounded c d 0) (Wide None ∷ []) (bounded_fits p m c d 0 fits goes.above) later (bounded_kept c0 c d 0 kept) (inl (record {
       value = Wide None;
       alone = refl;
       shown = inl (record {
@@ -159,7 +160,7 @@ widened p n d to b q from = record {
         (put (Do (Constant (d + 2) 1) ∷ Do (Apply Xor (d + 1) (d + 2) (d + 1)) ∷ Do (Constant (d + 2) 0) ∷ []) rest) next) temp ∙
         maybe_counted c d 0 rest next))
         (one_element p n d to m0 c0 m second t byte s (meaning.statements rest next)
-        (temp_fits p m first (d + 2) (Word 1) (temp_fits p m c (d + 1) (Word 0) fits)) later
+        (temp_fits p m first (d + 2) (Word 1) (temp_fits p m c (d + 1) (Word 0) fits (over goes.above (omega arith))) (over goes.above (omega arith))) later
         (kept_temp d (d + 2) (Word 1) c0 first (omega arith) (kept_temp d (d + 1) (Word 0) c0 c (omega arith) kept))
         (other_temp (d + 2) d (Word 1) first (omega arith) ∙ other_temp (d + 1) d (Word 0) c (omega arith) ∙ temp) lies leads goes)
 
@@ -176,7 +177,7 @@ widened p n d to b q from = record {
         (put (Do (Constant (d + 2) 1) ∷ Do (Apply Xor (d + 1) (d + 2) (d + 1)) ∷ Do (Constant (d + 2) 0) ∷ []) rest) next) temp ∙
         maybe_counted c d 1 rest next))
         (no_element p n d to m0 c0 m second s (meaning.statements rest next)
-        (temp_fits p m first (d + 2) (Word 1) (temp_fits p m c (d + 1) (Word 1) fits)) later
+        (temp_fits p m first (d + 2) (Word 1) (temp_fits p m c (d + 1) (Word 1) fits (over goes.above (omega arith))) (over goes.above (omega arith))) later
         (kept_temp d (d + 2) (Word 1) c0 first (omega arith) (kept_temp d (d + 1) (Word 1) c0 c (omega arith) kept))
         (other_temp (d + 2) d (Word 1) first (omega arith) ∙ other_temp (d + 1) d (Word 1) c (omega arith) ∙ temp) goes)
 

@@ -1,5 +1,5 @@
 -- What the compiler and the evaluator take today: the one list that says so. Each further form of the language is added here.
-use Rattle.source_typing.specs.Taken.{Taken, with_arrays}
+use Rattle.source_typing.specs.Taken.{Taken, with_filled}
 
 abbrev pub supported : Taken
-supported = with_arrays
+supported = with_filled

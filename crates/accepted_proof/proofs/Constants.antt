@@ -1,6 +1,6 @@
--- The constant of a global without fault: a number, where it is an integer, and `NULL`, where it is a pointer.
-use Rattle.std.proofs.Common.{◌≡◌, ℕ, ◌<◌, ◌%◌, ◌^◌, Bool, true, false, [], refl}
-use Rattle.std.specs.Prelude.{◌++◌}
+-- The constant of a global without fault: a number, where it is an integer, and `NULL` or a string, where it is a pointer.
+use Rattle.std.proofs.Common.{◌≡◌, ℕ, ◌<◌, ◌%◌, ◌^◌, Bool, true, false, Option, Some, None, List, [], refl, sym, ap, subst}
+use Rattle.std.specs.Prelude.{◌++◌, length, nat_lt}
 use Rattle.cyc_tree.specs.Tree.{Constant, Initial}
 use Rattle.cyc_words.specs.Words.{difference_of}
 use Rattle.source_lowering.specs.Lowerable.{HasBeginning, TakesGlobal}
@@ -12,18 +12,20 @@ use Rattle.type_proof.specs.Programs.{InitialJudged, IsFirst, IsNumber}
 use Rattle.source_typing.specs.Conversions.{broken, conversion, if_integer}
 use Rattle.source_typing.specs.Globals.{constant, initial_faults}
 use Rattle.source_typing.specs.Declarations.{converted_to}
-use Rattle.source_typing.specs.Converts.{IsInteger}
-use Rattle.source_typing.specs.Regions.{Regions}
+use Rattle.source_typing.specs.Converts.{Converts, FatToThin, Fats, Integers, IsInteger, NullToFat, NullToThin, NullToUnique, Same, ThinToFat, Thins, Uniques}
+use Rattle.source_typing.specs.Operators.{string_sized}
+use Rattle.source_typing.specs.Regions.{Region, Regions, TheHeap}
 use Rattle.source_typing.specs.Scope.{Env}
 use Rattle.source_typing.specs.Taken.{constant_form, initial_form, takes_initial}
-use Rattle.type_proof.specs.Judged.{safe_forms}
-use Rattle.source_typing.specs.Types.{Fat, Handle, Char, Int, Null, StaticType, Struct, Thin, Unsigned, integer_type, is_integer, shape_of}
+use Rattle.accepted_programs.specs.Supported.{supported}
+use Rattle.source_typing.specs.Types.{Fat, Handle, Char, Int, Null, StaticType, Struct, Thin, Union, Unsigned, integer_type, is_integer, shape_of}
 use Rattle.source_typing.specs.Verdicts.{Of, faults_of}
+use Rattle.source_typing.proofs.Converting.{conversion_is}
 
 -- what the meaning and lowering want of a first value
 pub record ConstantGood (u : StaticType) (c : Constant) : Type 0 where
   pub first : IsFirst u c
-  pub taken : TakesConstant (shape_of u) c
+  pub taken : HasBeginning (shape_of u) → TakesConstant (shape_of u) c
 
 -- ---- numbers
 
@@ -52,41 +54,77 @@ integer_shape _ h = absurd cc
 -- ---- `NULL`
 
 null_good : (r : Regions) (at place : ℕ) (u : StaticType) → IsObjectType u → broken at (conversion r Null u) ≡ [] → ConstantGood u (Constant.Null place)
-null_good r at place (Thin true q t) w e = record { first = tt; taken = tt }
+null_good r at place (Thin true q t) w e = record { first = tt; taken = λ b. tt }
 null_good r at place (Thin false q t) w e = absurd cc
-null_good r at place (Fat q t) w e = record { first = tt; taken = tt }
+null_good r at place (Fat q t) w e = record { first = tt; taken = λ b. tt }
 null_good r at place Int w e = absurd cc
 null_good r at place Unsigned w e = absurd cc
 null_good r at place Char w e = absurd cc
 null_good r at place (Struct tag rs) w e = absurd cc
+null_good r at place (Union tag rs) w e = absurd cc
 null_good r at place (Handle q) w e = absurd cc
 null_good r at place _ w e = absurd w
 
+-- ---- strings
+
+not_broken : (at : ℕ) (o : Option ℕ) → broken at o ≡ [] → o ≡ None
+not_broken at None e = refl
+not_broken at (Some rule) e = absurd cc
+
+-- a string converts to pointers to chars
+text_first : (r : Regions) (t : StaticType) (place : ℕ) (bytes : List ℕ) (u : StaticType) → IsObjectType u → t ≡ Fat TheHeap Char → Converts r t u
+    → ConstantGood u (Constant.Text place bytes)
+text_first r t place bytes u w h Same = subst (λ (y : StaticType). ConstantGood y (Constant.Text place bytes)) (sym h) (record { first = refl; taken = λ b. tt })
+text_first r t place bytes u w h (Fats {b = q} {t = s} o) =
+    let c : s ≡ Char = cc in
+    subst (λ (y : StaticType). ConstantGood (Fat q y) (Constant.Text place bytes)) (sym c) (record { first = refl; taken = λ b. tt })
+text_first r t place bytes u w h (FatToThin {n = z} {b = q} {t = s} o) =
+    let c : s ≡ Char = cc in
+    subst (λ (y : StaticType). ConstantGood (Thin z q y) (Constant.Text place bytes)) (sym c) (record { first = refl; taken = thin_taken z q })
+  where
+    thin_taken : (z : Bool) (q : Region) → HasBeginning (shape_of (Thin z q Char)) → TakesConstant (shape_of (Thin z q Char)) (Constant.Text place bytes)
+    thin_taken true q b = tt
+    thin_taken false q b = absurd b
+text_first r t place bytes u w h (Integers a c) = absurd (let q = ap is_integer h in cc)
+text_first r t place bytes u w h NullToThin = absurd cc
+text_first r t place bytes u w h NullToFat = absurd cc
+text_first r t place bytes u w h NullToUnique = absurd cc
+text_first r t place bytes u w h (Thins o) = absurd cc
+text_first r t place bytes u w h (ThinToFat o) = absurd cc
+text_first r t place bytes u w h Uniques = absurd cc
+
+text_good : (g : Env) (at : ℕ) (bytes : List ℕ) (u : StaticType) (b : Bool) → IsObjectType u
+    → faults_of (string_sized b at) ++ converted_to g (string_sized b at) (Of u) ≡ [] → ConstantGood u (Constant.Text at bytes)
+text_good g at bytes u true w e =
+    text_first g.regions (Fat TheHeap Char) at bytes u w refl
+    (conversion_is g.regions (Fat TheHeap Char) u (not_broken at (conversion g.regions (Fat TheHeap Char) u) e))
+text_good g at bytes u false w e = absurd cc
+
 -- ---- all of them
 
-constant_good : (g : Env) (c : Constant) (u : StaticType) → IsObjectType u → constant_form safe_forms c ≡ []
+constant_good : (g : Env) (c : Constant) (u : StaticType) → IsObjectType u → constant_form supported c ≡ []
     → faults_of (constant c) ++ converted_to g (constant c) (Of u) ≡ []
     → ConstantGood u c
 constant_good g (Constant.Number at n suffix) u w f e =
     let i : IsInteger u = from_integer g.regions (number_type n suffix) at u e in
     record {
       first = number_first u (Constant.Number at n suffix) i (record { of = number_type n suffix; word = n % 2 ^ 32; gives = λ strings. refl });
-      taken = integer_shape u i;
+      taken = λ b. integer_shape u i;
     }
 constant_good g (Constant.Negative at n suffix) u w f e =
     let i : IsInteger u = from_integer g.regions (number_type n suffix) at u e in
     record {
       first = number_first u (Constant.Negative at n suffix) i
           (record { of = number_type n suffix; word = difference_of 0 (n % 2 ^ 32); gives = λ strings. refl });
-      taken = integer_shape u i;
+      taken = λ b. integer_shape u i;
     }
 constant_good g (Constant.Character at byte) u w f e =
     let i : IsInteger u = from_integer g.regions AsChar at u e in
     record {
       first = number_first u (Constant.Character at byte) i (record { of = AsChar; word = byte % 256; gives = λ strings. refl });
-      taken = integer_shape u i;
+      taken = λ b. integer_shape u i;
     }
-constant_good g (Constant.Text at bytes) u w f e = absurd cc
+constant_good g (Constant.Text at bytes) u w f e = text_good g at bytes u (nat_lt (length bytes) 4096) w e
 constant_good g (Constant.Null at) u w f e = null_good g.regions at at u w e
 
 -- ---- initializers
@@ -101,10 +139,10 @@ pub record InitialGood (u : StaticType) (i : Initial) : Type 0 where
   pub first : InitialJudged u i
   pub taken : HasBeginning (shape_of u) → IsFew i → TakesGlobal (shape_of u) i
 
-pub initial_good : (g : Env) (i : Initial) (u : StaticType) → IsObjectType u → takes_initial safe_forms i ≡ true
-    → initial_form safe_forms i ≡ [] → initial_faults g i (Of u) ≡ []
+pub initial_good : (g : Env) (i : Initial) (u : StaticType) → IsObjectType u → takes_initial supported i ≡ true
+    → initial_form supported i ≡ [] → initial_faults g i (Of u) ≡ []
     → InitialGood u i
 initial_good g Initial.Unset u w t f e = record { first = tt; taken = λ h few. h }
 initial_good g (Initial.Elements n) u w t f e = record { first = tt; taken = λ h few. (few, h) }
 initial_good g (Initial.Given c) u w t f e =
-    let k : ConstantGood u c = constant_good g c u w f e in record { first = k.first; taken = λ h few. k.taken }
+    let k : ConstantGood u c = constant_good g c u w f e in record { first = k.first; taken = λ h few. k.taken h }

@@ -26,7 +26,7 @@ use Rattle.source_typing.specs.Scope.{Env, at_item}
 use Rattle.source_typing.specs.Tables.{Arrayed, OfValue, Stored, Tables, has_beginning}
 use Rattle.source_typing.specs.Tags.{settled_alone}
 use Rattle.source_typing.specs.Taken.{Taken, form_if, global_if, initial_form, initial_taken, item_forms, item_taken, takes_initial, takes_type}
-use Rattle.type_proof.specs.Judged.{safe_forms}
+use Rattle.accepted_programs.specs.Supported.{supported}
 use Rattle.source_typing.specs.Types.{StaticType, Void, is_key, shape_of}
 use Rattle.source_typing.specs.Verdicts.{Faulty, Of, Unjudged, Verdict, after, faults_of}
 use Rattle.source_typing.specs.Written.{RegionNamed, Spot, spots_of, written}
@@ -103,14 +103,14 @@ variable_fits g at t count native u k =
         no e = cc
 
 -- what is written, where region names don't matter
-plain_good : (g : Tables) (x : tree.Global) → KnowsTags g → takes_type safe_forms x.of ≡ true
+plain_good : (g : Tables) (x : tree.Global) → KnowsTags g → takes_type supported x.of ≡ true
     → Surely (λ u. PlainGood 0 x.of u) (after (written g (foreign_names (spots_of g x.of)) x.of) (settled_alone x.of.at))
 plain_good g x tags e =
     let names : List RegionNamed = foreign_names (spots_of g x.of) in
     surely_after (λ p. IsWritten 0 x.of p) (λ u. PlainGood 0 x.of u) (written g names x.of) (settled_alone x.of.at)
     (in_scope_good 0 g names x.of tags (heap_names (spots_of g x.of)) e) (λ p w. alone_good 0 x.of.at x.of p w)
 
-type_good : (g : Env) (x : tree.Global) → KnowsTags g.tables → takes_type safe_forms x.of ≡ true
+type_good : (g : Env) (x : tree.Global) → KnowsTags g.tables → takes_type supported x.of ≡ true
     → Surely (λ u. VariableGood g.tables x.of u) (global_type g x)
 type_good g x tags e =
     let names : List RegionNamed = foreign_names (spots_of g.tables x.of) in
@@ -128,13 +128,13 @@ pub record GlobalGood (g : Tables) (i : ℕ) (x : tree.Global) : Type 0 where
   pub initial : InitialGood type x.initial
   pub entry : global_entry (at_item false g i) x ≡ OfValue (what_of TheHeap (count_of x.initial) (Of type))
 
-pub global_good : (g : Tables) (i : ℕ) (x : tree.Global) → KnowsTags g → item_taken safe_forms (tree.GlobalItem x) ≡ tree.GlobalItem x
-    → item_forms safe_forms (tree.GlobalItem x) ≡ []
+pub global_good : (g : Tables) (i : ℕ) (x : tree.Global) → KnowsTags g → item_taken supported (tree.GlobalItem x) ≡ tree.GlobalItem x
+    → item_forms supported (tree.GlobalItem x) ≡ []
     → global_faults (at_item false g i) x ≡ []
     → GlobalGood g i x
 global_good g i x tags t f p =
     let s : Env = at_item false g i in
-    let k : GlobalTaken safe_forms x = global_taken safe_forms s x t f p in
+    let k : GlobalTaken supported x = global_taken supported s x t f p in
     let q : (faults_of (global_type s x) ≡ []) × (initial_faults s x.initial (global_type s x) ≡ []) =
     none_of_both (faults_of (global_type s x)) (initial_faults s x.initial (global_type s x)) p in
     let u : (t : StaticType) × (global_type s x ≡ Of t) × VariableGood g x.of t =

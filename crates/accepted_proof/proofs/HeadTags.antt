@@ -15,7 +15,7 @@ use Rattle.source_typing.specs.Scope.{Env}
 use Rattle.source_typing.specs.Tables.{Entry, Named, OfBuiltin, OfOther, OfTag, Tables, as_tag, find}
 use Rattle.source_typing.specs.Tags.{fits_member, head_faults, head_fitting, head_type, member_faults, member_fitting, member_type, settled_alone}
 use Rattle.source_typing.specs.Taken.{takes_base, takes_pointers, takes_type}
-use Rattle.type_proof.specs.Judged.{safe_forms}
+use Rattle.accepted_programs.specs.Supported.{supported}
 use Rattle.source_typing.specs.Types.{Char, Handle, Int, PartialType, StaticType, Struct, Unsigned, same_bool}
 use Rattle.source_typing.specs.Verdicts.{Faulty, Of, Unjudged, Verdict, after, faults_of, if_fits, unless_faulty}
 use Rattle.source_typing.specs.Written.{Found, RegionNamed, Spot, all_found, argument_spots, count_fits, counted_type, if_sound, of_kind, regions_of_tag}
@@ -127,6 +127,7 @@ filled_fits at n p (Some u) h = by u h.object
     by (Rattle.source_typing.specs.Types.Fat r t) o = refl
     by (Handle r) o = refl
     by (Struct tag rs) o = refl
+    by (Rattle.source_typing.specs.Types.Union tag rs) o = refl
     by _ o = absurd o
 
 pointed_fits : (at n : ℕ) (s : shapes.Shape) (bad : List Fault) (o : Option PartialType) → bad ≡ [] → PointedIfSome n s o
@@ -147,10 +148,10 @@ no_bad g t fs (f ∷ bad) (Of n) p = absurd cc
 module _ (n : ℕ) (g h : Env) (tags : (x : List ℕ) → MeansFirst (find g.tables x) (find h.tables x)) (names : g.names ≡ h.names)
     (below : NamesBelow n h.names)
   where
-    pub head_clean : (t : TypeName) → takes_type safe_forms t ≡ true → faults_of (member_type g false t) ≡ [] → faults_of (head_type h false t) ≡ []
+    pub head_clean : (t : TypeName) → takes_type supported t ≡ true → faults_of (member_type g false t) ≡ [] → faults_of (head_type h false t) ≡ []
     head_clean t e p =
-        let a = and_parts (takes_base safe_forms t.base) (takes_pointers safe_forms t.pointers) e in
-        by t.base a.0 (pointers_shared safe_forms refl t.pointers a.1) p
+        let a = and_parts (takes_base supported t.base) (takes_pointers supported t.pointers) e in
+        by t.base a.0 (pointers_shared supported refl t.pointers a.1) p
       where
         with_base : tree.Base → TypeName
         with_base b = record { at = t.at; base = b; pointers = t.pointers }
@@ -215,7 +216,7 @@ module _ (n : ℕ) (g h : Env) (tags : (x : List ℕ) → MeansFirst (find g.tab
         struct x rs (Some o) None k (inr m) bad p = absurd m.0
         struct x rs (Some o) (Some d) k (inr m) bad p = absurd m.0
 
-        by : (b : tree.Base) → takes_base safe_forms b ≡ true → AreShared t.pointers → faults_of (member_type g false (with_base b)) ≡ []
+        by : (b : tree.Base) → takes_base supported b ≡ true → AreShared t.pointers → faults_of (member_type g false (with_base b)) ≡ []
             → faults_of (head_type h false (with_base b)) ≡ []
         by tree.Int q k p = plain tree.Int refl p
         by tree.Unsigned q k p = plain tree.Unsigned refl p
@@ -232,7 +233,7 @@ module _ (n : ℕ) (g h : Env) (tags : (x : List ℕ) → MeansFirst (find g.tab
         by (tree.Handle r) q k p = plain (tree.Handle r) refl p
         by (tree.Key r) q k p = absurd cc
 
-    pub heads_clean : (ms : List tree.Member) → AreMembersTaken safe_forms ms → member_faults g false ms ≡ [] → head_faults h false ms ≡ []
+    pub heads_clean : (ms : List tree.Member) → AreMembersTaken supported ms → member_faults g false ms ≡ [] → head_faults h false ms ≡ []
     heads_clean [] e p = refl
     heads_clean (m ∷ ms) e p =
         let z : (faults_of (member_type g false m.of) ≡ []) × (member_faults g false ms ≡ []) =

@@ -17,8 +17,8 @@ use Rattle.source_typing.specs.Regions.{Level, Region, TheHeap}
 use Rattle.source_typing.specs.Tables.{Tables}
 use Rattle.source_typing.specs.Tags.{settled_alone}
 use Rattle.source_typing.specs.Taken.{takes_base, takes_pointers, takes_type}
-use Rattle.type_proof.specs.Judged.{safe_forms}
-use Rattle.source_typing.specs.Types.{Fat, Handle, Char, Int, PartialType, StaticType, Struct, Thin, Unsigned, Void, is_void, shape_of}
+use Rattle.accepted_programs.specs.Supported.{supported}
+use Rattle.source_typing.specs.Types.{Fat, Handle, Char, Int, PartialType, StaticType, Struct, Thin, Union, Unsigned, Void, is_void, shape_of}
 use Rattle.source_typing.specs.Verdicts.{after, if_fits}
 use Rattle.source_typing.specs.Written.{Found, Is, IsUnique, Missing, RegionNamed, Spot, base_spots, find_region, spot, spots_of, written, written_with}
 use Rattle.accepted_proof.specs.Good.{NamesBelow, Surely}
@@ -45,6 +45,7 @@ object_more n m Char l w h = tt
 object_more n m (Thin b r t) l w h = (below_more n m r l h.0, object_more n m t l w h.1)
 object_more n m (Fat r t) l w h = (below_more n m r l h.0, object_more n m t l w h.1)
 object_more n m (Struct tag rs) l w h = all_more n m rs l h
+object_more n m (Union tag rs) l w h = all_more n m rs l h
 object_more n m (Handle r) l w h = below_more n m r l h
 object_more n m _ l w h = absurd w
 
@@ -129,11 +130,11 @@ spots_good vs (s ∷ ss) ps a k h =
     record { found = (found_more one.after_it.count last one.found d first.found, others.found); names = others.names; more = omega (arith, c, d) }
 
 -- and of a type that is taken
-pub type_spots_good : (g : Tables) (vs : Variables) (t : TypeName) → takes_type safe_forms t ≡ true → NamesBelow vs.count vs.names
+pub type_spots_good : (g : Tables) (vs : Variables) (t : TypeName) → takes_type supported t ≡ true → NamesBelow vs.count vs.names
     → SpotsGood vs (length (base_spots g t.base)) t.pointers (take_spots vs (spots_of g t))
 type_spots_good g vs t e h =
-    let a = and_parts (takes_base safe_forms t.base) (takes_pointers safe_forms t.pointers) e in
-    spots_good vs (base_spots g t.base) t.pointers (base_arguments g t.base) (pointers_shared safe_forms refl t.pointers a.1) h
+    let a = and_parts (takes_base supported t.base) (takes_pointers supported t.pointers) e in
+    spots_good vs (base_spots g t.base) t.pointers (base_arguments g t.base) (pointers_shared supported refl t.pointers a.1) h
 
 -- ---- a type that takes no missing regions from another one
 
@@ -166,7 +167,7 @@ parameter_fits n at t u (GivesObject w) = by (fits_parameter u)
     by true = w
     by false = tt
 
-pub parameter_good : (g : Tables) (vs : Variables) (t : TypeName) → KnowsTags g → takes_type safe_forms t ≡ true → NamesBelow vs.count vs.names
+pub parameter_good : (g : Tables) (vs : Variables) (t : TypeName) → KnowsTags g → takes_type supported t ≡ true → NamesBelow vs.count vs.names
     → Surely (λ u. ObjectGood (take_spots vs (spots_of g t)).after_all.count t u) (parameter_type g t (take_spots vs (spots_of g t)))
 parameter_good g vs t tags e h =
     let s : AllSpotted = take_spots vs (spots_of g t) in
@@ -186,7 +187,7 @@ result_fits n at t u (GivesObject w) = by (is_void u || fits_parameter u)
     by true = GivesObject w
     by false = tt
 
-pub result_good : (n : ℕ) (g : Tables) (names : List RegionNamed) (t : TypeName) → KnowsTags g → takes_type safe_forms t ≡ true → NamesBelow n names
+pub result_good : (n : ℕ) (g : Tables) (names : List RegionNamed) (t : TypeName) → KnowsTags g → takes_type supported t ≡ true → NamesBelow n names
     → Surely (λ u. PlainGood n t u) (result_type g names t)
 result_good n g names t tags e h =
     surely_after (λ u. PlainGood n t u) (λ u. PlainGood n t u) (after (written g names t) (settled_alone t.at)) (if_result t.at)

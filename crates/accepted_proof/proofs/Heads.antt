@@ -34,7 +34,7 @@ use Rattle.source_typing.specs.Tables.{Tables, Tag, find, tag_in}
 use Rattle.source_typing.specs.Tags.{repeated, settled_alone}
 use Rattle.source_typing.specs.Taken.{Taken, bounds_form, bounds_if, effect_form, effect_if, function_taken, member_taken, members_taken, refused_type}
 use Rattle.source_typing.specs.Taken.{takes_type, type_taken}
-use Rattle.type_proof.specs.Judged.{safe_forms}
+use Rattle.accepted_programs.specs.Supported.{supported}
 use Rattle.source_typing.specs.Types.{Int, PartialType, StaticType, shape_of}
 use Rattle.source_typing.specs.Verdicts.{Faulty, Of, Unjudged, Verdict, after, both, faults_of, known}
 use Rattle.source_typing.specs.Written.{Found, RegionNamed, Spot, all_found, argument_spots, base_of, base_spots, find_region, regions_of_tag, spot, spots_of}
@@ -157,7 +157,7 @@ pub record ParametersGood (vs : Variables) (ms : List tree.Member) (ps : Paramet
   pub names : NamesBelow ps.variables_after.count ps.variables_after.names
   pub more : vs.count ≤ ps.variables_after.count
 
-parameters_good : (g : Tables) (vs : Variables) (ms : List tree.Member) → KnowsTags g → AreMembersTaken safe_forms ms → NamesBelow vs.count vs.names
+parameters_good : (g : Tables) (vs : Variables) (ms : List tree.Member) → KnowsTags g → AreMembersTaken supported ms → NamesBelow vs.count vs.names
     → all_faults (read_parameters g vs ms).types ≡ []
     → ParametersGood vs ms (read_parameters g vs ms)
 parameters_good g vs [] tags t h p =
@@ -282,13 +282,13 @@ pub record HeadGood (g : Tables) (f : tree.Function) : Type 0 where
   pub bounds : BoundsBelow (head_of false g f).signature.regions (head_of false g f).signature.bounds
   pub names : NamesBelow (head_of false g f).signature.regions (head_of false g f).names
 
-pub head_good : (g : Tables) (f : tree.Function) → KnowsTags g → function_taken safe_forms f ≡ f → (head_of false g f).faults ≡ [] → HeadGood g f
+pub head_good : (g : Tables) (f : tree.Function) → KnowsTags g → function_taken supported f ≡ f → (head_of false g f).faults ≡ [] → HeadGood g f
 head_good g f tags t p =
     let ps : Parameters = read_parameters g (variables [] 0) f.parameters in
     let n : ℕ = ps.variables_after.count in
     let r : Verdict StaticType = result_type g ps.variables_after.names f.result in
     let c : HeadClean g f ps r = head_clean g f p in
-    let k : HeadTaken safe_forms f = head_taken safe_forms g f t p in
+    let k : HeadTaken supported f = head_taken supported g f t p in
     let q : ParametersGood (variables [] 0) f.parameters ps = parameters_good g (variables [] 0) f.parameters tags k.parameters tt c.parameters in
     let u : (t : StaticType) × (r ≡ Of t) × PlainGood n f.result t =
     surely_is (λ u. PlainGood n f.result u) r (result_good n g ps.variables_after.names f.result tags k.result q.names) c.result in

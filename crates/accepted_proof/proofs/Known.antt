@@ -179,3 +179,25 @@ converts_struct g t u (Rattle.source_typing.specs.Converts.Fats e) h = absurd h
 converts_struct g t u (Rattle.source_typing.specs.Converts.ThinToFat e) h = absurd h
 converts_struct g t u (Rattle.source_typing.specs.Converts.FatToThin e) h = absurd h
 converts_struct g t u Rattle.source_typing.specs.Converts.Uniques h = absurd h
+
+-- what converts to a union is that union
+abbrev pub IsUnion : StaticType → Type 0
+IsUnion (Union tag rs) = Unit {0}
+IsUnion _ = ⊥
+
+pub converts_union : (g : Regions) (t u : StaticType) → Converts g t u → IsUnion u → t ≡ u
+converts_union g t u Same h = refl
+converts_union g t (Union tag rs) (Integers a b) h = absurd cc
+converts_union g t u (Integers a b) h = absurd (no u b h)
+  where
+    no : (u : StaticType) → IsInteger u → IsUnion u → ⊥
+    no (Union tag rs) e h = cc
+    no _ e h = h
+converts_union g t u NullToThin h = absurd h
+converts_union g t u Rattle.source_typing.specs.Converts.NullToFat h = absurd h
+converts_union g t u Rattle.source_typing.specs.Converts.NullToUnique h = absurd h
+converts_union g t u (Thins e) h = absurd h
+converts_union g t u (Rattle.source_typing.specs.Converts.Fats e) h = absurd h
+converts_union g t u (Rattle.source_typing.specs.Converts.ThinToFat e) h = absurd h
+converts_union g t u (Rattle.source_typing.specs.Converts.FatToThin e) h = absurd h
+converts_union g t u Rattle.source_typing.specs.Converts.Uniques h = absurd h

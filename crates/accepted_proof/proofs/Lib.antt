@@ -1,4 +1,6 @@
 pub mod Sure
+pub mod Wider
+pub mod StructMembers
 pub mod good
 pub mod Settling
 pub mod FoundRegions
@@ -20,4 +22,5 @@ pub mod Programs
 pub mod Joined
 pub mod Known
 pub mod lowered
+pub mod StringSizes
 pub mod samples

@@ -18,7 +18,7 @@ use Rattle.source_typing.specs.Scope.{Env}
 use Rattle.source_typing.specs.Tables.{Arrayed, Counter, Entry, OfBuiltin, OfFunction, OfOther, OfTag, OfValue, Stored, Tables, Tag, Unknown, find}
 use Rattle.source_typing.specs.Tags.{fits_member, member_faults, member_fitting, member_type, parts_by, settled_alone}
 use Rattle.source_typing.specs.Taken.{Taken, members_taken, member_taken, refused_type, takes_base, takes_pointers, takes_type, type_taken}
-use Rattle.type_proof.specs.Judged.{safe_forms}
+use Rattle.accepted_programs.specs.Supported.{supported}
 use Rattle.source_typing.specs.Types.{Char, Fat, Handle, Int, Key, Null, StaticType, Struct, Thin, Union, Unique, Unsigned, Void, shape_of}
 use Rattle.source_typing.specs.Verdicts.{Faulty, Of, Verdict, after, faults_of, if_fits, known}
 use Rattle.source_typing.specs.Written.{Found, all_found, spots_of, tag_of, written, written_on}
@@ -65,7 +65,7 @@ member_fits n g at t u (GivesObject w) = by (fits_member false u && stands_earli
     by true e = record { good = w; stands = (and_parts (fits_member false u) (stands_earlier g u) e).1 }
     by false e = tt
 
-pub member_good : (n : ℕ) (g : Env) (t : TypeName) → KnowsTags g.tables → NamesBelow n g.names → takes_type safe_forms t ≡ true
+pub member_good : (n : ℕ) (g : Env) (t : TypeName) → KnowsTags g.tables → NamesBelow n g.names → takes_type supported t ≡ true
     → Surely (λ u. MemberGood n g t u) (member_type g false t)
 member_good n g t tags h e =
     surely_after (λ u. PlainGood n t u) (λ u. MemberGood n g t u) (after (written g.tables g.names t) (settled_alone t.at)) (member_fitting g false t.at)
@@ -120,10 +120,10 @@ member_faulty : (g : Env) (t : TypeName) (fs : List Found × List Fault) (f : Fa
     → faults_of (member_after g t fs (Faulty f others)) ≡ [] → ⊥
 member_faulty g t (fs, bad) f others p = cc
 
-struct_found : (g : Env) (t : TypeName) (tag : List ℕ) → KnowsTags g.tables → takes_type safe_forms t ≡ true
+struct_found : (g : Env) (t : TypeName) (tag : List ℕ) → KnowsTags g.tables → takes_type supported t ≡ true
     → shapes.settled (shapes.written t) ≡ StructShape tag → faults_of (member_type g false t) ≡ [] → (z : Tag) × (find g.tables tag ≡ Some (OfTag z))
 struct_found g t tag tags e s p =
-    by t.base t.pointers (and_parts (takes_base safe_forms t.base) (takes_pointers safe_forms t.pointers) e).0 s p
+    by t.base t.pointers (and_parts (takes_base supported t.base) (takes_pointers supported t.pointers) e).0 s p
   where
     named : (x : tree.Name) → x.text ≡ tag → (z : Tag) × (find g.tables x.text ≡ Some (OfTag z)) → (z : Tag) × (find g.tables tag ≡ Some (OfTag z))
     named x q h = (h.0, ap (find g.tables) (sym q) ∙ h.1)
@@ -134,7 +134,7 @@ struct_found g t tag tags e s p =
     text_is : (x : tree.Name) → StructShape x.text ≡ StructShape tag → x.text ≡ tag
     text_is x q = cc
 
-    by : (b : tree.Base) (ps : List Pointer) → takes_base safe_forms b ≡ true
+    by : (b : tree.Base) (ps : List Pointer) → takes_base supported b ≡ true
         → shapes.settled (shapes.written (record { at = t.at; base = b; pointers = ps })) ≡ StructShape tag
         → faults_of (member_type g false (record { at = t.at; base = b; pointers = ps })) ≡ [] → (z : Tag) × (find g.tables tag ≡ Some (OfTag z))
     by b (q ∷ ps) k s p =
@@ -159,7 +159,7 @@ abbrev pub EarlierDeclared : Env → List Declared → Type 0
 EarlierDeclared g ds = (tag : List ℕ) (t : Tag) → find g.tables tag ≡ Some (OfTag t) → stands_earlier g (Struct tag []) ≡ true → declares ds tag ≡ true
 
 member_typed : (n : ℕ) (g : Env) (ds : List Declared) (t : TypeName) (u : StaticType) → EarlierDeclared g ds → KnowsTags g.tables
-    → takes_type safe_forms t ≡ true → faults_of (member_type g false t) ≡ [] → MemberGood n g t u → IsMemberType ds u
+    → takes_type supported t ≡ true → faults_of (member_type g false t) ≡ [] → MemberGood n g t u → IsMemberType ds u
 member_typed n g ds t u early tags e p k = by u k.good.object k.good.shape k.stands
   where
     by : (u : StaticType) → IsObjectType u → shapes.settled (shapes.written t) ≡ shape_of u → stands_earlier g u ≡ true → IsMemberType ds u
@@ -176,7 +176,7 @@ member_typed n g ds t u early tags e p k = by u k.good.object k.good.shape k.sta
     by (Struct tag rs) o s q =
         let z : (z : Tag) × (find g.tables tag ≡ Some (OfTag z)) = struct_found g t tag tags e s p in
         early tag z.0 z.1 q
-    by (Union tag rs) o s q = absurd o
+    by (Union tag rs) o s q = o
 
 pub record MembersGood (n : ℕ) (g : Env) (ds : List Declared) (ms : List tree.Member) : Type 0 where
   pub types : List StaticType
@@ -186,7 +186,7 @@ pub record MembersGood (n : ℕ) (g : Env) (ds : List Declared) (ms : List tree.
   pub below : TypesBelow n types
 
 pub members_good : (n : ℕ) (g : Env) (ds : List Declared) (ms : List tree.Member) → EarlierDeclared g ds → KnowsTags g.tables → NamesBelow n g.names
-    → AreMembersTaken safe_forms ms → member_faults g false ms ≡ [] → MembersGood n g ds ms
+    → AreMembersTaken supported ms → member_faults g false ms ≡ [] → MembersGood n g ds ms
 members_good n g ds [] early tags h e p = record { types = []; members = tt; typed = tt; objects = tt; below = tt }
 members_good n g ds (m ∷ ms) early tags h e p =
     let z : (faults_of (member_type g false m.of) ≡ []) × (member_faults g false ms ≡ []) =

@@ -1,5 +1,4 @@
--- A program of integers, pointers, structs, arrays and lexical regions in which the rules find no fault is in order by the rules' own tables: so it is never
--- stuck, and it has its `main`.
+-- A program of the forms that are taken in which the rules find no fault is in order by the rules' own tables: so it is never stuck, and it has its `main`.
 use Rattle.std.specs.Prelude.{bytes_eq, codes, if◌then◌else◌, length, map}
 use Rattle.std.proofs.Common.{◌≡◌, ℕ, ◌<◌, Bool, true, false, inl, inr, Option, Some, None, List, [], ◌∷◌, refl, sym, subst, ap, ◌∙◌}
 use Rattle.std.proofs.lemmas.List.{length-map}
@@ -9,9 +8,10 @@ use Rattle.cyc_tree.specs.Tree.{Program}
 use Rattle.source_lowering.specs.Programs.{function_code, program_code}
 use Rattle.source_meaning.specs.Places.{bound_to}
 use Rattle.source_meaning.specs.Programs.{heap_spot, routine_of, world_of}
-use Rattle.source_meaning.specs.Shapes.{ArrayShape, part_of, part_shapes}
+use Rattle.source_meaning.specs.Shapes.{ArrayShape, Layout, part_of, part_shapes}
 use Rattle.source_meaning.specs.Steps.{Variable, World}
 use Rattle.type_proof.specs.Entries.{Builtin, Function, PlainEntry, Structure}
+use Rattle.type_proof.specs.Structs.{AreLaidOut, AreUnions}
 use Rattle.type_proof.specs.Programs.{ArrayFound, FunctionJudged, GlobalFound, MainFound, ProgramJudged}
 use Rattle.source_typing.specs.Answers.{program_faults}
 use Rattle.source_typing.specs.Declarations.{what_of}
@@ -35,7 +35,7 @@ use Rattle.source_typing.specs.Tables.{
   What,
   find,
 }
-use Rattle.type_proof.specs.Judged.{safe_forms}
+use Rattle.accepted_programs.specs.Supported.{supported}
 use Rattle.source_typing.specs.Types.{StaticType, shape_of}
 use Rattle.source_typing.specs.Verdicts.{Of}
 use Rattle.source_typing.proofs.TakenOperands.{taken_has_operands}
@@ -81,7 +81,7 @@ entry_by es x a c = (if a then Some (OfBuiltin 0) else (if c then Some (OfBuilti
 
 -- ---- a program in order, by its own tables
 
-module _ (bodies : BodiesJudged) (p : Program) (e : program_faults safe_forms p ≡ []) where
+module _ (bodies : BodiesJudged) (p : Program) (e : program_faults supported p ≡ []) where
   abbrev tables : Tables
   tables = tables_of false p
 
@@ -94,8 +94,8 @@ module _ (bodies : BodiesJudged) (p : Program) (e : program_faults safe_forms p 
   abbrev world : World
   world = world_of p
 
-  clean : IsClean safe_forms p
-  clean = is_clean_program safe_forms p e
+  clean : IsClean supported p
+  clean = is_clean_program supported p e
 
   pub found : StructsFound p
   found = structs_found p clean.taken clean.tags clean.names
@@ -113,7 +113,7 @@ module _ (bodies : BodiesJudged) (p : Program) (e : program_faults safe_forms p 
   good = tables_good heads (judged_tags p) p tags headed
 
   pub known : AllKnown tables heads 0 (judged_tags p) p
-  known = all_known bodies tables heads 0 (judged_tags p) p good same headed clean.taken (taken_has_operands safe_forms p clean.taken) clean.items clean.flow
+  known = all_known bodies tables heads 0 (judged_tags p) p good same headed clean.taken (taken_has_operands supported p clean.taken) clean.items clean.flow
 
   -- ---- names
 
@@ -196,6 +196,14 @@ module _ (bodies : BodiesJudged) (p : Program) (e : program_faults safe_forms p 
             below = (entry_good 0 tables x (OfValue (Arrayed t r)) good h).1;
           }
 
+  -- none is the index of an array that is made
+  no_counter : (x : List ℕ) → find tables x ≡ Some (OfValue Counter) → ⊥
+  no_counter x h = by (value_found x Counter h).count (value_found x Counter h).means
+    where
+      by : (o : Option ℕ) → Counter ≡ what_of TheHeap o (Of (value_found x Counter h).type) → ⊥
+      by None m = cc
+      by (Some n) m = cc
+
   builtin_is : (x : List ℕ) (n : ℕ) → find tables x ≡ Some (OfBuiltin n) → Builtin x n
   builtin_is x n h = by (bytes_eq (codes "getchar") x) (bytes_eq (codes "putchar") x) refl refl h
     where
@@ -228,9 +236,9 @@ module _ (bodies : BodiesJudged) (p : Program) (e : program_faults safe_forms p 
       by : (y : Entry) → find tables x ≡ Some y → IsGoodEntry 0 y → PlainEntry world x y
       by (OfValue (Stored t r)) h s = s.0
       by (OfValue (Arrayed t r)) h s = s.0
-      by (OfValue Counter) h s = absurd s
+      by (OfValue Counter) h s = no_counter x h
       by (OfValue Unknown) h s = absurd s
-      by (OfTag t) h s = structure_is x t h s
+      by (OfTag t) h s = inl (structure_is x t h s)
       by (OfFunction s) h k = its_function x s h
       by (OfBuiltin n) h s = builtin_is x n h
       by OfOther h s = absurd s
@@ -269,6 +277,11 @@ module _ (bodies : BodiesJudged) (p : Program) (e : program_faults safe_forms p 
   pub judged : ProgramJudged p tables
   judged = record {
     structs = found.structs;
+    unions = record {
+      types = [];
+      laid_out = subst (λ (ls : List Layout). AreLaidOut tables [] ls) (sym found.no_unions) tt;
+      members = subst (λ (ls : List Layout). AreUnions [] ls) (sym found.no_unions) tt;
+    };
     plain = plain;
     globals = globals_judged tables heads 0 (judged_tags p) p same known;
     variables = variables;

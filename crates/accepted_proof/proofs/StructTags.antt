@@ -23,7 +23,7 @@ use Rattle.source_typing.specs.Programs.{second_names}
 use Rattle.source_typing.specs.Scope.{at_item}
 use Rattle.source_typing.specs.Tables.{Entry, Named, OfFunction, OfOther, OfTag, Tables, Tag, as_tag, find, parts_of_tag}
 use Rattle.source_typing.specs.Tags.{tag_faults, tag_parts, tag_scope}
-use Rattle.type_proof.specs.Judged.{safe_forms}
+use Rattle.accepted_programs.specs.Supported.{supported}
 use Rattle.source_typing.proofs.Entries.{entries_more, find_both, judged_name}
 use Rattle.source_typing.proofs.Inversion.{none_of_both, test_is}
 use Rattle.accepted_proof.proofs.good.Types.{KnowsTags, MeansKnown}
@@ -241,7 +241,7 @@ module _ (structs : List Layout) (T b hs : Tables) (tags : KnowsTags (builtins b
       };
     }
       where
-        k : StructTaken safe_forms s
+        k : StructTaken supported s
         k = sorted.0
 
         g : Tables
@@ -257,7 +257,7 @@ module _ (structs : List Layout) (T b hs : Tables) (tags : KnowsTags (builtins b
         ms = members_good (length s.regions) (tag_scope g i s) ds s.members (earlier_declared h i done (tree.StructItem s ∷ is) s ds st.declared)
             (builtins_known (entries done ++ first_from h i (tree.StructItem s ∷ is))
             (either_known (entries done) (first_from h i (tree.StructItem s ∷ is)) st.known first))
-            (parameters_below g i s) (members_are_taken safe_forms (tag_scope g i s) s.members k.members clean.members) clean.members
+            (parameters_below g i s) (members_are_taken supported (tag_scope g i s) s.members k.members clean.members) clean.members
 
         d : Declared
         d = record { tag = s.tag.text; parts = ms.types }

@@ -17,7 +17,7 @@ use Rattle.source_typing.specs.Programs.{second_names, tables_of}
 use Rattle.source_typing.specs.Scope.{at_item}
 use Rattle.source_typing.specs.Tables.{Entry, Named, OfBuiltin, OfFunction, OfTag, Tables, Tag, find}
 use Rattle.source_typing.specs.Taken.{only_taken}
-use Rattle.type_proof.specs.Judged.{safe_forms}
+use Rattle.accepted_programs.specs.Supported.{supported}
 use Rattle.accepted_proof.proofs.AlignedTables.{layouts_same, tables_aligned}
 use Rattle.accepted_proof.proofs.Named.{AreNamed, builtins_known}
 use Rattle.accepted_proof.proofs.TagOrder.{AreSorted, all_sorted, bare_known, first_alike}
@@ -101,7 +101,7 @@ not_made p x e h q n = by (has_tag (world_of p).structs x) (h.tags x)
     by false k = refl
     by true k = let z = k refl in let y : Some e ≡ Some (OfTag z.0) = sym q ∙ z.1 in absurd (n z.0 cc)
 
-module _ (p : Program) (t : only_taken safe_forms p ≡ p) (clean : all_tag_faults (judged_tags p) ≡ [])
+module _ (p : Program) (t : only_taken supported p ≡ p) (clean : all_tag_faults (judged_tags p) ≡ [])
     (names : second_names (codes "getchar" ∷ codes "putchar" ∷ []) p ≡ [])
   where
     abbrev heads_tables : Tables

@@ -14,7 +14,7 @@ use Rattle.source_typing.specs.Tags.{bare_tag, head_faults, head_scope, member_f
 use Rattle.source_typing.specs.Tags.{struct_sized, tag_faults, tag_parts, tag_scope}
 use Rattle.source_typing.specs.Taken.{Taken, are_members, item_taken, members_taken, only_taken, refused_member, refused_structure, structure_if}
 use Rattle.source_typing.specs.Taken.{takes_arguments, takes_structure}
-use Rattle.type_proof.specs.Judged.{safe_forms}
+use Rattle.accepted_programs.specs.Supported.{supported}
 use Rattle.source_typing.specs.Written.{RegionNamed, find_region}
 use Rattle.source_typing.proofs.Entries.{judged_name}
 use Rattle.source_typing.proofs.Inversion.{both_none, none_of_both, own_is}
@@ -59,7 +59,7 @@ refused_clean g i u s t e p = by (subst (λ z. tag_faults g i u z ≡ []) (sym e
 
 -- structs, globals and functions alone
 abbrev pub IsSorted : Item → Type 0
-IsSorted (tree.StructItem s) = StructTaken safe_forms s
+IsSorted (tree.StructItem s) = StructTaken supported s
 IsSorted (tree.UnionItem s) = ⊥
 IsSorted (tree.GlobalItem x) = Unit {0}
 IsSorted (tree.FunctionItem f) = Unit {0}
@@ -68,20 +68,20 @@ abbrev pub AreSorted : List Item → Type 0
 AreSorted [] = Unit {0}
 AreSorted (x ∷ is) = IsSorted x × AreSorted is
 
-item_sorted : (g : Tables) (i : ℕ) (x : Item) → item_taken safe_forms x ≡ x → (judged_tag g i x).faults ≡ [] → IsSorted x
+item_sorted : (g : Tables) (i : ℕ) (x : Item) → item_taken supported x ≡ x → (judged_tag g i x).faults ≡ [] → IsSorted x
 item_sorted g i (tree.StructItem s) e p =
-    let q : structure_if (takes_structure safe_forms true s) s (members_taken safe_forms s.members) ≡ s = cc in
-    struct_taken safe_forms (takes_arguments safe_forms s.regions) s.members s (any_arguments safe_forms refl s.regions) refl q
+    let q : structure_if (takes_structure supported true s) s (members_taken supported s.members) ≡ s = cc in
+    struct_taken supported (takes_arguments supported s.regions) s.members s (any_arguments supported refl s.regions) refl q
 item_sorted g i (tree.UnionItem s) e p = let f : refused_structure s ≡ s = cc in absurd (refused_clean g i true s s f p)
 item_sorted g i (tree.GlobalItem x) e p = tt
 item_sorted g i (tree.FunctionItem f) e p = tt
 
-pub all_sorted : (g : Tables) (i : ℕ) (done : List Judged) (is : List Item) → only_taken safe_forms is ≡ is
+pub all_sorted : (g : Tables) (i : ℕ) (done : List Judged) (is : List Item) → only_taken supported is ≡ is
     → all_tag_faults (judged_list g i done is) ≡ [] → AreSorted is
 all_sorted g i done [] t p = tt
 all_sorted g i done (x ∷ is) t p =
-    let a : item_taken safe_forms x ≡ x = cc in
-    let b : only_taken safe_forms is ≡ is = cc in
+    let a : item_taken supported x ≡ x = cc in
+    let b : only_taken supported is ≡ is = cc in
     let j : Judged = judged_tag (builtins (entries done ++ first_from g i (x ∷ is))) i x in
     let c : (j.faults ≡ []) × (all_tag_faults (judged_list g (suc i) (done ++ j ∷ []) is) ≡ []) =
     none_of_both j.faults (all_tag_faults (judged_list g (suc i) (done ++ j ∷ []) is)) p in
@@ -171,11 +171,11 @@ pub parameters_below : (g : Tables) (i : ℕ) (s : tree.Structure) → NamesBelo
 parameters_below g i s = names_from (length s.regions) 0 [] s.regions (omega arith) tt
 
 -- what is first known of a struct is that it has no fault
-first_sound : (g h : Tables) (i : ℕ) (s : tree.Structure) → KnowsTags h → TablesAlike g h → StructTaken safe_forms s → tag_faults g i false s ≡ []
+first_sound : (g h : Tables) (i : ℕ) (s : tree.Structure) → KnowsTags h → TablesAlike g h → StructTaken supported s → tag_faults g i false s ≡ []
     → IsKnownEntry (first_entry h i (tree.StructItem s))
 first_sound g h i s tags alike k p =
     let c : TagClean g i s = tag_clean g i s p in
-    let taken : AreMembersTaken safe_forms s.members = members_are_taken safe_forms (tag_scope g i s) s.members k.members c.members in
+    let taken : AreMembersTaken supported s.members = members_are_taken supported (tag_scope g i s) s.members k.members c.members in
     let e : Env = head_scope h i false s in
     let clean : head_faults e false s.members ≡ [] =
     heads_clean (length s.regions) (tag_scope g i s) e (own_first g h (named s.tag (bare_tag i false s false)) refl alike tags) refl

@@ -6,6 +6,7 @@ pub mod Makings
 pub mod ObjectSizes
 pub mod Types
 pub mod Scopes
+pub mod Several
 pub mod Expressions
 pub mod Bodies
 pub mod StructSizes

@@ -1,10 +1,10 @@
--- What is known of the names in scope where a phrase of integers, pointers, structs, arrays and lexical regions is judged, and what is then known of the
--- phrase.
+-- What is known of the names in scope where a phrase of the forms that are taken is judged, and what is then known of the phrase.
 use Rattle.std.specs.Prelude.{◌≡◌, ℕ, true, false, Some, List, [], ◌∷◌, map}
 use Rattle.cyc_tree.specs.Operands.{ItemsHaveOperands}
 use Rattle.cyc_tree.specs.Tree.{BlockItems, Expression}
 use Rattle.type_proof.specs.Entries.{AreObjects, IsObjectType, IsPlain}
-use Rattle.type_proof.specs.Judged.{ItemsJudged, safe_forms}
+use Rattle.type_proof.specs.Judged.{ItemsJudged}
+use Rattle.accepted_programs.specs.Supported.{supported}
 use Rattle.source_typing.specs.Named.{Below, TypeBelow, TypesBelow}
 pub use Rattle.source_typing.specs.Named.{NamesBelow}
 use Rattle.source_typing.specs.Expressions.{judge}
@@ -12,7 +12,7 @@ use Rattle.source_typing.specs.Regions.{Region}
 use Rattle.source_typing.specs.Scope.{Enclosing, Env, In, InBlock, InRegion, Nowhere, Seat, Value, in_scope, is_place}
 use Rattle.source_typing.specs.Statements.{items_faults}
 use Rattle.source_typing.specs.Calls.{part_types}
-use Rattle.source_typing.specs.Tables.{Arrayed, Entry, OfBuiltin, OfFunction, OfTag, OfValue, Signature, Stored, Tables, Tag}
+use Rattle.source_typing.specs.Tables.{Arrayed, Counter, Entry, OfBuiltin, OfFunction, OfTag, OfValue, Signature, Stored, Tables, Tag}
 use Rattle.source_typing.specs.Taken.{items_taken, taken}
 use Rattle.source_typing.specs.Types.{Null, StaticType, Void}
 use Rattle.source_typing.specs.Verdicts.{Faulty, Of, Unjudged, Verdict}
@@ -40,10 +40,11 @@ pub record IsGoodTag (t : Tag) : Type 0 where
   pub objects : AreObjects types
   pub types_below : TypesBelow t.regions types
 
--- a variable or an array, whose type and place speak of region names in scope alone; a struct; or a function
+-- a variable or an array, whose type and place speak of region names in scope alone; the index of an array that is made; a struct; or a function
 abbrev pub IsGoodEntry : ℕ → Entry → Type 0
 IsGoodEntry count (OfValue (Stored t r)) = IsObjectType t × TypeBelow count t × Below count r
 IsGoodEntry count (OfValue (Arrayed t r)) = IsObjectType t × TypeBelow count t × Below count r
+IsGoodEntry count (OfValue Counter) = Unit {0}
 IsGoodEntry count (OfTag t) = IsGoodTag t
 IsGoodEntry count (OfFunction s) = IsGoodSignature s
 IsGoodEntry count (OfBuiltin n) = Unit {0}
@@ -95,11 +96,11 @@ pub record IsGoodValue (g : Env) (v : Value) : Type 0 where
 
 -- each expression of these forms is at fault, or it is in order
 abbrev pub ExpressionsJudged : Type 0
-ExpressionsJudged = (e : Expression) (g : Env) → IsGood g → Surely (λ v. IsGoodValue g v) (judge g (taken safe_forms e))
+ExpressionsJudged = (e : Expression) (g : Env) → IsGood g → Surely (λ v. IsGoodValue g v) (judge g (taken supported e))
 
 -- ---- the body of a function that gives a type
 
 -- a body of these forms in which the rules find no fault is in order
 abbrev pub BodiesJudged : Type 0
 BodiesJudged = (items : BlockItems) (g : Env) (gives : StaticType) → IsGood g → g.result ≡ Some gives → IsPlain gives
-    → items_taken safe_forms items ≡ items → ItemsHaveOperands items → items_faults g true items ≡ [] → ItemsJudged g items
+    → items_taken supported items ≡ items → ItemsHaveOperands items → items_faults g true items ≡ [] → ItemsJudged g true items

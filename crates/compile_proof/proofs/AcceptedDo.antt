@@ -5,8 +5,7 @@ use Rattle.source_lowering.specs.Lowerable.{IsLowerable}
 use Rattle.accepted_programs.specs.Supported.{supported}
 use Rattle.accepted_proof.proofs.good.Tables.{no_typing_faults}
 use Rattle.accepted_proof.proofs.Joined as joined
-use Rattle.source_meaning.specs.Programs.{world_of}
-use Rattle.compile_proof.proofs.Data.{data_plain}
+use Rattle.compile_proof.proofs.Data.{program_plain}
 use Rattle.compile_proof.proofs.LowerableDo.{lowerable_do}
 use Rattle.compile_proof.proofs.NamedApart.{named_apart}
 use Rattle.compile_proof.proofs.DataWithin.{data_within}
@@ -14,8 +13,9 @@ use Rattle.compile_proof.proofs.DataWithin.{data_within}
 pub accepted_do : AllAcceptedDo
 accepted_do p e =
     let lowerable : IsLowerable p = joined.lowerable p e in
+    let within = data_within p e in
     record {
       promised = lowerable_do p lowerable (named_apart false p (no_typing_faults supported p e));
-      plain = data_plain (world_of p) p lowerable.structs lowerable.items;
-      data_within = data_within p e;
+      plain = program_plain p lowerable within;
+      data_within = within;
     }

@@ -1,7 +1,9 @@
--- The data of a program that is taken are numbers and NULL, each in a word or byte, one behind the other; structs, fat pointers and arrays begin with nothing
--- but zeros.
-use Rattle.std.proofs.Common.{◌≡◌, ℕ, ◌%◌, ◌^◌, ◌<◌, Bool, Option, Some, None, List, [], ◌∷◌, inl, inr, refl, sym, subst, arith}
-use Rattle.std.specs.Prelude.{slice_get, length}
+-- The data of a program that is taken are numbers, NULL and pointers to strings, each in a word or byte, one behind the other; structs, fat pointers that are
+-- NULL and arrays begin with nothing but zeros.
+use Rattle.std.proofs.Common.{◌≡◌, ℕ, zero, suc, ◌+◌, ◌%◌, ◌^◌, ◌<◌, ◌≤◌, Bool, Option, Some, None, List, [], ◌∷◌, ◌++◌, map, inl, inr, refl, sym, ap}
+use Rattle.std.proofs.Common.{subst, arith}
+use Rattle.std.specs.Prelude.{slice_get, length, unwrap_or}
+use Rattle.std.proofs.lemmas.Option.{same_Some, none-some}
 use Rattle.cyc_tree.specs.Tree as tree
 use Rattle.cyc_tree.specs.Tree.{Initial, Item}
 use Rattle.source_meaning.specs.Shapes.{
@@ -19,62 +21,105 @@ use Rattle.source_meaning.specs.Shapes.{
   settled,
 }
 use Rattle.source_meaning.specs.Steps.{World}
-use Rattle.source_meaning.specs.Programs.{global_shape}
+use Rattle.source_meaning.specs.Memory.{Scalar, Wide}
+use Rattle.source_meaning.specs.Places.{span_at, string_at}
+use Rattle.source_meaning.specs.Strings.{Literal, program_strings}
+use Rattle.source_meaning.specs.Programs.{global_shape, heap_spot, world_of}
+use Rattle.rv32_machine.specs.State.{data_base}
 use Rattle.core_meaning.specs.Memory.{Layout, PartShape, Word, Null, shape_in}
-use Rattle.core_lines.specs.Layouts.{IsNothing, IsZero}
+use Rattle.core_meaning.specs.Core.{Local, Datum}
+use Rattle.core_lines.specs.Layouts.{HasPart, IsNothing, IsZero}
+use Rattle.core_lines.specs.Selected.{rounded, nth, bytes_of, offsets_from, end_from, datum_local, datum_locals}
+use Rattle.core_lines.specs.Running.{data_offsets, data_end}
 use Rattle.core_lines.specs.Statics.{IsPlain, IsPlainDatum, ArePlainData}
 use Rattle.core_lines.proofs.memory.DataBytes.{one_part_plain, zero_plain}
-use Rattle.source_lowering.specs.Programs.{word_in, constant_word, constant_content, initial_content, first_content, begun_datum, global_datum, data_of}
-use Rattle.source_lowering.specs.Layouts.{local_of}
-use Rattle.source_lowering.specs.Lowerable.{AreStructs, IsObject, IsVariable, TakesGlobal, TakesProgram}
-use Rattle.source_lowering.specs.Taken.{IsIntegerShape, TakesConstant}
+use Rattle.source_lowering.specs.Programs.{word_in, constant_word, span_content, text_content, text_datum, constant_content, initial_content, first_content, begun_datum, global_datum}
+use Rattle.source_lowering.specs.Programs.{string_datum, program_code}
+use Rattle.source_lowering.specs.Layouts.{layout_of, local_of}
+use Rattle.source_lowering.specs.Lowerable.{AreStructs, IsObject, IsVariable, TakesGlobal, TakesProgram, IsLowerable}
+use Rattle.source_lowering.specs.Taken.{IsIntegerShape, IsString, TakesConstant}
 use Rattle.source_lowering.proofs.statements.WrittenTypes.{object_settled}
 use Rattle.source_lowering.proofs.Programs.{global_variable}
-use Rattle.compile_proof.proofs.Layouts.{variable_layout}
+use Rattle.source_lowering.proofs.regions.HeapValues.{heap_data}
+use Rattle.source_lowering.proofs.Texts.{string_found}
+use Rattle.compile_proof.proofs.Layouts.{object_layout, variable_layout}
+use Rattle.compile_proof.proofs.Texts.{IsTextIn, TextsLie, program_texts}
 
-constant_plain : (c : tree.Constant) (s : Shape) → IsIntegerShape s → TakesConstant s c → word_in s (constant_word c) ≡ constant_word c
-    → IsPlain 4 (constant_content c s)
-constant_plain (tree.Number at value suffix) s i h e = subst (λ z. z < 2 ^ 32) (sym e) (omega arith)
-constant_plain (tree.Negative at value suffix) s i h e = subst (λ z. z < 2 ^ 32) (sym e) (omega arith)
-constant_plain (tree.Character at byte) s i h e = subst (λ z. z < 2 ^ 32) (sym e) (omega arith)
-constant_plain (tree.Text at bytes) s i h e = absurd h
-constant_plain (tree.Null at) s i h e = tt
+constant_plain : (os : List ℕ) (w : World) (c : tree.Constant) (s : Shape) → IsIntegerShape s → TakesConstant s c
+    → word_in s (constant_word c) ≡ constant_word c → IsPlain os 4 (constant_content w c s)
+constant_plain os w (tree.Number at value suffix) s i h e = subst (λ z. z < 2 ^ 32) (sym e) (omega arith)
+constant_plain os w (tree.Negative at value suffix) s i h e = subst (λ z. z < 2 ^ 32) (sym e) (omega arith)
+constant_plain os w (tree.Character at byte) s i h e = subst (λ z. z < 2 ^ 32) (sym e) (omega arith)
+constant_plain os w (tree.Text at bytes) s i h e = absurd (no_string s i h)
+  where
+    no_string : (z : Shape) → IsIntegerShape z → IsString z → ⊥
+    no_string IntShape g k = k
+    no_string UnsignedShape g k = k
+    no_string CharShape g k = k
+    no_string _ g k = absurd g
+constant_plain os w (tree.Null at) s i h e = tt
 
 -- a word of an int or an unsigned
-word_plain : (i : Initial) → TakesGlobal IntShape i → IsPlain 4 (initial_content i IntShape)
-word_plain Initial.Unset h = omega arith
-word_plain (Initial.Elements count) h = omega arith
-word_plain (Initial.Given c) h = constant_plain c IntShape tt h refl
+word_plain : (os : List ℕ) (w : World) (i : Initial) → TakesGlobal IntShape i → IsPlain os 4 (initial_content w i IntShape)
+word_plain os w Initial.Unset h = omega arith
+word_plain os w (Initial.Elements count) h = omega arith
+word_plain os w (Initial.Given c) h = constant_plain os w c IntShape tt h refl
 
-unsigned_plain : (i : Initial) → TakesGlobal UnsignedShape i → IsPlain 4 (initial_content i UnsignedShape)
-unsigned_plain Initial.Unset h = omega arith
-unsigned_plain (Initial.Elements count) h = omega arith
-unsigned_plain (Initial.Given c) h = constant_plain c UnsignedShape tt h refl
+unsigned_plain : (os : List ℕ) (w : World) (i : Initial) → TakesGlobal UnsignedShape i → IsPlain os 4 (initial_content w i UnsignedShape)
+unsigned_plain os w Initial.Unset h = omega arith
+unsigned_plain os w (Initial.Elements count) h = omega arith
+unsigned_plain os w (Initial.Given c) h = constant_plain os w c UnsignedShape tt h refl
 
-constant_byte : (c : tree.Constant) → TakesConstant CharShape c → IsPlain 1 (constant_content c CharShape)
-constant_byte (tree.Number at value suffix) h = omega arith
-constant_byte (tree.Negative at value suffix) h = omega arith
-constant_byte (tree.Character at byte) h = omega arith
-constant_byte (tree.Text at bytes) h = absurd h
-constant_byte (tree.Null at) h = tt
+low_byte : (n : ℕ) → n % 256 < 2 ^ 8
+low_byte n = omega arith
 
-byte_plain : (i : Initial) → TakesGlobal CharShape i → IsPlain 1 (initial_content i CharShape)
-byte_plain Initial.Unset h = omega arith
-byte_plain (Initial.Elements count) h = omega arith
-byte_plain (Initial.Given c) h = constant_byte c h
+constant_byte : (os : List ℕ) (w : World) (c : tree.Constant) → TakesConstant CharShape c → IsPlain os 1 (constant_content w c CharShape)
+constant_byte os w (tree.Number at value suffix) h = omega arith
+constant_byte os w (tree.Negative at value suffix) h = omega arith
+constant_byte os w (tree.Character at byte) h = omega arith
+constant_byte os w (tree.Text at bytes) h = absurd h
+constant_byte os w (tree.Null at) h = tt
 
--- a pointer is NULL at first
-null_plain : (c : tree.Constant) (b : Bool) (o : Owner) (to : Shape) → TakesConstant (ThinShape b o to) c → IsPlain 4 (constant_content c (ThinShape b o to))
-null_plain (tree.Number at value suffix) b o to h = absurd h
-null_plain (tree.Negative at value suffix) b o to h = absurd h
-null_plain (tree.Character at byte) b o to h = absurd h
-null_plain (tree.Text at bytes) b o to h = absurd h
-null_plain (tree.Null at) b o to h = tt
+byte_plain : (os : List ℕ) (w : World) (i : Initial) → TakesGlobal CharShape i → IsPlain os 1 (initial_content w i CharShape)
+byte_plain os w Initial.Unset h = omega arith
+byte_plain os w (Initial.Elements count) h = omega arith
+byte_plain os w (Initial.Given c) h = constant_byte os w c h
 
-pointer_plain : (i : Initial) (b : Bool) (o : Owner) (to : Shape) → TakesGlobal (ThinShape b o to) i → IsPlain 4 (initial_content i (ThinShape b o to))
-pointer_plain Initial.Unset b o to h = tt
-pointer_plain (Initial.Elements count) b o to h = tt
-pointer_plain (Initial.Given c) b o to h = null_plain c b o to h
+-- each address of an object of the data is a word
+abbrev pub AreNear : List ℕ → Type 0
+AreNear os = (k : ℕ) → data_base + nth os k < 2 ^ 32
+
+-- the parts of a fat pointer to a string, and what there is where no string has the place
+module _ (os : List ℕ) (near : AreNear os) (ss : List (ℕ × Scalar)) (lie : TextsLie (length os) ss) where
+  pointer_near : (k : ℕ) → data_base + nth os k + 0 < 2 ^ 32
+  pointer_near k = let h = near k in omega (arith, h)
+
+  text_plain : (at part : ℕ) → IsPlain os 4 (text_content (string_at ss at) part)
+  text_plain at part = by (string_at ss at) refl
+    where
+      of_span : (number count : ℕ) → number < length os → count < 2 ^ 32 → (j : ℕ)
+          → IsPlain os 4 (text_content (Some (span_at count (heap_spot number))) j)
+      of_span number count there few zero = record { wide = refl; heap = refl; has = there; small = pointer_near number }
+      of_span number count there few (suc zero) = few
+      of_span number count there few (suc (suc j)) = omega arith
+
+      by : (found : Option Scalar) → string_at ss at ≡ found → IsPlain os 4 (text_content found part)
+      by None e = none part
+        where
+          none : (j : ℕ) → IsPlain os 4 (text_content None j)
+          none zero = tt
+          none (suc j) = omega arith
+      by (Some v) e =
+          let text = string_found (λ z. IsTextIn (length os) z) ss at v lie e in
+          subst (λ z. IsPlain os 4 (text_content (Some z) part)) (sym text.value) (of_span text.number text.count text.there text.few part)
+
+-- the parts of a fat pointer are words
+fat_wide : (w : World) (to : Shape) (cell part : ℕ) (s : PartShape) → HasPart (layout_of w (FatShape to)) cell part s → s.width ≡ 4
+fat_wide w to zero zero s has = sym (ap (λ (x : PartShape). x.width) (same_Some _ s has.is))
+fat_wide w to zero (suc zero) s has = sym (ap (λ (x : PartShape). x.width) (same_Some _ s has.is))
+fat_wide w to zero (suc (suc zero)) s has = sym (ap (λ (x : PartShape). x.width) (same_Some _ s has.is))
+fat_wide w to zero (suc (suc (suc part))) s has = absurd (none-some s has.is)
+fat_wide w to (suc cell) part s has = absurd (none-some s has.is)
 
 -- no global is a handle
 no_handle : (i : Initial) → TakesGlobal HandleShape i → ⊥
@@ -94,36 +139,109 @@ parts_zero l h cell part = by (shape_in (slice_get l.cells cell) part) refl
     by None e = tt
     by (Some s) e = h.nothing cell part s (record { is = e })
 
-begun_plain : (w : World) (s : Shape) → AreStructs w.unions w.structs → IsVariable w.structs s → IsPlainDatum (begun_datum (local_of w s))
-begun_plain w s structs variable =
+begun_plain : (os : List ℕ) (w : World) (s : Shape) → AreStructs w.unions w.structs → IsVariable w.structs s → IsPlainDatum os (begun_datum (local_of w s))
+begun_plain os w s structs variable =
     let l = variable_layout w s structs variable in
     let layout : Layout = (local_of w s).layout in
-    zero_plain (begun_datum (local_of w s)) l.joined l.whole (λ cell part. parts_zero layout l.nothing (cell % length layout.cells) part)
+    zero_plain os (begun_datum (local_of w s)) l.joined l.whole (λ cell part. parts_zero layout l.nothing (cell % length layout.cells) part)
 
-object_plain : (w : World) (i : Initial) (s : Shape) → AreStructs w.unions w.structs → IsObject w.structs s → TakesGlobal s i
-    → IsPlainDatum (global_datum w i s)
-object_plain w i IntShape k h t = one_part_plain 4 (Word 0) (global_datum w i IntShape) (inr refl) refl (λ cell. word_plain i t)
-object_plain w i UnsignedShape k h t = one_part_plain 4 (Word 0) (global_datum w i UnsignedShape) (inr refl) refl (λ cell. unsigned_plain i t)
-object_plain w i CharShape k h t = one_part_plain 1 (Word 0) (global_datum w i CharShape) (inl refl) refl (λ cell. byte_plain i t)
-object_plain w i (ThinShape may_be_null owner to) k h t =
-    one_part_plain 4 Null (global_datum w i (ThinShape may_be_null owner to)) (inr refl) refl (λ cell. pointer_plain i may_be_null owner to t)
-object_plain w i (StructShape tag) k h t = begun_plain w (StructShape tag) k h
-object_plain w i (FatShape to) k h t = begun_plain w (FatShape to) k h
-object_plain w i HandleShape k h t = absurd (no_handle i t)
-object_plain w i _ k h t = absurd h
+module _ (os : List ℕ) (near : AreNear os) (w : World) (lie : TextsLie (length os) w.strings) (structs : AreStructs w.unions w.structs) where
+  -- a pointer is NULL or a string at first
+  given_plain : (c : tree.Constant) (b : Bool) (o : Owner) (to : Shape) → TakesConstant (ThinShape b o to) c
+      → IsPlain os 4 (constant_content w c (ThinShape b o to))
+  given_plain (tree.Number at value suffix) b o to h = absurd h
+  given_plain (tree.Negative at value suffix) b o to h = absurd h
+  given_plain (tree.Character at byte) b o to h = absurd h
+  given_plain (tree.Text at bytes) b o to h = text_plain os near w.strings lie at 0
+  given_plain (tree.Null at) b o to h = tt
 
--- an object, or an array of objects
-datum_plain : (w : World) (i : Initial) (s : Shape) → AreStructs w.unions w.structs → IsObject w.structs s → TakesGlobal s i
-    → IsPlainDatum (global_datum w i (global_shape i s))
-datum_plain w Initial.Unset s k h t = object_plain w Initial.Unset s k h t
-datum_plain w (Initial.Elements count) s k h t =
-    begun_plain w (ArrayShape count s) k (global_variable w (Initial.Elements count) s t h)
-datum_plain w (Initial.Given c) s k h t = object_plain w (Initial.Given c) s k h t
+  pointer_plain : (i : Initial) (b : Bool) (o : Owner) (to : Shape) → TakesGlobal (ThinShape b o to) i → IsPlain os 4 (initial_content w i (ThinShape b o to))
+  pointer_plain Initial.Unset b o to h = tt
+  pointer_plain (Initial.Elements count) b o to h = tt
+  pointer_plain (Initial.Given c) b o to h = given_plain c b o to h
 
-pub data_plain : (w : World) (items : List Item) → AreStructs w.unions w.structs → TakesProgram w items → ArePlainData (data_of w items)
-data_plain w [] k h = tt
-data_plain w (tree.StructItem s ∷ items) k h = data_plain w items k h.1
-data_plain w (tree.UnionItem u ∷ items) k h = absurd h.0
-data_plain w (tree.FunctionItem g ∷ items) k h = data_plain w items k h.1
-data_plain w (tree.GlobalItem g ∷ items) k h =
-    (datum_plain w g.initial (settled (written g.of)) k (object_settled w.structs g.of h.0.0) h.0.1, data_plain w items k h.1)
+  fat_plain : (i : Initial) (to : Shape) → IsObject w.structs (FatShape to) → IsPlainDatum os (global_datum w i (FatShape to))
+  fat_plain (Initial.Given (tree.Text at bytes)) to h = given (string_at w.strings at) (λ part. text_plain os near w.strings lie at part)
+    where
+      given : (found : Option Scalar) → ((part : ℕ) → IsPlain os 4 (text_content found part)) → IsPlainDatum os (text_datum w (FatShape to) found)
+      given (Some (Wide (Some span))) g =
+          let l = object_layout w (FatShape to) structs h in
+          record {
+            joined = l.joined;
+            whole = l.whole;
+            plain = λ cell part s has. subst (λ z. IsPlain os z (span_content span part)) (sym (fat_wide w to _ part s has)) (g part);
+          }
+      given _ g = begun_plain os w (FatShape to) structs h
+  fat_plain (Initial.Given (tree.Number at value suffix)) to h = begun_plain os w (FatShape to) structs h
+  fat_plain (Initial.Given (tree.Negative at value suffix)) to h = begun_plain os w (FatShape to) structs h
+  fat_plain (Initial.Given (tree.Character at byte)) to h = begun_plain os w (FatShape to) structs h
+  fat_plain (Initial.Given (tree.Null at)) to h = begun_plain os w (FatShape to) structs h
+  fat_plain (Initial.Elements count) to h = begun_plain os w (FatShape to) structs h
+  fat_plain Initial.Unset to h = begun_plain os w (FatShape to) structs h
+
+  object_plain : (i : Initial) (s : Shape) → IsObject w.structs s → TakesGlobal s i → IsPlainDatum os (global_datum w i s)
+  object_plain i IntShape h t = one_part_plain os 4 (Word 0) (global_datum w i IntShape) (inr refl) refl (λ cell. word_plain os w i t)
+  object_plain i UnsignedShape h t = one_part_plain os 4 (Word 0) (global_datum w i UnsignedShape) (inr refl) refl (λ cell. unsigned_plain os w i t)
+  object_plain i CharShape h t = one_part_plain os 1 (Word 0) (global_datum w i CharShape) (inl refl) refl (λ cell. byte_plain os w i t)
+  object_plain i (ThinShape may_be_null owner to) h t =
+      one_part_plain os 4 Null (global_datum w i (ThinShape may_be_null owner to)) (inr refl) refl (λ cell. pointer_plain i may_be_null owner to t)
+  object_plain i (StructShape tag) h t = begun_plain os w (StructShape tag) structs h
+  object_plain i (FatShape to) h t = fat_plain i to h
+  object_plain i HandleShape h t = absurd (no_handle i t)
+  object_plain i _ h t = absurd h
+
+  -- an object, or an array of objects
+  datum_plain : (i : Initial) (s : Shape) → IsObject w.structs s → TakesGlobal s i → IsPlainDatum os (global_datum w i (global_shape i s))
+  datum_plain Initial.Unset s h t = object_plain Initial.Unset s h t
+  datum_plain (Initial.Elements count) s h t = begun_plain os w (ArrayShape count s) structs (global_variable w (Initial.Elements count) s t h)
+  datum_plain (Initial.Given c) s h t = object_plain (Initial.Given c) s h t
+
+  -- a string's bytes
+  strings_plain : (ss : List Literal) → ArePlainData os (map (string_datum w) ss)
+  strings_plain [] = tt
+  strings_plain (s ∷ ss) = (
+    one_part_plain os 1 (Word 0) (string_datum w s) (inl refl) refl (λ cell. low_byte (unwrap_or (slice_get (s.1 ++ 0 ∷ []) cell) 0)),
+    strings_plain ss,
+  )
+
+  pub data_plain : (items : List Item) (ss : List Literal) → TakesProgram w items → ArePlainData os (heap_data w items ss)
+  data_plain [] ss h = strings_plain ss
+  data_plain (tree.StructItem s ∷ items) ss h = data_plain items ss h.1
+  data_plain (tree.UnionItem u ∷ items) ss h = absurd h.0
+  data_plain (tree.FunctionItem g ∷ items) ss h = data_plain items ss h.1
+  data_plain (tree.GlobalItem g ∷ items) ss h =
+      (datum_plain g.initial (settled (written g.of)) (object_settled w.structs g.of h.0.0) h.0.1, data_plain items ss h.1)
+
+-- ---- a program's data
+
+low_end : (low : ℕ) (ls : List Local) → low ≤ end_from low ls
+low_end low [] = omega arith
+low_end low (l ∷ ls) = let h = low_end (rounded low + bytes_of l) ls in omega (arith, h)
+
+-- no object begins behind the end
+offset_within : (low : ℕ) (ls : List Local) (k : ℕ) → nth (offsets_from low ls) k ≤ end_from low ls
+offset_within low [] k = omega arith
+offset_within low (l ∷ ls) zero = let h = low_end (rounded low + bytes_of l) ls in omega (arith, h)
+offset_within low (l ∷ ls) (suc k) = offset_within (rounded low + bytes_of l) ls k
+
+pub offsets_many : (low : ℕ) (ds : List Datum) → length (offsets_from low (datum_locals ds)) ≡ length ds
+offsets_many low [] = refl
+offsets_many low (d ∷ ds) = ap suc (offsets_many (rounded low + bytes_of (datum_local d)) ds)
+
+-- where they are within the limit, they are in order
+pub program_plain : (p : tree.Program) → IsLowerable p → data_end (program_code p).data_objects ≤ 2 ^ 20
+    → ArePlainData (data_offsets (program_code p).data_objects) (program_code p).data_objects
+program_plain p h within =
+    data_plain os near w (subst (λ n. TextsLie n w.strings) (sym (offsets_many 0 ds)) (program_texts p h)) h.structs p (program_strings p) h.items
+  where
+    w : World
+    w = world_of p
+
+    ds : List Datum
+    ds = (program_code p).data_objects
+
+    os : List ℕ
+    os = data_offsets ds
+
+    near : AreNear os
+    near k = let e = offset_within 0 (datum_locals ds) k in omega (arith, e, within)

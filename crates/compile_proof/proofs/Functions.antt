@@ -1,44 +1,18 @@
 -- The code of statements, functions and globals of a program that is taken names what there is: the program can be selected.
-use Rattle.std.proofs.Common.{◌≡◌, ℕ, zero, suc, ◌+◌, ◌<◌, ◌≤◌, List, [], ◌∷◌, ◌++◌, length, Some, None, refl, sym, ap, subst, arith, length-append}
+use Rattle.std.proofs.Common.{◌≡◌, ℕ, zero, suc, ◌+◌, ◌<◌, ◌≤◌, List, [], ◌∷◌, ◌++◌, length, map, Some, None, refl, sym, ap, subst, arith}
+use Rattle.std.proofs.Common.{length-append}
 use Rattle.cyc_tree.specs.Tree as tree
 use Rattle.cyc_tree.specs.Tree.{Expression, Initializer, Declaration, Statement, BlockItems, NoItems, Declare, Execute, Item}
-use Rattle.source_meaning.specs.Shapes.{Shape, VoidShape, ThinShape, FatShape, StructShape, ArrayShape, Layout, Part, part_shapes, written, settled}
+use Rattle.source_meaning.specs.Shapes.{Shape, CharShape, VoidShape, ThinShape, FatShape, StructShape, ArrayShape, Layout, Part, part_shapes, written, settled}
 use Rattle.source_meaning.specs.Steps.{World, Routine}
+use Rattle.source_meaning.specs.Strings.{Literal}
 use Rattle.source_meaning.specs.Programs.{global_shape, globals_from}
 use Rattle.core_meaning.specs.Core as core
 use Rattle.core_lines.specs.Layouts.{IsLayout}
 use Rattle.core_lines.specs.Selectable.{AreLayouts, HaveLayouts}
 use Rattle.source_lowering.specs.Members.{words_in, all_words}
-use Rattle.source_lowering.specs.Lowered.{Named, static_shape, put_local, conversion_code, expression_values, expression_code}
-use Rattle.source_lowering.specs.Programs.{
-  local_shape,
-  block_shapes,
-  locals_of,
-  outward,
-  named_here,
-  begun_code,
-  unset_code,
-  value_code,
-  initial_values,
-  declaration_code,
-  ending_code,
-  leaving_code,
-  declaration_values,
-  statement_values,
-  item_values,
-  RegionsAround,
-  no_regions,
-  in_loop,
-  regions_with,
-  statement_code,
-  items_code,
-  parameter_names,
-  parameters_code,
-  end_code,
-  body_code,
-  routine_values,
-  data_of,
-}
+use Rattle.source_lowering.specs.Lowered.{Named, static_shape, put_local, conversion_code, expression_values, expression_code, Home, InBlock, InTemporary}
+use Rattle.source_lowering.specs.Programs.{local_shape, block_shapes, locals_of, outward, named_here, begun_code, unset_code, value_code, initial_values, declaration_code, ending_code, leaving_code, declaration_values, statement_values, item_values, RegionsAround, no_regions, in_loop, regions_with, statement_code, items_code, parameter_names, parameters_code, end_code, body_code, routine_values, data_of, string_datum, further_out}
 use Rattle.source_lowering.specs.Lowerable.{
   IsTarget,
   IsObject,
@@ -61,11 +35,13 @@ use Rattle.source_lowering.proofs.statements.WrittenTypes.{object_settled}
 use Rattle.source_lowering.proofs.bounds.WholeObjects.{item_objects}
 use Rattle.source_lowering.proofs.Programs.{global_variable}
 use Rattle.source_lowering.proofs.regions.Heap.{laid_out_as}
+use Rattle.source_lowering.proofs.regions.HeapValues.{heap_data}
 use Rattle.source_lowering.proofs.bounds.PartCosts.{results_many}
 use Rattle.compile_proof.specs.Naming.{AreNaming, CodeNames}
 use Rattle.compile_proof.proofs.Naming.{both_name, all_name}
 use Rattle.compile_proof.proofs.Layouts.{object_layout, variable_layout}
-use Rattle.compile_proof.proofs.Parts.{LocalsLie, GlobalsLie, Around, stored_local, conversion_names}
+use Rattle.compile_proof.proofs.Parts.{HomeLies, LocalsLie, GlobalsLie, Around, stored_local, conversion_names}
+use Rattle.compile_proof.proofs.Texts.{TextsLie}
 use Rattle.compile_proof.proofs.Expressions.{expression_names}
 use Rattle.compile_proof.proofs.WholeNames.{source_names, run_names}
 
@@ -108,19 +84,30 @@ as_many w (s ∷ ss) = ap suc (as_many w ss)
 
 outward_lie : (blocks : List ℕ) (k : ℕ) (ls : List Named) → LocalsLie blocks ls → LocalsLie (k ∷ blocks) (outward ls)
 outward_lie blocks k [] h = tt
-outward_lie blocks k (l ∷ ls) h = (h.0, outward_lie blocks k ls h.1)
+outward_lie blocks k (l ∷ ls) h = (by l.home h.0, outward_lie blocks k ls h.1)
+  where
+    by : (home : Home) → HomeLies blocks home → HomeLies (k ∷ blocks) (further_out home)
+    by (InBlock out index) lies = lies
+    by (InTemporary t) lies = tt
 
 further_in : (blocks : List ℕ) (n k : ℕ) (w : World) (names : List Named) → Around blocks n w names → Around (k ∷ blocks) n w (outward names)
 further_in blocks n k w names a = record {
   locals = outward_lie blocks k names a.locals;
   globals = a.globals;
+  texts = a.texts;
   words = objects_outward w.structs names a.words;
   plain = a.plain;
 }
 
 one_more : (k : ℕ) (blocks : List ℕ) (n : ℕ) (w : World) (names : List Named) (name : List ℕ) (s : Shape) (index : ℕ) → index < k → IsVariable w.structs s
     → Around (k ∷ blocks) n w names → Around (k ∷ blocks) n w (named_here name s index ∷ names)
-one_more k blocks n w names name s index h v a = record { locals = (h, a.locals); globals = a.globals; words = (v, a.words); plain = a.plain }
+one_more k blocks n w names name s index h v a = record {
+  locals = (h, a.locals);
+  globals = a.globals;
+  texts = a.texts;
+  words = (v, a.words);
+  plain = a.plain;
+}
 
 -- ---- declarations
 
@@ -146,7 +133,7 @@ value_names k blocks own n w names s e d index next structs a object takes h f =
     word : (of : Shape) → IsObject w.structs of → Takes w names e → next + length (expression_values w names e) ≤ own → CodeNames (k ∷ blocks) own n
         (expression_code w names e d next ++ (conversion_code w of (static_shape w names e) d ++ put_local of d 0 index))
     word of o takes f =
-        both_name (k ∷ blocks) own n _ _ (expression_names (k ∷ blocks) own n w names structs a e d next takes f)
+        both_name (k ∷ blocks) own n _ _ (expression_names (k ∷ blocks) own n w structs names a e d next takes f)
         (both_name (k ∷ blocks) own n _ _
         (conversion_names (k ∷ blocks) own n w structs of (static_shape w names e) d (object_target w.structs of o))
         (stored_local (k ∷ blocks) own n of (d + words_in of) d 0 index h))
@@ -206,13 +193,13 @@ mutual
   statement_names blocks own n w result names structs a t r (Statement.If at condition body) next h f =
       let tested = length (expression_values w names condition) in
       let many = length-append (expression_values w names condition) (statement_values w names body) in
-      both_name blocks own n _ _ (expression_names blocks own n w names structs a condition r.all next h.0 (omega (arith, f, many)))
+      both_name blocks own n _ _ (expression_names blocks own n w structs names a condition r.all next h.0 (omega (arith, f, many)))
       ((all_name blocks own n _ (statement_names blocks own n w result names structs a t r body (next + tested) h.1 (omega (arith, f, many))), tt), tt)
   statement_names blocks own n w result names structs a t r (Statement.IfElse at condition body otherwise) next h f =
       let first = next + length (expression_values w names condition) in
       let both = length-append (statement_values w names body) (statement_values w names otherwise) in
       let many = length-append (expression_values w names condition) (statement_values w names body ++ statement_values w names otherwise) in
-      both_name blocks own n _ _ (expression_names blocks own n w names structs a condition r.all next h.0 (omega (arith, f, many))) (
+      both_name blocks own n _ _ (expression_names blocks own n w structs names a condition r.all next h.0 (omega (arith, f, many))) (
         (
           all_name blocks own n _ (statement_names blocks own n w result names structs a t r body first h.1.0 (omega (arith, f, many, both))),
           all_name blocks own n _ (statement_names blocks own n w result names structs a t r otherwise (first + length (statement_values w names body)) h.1.1
@@ -224,7 +211,7 @@ mutual
       let tested = length (expression_values w names condition) in
       let many = length-append (expression_values w names condition) (statement_values w names body) in (
         (
-          all_name blocks own n _ (expression_names blocks own n w names structs a condition r.all next h.0 (omega (arith, f, many))),
+          all_name blocks own n _ (expression_names blocks own n w structs names a condition r.all next h.0 (omega (arith, f, many))),
           all_name blocks own n _ (statement_names blocks own n w result names structs a t (in_loop r) body (next + tested) h.1 (omega (arith, f, many))),
         ),
         tt,
@@ -237,7 +224,7 @@ mutual
       both_name blocks own n _ _ (leaving_names blocks own n r.all r.all) (omega arith, tt)
   statement_names blocks own n w result names structs a t r (Statement.Return at (Some e)) next h f =
       let few = results_many result r.all in
-      both_name blocks own n _ _ (expression_names blocks own n w names structs a e r.all next h f)
+      both_name blocks own n _ _ (expression_names blocks own n w structs names a e r.all next h f)
       (both_name blocks own n _ _ (conversion_names blocks own n w structs result (static_shape w names e) r.all t)
       (both_name blocks own n _ _ (leaving_names blocks own n r.all r.all) (omega (arith, few), tt)))
   statement_names blocks own n w result names structs a t r _ next h f = absurd h
@@ -298,9 +285,9 @@ many_shapes [] items = omega arith
 many_shapes (p ∷ ps) items = let h = many_shapes ps items in omega (arith, h)
 
 -- the function has the locals of its unnamed values
-pub body_names : (n : ℕ) (w : World) (f : Routine) → GlobalsLie n w.globals → IsPlainWorld w → IsRoutine w f
+pub body_names : (n : ℕ) (w : World) (f : Routine) → GlobalsLie n w.globals → TextsLie n w.strings → IsPlainWorld w → IsRoutine w f
     → AreNaming [] (length (locals_of w (routine_values w f))) n (body_code w f)
-body_names n w f globals plain is =
+body_names n w f globals texts plain is =
     let structs = plain.structs in
     let shapes = part_shapes f.parameters ++ block_shapes f.body in
     let k = length (locals_of w shapes) in
@@ -316,6 +303,7 @@ body_names n w f globals plain is =
     record {
       locals = parameters_lie k f.parameters 0 [] (omega (arith, many, all)) tt;
       globals = globals;
+      texts = texts;
       words = parameters_named w.structs f.parameters 0 [] is.parameters tt;
       plain = plain;
     } in (
@@ -336,7 +324,7 @@ own_layouts w f structs is =
     layouts_taken w (routine_values w f) structs
     (objects_are w.structs (routine_values w f) (item_objects w f.result (parameter_names f.parameters 0 []) (length f.parameters) f.body is.body))
 
--- ---- globals
+-- ---- globals and strings
 
 pub globals_lie : (w : World) (items : List Item) (k n : ℕ) → TakesProgram w items → k + length (data_of w items) ≤ n → GlobalsLie n (globals_from items k)
 globals_lie w [] k n h f = tt
@@ -345,12 +333,17 @@ globals_lie w (tree.UnionItem u ∷ items) k n h f = absurd h.0
 globals_lie w (tree.FunctionItem g ∷ items) k n h f = globals_lie w items k n h.1 f
 globals_lie w (tree.GlobalItem g ∷ items) k n h f = (omega (arith, f), globals_lie w items (suc k) n h.1 (omega (arith, f)))
 
-pub data_layouts : (w : World) (items : List Item) → AreStructs w.unions w.structs → TakesProgram w items → HaveLayouts (data_of w items)
-data_layouts w [] structs h = tt
-data_layouts w (tree.StructItem s ∷ items) structs h = data_layouts w items structs h.1
-data_layouts w (tree.UnionItem u ∷ items) structs h = absurd h.0
-data_layouts w (tree.FunctionItem g ∷ items) structs h = data_layouts w items structs h.1
-data_layouts w (tree.GlobalItem g ∷ items) structs h =
+strings_layouts : (w : World) (ss : List Literal) → AreStructs w.unions w.structs → HaveLayouts (map (string_datum w) ss)
+strings_layouts w [] structs = tt
+strings_layouts w (s ∷ ss) structs = ((object_layout w CharShape structs tt).lies, strings_layouts w ss structs)
+
+pub data_layouts : (w : World) (items : List Item) (ss : List Literal) → AreStructs w.unions w.structs → TakesProgram w items
+    → HaveLayouts (heap_data w items ss)
+data_layouts w [] ss structs h = strings_layouts w ss structs
+data_layouts w (tree.StructItem s ∷ items) ss structs h = data_layouts w items ss structs h.1
+data_layouts w (tree.UnionItem u ∷ items) ss structs h = absurd h.0
+data_layouts w (tree.FunctionItem g ∷ items) ss structs h = data_layouts w items ss structs h.1
+data_layouts w (tree.GlobalItem g ∷ items) ss structs h =
     let s = global_shape g.initial (settled (written g.of)) in
     let variable = global_variable w g.initial (settled (written g.of)) h.0.1 (object_settled w.structs g.of h.0.0) in
-    (subst IsLayout (sym (laid_out_as w g.initial s).layout) (variable_layout w s structs variable).lies, data_layouts w items structs h.1)
+    (subst IsLayout (sym (laid_out_as w g.initial s).layout) (variable_layout w s structs variable).lies, data_layouts w items ss structs h.1)

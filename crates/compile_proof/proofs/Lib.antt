@@ -3,6 +3,7 @@ mod Tiles
 pub mod Layouts
 pub mod StaticShapes
 pub mod Pointers
+pub mod Texts
 pub mod Parts
 pub mod MadeNames
 pub mod Expressions

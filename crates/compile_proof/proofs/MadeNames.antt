@@ -1,18 +1,21 @@
 -- What stands around the code of values names unnamed values of its function: structs that are copied, members, and what `new` and `rnew` make.
-use Rattle.std.proofs.Common.{ℕ, ◌+◌, ◌<◌, ◌≤◌, List, ◌++◌, length}
+use Rattle.std.proofs.Common.{ℕ, ◌+◌, ◌<◌, ◌≤◌, List, ◌++◌, length, ◌∷◌}
 use Rattle.source_meaning.specs.Shapes.{Shape, StructShape}
 use Rattle.source_meaning.specs.Steps.{World}
-use Rattle.core_meaning.specs.Core.{Statement}
+use Rattle.core_meaning.specs.Core.{Statement, Do, Element}
 use Rattle.source_lowering.specs.Members.{words_in}
-use Rattle.source_lowering.specs.Lowered.{stores_code, values_by, copied_code, word_member_code, member_code, request_code, new_code_by}
+use Rattle.source_lowering.specs.Lowered.{stores_code, values_by, copied_code, word_member_code, member_code, request_code, new_code_by, array_code, element_by, next_number}
 use Rattle.source_lowering.specs.Lowerable.{IsObject, AreStructs, IsStructShape, TakesMember}
 use Rattle.source_lowering.proofs.values.Integers.{object_target}
 use Rattle.source_lowering.proofs.bounds.WholeObjects.{struct_object}
 use Rattle.compile_proof.specs.Naming.{CodeNames}
-use Rattle.compile_proof.proofs.Naming.{both_name}
+use Rattle.compile_proof.proofs.Naming.{both_name, all_name}
 use Rattle.compile_proof.proofs.Layouts.{object_layout}
 use Rattle.compile_proof.proofs.Pointers.{stores_names}
 use Rattle.compile_proof.proofs.Parts.{conversion_names}
+use Rattle.source_meaning.specs.Conversions.{cells_of}
+use Rattle.source_lowering.specs.Layouts.{extent_of}
+use Rattle.compile_proof.proofs.StaticShapes.{target_small}
 
 module _ (blocks : List ℕ) (own n : ℕ) (w : World) (structs : AreStructs w.unions w.structs) where
   -- a place that is read whole
@@ -57,3 +60,31 @@ module _ (blocks : List ℕ) (own n : ℕ) (w : World) (structs : AreStructs w.u
         by (StructShape tag) o takes room =
             let l = object_layout w (StructShape tag) structs o in both_name blocks own n _ _ (as_whole takes room) (tt, (l.lies, ((l.lies, l.full), tt)))
         by of o takes room = as_a_word of o (as_word takes room)
+
+    -- an element of an array that is made, in the temporaries behind the array's own
+    pub element_names : (s : Shape) → IsObject w.structs s → TakesMember s for_whole for_word → next + length (values_by s whole_values word_values) ≤ own
+        → CodeNames blocks own n (element_by w s d whole word)
+    element_names s object takes room = by s object takes room
+      where
+        as_a_word : (of : Shape) → IsObject w.structs of → CodeNames blocks own n word
+            → CodeNames blocks own n (word ++ (Do (Element (d + 3 + words_in of) d (d + 2) (length (cells_of w of)) (extent_of w of).size) ∷
+            stores_code of (d + 3 + words_in of) (d + 3) 0 0))
+        as_a_word of o names =
+            both_name blocks own n _ _ names
+            (target_small w of structs (object_target w.structs of o), stores_names blocks own n of (d + 3 + words_in of) (d + 3) 0 0)
+
+        by : (of : Shape) → IsObject w.structs of → TakesMember of for_whole for_word → next + length (values_by of whole_values word_values) ≤ own
+            → CodeNames blocks own n (element_by w of d whole word)
+        by (StructShape tag) o takes room =
+            let l = object_layout w (StructShape tag) structs o in
+            both_name blocks own n _ _ (as_whole takes room)
+            (target_small w (StructShape tag) structs (object_target w.structs (StructShape tag) o), ((l.lies, l.full), tt))
+        by of o takes room = as_a_word of o (as_word takes room)
+
+  -- the request for an array, and its elements
+  pub array_names : (s : Shape) (d : ℕ) (each : List Statement) → IsObject w.structs s → CodeNames blocks own n each
+      → CodeNames blocks own n (array_code w s d each)
+  array_names s d each object names = (
+    (object_layout w s structs object).lies,
+    (tt, (((tt, tt), all_name blocks own n _ (both_name blocks own n each (next_number d) names (tt, (tt, tt)))), (tt, tt))),
+  )

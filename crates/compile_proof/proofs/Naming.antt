@@ -80,7 +80,7 @@ all_below (x ∷ xs) t h = (max_first (suc x) (last_of xs) t h, all_below xs t (
 has_code : (u : Scope) (o : Operation) → NamesIn u.blocks u.unnamed u.data_objects o → operation_temporaries o ≤ u.temporaries → HasCode u o
 has_code u (Constant t w) h f = f
 has_code u (NullPointer t) h f = f
-has_code u (Move t x) h f = absurd h
+has_code u (Move t x) h f = (max_first (suc t) (suc x) u.temporaries f, max_second (suc t) (suc x) u.temporaries f)
 has_code u (Narrow t x) h f = (max_first (suc t) (suc x) u.temporaries f, max_second (suc t) (suc x) u.temporaries f)
 has_code u (Apply o t x y) h f =
     let g = max_second (suc t) (max (suc x) (suc y)) u.temporaries f in

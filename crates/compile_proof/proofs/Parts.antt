@@ -14,52 +14,28 @@ use Rattle.source_meaning.specs.Calls.{function_of}
 use Rattle.core_meaning.specs.Core.{Operation, LessUnsigned, Apply, Statement, Do, IsNull, SamePlace, Getchar, Putchar}
 use Rattle.core_lines.specs.Selectable.{IsLocal}
 use Rattle.source_lowering.specs.Members.{words_in, raised, reached_code}
-use Rattle.source_lowering.specs.Lowered.{
-  Named,
-  local_named,
-  number_of,
-  get_local,
-  load_global,
-  stored_code,
-  get_by,
-  put_by,
-  address_by,
-  reach_code,
-  loads_code,
-  narrow_code,
-  to_fat_code,
-  to_thin_code,
-  thinned_code,
-  conversion_code,
-  type_of,
-  applied_to,
-  compared_code,
-  fat_code,
-  operator_code,
-  count_code,
-  word_code,
-  not_code,
-  prefix_code,
-  pointed_code,
-  function_call,
-  call_code,
-}
+use Rattle.source_lowering.specs.Lowered.{Named, local_named, number_of, get_local, load_global, stored_code, get_by, put_by, address_by, reach_code, loads_code, narrow_code, to_fat_code, to_thin_code, thinned_code, conversion_code, type_of, applied_to, compared_code, fat_code, operator_code, count_code, word_code, not_code, prefix_code, pointed_code, function_call, call_code, Home, InBlock, InTemporary, get_home, put_home, home_address}
 use Rattle.source_lowering.specs.Lowerable.{IsTarget, AreStructs, TakesPrefix, TakesPointer}
 use Rattle.source_lowering.proofs.expressions.Names.{AreObjectNames, IsPlainWorld}
 use Rattle.compile_proof.specs.Naming.{NamesIn, CodeNames}
 use Rattle.compile_proof.proofs.Naming.{both_name, all_name}
+use Rattle.compile_proof.proofs.Texts.{TextsLie}
 use Rattle.compile_proof.proofs.Pointers.{loads_names, stores_names, check_names, bounds_names, reached_names, element_names, reach_names}
 
 -- ---- names in scope
 
+abbrev pub HomeLies : List ℕ → Home → Type 0
+HomeLies blocks (InBlock out index) = IsLocal blocks out index
+HomeLies blocks (InTemporary t) = Unit {0}
+
 abbrev pub LocalLies : List ℕ → Option Named → Type 0
 LocalLies blocks None = Unit {0}
-LocalLies blocks (Some l) = IsLocal blocks l.out l.index
+LocalLies blocks (Some l) = HomeLies blocks l.home
 
--- each of them is a local of the blocks around
+-- each of them is a local of the blocks around, or in a temporary
 abbrev pub LocalsLie : List ℕ → List Named → Type 0
 LocalsLie blocks [] = Unit {0}
-LocalsLie blocks (l ∷ ls) = IsLocal blocks l.out l.index × LocalsLie blocks ls
+LocalsLie blocks (l ∷ ls) = HomeLies blocks l.home × LocalsLie blocks ls
 
 abbrev pub GlobalLies : ℕ → Option Entity → Type 0
 GlobalLies n None = Unit {0}
@@ -87,10 +63,11 @@ global_lies n (b ∷ bs) name h = by (bytes_eq b.name name) (global_lies n bs na
     by true others = h.0
     by false others = others
 
--- what is around code: the blocks' locals, the names in scope, the globals and functions
+-- what is around code: the blocks' locals, the names in scope, the globals, strings and functions
 pub record Around (blocks : List ℕ) (objects : ℕ) (w : World) (names : List Named) : Type 0 where
   pub locals : LocalsLie blocks names
   pub globals : GlobalsLie objects w.globals
+  pub texts : TextsLie objects w.strings
   pub words : AreObjectNames w.structs names
   pub plain : IsPlainWorld w
 
@@ -111,19 +88,31 @@ module _ (blocks : List ℕ) (own n : ℕ) where
   stored_local _ address d out index h = (h, tt)
 
   pub get_names : (d : ℕ) (l : Option Named) (e : Option Entity) → LocalLies blocks l → GlobalLies n e → CodeNames blocks own n (get_by l e d)
-  get_names d (Some l) e h g = local_read l.shape d l.out l.index h
+  get_names d (Some l) e h g = by l.home h
+    where
+      by : (home : Home) → HomeLies blocks home → CodeNames blocks own n (get_home l.shape home d)
+      by (InBlock out index) lies = local_read l.shape d out index lies
+      by (InTemporary t) lies = (tt, tt)
   get_names d None (Some (Variable s at)) h g = global_read s d at.object g
   get_names d None (Some (Fixed s v)) h g = tt
   get_names d None None h g = tt
 
   pub put_names : (d : ℕ) (l : Option Named) (e : Option Entity) → LocalLies blocks l → GlobalLies n e → CodeNames blocks own n (put_by l e d)
-  put_names d (Some l) e h g = stored_local l.shape (d + words_in l.shape) d l.out l.index h
+  put_names d (Some l) e h g = by l.home h
+    where
+      by : (home : Home) → HomeLies blocks home → CodeNames blocks own n (put_home l.shape home d)
+      by (InBlock out index) lies = stored_local l.shape (d + words_in l.shape) d out index lies
+      by (InTemporary t) lies = tt
   put_names d None (Some (Variable s at)) h g = (g, stores_names blocks own n s (d + words_in s) d 0 0)
   put_names d None (Some (Fixed s v)) h g = tt
   put_names d None None h g = tt
 
   pub address_names : (d : ℕ) (l : Option Named) (e : Option Entity) → LocalLies blocks l → GlobalLies n e → CodeNames blocks own n (address_by l e d)
-  address_names d (Some l) e h g = (h, tt)
+  address_names d (Some l) e h g = by l.home h
+    where
+      by : (home : Home) → HomeLies blocks home → CodeNames blocks own n (home_address home d)
+      by (InBlock out index) lies = (lies, tt)
+      by (InTemporary t) lies = tt
   address_names d None (Some (Variable s at)) h g = (g, tt)
   address_names d None (Some (Fixed s v)) h g = tt
   address_names d None None h g = tt

@@ -26,21 +26,7 @@ use Rattle.source_meaning.specs.Places.{bound_to}
 use Rattle.source_meaning.specs.Calls.{number_type, function_of}
 use Rattle.source_meaning.specs.Programs.{integer_shape}
 use Rattle.source_lowering.specs.Layouts.{extent_of}
-use Rattle.source_lowering.specs.Lowered.{
-  Named,
-  local_named,
-  entity_shape,
-  shape_by,
-  named_shape,
-  valued,
-  member_shape,
-  suffixed_shape,
-  result_shape,
-  call_shape,
-  static_shape,
-  new_shape,
-  linked_shape,
-}
+use Rattle.source_lowering.specs.Lowered.{Named, local_named, entity_shape, shape_by, named_shape, valued, member_shape, suffixed_shape, result_shape, call_shape, static_shape, new_shape, linked_shape, number_named}
 use Rattle.source_lowering.specs.Lowerable.{IsTarget, IsVariable, AreStructs, Takes, TakesPlace, TakesSuffixes, TakesMembers, TakesLinks, TakesNew}
 use Rattle.source_lowering.proofs.Structs.{struct_made}
 use Rattle.source_lowering.proofs.values.Integers.{IsTaken, target_taken, object_target}
@@ -145,7 +131,7 @@ module _ (w : World) (names : List Named) (plain : IsPlainWorld w) (words : AreO
 
   new_taken : (new : Made) → TakesNew w names new → IsTaken (new_shape w names new)
   new_taken (One value) h = (refl, object_target w.structs (static_shape w names value) h.0)
-  new_taken (Array index count element) h = absurd h
+  new_taken (Array index count element) h = object_target w.structs (static_shape w (number_named index.text 0 ∷ names) element) (h.1 0).0
 
   mutual
     pub place_target : (e : Expression) → TakesPlace w names e → IsTarget (static_shape w names e)
@@ -165,6 +151,7 @@ module _ (w : World) (names : List Named) (plain : IsPlainWorld w) (words : AreO
     shape_taken (Expression.Variable name) h = target_taken (static_shape w names (Expression.Variable name)) (name_target name.text) h
     shape_taken (Expression.Call name arguments) h = call_taken w name.text plain h.0
     shape_taken (Expression.NumElts at operand) h = tt
+    shape_taken (Expression.Text at bytes) h = tt
     shape_taken (Expression.Grouped at inner) h = shape_taken inner h
     shape_taken (Expression.Suffixed primary suffixes) h =
         target_taken (suffixed_shape w suffixes (static_shape w names primary))

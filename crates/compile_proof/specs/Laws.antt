@@ -7,17 +7,18 @@ use Rattle.source_lowering.specs.Lowerable.{IsLowerable}
 use Rattle.source_lowering.specs.Programs.{program_code}
 use Rattle.source_typing.specs.Answers.{program_faults}
 use Rattle.accepted_programs.specs.Supported.{supported}
-use Rattle.core_lines.specs.Running.{data_end}
+use Rattle.core_lines.specs.Running.{data_offsets, data_end}
 use Rattle.compile_proof.specs.Promise.{AreNamedApart, LowerableDoes}
 
 -- what is promised of a program that is lowered holds of each in which no two functions have one name
 abbrev pub AllLowerableDo : Type 0
 AllLowerableDo = (p : Program) → IsLowerable p → AreNamedApart (world_of p).functions → LowerableDoes p
 
--- a program in which the rules find no fault: what is promised, its data are numbers that fit their places, and are no longer than those of an image
+-- a program in which the rules find no fault: what is promised, its data are numbers that fit their places and pointers into the data, and are no longer than
+-- those of an image
 pub record AcceptedDoes (p : Program) : Type 0 where
   pub promised : LowerableDoes p
-  pub plain : ArePlainData (program_code p).data_objects
+  pub plain : ArePlainData (data_offsets (program_code p).data_objects) (program_code p).data_objects
   pub data_within : data_end (program_code p).data_objects ≤ 2 ^ 20
 
 -- that holds of each program of the forms that are taken today in which the rules find no fault

@@ -52,7 +52,7 @@ use Rattle.core_lines.specs.Layouts.{IsLayout, IsFull, IsZero}
 use Rattle.core_lines.specs.Selectable.{AreLayouts, IsLocal}
 
 -- An operation within blocks that have so many locals each, the innermost first, in a function of so many unnamed values, over so many objects of
--- the data. `Move` isn't used.
+-- the data.
 abbrev pub NamesIn : List ℕ → (own objects : ℕ) → Operation → Type 0
 NamesIn blocks own objects (Constant t w) = Unit {0}
 NamesIn blocks own objects (NullPointer t) = Unit {0}
@@ -83,7 +83,7 @@ NamesIn blocks own objects (KeyNew t) = Unit {0}
 NamesIn blocks own objects (KeyOpen k) = Unit {0}
 NamesIn blocks own objects (KeyClose k) = Unit {0}
 NamesIn blocks own objects (KeyFree k) = Unit {0}
-NamesIn blocks own objects (Move t x) = ⊥
+NamesIn blocks own objects (Move t x) = Unit {0}
 
 abbrev mutual
   pub IsNaming : List ℕ → (own objects : ℕ) → Statement → Type 0

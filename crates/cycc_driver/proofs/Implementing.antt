@@ -6,7 +6,7 @@ use Rattle.arena_laws.specs.Holdings.{Holdings, fresh}
 use Rattle.compile_proof.specs.Promise.{lines_of}
 use Rattle.compile_proof.proofs.AcceptedDo.{accepted_do}
 use Rattle.core_lines.specs.Lines.{IsPlace, code_length}
-use Rattle.core_lines.specs.Running.{Begins}
+use Rattle.core_lines.specs.Running.{Begins, data_offsets}
 use Rattle.core_lines.specs.Statics.{data_bytes}
 use Rattle.core_lines.proofs.Images.{IsFirst, begins_as, data_length}
 use Rattle.rv32_layout.specs.Holding.{IsCodeOf}
@@ -31,7 +31,7 @@ pub record AreLayers (program : Program) (code statics : List ℕ) : Type 0 wher
   pub placed : ArePlaced (lines_of program) code
   pub has : IsCodeOf (lines_of program) code
   pub places : (label : ℕ) → IsPlace (place_of (lines_of program) label)
-  pub statics_are : statics ≡ data_bytes 0 (program_code program).data_objects
+  pub statics_are : statics ≡ data_bytes (data_offsets (program_code program).data_objects) 0 (program_code program).data_objects
 
 -- each register begins as a word: the stack's end, or 0
 first_small : (register : ℕ) → first_register register < 2 ^ 32
@@ -57,6 +57,8 @@ module _ (program : Program) (code statics : List ℕ) (parts : Contents) (layer
     (is_statics : parts.statics ≡ statics) (from_first : parts.entry ≡ 0) (fits : Fits parts) where
   first_machine : (arena : ℕ → ℕ) (start : Arrays) → ((at : ℕ) → arena at < 256) → IsStart parts (fresh parts.pages) arena start → IsFirst start
   first_machine arena start small starts =
+      let objects = (program_code program).data_objects in
+      let offsets = data_offsets objects in
       let pages : start.holdings.pages ≡ parts.pages = ap (λ (h : Holdings). h.pages) starts.held in
       record {
         runs = starts.runs;
@@ -71,7 +73,7 @@ module _ (program : Program) (code statics : List ℕ) (parts : Contents) (layer
             (subst (λ (a : ℕ → ℕ). (at : ℕ) → a at < 256) (sym starts.arena_bytes) small)
             (subst (λ (bs : List ℕ). (k : ℕ) → slice_index bs k < 256) (sym (starts.code ∙ is_code)) (each_small code (code_small (lines_of program) code layers.placed)))
             (subst (λ (bs : List ℕ). (k : ℕ) → slice_index bs k < 256) (sym (starts.statics ∙ is_statics ∙ layers.statics_are))
-            (each_small (data_bytes 0 (program_code program).data_objects) (data_small 0 (program_code program).data_objects)))
+            (each_small (data_bytes offsets 0 objects) (data_small offsets 0 objects)))
             (λ k. let none = starts.zeros k in omega (arith, none));
         unheld = λ number. ap (λ (h : Holdings). h.standing number) starts.held;
       }
@@ -96,11 +98,13 @@ is_code program code long within =
     record { some = omega (arith, long); within = within; whole_words = omega (arith, long, words) }
 
 -- the data are never over theirs
-pub data_fit : (program : Program) → IsAccepted program → data_limit < length (data_bytes 0 (program_code program).data_objects) → ⊥
+pub data_fit : (program : Program) → IsAccepted program
+    → data_limit < length (data_bytes (data_offsets (program_code program).data_objects) 0 (program_code program).data_objects) → ⊥
 data_fit program accepted large =
     let does = accepted_do program (no_faults program accepted) in
     let within = does.data_within in
-    let long = data_length 0 (program_code program).data_objects does.plain in
+    let objects = (program_code program).data_objects in
+    let long = data_length (data_offsets objects) 0 objects does.plain in
     omega (arith, within, long, large)
 
 -- the image of an accepted text

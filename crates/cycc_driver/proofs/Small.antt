@@ -53,30 +53,30 @@ number_small width n = by (nat_eq width 1)
     by true = (omega arith, tt)
     by false = (omega arith, (omega arith, (omega arith, (omega arith, tt))))
 
-parts_small : (first : ℕ → Content) (j : ℕ) (ss : List PartShape) → AreSmall (parts_bytes first j ss)
-parts_small first j [] = tt
-parts_small first j (s ∷ ss) =
-    both_small (number_bytes s.width (number_in (first j))) (parts_bytes first (j + 1) ss) (number_small s.width (number_in (first j)))
-    (parts_small first (j + 1) ss)
+parts_small : (os : List ℕ) (first : ℕ → Content) (j : ℕ) (ss : List PartShape) → AreSmall (parts_bytes os first j ss)
+parts_small os first j [] = tt
+parts_small os first j (s ∷ ss) =
+    both_small (number_bytes s.width (number_in os (first j))) (parts_bytes os first (j + 1) ss) (number_small s.width (number_in os (first j)))
+    (parts_small os first (j + 1) ss)
 
-cells_small : (first : ℕ → ℕ → Content) (k : ℕ) (cs : List (List PartShape)) → AreSmall (cells_bytes first k cs)
-cells_small first k [] = tt
-cells_small first k (c ∷ cs) =
-    both_small (parts_bytes (first k) 0 c) (cells_bytes first (k + 1) cs) (parts_small (first k) 0 c) (cells_small first (k + 1) cs)
+cells_small : (os : List ℕ) (first : ℕ → ℕ → Content) (k : ℕ) (cs : List (List PartShape)) → AreSmall (cells_bytes os first k cs)
+cells_small os first k [] = tt
+cells_small os first k (c ∷ cs) =
+    both_small (parts_bytes os (first k) 0 c) (cells_bytes os first (k + 1) cs) (parts_small os (first k) 0 c) (cells_small os first (k + 1) cs)
 
-elements_small : (cells : List (List PartShape)) (first : ℕ → ℕ → Content) (k count : ℕ) → AreSmall (element_bytes cells first k count)
-elements_small cells first k zero = tt
-elements_small cells first k (suc count) =
-    both_small (cells_bytes first k cells) (element_bytes cells first (k + length cells) count) (cells_small first k cells)
-    (elements_small cells first (k + length cells) count)
+elements_small : (os : List ℕ) (cells : List (List PartShape)) (first : ℕ → ℕ → Content) (k count : ℕ) → AreSmall (element_bytes os cells first k count)
+elements_small os cells first k zero = tt
+elements_small os cells first k (suc count) =
+    both_small (cells_bytes os first k cells) (element_bytes os cells first (k + length cells) count) (cells_small os first k cells)
+    (elements_small os cells first (k + length cells) count)
 
-pub data_small : (low : ℕ) (ds : List Datum) → AreSmall (data_bytes low ds)
-data_small low [] = tt
-data_small low (d ∷ ds) =
-    let next = rounded low + length (datum_bytes d) in
-    let rest = data_bytes next ds in
-    both_small (zeros (rounded low - low)) (datum_bytes d ++ rest) (zeros_small (rounded low - low))
-    (both_small (datum_bytes d) rest (elements_small d.layout.cells d.first 0 d.count) (data_small next ds))
+pub data_small : (os : List ℕ) (low : ℕ) (ds : List Datum) → AreSmall (data_bytes os low ds)
+data_small os low [] = tt
+data_small os low (d ∷ ds) =
+    let next = rounded low + length (datum_bytes os d) in
+    let rest = data_bytes os next ds in
+    both_small (zeros (rounded low - low)) (datum_bytes os d ++ rest) (zeros_small (rounded low - low))
+    (both_small (datum_bytes os d) rest (elements_small os d.layout.cells d.first 0 d.count) (data_small os next ds))
 
 -- ---- memory
 

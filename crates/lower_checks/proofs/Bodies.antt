@@ -1,6 +1,9 @@
 -- A function's body, from its parts as the code makes them.
-use Rattle.std.proofs.Common.{◌≡◌, ◌∙◌, ℕ, suc, refl, ap, List, [], ◌∷◌, ◌++◌, length}
-use Rattle.source_meaning.specs.Shapes.{Shape, Part, part_shapes}
+use Rattle.std.proofs.Common.{◌≡◌, ◌∙◌, ◌+◌, ◌<◌, ℕ, suc, refl, sym, ap, List, [], ◌∷◌, ◌++◌, length, map, drop, get_or}
+use Rattle.std.proofs.lemmas.List.{drop_more}
+use Rattle.cyc_tree.specs.View.{member_tree}
+use Rattle.cyc_tree.specs.declared.item.Member as code_member
+use Rattle.source_meaning.specs.Shapes.{Shape, Part, part_of, part_shapes}
 use Rattle.source_meaning.specs.Steps.{Routine, World}
 use Rattle.core_meaning.specs.Core.{Local, Statement, Block, MoreStatements}
 use Rattle.cyc_core.specs.Trees.{statements_of}
@@ -12,6 +15,13 @@ use Rattle.lower_checks.proofs.Lists.{all_is}
 pub as_many_shapes : (ps : List Part) → length (part_shapes ps) ≡ length ps
 as_many_shapes [] = refl
 as_many_shapes (p ∷ ps) = ap suc (as_many_shapes ps)
+
+-- the parameters that are left begin with this one
+pub left_parameters : (ms : List code_member.Member) (n : ℕ) (m : code_member.Member) → n < length ms → m ≡ get_or ms n m
+    → map part_of (map member_tree (drop n ms)) ≡ part_of (member_tree m) ∷ map part_of (map member_tree (drop (n + 1) ms))
+left_parameters ms n m within m_is =
+    ap (λ (xs : List code_member.Member). map part_of (map member_tree xs))
+    (drop_more ms n m within ∙ ap (λ (x : code_member.Member). x ∷ drop (n + 1) ms) (sym m_is))
 
 -- what stores all parameters
 abbrev pub all_parameters : Routine → List Statement

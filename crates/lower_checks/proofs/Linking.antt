@@ -5,7 +5,7 @@ use Rattle.std.specs.Cmp.Lexicographic.{bytes_decides}
 use Rattle.std.specs.HashMap as hash
 use Rattle.std.specs.HashMap.{HashMap}
 use Rattle.std.specs.Prelude.{Option, Some, None, IsSome, IfSome, is_some, if◌then◌else◌, option_map, unwrap_or, bytes_eq}
-use Rattle.source_lowering.specs.Lowered.{Named, local_named}
+use Rattle.source_lowering.specs.Lowered.{InBlock, Named, local_named}
 use Rattle.source_lowering.specs.Programs.{one_out, outward}
 use Rattle.lower_checks.specs.Views.{stored_tree}
 use Rattle.lower_checks.specs.Visible.{names_of}
@@ -52,14 +52,6 @@ linked_same marks old new depth linked same = record {
   depth_is = linked.depth_is;
 }
 
--- in one block more
-pub linked_begin : (marks : List Mark) (last : LastLocals) (depth : ℕ) → AreLinked marks last depth → AreLinked (Begin ∷ marks) last (suc depth)
-linked_begin marks last depth linked = record { kept = linked.kept; means = linked.means; depth_is = ap suc linked.depth_is }
-
--- in one block less
-pub linked_left : (marks : List Mark) (last : LastLocals) (depth : ℕ) → AreLinked (Begin ∷ marks) last depth → AreLinked marks last (depth - 1)
-linked_left marks last depth linked = record { kept = linked.kept; means = linked.means; depth_is = omega (arith, linked.depth_is) }
-
 -- the last local's name is in the table
 pub linked_last : (marks : List Mark) (l : Local) (hidden : Option Local) (last : LastLocals) (depth : ℕ) → AreLinked (Declare l hidden ∷ marks) last depth
     → IsSome (last_in last l.name.now)
@@ -87,7 +79,7 @@ linked_less marks l hidden old new depth linked set = record {
 
 -- a local, where so many blocks are open
 abbrev pub named_at : ℕ → Local → Named
-named_at depth l = record { name = l.name.now; shape = stored_tree l.stored; out = depth - l.depth; index = l.index }
+named_at depth l = record { name = l.name.now; shape = stored_tree l.stored; home = InBlock (depth - l.depth) l.index }
 
 abbrev Within : ℕ → Option Local → Type 0
 Within depth local = IfSome local (λ l. l.depth ≤ depth)
@@ -110,7 +102,7 @@ found_within (Declare l hidden ∷ ms) name kept =
 out_more : (depth : ℕ) (local : Option Local) → Within depth local → option_map (named_at (suc depth)) local ≡ option_map one_out (option_map (named_at depth) local)
 out_more depth (Some l) h =
     let more : suc depth - l.depth ≡ suc (depth - l.depth) = omega (arith, h) in
-    ap (λ n. Some (record { name = l.name.now; shape = stored_tree l.stored; out = n; index = l.index })) more
+    ap (λ n. Some (record { name = l.name.now; shape = stored_tree l.stored; home = InBlock n l.index })) more
 out_more depth None h = refl
 
 moved_if : (own : Bool) (n : Named) (local : Option Named) → (if own then Some (one_out n) else option_map one_out local) ≡ option_map one_out (if own then Some n else local)
@@ -125,10 +117,10 @@ named_outward (n ∷ ns) name =
 
 own_if : (own : Bool) (depth : ℕ) (l : Local) (local : Option Local) → l.depth ≡ depth
     → option_map (named_at depth) (if own then Some l else local)
-    ≡ (if own then Some (record { name = l.name.now; shape = stored_tree l.stored; out = 0; index = l.index }) else option_map (named_at depth) local)
+    ≡ (if own then Some (record { name = l.name.now; shape = stored_tree l.stored; home = InBlock 0 l.index }) else option_map (named_at depth) local)
 own_if true depth l local is =
     let none : depth - l.depth ≡ 0 = omega (arith, is) in
-    ap (λ n. Some (record { name = l.name.now; shape = stored_tree l.stored; out = n; index = l.index })) none
+    ap (λ n. Some (record { name = l.name.now; shape = stored_tree l.stored; home = InBlock n l.index })) none
 own_if false depth l local is = refl
 
 -- it is the innermost one that is visible
@@ -141,7 +133,7 @@ found_named (Begin ∷ ms) name kept =
     ∙ sym (named_outward (names_of (marks_of ms)) name)
 found_named (Declare l hidden ∷ ms) name kept =
     own_if (bytes_eq l.name.now name) (depth_of ms) l (found ms name) kept.0.depth
-    ∙ ap (λ o. if bytes_eq l.name.now name then Some (record { name = l.name.now; shape = stored_tree l.stored; out = 0; index = l.index }) else o)
+    ∙ ap (λ o. if bytes_eq l.name.now name then Some (record { name = l.name.now; shape = stored_tree l.stored; home = InBlock 0 l.index }) else o)
     (found_named ms name kept.1)
 
 -- so it is by the table's local

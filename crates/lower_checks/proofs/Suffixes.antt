@@ -123,19 +123,6 @@ module _ (w : World) (names : List Named) where
   further_taken [] (suc n) h = h
   further_taken (s ∷ ss) (suc n) h = further_taken ss n (each_taken (suffix_tree s) (map suffix_tree ss) h).1
 
-  -- one more is evaluated behind those after it
-  pub more_indices : (one : OneSuffix) (rest : List OneSuffix) (d own to n : ℕ) (before middle after : List Statement)
-      → middle ≡ before ++ indices_code w names (suffixes_of rest) d own → to ≡ d + indices_in (suffixes_of rest)
-      → n ≡ own + length (suffix_values w names (suffixes_of rest)) → after ≡ middle ++ indices_code w names (suffixes_of (one ∷ [])) to n
-      → after ≡ before ++ indices_code w names (suffixes_of (one ∷ rest)) d own
-  more_indices one rest d own to n before middle after middle_is to_is n_is after_is =
-      let code : ℕ → ℕ → List Statement = indices_code w names (suffixes_of (one ∷ [])) in
-      let number = own + length (suffix_values w names (suffixes_of rest)) in
-      then_of before (indices_code w names (suffixes_of rest) d own) middle (code to n) after (indices_code w names (suffixes_of (one ∷ rest)) d own) middle_is
-      after_is
-      (indices_behind one rest d own ∙ ap (λ x. indices_code w names (suffixes_of rest) d own ++ code x number) (sym to_is)
-      ∙ ap (λ x. indices_code w names (suffixes_of rest) d own ++ code to x) (sym n_is))
-
   -- ---- from what is on the left of the first suffix
 
   module _ (s : Shape) (value pointer : ℕ → List Statement) (own : ℕ) where

@@ -1,8 +1,13 @@
 pub mod Marks
+pub mod Numbers
 pub mod Promise
 pub mod Reaching
 pub mod Refusals
+pub mod Scoped
+pub mod Signs
 pub mod Structs
 pub mod Tables
 pub mod Views
 pub mod Visible
+pub mod Writing
+pub mod Bytes

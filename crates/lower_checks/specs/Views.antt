@@ -1,5 +1,5 @@
 -- What contracts see of the shapes and names that the code has.
-use Rattle.std.specs.Prelude.{ℕ, zero, suc, false, map}
+use Rattle.std.specs.Prelude.{false, map}
 use Rattle.cyc_tree.specs.View.{base_tree, pointer_tree}
 use Rattle.source_meaning.specs.Shapes.{
   Shape,
@@ -22,6 +22,8 @@ use Rattle.source_meaning.specs.Shapes.{
   settled,
 }
 use Rattle.source_meaning.specs.Steps.{Entity, Variable}
+use Rattle.source_meaning.specs.Memory.{Scalar}
+use Rattle.source_meaning.specs.Places.{span_at}
 use Rattle.source_meaning.specs.Programs.{heap_spot}
 use Rattle.source_lowering.specs.Lowered as lowered
 use Rattle.source_lowering.specs.Programs as programs
@@ -31,6 +33,8 @@ use Rattle.lower_checks.specs.declared.shape.Owner as code_owner
 use Rattle.lower_checks.specs.declared.shape.Owner.TheVariants as owner_is
 use Rattle.lower_checks.specs.declared.shape.Written as code_written
 use Rattle.lower_checks.specs.declared.shape.Written.TheVariants as written
+use Rattle.lower_checks.specs.declared.shape.Pointee as code_pointee
+use Rattle.lower_checks.specs.declared.shape.Pointee.TheVariants as pointee
 use Rattle.lower_checks.specs.declared.shape.Plain as code_plain
 use Rattle.lower_checks.specs.declared.shape.Plain.TheVariants as plain
 use Rattle.lower_checks.specs.declared.stored.Stored as code_stored
@@ -38,6 +42,8 @@ use Rattle.lower_checks.specs.declared.stored.Stored.TheVariants as stored
 use Rattle.lower_checks.specs.declared.leaving.RegionsAround as code_regions
 use Rattle.lower_checks.specs.declared.names.Named as code_named
 use Rattle.lower_checks.specs.declared.table.Found as code_found
+use Rattle.lower_checks.specs.declared.table.Text as code_text
+use Rattle.lower_checks.specs.Signs.{around, signs_of}
 
 abbrev pub owner_tree : code_owner.Owner → Owner
 owner_tree owner_is.Shared = Shared
@@ -64,10 +70,10 @@ plain_tree plain.Key = KeyShape
 plain_tree (plain.Struct tag) = StructShape tag.now
 plain_tree (plain.Union tag) = UnionShape tag.now
 
--- so many pointers around a shape, each shared and never NULL
-abbrev pub addresses : ℕ → Shape → Shape
-addresses zero s = s
-addresses (suc n) s = ThinShape false Shared (addresses n s)
+-- the shape of what a fat pointer leads to
+abbrev pub pointee_shape : code_pointee.Pointee → Shape
+pointee_shape (pointee.Written w) = written_shape w
+pointee_shape (pointee.Made signs to) = around (signs_of signs) (plain_tree to)
 
 abbrev pub shape_tree : code_shape.Shape → Shape
 shape_tree shape.Int = IntShape
@@ -75,8 +81,8 @@ shape_tree shape.Unsigned = UnsignedShape
 shape_tree shape.Char = CharShape
 shape_tree shape.Void = VoidShape
 shape_tree (shape.Thin may_be_null owner to) = ThinShape may_be_null (owner_tree owner) (written_shape to)
-shape_tree (shape.Address pointers to) = ThinShape false Shared (addresses pointers (plain_tree to))
-shape_tree (shape.Fat to) = FatShape (written_shape to)
+shape_tree (shape.Address signs to) = ThinShape false Shared (around (signs_of signs) (plain_tree to))
+shape_tree (shape.Fat to) = FatShape (pointee_shape to)
 shape_tree shape.Handle = HandleShape
 shape_tree shape.Key = KeyShape
 shape_tree (shape.Struct tag) = StructShape tag.now
@@ -88,11 +94,15 @@ stored_tree (stored.One s) = shape_tree s
 stored_tree (stored.Array count of) = ArrayShape count (written_shape of)
 
 abbrev pub named_tree : code_named.Named → lowered.Named
-named_tree n = record { name = n.name.now; shape = stored_tree n.stored; out = n.out; index = n.index }
+named_tree n = record { name = n.name.now; shape = stored_tree n.stored; home = lowered.InBlock n.out n.index }
 
 -- a global by what it is and its number
 abbrev pub found_entity : code_found.Found → Entity
 found_entity g = Variable (stored_tree g.stored) (heap_spot g.object)
+
+-- a string: a fat pointer to the first of its bytes
+abbrev pub text_value : code_text.Text → Scalar
+text_value t = span_at t.count (heap_spot t.object)
 
 abbrev pub regions_tree : code_regions.RegionsAround → programs.RegionsAround
 regions_tree r = record { all = r.all; inner = r.inner }

@@ -1,19 +1,21 @@
 // Calls of functions, after their arguments.
 
-ghost use Rattle.std.specs.Prelude.{◌≡◌, ◌++◌, IfOk, OnOk, map};
-ghost use Rattle.cyc_tree.specs.View.{member_tree};
+ghost use Rattle.std.specs.Prelude.{◌≡◌, ◌∷◌, [], IfOk, Some, map};
+ghost use Rattle.cyc_tree.specs.View.{function_tree, member_tree};
 ghost use Rattle.cyc_core.specs.Trees.{temporary_tree, statement_tree};
 ghost use Rattle.source_meaning.specs.Shapes.{part_of, part_shapes};
-ghost use Rattle.source_meaning.specs.Programs.{world_of};
+ghost use Rattle.source_meaning.specs.Programs.{routine_of, world_of};
 ghost use Rattle.source_lowering.specs.Lowered.{call_parameters, from_on, call_code};
+ghost use Rattle.source_lowering.specs.Pieces.{function_call};
 ghost use Rattle.lower_checks.specs.Views.{shape_tree};
 ghost use Rattle.lower_checks.specs.Refusals.{NeverRefused};
+ghost use Rattle.lower_checks.specs.Writing.{Emits};
 
-use crate::emit::{emit, emit_operation};
+use crate::body::Body;
 use crate::fault::LowerFault;
 use crate::names::after;
 use crate::shape::Shape;
-use crate::table::Table;
+use crate::table::{Callee, Table};
 use cyc_core::{Operation, Statement, Temporary};
 use cyc_tree::Member;
 use std::alloc::Global;
@@ -73,31 +75,41 @@ fn passed_from(alloc: Global, count: u32, first: Temporary) -> Result<Vec<Tempor
     Ok(passed)
 }
 
-/// Appends the call of a function, to which so many words are passed, from this temporary on.
-pub fn lower_call(
+/// The call of a function, to which so many words are passed, from this temporary on.
+fn passing(
     alloc: Global,
-    program: &Table<'_>,
-    body: &mut Vec<Statement>,
-    name: &[u8],
+    callee: Callee<'_>,
     words: u32,
     to: Temporary,
-) -> Result<(), LowerFault>
-    ensures code { OnOk result
-        (map statement_tree body.new.items ≡
-        map statement_tree body.old.items ++
-        call_code (world_of program.now) name.now words to.0) }
+) -> Result<Statement, LowerFault>
+    ensures call { IfOk result
+        (λ call. statement_tree call ∷ [] ≡ function_call (Some (routine_of (function_tree callee.entry.function.now))) callee.entry.number words to.0) }
     ensures taken { NeverRefused result }
 {
-    if name == b"getchar".as_slice() {
-        return emit_operation(body, Operation::Getchar(to));
-    }
-    if name == b"putchar".as_slice() {
-        return emit_operation(body, Operation::Putchar(to, to));
-    }
-    let Some(callee) = program.function_named(name) else {
-        return Ok(());
-    };
     let result = Shape::of(&callee.function.result).result_in(to)?;
     let passed = passed_from(alloc, words, to)?;
-    emit(body, Statement::Call(result, callee.number, passed))
+    Ok(Statement::Call(result, callee.number, passed))
+}
+
+/// Appends the call of a function that is found, to which so many words are passed, from this temporary on.
+fn lower_callee(body: &mut Body<'_>, callee: Callee<'_>, words: u32, to: Temporary)
+    ensures { Emits body.old body.new (function_call (Some (routine_of (function_tree callee.entry.function.now))) callee.entry.number words to.0) }
+{
+    match passing(body.alloc, callee, words, to) {
+        Ok(call) => body.emit(call),
+        Err(fault) => body.note(fault),
+    }
+}
+
+/// Appends the call of a function, to which so many words are passed, from this temporary on.
+pub fn lower_call(program: &Table<'_>, body: &mut Body<'_>, name: &[u8], words: u32, to: Temporary)
+    ensures { Emits body.old body.new (call_code (world_of program.now) name.now words to.0) }
+{
+    if name == b"getchar".as_slice() {
+        body.operation(Operation::Getchar(to));
+    } else if name == b"putchar".as_slice() {
+        body.operation(Operation::Putchar(to, to));
+    } else if let Some(callee) = program.function_named(name) {
+        lower_callee(body, callee, words, to);
+    }
 }

@@ -1,8 +1,8 @@
 // Functions.
 
-ghost use Rattle.std.specs.Prelude.{◌≡◌, ◌++◌, OnOk, IfOk, map};
+ghost use Rattle.std.specs.Prelude.{◌≡◌, ◌++◌, IfOk, map};
 ghost use Rattle.cyc_tree.specs.View.{member_tree, function_tree as source_tree};
-ghost use Rattle.cyc_core.specs.Trees.{statement_tree, body_tree, function_tree};
+ghost use Rattle.cyc_core.specs.Trees.{body_tree, function_tree};
 ghost use Rattle.source_meaning.specs.Shapes.{part_of, part_shapes};
 ghost use Rattle.source_lowering.specs.Members.{all_words};
 ghost use Rattle.source_meaning.specs.Programs.{world_of, routine_of};
@@ -11,17 +11,18 @@ ghost use Rattle.lower_checks.specs.Views.{shape_tree, stored_tree};
 ghost use Rattle.lower_checks.specs.Visible.{names_of};
 ghost use Rattle.source_lowering.specs.Lowerable.{TakesFunction};
 ghost use Rattle.lower_checks.specs.Refusals.{NeverRefused};
+ghost use Rattle.lower_checks.specs.Writing.{Emits, IsSound, values_of};
 
-use crate::emit::{emit, emit_block, emit_operation};
+use crate::body::Body;
 use crate::fault::LowerFault;
 use crate::layouts::sum;
 use crate::leaving::RegionsAround;
 use crate::locals::Locals;
-use crate::names::{after, number};
-use crate::objects::{locals_of, values_of};
+use crate::names::number;
+use crate::objects::values_of;
 use crate::shape::Shape;
-use crate::statement::lower_items;
-use crate::stored::{Stored, add_stored};
+use crate::statement::{declare, lower_inside, lower_items};
+use crate::stored::Stored;
 use crate::table::Table;
 use crate::usage::{passed, temporaries};
 use crate::variable::lower_store_local;
@@ -46,103 +47,83 @@ fn parameter_words(parameters: &[Member]) -> Result<u32, LowerFault>
 fn lower_parameters<'p>(
     locals: &mut Locals<'p>,
     all: &mut Vec<Stored<'p>>,
-    body: &mut Vec<Statement>,
+    body: &mut Body<'_>,
     parameters: &'p [Member],
     free: Temporary,
-) -> Result<(), LowerFault>
-    ensures names { OnOk result
-        (names_of locals.new ≡
-        parameter_names (map part_of (map member_tree parameters.entry.now)) 0 (names_of locals.old)) }
-    ensures stored { OnOk result
-        (map stored_tree all.new.items ≡
-        map stored_tree all.old.items ++ part_shapes (map part_of (map member_tree parameters.entry.now))) }
-    ensures code { OnOk result
-        (map statement_tree body.new.items ≡
-        map statement_tree body.old.items ++ parameters_code (map part_of (map member_tree parameters.entry.now)) 0 0 free.0) }
-    ensures taken { NeverRefused result }
+)
+    ensures code { Emits body.old body.new (parameters_code (map part_of (map member_tree parameters.entry.now)) 0 0 free.0) }
+    ensures names { IsSound body.new → names_of locals.new ≡ parameter_names (map part_of (map member_tree parameters.entry.now)) 0 (names_of locals.old) }
+    ensures stored { IsSound body.new →
+        map stored_tree all.new.items ≡ map stored_tree all.old.items ++ part_shapes (map part_of (map member_tree parameters.entry.now)) }
 {
     let mut index = 0;
     let mut words = 0;
     'each: for parameter in parameters {
         let shape = Shape::of(&parameter.of);
         let local = Variable { out: 0, index };
-        lower_store_local(body, shape, local, free, Temporary(words))?;
-        add_stored(all, Stored::One(shape))?;
-        locals.declare(&parameter.name, Stored::One(shape), index)?;
-        index = after(index)?;
-        words = sum(words, shape.words())?;
+        lower_store_local(body, &shape, local, free, Temporary(words));
+        declare(
+            locals,
+            all,
+            &parameter.name,
+            Stored::One(shape),
+            index,
+            body,
+        );
+        index = body.sum(index, 1);
+        words = body.sum(words, shape.words());
     }
-    Ok(())
 }
 
 /// Appends the end of a function without `return`, which gives 0 where a result is due.
-fn lower_end(body: &mut Vec<Statement>, shape: Shape<'_>) -> Result<(), LowerFault>
-    ensures code { OnOk result (map statement_tree body.new.items ≡ map statement_tree body.old.items ++ end_code (shape_tree shape.entry)) }
-    ensures taken { NeverRefused result }
+fn lower_end(body: &mut Body<'_>, shape: &Shape<'_>)
+    ensures { Emits body.old body.new (end_code (shape_tree shape.now)) }
 {
     match shape {
-        Shape::Void => emit(body, Statement::Return(None)),
+        Shape::Void => body.emit(Statement::Return(None)),
         _ => {
-            emit_operation(body, Operation::Constant(Temporary(0), 0))?;
-            emit(body, Statement::Return(Some(Words::One(Temporary(0)))))
+            body.operation(Operation::Constant(Temporary(0), 0));
+            body.emit(Statement::Return(Some(Words::One(Temporary(0)))));
         }
     }
 }
 
-/// How many words a function takes, what it does, and the shapes of its unnamed values.
-#[derive(Drop)]
-struct Lowered<'p> {
-    parameters: u32,
-    body: Vec<Statement>,
-    own: Vec<Shape<'p>>,
-}
-
-/// How many words a function takes, what it does, and the shapes of its unnamed values.
+/// What a function does whose parameters take so many words, and the shapes of its unnamed values.
 fn lower_body<'p>(
     alloc: Global,
     program: &Table<'p>,
     function: &'p Source,
-) -> Result<Lowered<'p>, LowerFault>
-    ensures parameters { let f = routine_of (source_tree function.entry.now) in
-        IfOk result (λ lowered. lowered.parameters ≡ all_words (part_shapes f.parameters)) }
-    ensures code { let f = routine_of (source_tree function.entry.now) in
-        IfOk result (λ lowered. body_tree lowered.body.items ≡ body_code (world_of program.now) f) }
-    ensures values { let f = routine_of (source_tree function.entry.now) in
-        IfOk result (λ lowered. map shape_tree lowered.own.items ≡ routine_values (world_of program.now) f) }
-    ensures taken { TakesFunction (world_of program.now) (source_tree function.entry.now) → NeverRefused result }
+    parameters: u32,
+) -> Body<'p>
+    requires taken { TakesFunction (world_of program.now) (source_tree function.now) }
+    requires words { parameters ≡ all_words (part_shapes (routine_of (source_tree function.now)).parameters) }
+    ensures code { let f = routine_of (source_tree function.entry.now) in IsSound result → body_tree result.code.items ≡ body_code (world_of program.now) f }
+    ensures values { let f = routine_of (source_tree function.entry.now) in IsSound result → values_of result ≡ routine_values (world_of program.now) f }
 {
     let shape = Shape::of(&function.result);
-    let parameters = parameter_words(&function.parameters)?;
+    let mut body = Body::new(alloc);
     let mut locals = Locals::new(alloc);
     let mut all = Vec::new(alloc);
-    let mut inside = Vec::new(alloc);
-    let mut own = Vec::new(alloc);
     lower_parameters(
         &mut locals,
         &mut all,
-        &mut inside,
+        &mut body,
         &function.parameters,
         Temporary(parameters),
-    )?;
+    );
     lower_items(
-        alloc,
         program,
-        shape,
+        &shape,
         &mut locals,
         &function.body,
         &mut all,
-        &mut inside,
-        &mut own,
+        &mut body,
         RegionsAround::none(),
-    )?;
-    let mut body = Vec::new(alloc);
-    emit_block(&mut body, locals_of(alloc, program, &all)?, inside)?;
-    lower_end(&mut body, shape)?;
-    Ok(Lowered {
-        parameters,
-        body,
-        own,
-    })
+    );
+    let inside = body.end(Vec::new(alloc));
+    lower_inside(program, &all, &mut body, inside);
+    lower_end(&mut body, &shape);
+    body
 }
 
 /// A number of temporaries as a u32. Refuses what is over the greatest u32.
@@ -162,23 +143,29 @@ pub fn lower_function<'p>(
     program: &Table<'p>,
     function: &'p Source,
 ) -> Result<Function, LowerFault>
+    requires taken { TakesFunction (world_of program.now) (source_tree function.now) }
     ensures code { let f = routine_of (source_tree function.entry.now) in
         IfOk result (λ lowered. function_tree lowered ≡ function_code (world_of program.now) f) }
-    ensures taken { TakesFunction (world_of program.now) (source_tree function.entry.now) → NeverRefused result }
+    ensures memory { NeverRefused result }
 {
-    let Lowered {
-        parameters,
-        body,
+    let parameters = parameter_words(&function.parameters)?;
+    let Body {
+        code,
         own,
-    } = lower_body(alloc, program, function)?;
-    let temporaries = count(u64::max(u64::from(parameters), temporaries(&body)))?;
-    let passed = number(passed(&body))?;
+        failed,
+        ..
+    } = lower_body(alloc, program, function, parameters);
+    if failed {
+        return Err(LowerFault::Memory);
+    }
+    let temporaries = count(u64::max(u64::from(parameters), temporaries(&code)))?;
+    let passed = number(passed(&code))?;
     let own = values_of(alloc, program, &own)?;
     Ok(Function {
         parameters,
         temporaries,
         passed,
         own,
-        body,
+        body: code,
     })
 }

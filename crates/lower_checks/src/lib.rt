@@ -3,15 +3,17 @@
 //! `lower` appends operation after operation: an expression leaves its value in a temporary, and its
 //! parts use the temporaries above it; a block's locals have numbers in it. The result is the Core
 //! program of `program_code` in `source_lowering`. Programs of functions, globals and locals of
-//! integers, of structs, of handles, of pointers to these and of arrays of them are taken, with the heap
-//! and lexical regions. Functions, globals and structs are found by tables of their names.
-//! Stands on `accepted_programs`, `cyc_core`, `accepted_proof`, `source_lowering`, `cyc_tree` and `indexmap`.
+//! integers, of structs, of handles, of pointers to these and of arrays of them are taken, with strings, the
+//! heap and lexical regions, and arrays that are made there. Functions, globals and structs are found by tables of their names, strings by their places.
+//! Stands on `accepted_programs`, `cyc_core`, `accepted_proof`, `source_lowering`, `listed_strings`, `cyc_tree` and `indexmap`.
 #![tactic(auto)]
 
+mod array;
 mod assigned;
+mod body;
 mod call;
+mod datum;
 mod declaration;
-mod emit;
 mod expression;
 mod fat;
 mod fault;
@@ -25,17 +27,21 @@ mod made;
 mod mark;
 mod member;
 mod names;
+mod numbers;
 mod objects;
 mod operands;
 mod operator;
 mod place;
 mod program;
+mod scope;
 mod shape;
 mod shaped;
+mod signs;
 mod sizes;
 mod statement;
 mod stored;
 mod table;
+mod text;
 mod usage;
 mod values;
 mod variable;

@@ -1,8 +1,7 @@
 // What `new` and `rnew` make.
 
-ghost use Rattle.std.specs.Prelude.{◌≡◌, ◌+◌, ◌++◌, [], false, IfOk, OnOk, length, map};
+ghost use Rattle.std.specs.Prelude.{◌≡◌, ◌+◌, [], false};
 ghost use Rattle.cyc_tree.specs.View.{expression_tree, made_tree};
-ghost use Rattle.cyc_core.specs.Trees.{statement_tree};
 ghost use Rattle.source_meaning.specs.Shapes.{Shared, ThinShape};
 ghost use Rattle.source_meaning.specs.Programs.{world_of};
 ghost use Rattle.source_lowering.specs.Lowered.{
@@ -19,17 +18,16 @@ ghost use Rattle.source_lowering.specs.Lowered.{
   whole_values,
 };
 ghost use Rattle.source_lowering.specs.Lowerable.{IsObject, Takes, TakesMember, TakesNew, TakesWhole};
-ghost use Rattle.lower_checks.specs.Refusals.{NeverRefused};
+ghost use Rattle.lower_checks.specs.Scoped.{names_in, world_in};
 ghost use Rattle.lower_checks.specs.Views.{shape_tree};
-ghost use Rattle.lower_checks.specs.Visible.{names_of};
+ghost use Rattle.lower_checks.specs.Writing.{Emits, IsSound, Writes, next_of};
 
-use crate::emit::{emit_alloc, emit_copy, emit_operation};
+use crate::array::lower_array;
+use crate::body::Body;
 use crate::expression::lower_expression;
-use crate::fault::LowerFault;
-use crate::locals::Locals;
 use crate::member::Reached;
-use crate::names::{after, further};
-use crate::objects::object_layout;
+use crate::objects::{lower_copy, object_layout};
+use crate::scope::Scope;
 use crate::shape::Shape;
 use crate::shaped::shape_of;
 use crate::table::Table;
@@ -37,49 +35,39 @@ use crate::whole::lower_whole;
 use crate::words::lower_stores;
 use cyc_core::{Operation, Statement, Temporary};
 use cyc_tree::{Expression, Made};
-use std::alloc::Global;
 
 /// Appends what asks for a block for one object of a shape, in the region of the handle in a temporary, which gets a pointer to it; the
-/// count 1 comes into another temporary. Refuses what is no integer, no pointer, no handle and no struct of the program.
+/// count 1 comes into another temporary.
 fn lower_request(
-    alloc: Global,
     program: &Table<'_>,
-    shape: Shape<'_>,
-    body: &mut Vec<Statement>,
+    shape: &Shape<'_>,
+    body: &mut Body<'_>,
     to: Temporary,
     count: Temporary,
-) -> Result<(), LowerFault>
-    ensures code { OnOk result
-        (map statement_tree body.new.items ≡
-        map statement_tree body.old.items ++ request_code (world_of program.now) (shape_tree shape.entry) to.0 count.0) }
-    ensures taken { IsObject (world_of program.now).structs (shape_tree shape.entry) → NeverRefused result }
+)
+    requires taken { IsSound body.old → IsObject (world_of program.now).structs (shape_tree shape.now) }
+    ensures { Emits body.old body.new (request_code (world_of program.now) (shape_tree shape.now) to.0 count.0) }
 {
-    let layout = object_layout(alloc, program, shape)?;
-    emit_operation(body, Operation::Constant(count, 1))?;
-    emit_alloc(body, to, to, count, layout)
+    let layout = object_layout(body.alloc, program, *shape);
+    body.operation(Operation::Constant(count, 1));
+    match layout {
+        Ok(layout) => body.emit(Statement::RegionAlloc(to, to, count, layout)),
+        Err(fault) => body.note(fault),
+    }
 }
 
 /// Appends what asks for a block for one object of a shape, in the region of the handle in a temporary, which gets a pointer to it, and
-/// gives it the value in the next temporary and those behind it, or the struct to which the pointer there leads. Refuses what is no
-/// integer, no pointer, no handle and no struct of the program.
-fn lower_object(
-    alloc: Global,
-    program: &Table<'_>,
-    shape: Shape<'_>,
-    body: &mut Vec<Statement>,
-    to: Temporary,
-) -> Result<(), LowerFault>
-    ensures code { OnOk result
-        (map statement_tree body.new.items ≡
-        map statement_tree body.old.items ++ new_code_by (world_of program.now) (shape_tree shape.entry) to.0 [] []) }
-    ensures taken { IsObject (world_of program.now).structs (shape_tree shape.entry) → NeverRefused result }
+/// gives it the value in the next temporary and those behind it, or the struct to which the pointer there leads.
+fn lower_object(program: &Table<'_>, shape: &Shape<'_>, body: &mut Body<'_>, to: Temporary)
+    requires taken { IsSound body.old → IsObject (world_of program.now).structs (shape_tree shape.now) }
+    ensures { Emits body.old body.new (new_code_by (world_of program.now) (shape_tree shape.now) to.0 [] []) }
 {
-    let value = further(to, 1)?;
-    let count = further(value, shape.words())?;
-    lower_request(alloc, program, shape, body, to, count)?;
+    let value = body.further(to, 1);
+    let count = body.further(value, shape.words());
+    lower_request(program, shape, body, to, count);
     match shape {
-        Shape::Struct(_) => emit_copy(body, to, value, object_layout(alloc, program, shape)?),
-        _ => lower_stores(body, Reached::at_once(shape), to, value),
+        Shape::Struct(_) => lower_copy(program, shape, body, to, value),
+        _ => lower_stores(body, &Reached::at_once(*shape), to, value),
     }
 }
 
@@ -87,75 +75,64 @@ fn lower_object(
 /// pointer's shape; appends the shapes of the unnamed values.
 #[cycle(expression)]
 fn lower_one<'p>(
-    alloc: Global,
-    program: &Table<'p>,
-    locals: &Locals<'p>,
+    scope: &Scope<'_, 'p>,
     value: &'p Expression,
-    body: &mut Vec<Statement>,
-    own: &mut Vec<Shape<'p>>,
+    body: &mut Body<'p>,
     to: Temporary,
-) -> Result<Shape<'p>, LowerFault>
-    ensures code { let w = world_of program.now in
-        let names = names_of locals.now in
+) -> Shape<'p>
+    requires taken { let w = world_in scope.now in
+        let names = names_in scope.now in
+        let e = expression_tree value.now in
+        IsSound body.old → IsObject w.structs (static_shape w names e) × TakesMember (static_shape w names e) (TakesWhole w names e) (Takes w names e) }
+    ensures writes { let w = world_in scope.now in
+        let names = names_in scope.now in
         let e = expression_tree value.entry.now in
-        let number = length own.old.items in
-        OnOk result
-        (map statement_tree body.new.items ≡
-        map statement_tree body.old.items ++
-        new_code_by w (static_shape w names e) to.0 (whole_code w names e (to.0 + 1) number) (expression_code w names e (to.0 + 1) number)) }
-    ensures values { let w = world_of program.now in
-        let names = names_of locals.now in
-        let e = expression_tree value.entry.now in
-        OnOk result
-        (map shape_tree own.new.items ≡
-        map shape_tree own.old.items ++ values_by (static_shape w names e) (whole_values w names e) (expression_values w names e)) }
-    ensures shape { let e = expression_tree value.entry.now in
-        IfOk result (λ shape. shape_tree shape ≡ ThinShape false Shared (static_shape (world_of program.now) (names_of locals.now) e)) }
-    ensures taken { let w = world_of program.now in
-        let names = names_of locals.now in
-        let e = expression_tree value.entry.now in
-        IsObject w.structs (static_shape w names e) →
-        TakesMember (static_shape w names e) (TakesWhole w names e) (Takes w names e) →
-        NeverRefused result }
+        let number = next_of body.old in
+        Writes body.old body.new
+        (new_code_by w (static_shape w names e) to.0 (whole_code w names e (to.0 + 1) number) (expression_code w names e (to.0 + 1) number))
+        (values_by (static_shape w names e) (whole_values w names e) (expression_values w names e)) }
+    ensures shape { IsSound body.new →
+        shape_tree result ≡ ThinShape false Shared (static_shape (world_in scope.now) (names_in scope.now) (expression_tree value.entry.now)) }
 {
-    let next = Temporary(after(to.0)?);
-    let shape = shape_of(program, locals, value)?;
-    match shape {
+    let next = body.further(to, 1);
+    let shape = body.known(shape_of(scope, value));
+    let address = body.known(shape.address());
+    match &shape {
         Shape::Struct(_) => {
-            lower_whole(alloc, program, locals, value, body, own, next)?;
+            lower_whole(scope, value, body, next);
+            lower_object(scope.program, &shape, body, to);
+            address
         }
         _ => {
-            lower_expression(alloc, program, locals, value, body, own, next)?;
+            lower_expression(scope, value, body, next);
+            lower_object(scope.program, &shape, body, to);
+            address
         }
     }
-    lower_object(alloc, program, shape, body, to)?;
-    shape.address()
 }
 
-/// Appends what makes one object in the region of the handle in a temporary, which gets a pointer to the object; gives the pointer's
-/// shape; appends the shapes of the unnamed values. Refuses an array.
+/// Appends what makes one object, or an array, in the region of the handle in a temporary, which gets a pointer to it; gives the pointer's
+/// shape; appends the shapes of the unnamed values. The count of an array comes into the next temporary before the block is asked for.
 #[cycle(expression)]
 pub fn lower_new<'p>(
-    alloc: Global,
-    program: &Table<'p>,
-    locals: &Locals<'p>,
+    scope: &Scope<'_, 'p>,
     made: &'p Made,
-    body: &mut Vec<Statement>,
-    own: &mut Vec<Shape<'p>>,
+    body: &mut Body<'p>,
     to: Temporary,
-) -> Result<Shape<'p>, LowerFault>
-    ensures code { OnOk result
-        (map statement_tree body.new.items ≡
-        map statement_tree body.old.items ++
-        new_code (world_of program.now) (names_of locals.now) (made_tree made.entry.now) to.0 (length own.old.items)) }
-    ensures values { OnOk result
-        (map shape_tree own.new.items ≡
-        map shape_tree own.old.items ++ new_values (world_of program.now) (names_of locals.now) (made_tree made.entry.now)) }
-    ensures shape { IfOk result (λ shape. shape_tree shape ≡ new_shape (world_of program.now) (names_of locals.now) (made_tree made.entry.now)) }
-    ensures taken { TakesNew (world_of program.now) (names_of locals.now) (made_tree made.entry.now) → NeverRefused result }
+) -> Shape<'p>
+    requires taken { IsSound body.old → TakesNew (world_in scope.now) (names_in scope.now) (made_tree made.now) }
+    ensures writes { let w = world_in scope.now in
+        let names = names_in scope.now in
+        let m = made_tree made.entry.now in
+        Writes body.old body.new (new_code w names m to.0 (next_of body.old)) (new_values w names m) }
+    ensures shape { IsSound body.new → shape_tree result ≡ new_shape (world_in scope.now) (names_in scope.now) (made_tree made.entry.now) }
 {
     match made {
-        Made::One(value) => lower_one(alloc, program, locals, value, body, own, to),
-        Made::Array(_, _, _) => Err(LowerFault::NotTaken),
+        Made::One(value) => lower_one(scope, value, body, to),
+        Made::Array(index, count, element) => {
+            let many = body.further(to, 1);
+            lower_expression(scope, count, body, many);
+            lower_array(scope, index, element, body, to)
+        }
     }
 }

@@ -1,7 +1,6 @@
 // Members and elements: where they lie, and how they are reached.
 
-ghost use Rattle.std.specs.Prelude.{◌≡◌, ◌≤◌, ◌+◌, ◌++◌, ◌∷◌, [], List, IfOk, OnOk, map};
-ghost use Rattle.cyc_core.specs.Trees.{statement_tree};
+ghost use Rattle.std.specs.Prelude.{◌≡◌, ◌-◌, ◌∷◌, [], IfOk, Ok, map};
 ghost use Rattle.cyc_tree.specs.View.{member_tree, suffix_tree, suffixes_of};
 ghost use Rattle.source_meaning.specs.Shapes.{part_of, part_shape, pointee};
 ghost use Rattle.source_meaning.specs.Sizes.{cells_before};
@@ -9,23 +8,25 @@ ghost use Rattle.source_meaning.specs.Conversions.{cells_of};
 ghost use Rattle.source_meaning.specs.Places.{struct_parts};
 ghost use Rattle.source_meaning.specs.Programs.{world_of};
 ghost use Rattle.source_lowering.specs.Layouts.{bytes_before, extent_of};
-ghost use Rattle.source_lowering.specs.Lowered.{Named, member_shape, offset_code, reach_code};
+ghost use Rattle.source_lowering.specs.Lowered.{member_shape, offset_code, reach_code};
 ghost use Rattle.source_lowering.specs.Lowerable.{IsObject, TakesMembers};
 ghost use Rattle.lower_checks.specs.Refusals.{NeverRefused};
 ghost use Rattle.lower_checks.specs.Reaching.{further_code, further_place, indices_in, member_place, place_at_once, reached_place};
+ghost use Rattle.lower_checks.specs.Scoped.{names_in, world_in};
 ghost use Rattle.lower_checks.specs.Views.{shape_tree};
+ghost use Rattle.lower_checks.specs.Writing.{Emits, IsSound, Stays};
 
-use crate::emit::emit_operation;
+use crate::body::Body;
 use crate::fat::{lower_index, lower_reach};
 use crate::fault::LowerFault;
 use crate::layouts::{rounded, sum};
+use crate::scope::Scope;
 use crate::shape::Shape;
 use crate::sizes::{count, extent};
 use crate::table::Table;
 use crate::words::lower_loads;
-use cyc_core::{Operation, Statement, Temporary};
+use cyc_core::{Operation, Temporary};
 use cyc_tree::{Member, Suffix};
-use std::alloc::Global;
 
 /// What lies so many cells and bytes from where a pointer leads, and its shape.
 #[derive(Clone, Copy)]
@@ -86,13 +87,17 @@ fn among<'p>(
 
 /// Where a member of a struct of a shape lies from the struct's beginning on. Refuses what is no struct.
 #[tactic(auto, using(crate::proofs::Reaching::no_members))]
-fn member<'p>(program: &Table<'p>, shape: Shape<'_>, name: &[u8]) -> Result<Reached<'p>, LowerFault>
-    ensures shape { IfOk result (λ reached. shape_tree reached.shape ≡ member_shape (world_of program.now) (shape_tree shape.entry) name.now) }
+fn member<'p>(
+    program: &Table<'p>,
+    shape: &Shape<'_>,
+    name: &[u8],
+) -> Result<Reached<'p>, LowerFault>
+    ensures shape { IfOk result (λ reached. shape_tree reached.shape ≡ member_shape (world_of program.now) (shape_tree shape.now) name.now) }
     ensures cells { let w = world_of program.now in
-        IfOk result (λ reached. reached.cells ≡ cells_before (cells_of w) (struct_parts w (shape_tree shape.entry)) name.now) }
+        IfOk result (λ reached. reached.cells ≡ cells_before (cells_of w) (struct_parts w (shape_tree shape.now)) name.now) }
     ensures bytes { let w = world_of program.now in
-        IfOk result (λ reached. reached.bytes ≡ bytes_before (extent_of w) 0 (struct_parts w (shape_tree shape.entry)) name.now) }
-    ensures taken { let w = world_of program.now in IsObject w.structs (member_shape w (shape_tree shape.entry) name.now) → NeverRefused result }
+        IfOk result (λ reached. reached.bytes ≡ bytes_before (extent_of w) 0 (struct_parts w (shape_tree shape.now)) name.now) }
+    ensures taken { let w = world_of program.now in IsObject w.structs (member_shape w (shape_tree shape.now) name.now) → NeverRefused result }
 {
     match shape {
         Shape::Struct(tag) => match program.struct_of(tag) {
@@ -105,16 +110,16 @@ fn member<'p>(program: &Table<'p>, shape: Shape<'_>, name: &[u8]) -> Result<Reac
 
 /// A member of the struct that is reached.
 #[tactic(auto, using(crate::proofs::Reaching::reached_member))]
-pub fn dot<'p>(
+fn dot<'p>(
     program: &Table<'p>,
-    reached: Reached<'p>,
+    reached: &Reached<'p>,
     name: &[u8],
 ) -> Result<Reached<'p>, LowerFault>
     ensures place { let w = world_of program.now in
-        IfOk result (λ further. reached_place further ≡ member_place w (reached_place reached.entry) name.now) }
-    ensures taken { let w = world_of program.now in IsObject w.structs (member_shape w (shape_tree reached.entry.shape) name.now) → NeverRefused result }
+        IfOk result (λ further. reached_place further ≡ member_place w (reached_place reached.now) name.now) }
+    ensures taken { let w = world_of program.now in IsObject w.structs (member_shape w (shape_tree reached.now.shape) name.now) → NeverRefused result }
 {
-    let further = member(program, reached.shape, name)?;
+    let further = member(program, &reached.shape, name)?;
     Ok(Reached {
         shape: further.shape,
         cells: sum(reached.cells, further.cells)?,
@@ -122,119 +127,128 @@ pub fn dot<'p>(
     })
 }
 
+/// The member that is found, or any place where that failed.
+fn known_member<'p>(body: &mut Body<'_>, found: Result<Reached<'p>, LowerFault>) -> Reached<'p>
+    requires { IsSound body.old → NeverRefused found }
+    ensures stays { Stays body.old body.new }
+    ensures known { IsSound body.new → found.entry ≡ Ok result }
+{
+    match found {
+        Ok(reached) => reached,
+        Err(fault) => {
+            body.note(fault);
+            Reached::at_once(Shape::Void)
+        }
+    }
+}
+
+/// Goes on to a member of the struct that is reached.
+pub fn lower_dot<'p>(
+    program: &Table<'p>,
+    reached: &Reached<'p>,
+    name: &[u8],
+    body: &mut Body<'_>,
+) -> Reached<'p>
+    requires taken { let w = world_of program.now in IsSound body.old → IsObject w.structs (member_shape w (shape_tree reached.now.shape) name.now) }
+    ensures stays { Stays body.old body.new }
+    ensures place { IsSound body.new → reached_place result ≡ member_place (world_of program.now) (reached_place reached.now) name.now }
+{
+    known_member(body, dot(program, reached, name))
+}
+
 /// Goes on to a member of the struct that a value of a shape, in a temporary, leads to: appends what leaves a pointer to the struct there,
 /// and raises where it leads to none.
-pub fn arrow<'p>(
-    alloc: Global,
+pub fn lower_arrow<'p>(
     program: &Table<'p>,
-    shape: Shape<'p>,
+    shape: &Shape<'p>,
     name: &[u8],
-    body: &mut Vec<Statement>,
+    body: &mut Body<'_>,
     to: Temporary,
-) -> Result<Reached<'p>, LowerFault>
-    ensures code { OnOk result
-        (map statement_tree body.new.items ≡
-        map statement_tree body.old.items ++ reach_code (world_of program.now) (shape_tree shape.entry) to.0) }
-    ensures place { let w = world_of program.now in
-        IfOk result (λ reached. reached_place reached ≡ member_place w (place_at_once (pointee (shape_tree shape.entry))) name.now) }
-    ensures taken { let w = world_of program.now in
-        IsObject w.structs (member_shape w (pointee (shape_tree shape.entry)) name.now) → NeverRefused result }
+) -> Reached<'p>
+    requires taken { let w = world_of program.now in IsSound body.old → IsObject w.structs (member_shape w (pointee (shape_tree shape.now)) name.now) }
+    ensures code { Emits body.old body.new (reach_code (world_of program.now) (shape_tree shape.now) to.0) }
+    ensures place { IsSound body.new →
+        reached_place result ≡ member_place (world_of program.now) (place_at_once (pointee (shape_tree shape.now))) name.now }
 {
-    lower_reach(alloc, program, shape, body, to)?;
-    dot(program, Reached::at_once(shape.pointee()), name)
+    lower_reach(program, shape, body, to);
+    lower_dot(program, &Reached::at_once(shape.pointee()), name, body)
 }
 
 /// The temporary of the pointer that a suffix leads to, where what is on its left is in this one: a subscript's is that of its index, the
 /// one before.
 pub fn reached_in(suffix: &Suffix, to: Temporary) -> Temporary
-    requires { indices_in (suffixes_of (suffix_tree suffix.now ∷ [])) ≤ to.0 }
-    ensures { result.0 + indices_in (suffixes_of (suffix_tree suffix.now ∷ [])) ≡ to.0 }
+    ensures { result.0 ≡ to.0 - indices_in (suffixes_of (suffix_tree suffix.now ∷ [])) }
 {
     match suffix {
-        Suffix::Index(_) => Temporary(to.0 - 1),
+        Suffix::Index(_) => Temporary(to.0.saturating_sub(1)),
         Suffix::Dot(_) | Suffix::Arrow(_) => to,
     }
 }
 
 /// Goes on along a suffix, whose index is in the temporary right before that of the pointer.
 fn follow_one<'p>(
-    alloc: Global,
-    program: &Table<'p>,
+    scope: &Scope<'_, 'p>,
     suffix: &Suffix,
-    body: &mut Vec<Statement>,
-    reached: Reached<'p>,
+    body: &mut Body<'_>,
+    reached: &Reached<'p>,
     pointer: Temporary,
-) -> Result<Reached<'p>, LowerFault>
-    requires { indices_in (suffixes_of (suffix_tree suffix.now ∷ [])) ≤ pointer.0 }
-    ensures code { OnOk result
-        (map statement_tree body.new.items ≡
-        map statement_tree body.old.items ++
-        further_code (world_of program.now) (suffixes_of (suffix_tree suffix.now ∷ [])) (reached_place reached.entry) pointer.0) }
-    ensures place { IfOk result
-        (λ further. reached_place further ≡ further_place (world_of program.now) (suffixes_of (suffix_tree suffix.now ∷ [])) (reached_place reached.entry)) }
-    ensures taken { (names : List Named) →
-        TakesMembers (world_of program.now) names (suffixes_of (suffix_tree suffix.now ∷ [])) (shape_tree reached.entry.shape) → NeverRefused result }
+) -> Reached<'p>
+    requires taken { IsSound body.old →
+        TakesMembers (world_in scope.now) (names_in scope.now) (suffixes_of (suffix_tree suffix.now ∷ [])) (shape_tree reached.now.shape) }
+    ensures code { Emits body.old body.new
+        (further_code (world_in scope.now) (suffixes_of (suffix_tree suffix.now ∷ [])) (reached_place reached.now) pointer.0) }
+    ensures place { IsSound body.new →
+        reached_place result ≡ further_place (world_in scope.now) (suffixes_of (suffix_tree suffix.now ∷ [])) (reached_place reached.now) }
 {
     match suffix {
-        Suffix::Dot(name) => dot(program, reached, &name.text),
+        Suffix::Dot(name) => lower_dot(scope.program, reached, &name.text, body),
         Suffix::Arrow(name) => {
-            lower_loads(body, reached, pointer)?;
-            arrow(alloc, program, reached.shape, &name.text, body, pointer)
+            lower_loads(body, reached, pointer);
+            lower_arrow(scope.program, &reached.shape, &name.text, body, pointer)
         }
         Suffix::Index(_) => {
-            lower_loads(body, reached, pointer)?;
+            lower_loads(body, reached, pointer);
             let element = reached.shape.pointee();
-            lower_index(alloc, program, element, body, Temporary(pointer.0 - 1))?;
-            Ok(Reached::at_once(element))
+            lower_index(
+                scope.program,
+                &element,
+                body,
+                Temporary(pointer.0.saturating_sub(1)),
+            );
+            Reached::at_once(element)
         }
     }
 }
 
 /// Goes on along suffixes, whose indices are in the temporaries right before that of the pointer, the last one first.
 pub fn follow<'p>(
-    alloc: Global,
-    program: &Table<'p>,
+    scope: &Scope<'_, 'p>,
     suffixes: &[Suffix],
-    body: &mut Vec<Statement>,
+    body: &mut Body<'_>,
     start: Reached<'p>,
     pointer: Temporary,
-) -> Result<Reached<'p>, LowerFault>
-    requires { indices_in (suffixes_of (map suffix_tree suffixes.now)) ≤ pointer.0 }
-    ensures code { OnOk result
-        (map statement_tree body.new.items ≡
-        map statement_tree body.old.items ++
-        further_code (world_of program.now) (suffixes_of (map suffix_tree suffixes.now)) (reached_place start.entry) pointer.0) }
-    ensures place { IfOk result
-        (λ reached.
-        reached_place reached ≡ further_place (world_of program.now) (suffixes_of (map suffix_tree suffixes.now)) (reached_place start.entry)) }
-    ensures taken { (names : List Named) →
-        TakesMembers (world_of program.now) names (suffixes_of (map suffix_tree suffixes.now)) (shape_tree start.entry.shape) → NeverRefused result }
+) -> Reached<'p>
+    requires taken { IsSound body.old →
+        TakesMembers (world_in scope.now) (names_in scope.now) (suffixes_of (map suffix_tree suffixes.now)) (shape_tree start.shape) }
+    ensures code { Emits body.old body.new
+        (further_code (world_in scope.now) (suffixes_of (map suffix_tree suffixes.now)) (reached_place start.entry) pointer.0) }
+    ensures place { IsSound body.new →
+        reached_place result ≡ further_place (world_in scope.now) (suffixes_of (map suffix_tree suffixes.now)) (reached_place start.entry) }
 {
     let mut reached = start;
     let mut to = pointer;
     'each: for suffix in suffixes {
-        reached = follow_one(alloc, program, suffix, body, reached, to)?;
+        reached = follow_one(scope, suffix, body, &reached, to);
         to = reached_in(suffix, to);
     }
-    Ok(reached)
+    reached
 }
 
 /// Appends what leaves a pointer to what is reached from where the pointer in a temporary leads there.
-pub fn lower_pointed(
-    body: &mut Vec<Statement>,
-    reached: Reached<'_>,
-    to: Temporary,
-) -> Result<(), LowerFault>
-    ensures code { OnOk result
-        (map statement_tree body.new.items ≡
-        map statement_tree body.old.items ++ offset_code to.0 reached.entry.cells reached.entry.bytes) }
-    ensures taken { NeverRefused result }
+pub fn lower_pointed(body: &mut Body<'_>, reached: &Reached<'_>, to: Temporary)
+    ensures { Emits body.old body.new (offset_code to.0 reached.now.cells reached.now.bytes) }
 {
-    if reached.cells == 0 && reached.bytes == 0 {
-        return Ok(());
+    if reached.cells != 0 || reached.bytes != 0 {
+        body.operation(Operation::Offset(to, to, reached.cells, reached.bytes));
     }
-    emit_operation(
-        body,
-        Operation::Offset(to, to, reached.cells, reached.bytes),
-    )
 }

@@ -1,6 +1,7 @@
 // Layouts, locals and unnamed values, by their shapes.
 
-ghost use Rattle.std.specs.Prelude.{◌≡◌, IfOk, map};
+ghost use Rattle.std.specs.Prelude.{◌≡◌, ◌∷◌, [], IfOk, map};
+ghost use Rattle.core_meaning.specs.Core as core;
 ghost use Rattle.cyc_core.specs.Trees.{layout_tree, local_tree, part_layout};
 ghost use Rattle.source_meaning.specs.Programs.{world_of};
 ghost use Rattle.source_lowering.specs.Layouts.{layout_of, local_of};
@@ -9,17 +10,19 @@ ghost use Rattle.source_lowering.specs.Lowerable.{AreObjects, IsObject, IsStruct
 ghost use Rattle.lower_checks.specs.Structs.{AreVariables};
 ghost use Rattle.lower_checks.specs.Views.{shape_tree, stored_tree};
 ghost use Rattle.lower_checks.specs.Refusals.{NeverRefused};
+ghost use Rattle.lower_checks.specs.Writing.{Emits, IsSound};
 
+use crate::body::Body;
 use crate::fault::LowerFault;
 use crate::shape::Shape;
 use crate::stored::Stored;
 use crate::table::Table;
-use cyc_core::{Cell, CellLayout, Layout, Local};
+use cyc_core::{Cell, CellLayout, Layout, Local, Statement, Temporary};
 use std::alloc::Global;
 use std::rc::Rc;
 
 /// The layout of a struct. Refuses all other shapes, and a tag that no struct has.
-pub fn struct_layout(program: &Table<'_>, shape: Shape<'_>) -> Result<Rc<Layout>, LowerFault>
+fn struct_layout(program: &Table<'_>, shape: Shape<'_>) -> Result<Rc<Layout>, LowerFault>
     ensures layout { IfOk result (λ layout. layout_tree layout.value ≡ layout_of (world_of program.now) (shape_tree shape.entry)) }
     ensures taken { IsStructShape (world_of program.now).structs (shape_tree shape.entry) → NeverRefused result }
 {
@@ -32,8 +35,25 @@ pub fn struct_layout(program: &Table<'_>, shape: Shape<'_>) -> Result<Rc<Layout>
     }
 }
 
+/// Appends a copy of a struct of a shape to where the first pointer leads, from where the second leads.
+pub fn lower_copy(
+    program: &Table<'_>,
+    shape: &Shape<'_>,
+    body: &mut Body<'_>,
+    to: Temporary,
+    from: Temporary,
+)
+    requires taken { IsSound body.old → IsStructShape (world_of program.now).structs (shape_tree shape.now) }
+    ensures { Emits body.old body.new (core.Do (core.Copy to.0 from.0 (layout_of (world_of program.now) (shape_tree shape.now))) ∷ []) }
+{
+    match struct_layout(program, *shape) {
+        Ok(layout) => body.emit(Statement::Copy(to, from, layout)),
+        Err(fault) => body.note(fault),
+    }
+}
+
 /// The layout of an object of one cell.
-fn cell_layout(alloc: Global, cell: Cell) -> Result<Rc<Layout>, LowerFault>
+pub fn cell_layout(alloc: Global, cell: Cell) -> Result<Rc<Layout>, LowerFault>
     ensures layout { IfOk result (λ layout. layout_tree layout.value ≡ part_layout cell) }
     ensures taken { NeverRefused result }
 {

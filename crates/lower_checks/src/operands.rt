@@ -1,9 +1,7 @@
 // Operands and arguments, one after the other.
 
-ghost use Rattle.std.specs.Prelude.{◌≡◌, ◌++◌, IfOk, OnOk, length, map};
+ghost use Rattle.std.specs.Prelude.{◌≡◌, ◌++◌, map};
 ghost use Rattle.cyc_tree.specs.View.{expression_tree, expressions_of, link_tree, links_of};
-ghost use Rattle.cyc_core.specs.Trees.{statement_tree};
-ghost use Rattle.source_meaning.specs.Programs.{world_of};
 ghost use Rattle.source_lowering.specs.Lowered.{
   all_code,
   all_values,
@@ -13,121 +11,115 @@ ghost use Rattle.source_lowering.specs.Lowered.{
   call_code,
   call_parameters,
   call_shape,
+  expression_values,
   link_values,
   linked_shape,
   links_code,
 };
-ghost use Rattle.source_lowering.specs.Lowerable.{TakesAll, TakesLinks};
+ghost use Rattle.source_lowering.specs.Lowerable.{Takes, TakesAll, TakesLinks};
+ghost use Rattle.lower_checks.specs.Scoped.{names_in, world_in};
 ghost use Rattle.lower_checks.specs.Views.{shape_tree};
-ghost use Rattle.lower_checks.specs.Visible.{names_of};
-ghost use Rattle.lower_checks.specs.Refusals.{NeverRefused};
+ghost use Rattle.lower_checks.specs.Writing.{IsApart, IsSound, Writes, next_of};
 
+use crate::body::Body;
 use crate::call::{call_parameters, lower_call};
-use crate::emit::emit_if;
 use crate::expression::lower_expression;
-use crate::fault::LowerFault;
-use crate::layouts::sum;
-use crate::locals::Locals;
-use crate::names::further;
 use crate::operator::operator_shape;
+use crate::scope::Scope;
 use crate::shape::Shape;
 use crate::shaped::call_shape;
-use crate::table::Table;
 use crate::values::{lower_conversion, lower_operator, lower_word};
-use cyc_core::{Statement, Temporary};
+use cyc_core::Temporary;
 use cyc_tree::{Expression, Link};
-use std::alloc::Global;
 
 /// Appends what applies the operators of a chain to the value in a temporary and those behind it, which has this shape; gives the result's shape.
 #[cycle(expression)]
 pub fn lower_links<'p>(
-    alloc: Global,
-    program: &Table<'p>,
-    locals: &Locals<'p>,
+    scope: &Scope<'_, 'p>,
     links: &'p [Link],
-    body: &mut Vec<Statement>,
-    own: &mut Vec<Shape<'p>>,
+    body: &mut Body<'p>,
     first: Shape<'p>,
     to: Temporary,
-) -> Result<Shape<'p>, LowerFault>
-    ensures code { OnOk result
-        (map statement_tree body.new.items ≡
-        map statement_tree body.old.items ++
-        links_code (world_of program.now) (names_of locals.now) (links_of (map link_tree links.entry.now)) (shape_tree first.entry) to.0 (length own.old.items)) }
-    ensures values { OnOk result
-        (map shape_tree own.new.items ≡
-        map shape_tree own.old.items ++ link_values (world_of program.now) (names_of locals.now) (links_of (map link_tree links.entry.now))) }
-    ensures shape { IfOk result
-        (λ shape.
-        shape_tree shape ≡ linked_shape (world_of program.now) (names_of locals.now) (links_of (map link_tree links.entry.now)) (shape_tree first.entry)) }
-    ensures taken { TakesLinks (world_of program.now) (names_of locals.now) (links_of (map link_tree links.entry.now)) → NeverRefused result }
+) -> Shape<'p>
+    requires taken { IsSound body.old → TakesLinks (world_in scope.now) (names_in scope.now) (links_of (map link_tree links.now)) }
+    ensures writes { let w = world_in scope.now in
+        let names = names_in scope.now in
+        let ls = links_of (map link_tree links.entry.now) in
+        Writes body.old body.new (links_code w names ls (shape_tree first.entry) to.0 (next_of body.old)) (link_values w names ls) }
+    ensures shape { IsSound body.new →
+        shape_tree result ≡
+        linked_shape (world_in scope.now) (names_in scope.now) (links_of (map link_tree links.entry.now)) (shape_tree first.entry) }
 {
     let mut left = first;
     'each: for link in links {
-        let right = further(to, left.words())?;
-        let shape = lower_expression(alloc, program, locals, &link.operand, body, own, right)?;
-        lower_operator(body, link.operator, left, shape, to)?;
+        let right = body.further(to, left.words());
+        let shape = lower_expression(scope, &link.operand, body, right);
+        lower_operator(body, link.operator, &left, &shape, to);
         left = operator_shape(link.operator, left, shape);
     }
-    Ok(left)
+    left
 }
 
 /// Appends what evaluates the operands of `&&` after the first, each where those before it were not 0.
 #[cycle(expression)]
 pub fn lower_all<'p>(
-    alloc: Global,
-    program: &Table<'p>,
-    locals: &Locals<'p>,
+    scope: &Scope<'_, 'p>,
     operands: &'p [Expression],
-    body: &mut Vec<Statement>,
-    own: &mut Vec<Shape<'p>>,
+    body: &mut Body<'p>,
     to: Temporary,
-) -> Result<(), LowerFault>
-    ensures code { OnOk result
-        (map statement_tree body.new.items ≡
-        map statement_tree body.old.items ++
-        all_code (world_of program.now) (names_of locals.now) (expressions_of (map expression_tree operands.entry.now)) to.0 (length own.old.items)) }
-    ensures values { OnOk result
-        (map shape_tree own.new.items ≡
-        map shape_tree own.old.items ++ all_values (world_of program.now) (names_of locals.now) (expressions_of (map expression_tree operands.entry.now))) }
-    ensures taken { TakesAll (world_of program.now) (names_of locals.now) (expressions_of (map expression_tree operands.entry.now)) → NeverRefused result }
+)
+    requires taken { IsSound body.old → TakesAll (world_in scope.now) (names_in scope.now) (expressions_of (map expression_tree operands.now)) }
+    ensures writes { let w = world_in scope.now in
+        let names = names_in scope.now in
+        let es = expressions_of (map expression_tree operands.entry.now) in
+        Writes body.old body.new (all_code w names es to.0 (next_of body.old)) (all_values w names es) }
 {
     'each: for operand in operands {
-        let mut these = Vec::new(alloc);
-        let shape = lower_expression(alloc, program, locals, operand, &mut these, own, to)?;
-        lower_word(&mut these, shape, to)?;
-        emit_if(body, to, these, Vec::new(alloc))?;
+        let outer = body.begin();
+        let shape = lower_expression(scope, operand, body, to);
+        lower_word(body, &shape, to);
+        let these = body.end(outer);
+        body.branch(to, these, Vec::new(body.alloc));
     }
-    Ok(())
 }
 
 /// Appends what evaluates the operands of `||` after the first, each where those before it were 0.
 #[cycle(expression)]
 pub fn lower_any<'p>(
-    alloc: Global,
-    program: &Table<'p>,
-    locals: &Locals<'p>,
+    scope: &Scope<'_, 'p>,
     operands: &'p [Expression],
-    body: &mut Vec<Statement>,
-    own: &mut Vec<Shape<'p>>,
+    body: &mut Body<'p>,
     to: Temporary,
-) -> Result<(), LowerFault>
-    ensures code { OnOk result
-        (map statement_tree body.new.items ≡
-        map statement_tree body.old.items ++
-        any_code (world_of program.now) (names_of locals.now) (expressions_of (map expression_tree operands.entry.now)) to.0 (length own.old.items)) }
-    ensures values { OnOk result
-        (map shape_tree own.new.items ≡
-        map shape_tree own.old.items ++ all_values (world_of program.now) (names_of locals.now) (expressions_of (map expression_tree operands.entry.now))) }
-    ensures taken { TakesAll (world_of program.now) (names_of locals.now) (expressions_of (map expression_tree operands.entry.now)) → NeverRefused result }
+)
+    requires taken { IsSound body.old → TakesAll (world_in scope.now) (names_in scope.now) (expressions_of (map expression_tree operands.now)) }
+    ensures writes { let w = world_in scope.now in
+        let names = names_in scope.now in
+        let es = expressions_of (map expression_tree operands.entry.now) in
+        Writes body.old body.new (any_code w names es to.0 (next_of body.old)) (all_values w names es) }
 {
     'each: for operand in operands {
-        let mut those = Vec::new(alloc);
-        let shape = lower_expression(alloc, program, locals, operand, &mut those, own, to)?;
-        lower_word(&mut those, shape, to)?;
-        emit_if(body, to, Vec::new(alloc), those)?;
+        let outer = body.begin();
+        let shape = lower_expression(scope, operand, body, to);
+        lower_word(body, &shape, to);
+        let those = body.end(outer);
+        body.branch(to, Vec::new(body.alloc), those);
     }
-    Ok(())
+}
+
+/// Appends what evaluates an argument without a parameter, whose code is dropped: appends the shapes of the unnamed values alone.
+#[cycle(expression)]
+fn lower_apart<'p>(
+    scope: &Scope<'_, 'p>,
+    argument: &'p Expression,
+    body: &mut Body<'p>,
+    to: Temporary,
+)
+    requires taken { IsSound body.old → Takes (world_in scope.now) (names_in scope.now) (expression_tree argument.now) }
+    ensures { IsSound body.new → IsApart body.old body.new (expression_values (world_in scope.now) (names_in scope.now) (expression_tree argument.entry.now)) }
+{
+    let outer = body.begin();
+    lower_expression(scope, argument, body, to);
+    body.end(outer);
 }
 
 /// Appends what leaves the arguments of a call in the temporaries from this one on, each converted to its parameter's shape; gives how many
@@ -135,71 +127,63 @@ pub fn lower_any<'p>(
 #[cycle(expression)]
 #[tactic(auto, using(crate::proofs::Arguments::no_arguments, crate::proofs::Arguments::no_words))]
 fn lower_arguments<'p>(
-    alloc: Global,
-    program: &Table<'p>,
-    locals: &Locals<'p>,
+    scope: &Scope<'_, 'p>,
     arguments: &'p [Expression],
-    body: &mut Vec<Statement>,
-    own: &mut Vec<Shape<'p>>,
+    body: &mut Body<'p>,
     shapes: &[Shape<'p>],
     first: Temporary,
-) -> Result<u32, LowerFault>
-    ensures code { OnOk result
-        (map statement_tree body.new.items ≡
-        map statement_tree body.old.items ++
-        arguments_code (world_of program.now) (names_of locals.now) (map shape_tree shapes.now)
-        (expressions_of (map expression_tree arguments.entry.now)) first.0 (length own.old.items)) }
-    ensures words { IfOk result (λ words. words ≡ argument_words (map shape_tree shapes.now) (expressions_of (map expression_tree arguments.entry.now))) }
-    ensures values { OnOk result
-        (map shape_tree own.new.items ≡
-        map shape_tree own.old.items ++ all_values (world_of program.now) (names_of locals.now) (expressions_of (map expression_tree arguments.entry.now))) }
-    ensures taken { TakesAll (world_of program.now) (names_of locals.now) (expressions_of (map expression_tree arguments.entry.now)) → NeverRefused result }
+) -> u32
+    requires taken { IsSound body.old → TakesAll (world_in scope.now) (names_in scope.now) (expressions_of (map expression_tree arguments.now)) }
+    ensures writes { let w = world_in scope.now in
+        let names = names_in scope.now in
+        let es = expressions_of (map expression_tree arguments.entry.now) in
+        Writes body.old body.new (arguments_code w names (map shape_tree shapes.now) es first.0 (next_of body.old)) (all_values w names es) }
+    ensures words { IsSound body.new → result ≡ argument_words (map shape_tree shapes.now) (expressions_of (map expression_tree arguments.entry.now)) }
 {
     let mut left = shapes;
     let mut words = 0;
     'each: for argument in arguments {
         let [shape, others @ ..] = left else {
-            // without a parameter it has no code
-            let mut apart = Vec::new(alloc);
-            lower_expression(alloc, program, locals, argument, &mut apart, own, first)?;
+            lower_apart(scope, argument, body, first);
             continue;
         };
-        let to = further(first, words)?;
-        let from = lower_expression(alloc, program, locals, argument, body, own, to)?;
-        lower_conversion(alloc, program, body, *shape, from, to)?;
+        let to = body.further(first, words);
+        let from = lower_expression(scope, argument, body, to);
+        lower_conversion(scope.program, body, shape, &from, to);
         left = others;
-        words = sum(words, shape.words())?;
+        words = body.sum(words, shape.words());
     }
-    Ok(words)
+    words
 }
 
 /// Appends a call of the function of a name, after its arguments; gives the shape of its result.
 #[cycle(expression)]
 pub fn lower_called<'p>(
-    alloc: Global,
-    program: &Table<'p>,
-    locals: &Locals<'p>,
+    scope: &Scope<'_, 'p>,
     arguments: &'p [Expression],
-    body: &mut Vec<Statement>,
-    own: &mut Vec<Shape<'p>>,
+    body: &mut Body<'p>,
     name: &'p [u8],
     to: Temporary,
-) -> Result<Shape<'p>, LowerFault>
-    ensures code { let w = world_of program.now in
-        OnOk result
-        (map statement_tree body.new.items ≡
-        map statement_tree body.old.items ++
-        (arguments_code w (names_of locals.now) (call_parameters w name.entry.now) (expressions_of (map expression_tree arguments.entry.now)) to.0
-        (length own.old.items) ++
-        call_code w name.entry.now (argument_words (call_parameters w name.entry.now) (expressions_of (map expression_tree arguments.entry.now))) to.0)) }
-    ensures values { OnOk result
-        (map shape_tree own.new.items ≡
-        map shape_tree own.old.items ++ all_values (world_of program.now) (names_of locals.now) (expressions_of (map expression_tree arguments.entry.now))) }
-    ensures shape { IfOk result (λ shape. shape_tree shape ≡ call_shape (world_of program.now) name.entry.now) }
-    ensures taken { TakesAll (world_of program.now) (names_of locals.now) (expressions_of (map expression_tree arguments.entry.now)) → NeverRefused result }
+) -> Shape<'p>
+    requires taken { IsSound body.old → TakesAll (world_in scope.now) (names_in scope.now) (expressions_of (map expression_tree arguments.now)) }
+    ensures writes { let w = world_in scope.now in
+        let names = names_in scope.now in
+        let es = expressions_of (map expression_tree arguments.entry.now) in
+        Writes body.old body.new
+        (arguments_code w names (call_parameters w name.entry.now) es to.0 (next_of body.old) ++
+        call_code w name.entry.now (argument_words (call_parameters w name.entry.now) es) to.0)
+        (all_values w names es) }
+    ensures shape { IsSound body.new → shape_tree result ≡ call_shape (world_in scope.now) name.entry.now }
 {
-    let shapes = call_parameters(alloc, program, name)?;
-    let words = lower_arguments(alloc, program, locals, arguments, body, own, &shapes, to)?;
-    lower_call(alloc, program, body, name, words, to)?;
-    Ok(call_shape(program, name))
+    match call_parameters(body.alloc, scope.program, name) {
+        Ok(shapes) => {
+            let words = lower_arguments(scope, arguments, body, &shapes, to);
+            lower_call(scope.program, body, name, words, to);
+            call_shape(scope.program, name)
+        }
+        Err(fault) => {
+            body.note(fault);
+            Shape::Void
+        }
+    }
 }

@@ -2,16 +2,18 @@
 
 ghost use Rattle.std.specs.Prelude.{◌≡◌, ◌∷◌, ◌++◌, [], suc, true, false, length, IfOk, OnOk, map, option_map};
 ghost use Rattle.cyc_tree.specs.View.{base_tree, pointer_tree, region_tree, type_tree};
-ghost use Rattle.source_meaning.specs.Shapes.{ThinShape, VoidShape, Shared, base_shape, owner_of, pointee, settled, shared_owner, signed_shape, written};
+ghost use Rattle.source_meaning.specs.Shapes.{CharShape, FatShape, ThinShape, VoidShape, Shared, base_shape, owner_of, pointee, settled, shared_owner, signed_shape, written};
 ghost use Rattle.source_lowering.specs.Lowered.{results_in, width_of};
 ghost use Rattle.source_lowering.specs.Members.{words_in};
 ghost use Rattle.cyc_core.specs.Trees.{bytes_of, optional_tree};
 ghost use Rattle.lower_checks.specs.declared.shape.Written.TheVariants.{Pointed};
-ghost use Rattle.lower_checks.specs.Views.{owner_tree, plain_tree, shape_tree, written_shape, written_tree};
+ghost use Rattle.lower_checks.specs.Signs.{around, signs_of};
+ghost use Rattle.lower_checks.specs.Views.{owner_tree, plain_tree, pointee_shape, shape_tree, written_shape, written_tree};
 ghost use Rattle.lower_checks.specs.Refusals.{NeverRefused};
 
 use crate::fault::LowerFault;
-use crate::names::{after, further};
+use crate::names::further;
+use crate::signs::Signs;
 use cyc_core::{Temporary, Width, Words};
 use cyc_tree::{Base, Pointer, RegionName, Sign, TypeName};
 
@@ -48,6 +50,15 @@ pub enum Plain<'p> {
     Union(&'p [u8]),
 }
 
+/// What a fat pointer leads to.
+#[derive(Clone, Copy)]
+pub enum Pointee<'p> {
+    /// What a type as it is written leads to.
+    Written(Written<'p>),
+    /// What `new` and `rnew` made the elements of: pointers with these signs around each other, and what the innermost one leads to.
+    Made(Signs, Plain<'p>),
+}
+
 /// What a type means at run time. A struct and a union go by their tags.
 #[derive(Clone, Copy)]
 pub enum Shape<'p> {
@@ -61,11 +72,11 @@ pub enum Shape<'p> {
     Void,
     /// A pointer to one object: whether it may be NULL, whether it is unique, and what it leads to.
     Thin(bool, Owner, Written<'p>),
-    /// A pointer to one object as `&` and `new` give it, shared and never NULL: how many further such pointers it leads to, one after the
+    /// A pointer to one object as `&` and `new` give it, shared and never NULL: the signs of the pointers that it leads to, one after the
     /// other, and what the last one leads to.
-    Address(u32, Plain<'p>),
+    Address(Signs, Plain<'p>),
     /// A pointer that carries bounds, by what it leads to.
-    Fat(Written<'p>),
+    Fat(Pointee<'p>),
     /// A region's handle.
     Handle,
     /// A dynamic region's key.
@@ -110,7 +121,7 @@ fn pointer_shape<'p>(pointer: &Pointer, to: Written<'p>) -> Shape<'p>
     match pointer.sign {
         Sign::Nullable => Shape::Thin(true, owner, to),
         Sign::NotNull => Shape::Thin(false, owner, to),
-        Sign::Fat => Shape::Fat(to),
+        Sign::Fat => Shape::Fat(Pointee::Written(to)),
     }
 }
 
@@ -147,13 +158,43 @@ impl<'p> Plain<'p> {
             Plain::Char => Shape::Char,
             Plain::Void => Shape::Void,
             Plain::Thin(may_be_null, owner, to) => Shape::Thin(may_be_null, owner, to),
-            Plain::Fat(to) => Shape::Fat(to),
+            Plain::Fat(to) => Shape::Fat(Pointee::Written(to)),
             Plain::Handle => Shape::Handle,
             Plain::Key => Shape::Key,
             Plain::Struct(tag) => Shape::Struct(tag),
             Plain::Union(tag) => Shape::Union(tag),
         }
     }
+}
+
+/// The shape of pointers around each other, and of what the innermost one leads to.
+fn pointers_shape<'p>(signs: Signs, to: Plain<'p>) -> Shape<'p>
+    ensures { shape_tree result ≡ around (signs_of signs) (plain_tree to.entry) }
+{
+    match signs.outermost() {
+        Some((true, others)) => Shape::Fat(Pointee::Made(others, to)),
+        Some((false, others)) => Shape::Address(others, to),
+        None => to.shape(),
+    }
+}
+
+impl<'p> Pointee<'p> {
+    /// The shape of what is led to.
+    pub fn shape(self) -> Shape<'p>
+        ensures { shape_tree result ≡ pointee_shape self.entry }
+    {
+        match self {
+            Pointee::Written(to) => to.shape(),
+            Pointee::Made(signs, to) => pointers_shape(signs, to),
+        }
+    }
+}
+
+/// A shape as pointers around each other, which `&`, `new` and `rnew` gave, and what the innermost one leads to.
+#[derive(Clone, Copy)]
+struct Pointers<'p> {
+    signs: Signs,
+    to: Plain<'p>,
 }
 
 impl<'p> Shape<'p> {
@@ -171,16 +212,58 @@ impl<'p> Shape<'p> {
         Shape::Thin(true, Owner::Shared, Written::Nothing)
     }
 
+    /// The shape of a string.
+    pub fn text() -> Shape<'p>
+        ensures { shape_tree result ≡ FatShape CharShape }
+    {
+        Shape::Fat(Pointee::Made(Signs::none(), Plain::Char))
+    }
+
     /// The shape of what a pointer of the shape leads to; `void` where it isn't a pointer.
     pub fn pointee(self) -> Shape<'p>
         ensures { shape_tree result ≡ pointee (shape_tree self.entry) }
     {
         match self {
-            Shape::Thin(_, _, to) | Shape::Fat(to) => to.shape(),
-            Shape::Address(0, to) => to.shape(),
-            Shape::Address(pointers, to) => Shape::Address(pointers - 1, to),
+            Shape::Thin(_, _, to) => to.shape(),
+            Shape::Fat(to) => to.shape(),
+            Shape::Address(signs, to) => pointers_shape(signs, to),
             _ => Shape::Void,
         }
+    }
+
+    /// It as pointers around each other.
+    fn pointers(self) -> Result<Pointers<'p>, LowerFault>
+        ensures pointers { IfOk result (λ found. shape_tree self.entry ≡ around (signs_of found.signs) (plain_tree found.to)) }
+        ensures taken { NeverRefused result }
+    {
+        let to = match self {
+            Shape::Address(signs, to) => {
+                return Ok(Pointers {
+                    signs: signs.within(false)?,
+                    to,
+                });
+            }
+            Shape::Fat(Pointee::Made(signs, to)) => {
+                return Ok(Pointers {
+                    signs: signs.within(true)?,
+                    to,
+                });
+            }
+            Shape::Int => Plain::Int,
+            Shape::Unsigned => Plain::Unsigned,
+            Shape::Char => Plain::Char,
+            Shape::Void => Plain::Void,
+            Shape::Thin(may_be_null, owner, to) => Plain::Thin(may_be_null, owner, to),
+            Shape::Fat(Pointee::Written(to)) => Plain::Fat(to),
+            Shape::Handle => Plain::Handle,
+            Shape::Key => Plain::Key,
+            Shape::Struct(tag) => Plain::Struct(tag),
+            Shape::Union(tag) => Plain::Union(tag),
+        };
+        Ok(Pointers {
+            signs: Signs::none(),
+            to,
+        })
     }
 
     /// The shape of a pointer to an object of the shape, as `&` and `new` give it: shared, and never NULL.
@@ -188,20 +271,17 @@ impl<'p> Shape<'p> {
         ensures address { IfOk result (λ shape. shape_tree shape ≡ ThinShape false Shared (shape_tree self.entry)) }
         ensures taken { NeverRefused result }
     {
-        let to = match self {
-            Shape::Address(pointers, to) => return Ok(Shape::Address(after(pointers)?, to)),
-            Shape::Int => Plain::Int,
-            Shape::Unsigned => Plain::Unsigned,
-            Shape::Char => Plain::Char,
-            Shape::Void => Plain::Void,
-            Shape::Thin(may_be_null, owner, to) => Plain::Thin(may_be_null, owner, to),
-            Shape::Fat(to) => Plain::Fat(to),
-            Shape::Handle => Plain::Handle,
-            Shape::Key => Plain::Key,
-            Shape::Struct(tag) => Plain::Struct(tag),
-            Shape::Union(tag) => Plain::Union(tag),
-        };
-        Ok(Shape::Address(0, to))
+        let pointers = self.pointers()?;
+        Ok(Shape::Address(pointers.signs, pointers.to))
+    }
+
+    /// The shape of a fat pointer to objects of the shape, as `new` and `rnew` give it.
+    pub fn elements(self) -> Result<Shape<'p>, LowerFault>
+        ensures elements { IfOk result (λ shape. shape_tree shape ≡ FatShape (shape_tree self.entry)) }
+        ensures taken { NeverRefused result }
+    {
+        let pointers = self.pointers()?;
+        Ok(Shape::Fat(Pointee::Made(pointers.signs, pointers.to)))
     }
 
     /// How wide a value of the shape is.

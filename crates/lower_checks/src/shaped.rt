@@ -1,21 +1,23 @@
 // The shapes of expressions, which are known without a run.
 
-ghost use Rattle.std.specs.Prelude.{◌≡◌, IfOk, map};
-ghost use Rattle.cyc_tree.specs.View.{expression_tree, link_tree, links_of, made_tree, member_tree, suffix_tree, suffixes_of};
-ghost use Rattle.source_meaning.specs.Shapes.{part_of, part_shape};
+ghost use Rattle.std.specs.Prelude.{◌≡◌, ◌∷◌, IfOk, map};
+ghost use Rattle.cyc_tree.specs.View.{expression_tree, link_tree, links_of, made_tree, member_tree, name_tree, suffix_tree, suffixes_of};
+ghost use Rattle.source_meaning.specs.Shapes.{FatShape, part_of, part_shape};
 ghost use Rattle.source_meaning.specs.Calls.{number_type};
 ghost use Rattle.source_meaning.specs.Programs.{world_of, integer_shape};
-ghost use Rattle.source_lowering.specs.Lowered.{call_shape, linked_shape, makes_struct, member_shape, named_shape, new_shape, prefix_shape, static_shape, suffixed_shape, valued};
+ghost use Rattle.source_lowering.specs.Lowered.{call_shape, linked_shape, makes_struct, member_shape, named_shape, new_shape, number_named, prefix_shape, static_shape, suffixed_shape, valued};
 ghost use Rattle.lower_checks.specs.Refusals.{NeverRefused};
+ghost use Rattle.lower_checks.specs.Scoped.{names_in, world_in};
 ghost use Rattle.lower_checks.specs.Views.{shape_tree};
-ghost use Rattle.lower_checks.specs.Visible.{names_of};
 
 use crate::fault::LowerFault;
-use crate::locals::Locals;
+use crate::numbers::{number_named, with_number};
 use crate::operator::operator_shape;
+use crate::scope::Scope;
 use crate::shape::Shape;
 use crate::table::Table;
-use cyc_tree::{Expression, Link, Made, Member, Operator, Prefix, Suffix};
+use cyc_core::Temporary;
+use cyc_tree::{Expression, Link, Made, Member, Name, Operator, Prefix, Suffix};
 
 /// The shape of a number: one without a suffix up to 2,147,483,647 is an int.
 pub fn number_shape<'p>(value: u32, suffix: bool) -> Shape<'p>
@@ -54,14 +56,18 @@ pub fn call_shape<'p>(program: &Table<'p>, name: &'p [u8]) -> Shape<'p>
     }
 }
 
-/// The shape of the value of the variable of a name: a local, or else a global; `void` where there is none.
-fn named_shape<'p>(program: &Table<'p>, locals: &Locals<'p>, name: &[u8]) -> Shape<'p>
-    ensures { shape_tree result ≡ valued (named_shape (world_of program.now) (names_of locals.now) name.now) }
+/// The shape of the value of the variable of a name: an element's number, a local, or else a global; `void` where there is none.
+#[tactic(auto, using(crate::proofs::Naming::found_first, crate::proofs::Naming::found_behind))]
+fn named_shape<'p>(scope: &Scope<'_, 'p>, name: &[u8]) -> Shape<'p>
+    ensures { shape_tree result ≡ valued (named_shape (world_in scope.now) (names_in scope.now) name.now) }
 {
-    if let Some(local) = locals.named(name) {
+    if let Some(_) = number_named(&scope.numbers, name) {
+        return Shape::Unsigned;
+    }
+    if let Some(local) = scope.locals.named(name) {
         return local.stored.value();
     }
-    match program.global_named(name) {
+    match scope.program.global_named(name) {
         Some(global) => global.stored.value(),
         None => Shape::Void,
     }
@@ -125,49 +131,65 @@ fn prefix_shape<'p>(operator: Prefix, operand: Shape<'p>) -> Result<Shape<'p>, L
 /// The shape of a chain, from that of what is on its left.
 #[cycle(shape)]
 fn linked_shape<'p>(
-    program: &Table<'p>,
-    locals: &Locals<'p>,
+    scope: &Scope<'_, 'p>,
     links: &'p [Link],
     first: Shape<'p>,
 ) -> Result<Shape<'p>, LowerFault>
     ensures shape { IfOk result
         (λ shape.
-        shape_tree shape ≡ linked_shape (world_of program.now) (names_of locals.now) (links_of (map link_tree links.entry.now)) (shape_tree first.entry)) }
+        shape_tree shape ≡ linked_shape (world_in scope.now) (names_in scope.now) (links_of (map link_tree links.entry.now)) (shape_tree first.entry)) }
     ensures taken { NeverRefused result }
 {
     let mut left = first;
     'each: for link in links {
-        let right = shape_of(program, locals, &link.operand)?;
+        let right = shape_of(scope, &link.operand)?;
         left = operator_shape(link.operator, left, right);
     }
     Ok(left)
 }
 
-/// The shape of a pointer to what `new` makes; `void` where that is an array.
+/// The shape of a fat pointer to elements that are made. Which temporary has an element's number plays no part in it.
 #[cycle(shape)]
-fn new_shape<'p>(
-    program: &Table<'p>,
-    locals: &Locals<'p>,
-    made: &'p Made,
+fn elements_shape<'p>(
+    scope: &Scope<'_, 'p>,
+    index: &'p Name,
+    element: &'p Expression,
 ) -> Result<Shape<'p>, LowerFault>
-    ensures shape { IfOk result (λ shape. shape_tree shape ≡ new_shape (world_of program.now) (names_of locals.now) (made_tree made.entry.now)) }
+    ensures shape { IfOk result
+        (λ shape.
+        shape_tree shape ≡
+        FatShape (static_shape (world_in scope.now) (number_named (name_tree index.entry.now).text 0 ∷ names_in scope.now) (expression_tree element.entry.now))) }
+    ensures taken { NeverRefused result }
+{
+    let numbers = with_number(scope.alloc, &scope.numbers, &index.text, Temporary(0))?;
+    let inside = Scope {
+        alloc: scope.alloc,
+        program: scope.program,
+        locals: scope.locals,
+        numbers: Some(numbers),
+    };
+    shape_of(&inside, element)?.elements()
+}
+
+/// The shape of a pointer to what `new` makes: a fat one to the elements of an array.
+#[cycle(shape)]
+fn new_shape<'p>(scope: &Scope<'_, 'p>, made: &'p Made) -> Result<Shape<'p>, LowerFault>
+    ensures shape { IfOk result (λ shape. shape_tree shape ≡ new_shape (world_in scope.now) (names_in scope.now) (made_tree made.entry.now)) }
     ensures taken { NeverRefused result }
 {
     match made {
-        Made::One(value) => shape_of(program, locals, value)?.address(),
-        Made::Array(_, _, _) => Ok(Shape::Void),
+        Made::One(value) => shape_of(scope, value)?.address(),
+        Made::Array(index, _, element) => elements_shape(scope, index, element),
     }
 }
 
 /// The shape of an expression's type. Fails only where more pointers than the greatest u32 are around each other.
 #[cycle(shape)]
 pub fn shape_of<'p>(
-    program: &Table<'p>,
-    locals: &Locals<'p>,
+    scope: &Scope<'_, 'p>,
     expression: &'p Expression,
 ) -> Result<Shape<'p>, LowerFault>
-    ensures shape { IfOk result
-        (λ shape. shape_tree shape ≡ static_shape (world_of program.now) (names_of locals.now) (expression_tree expression.entry.now)) }
+    ensures shape { IfOk result (λ shape. shape_tree shape ≡ static_shape (world_in scope.now) (names_in scope.now) (expression_tree expression.entry.now)) }
     ensures taken { NeverRefused result }
 {
     match expression {
@@ -175,27 +197,26 @@ pub fn shape_of<'p>(
         Expression::Character(_, _) => Ok(Shape::Char),
         Expression::Null(_) => Ok(Shape::null()),
         Expression::HeapRegion(_) => Ok(Shape::Handle),
-        Expression::Variable(name) => Ok(named_shape(program, locals, &name.text)),
-        Expression::Call(name, _) => Ok(call_shape(program, &name.text)),
-        Expression::Grouped(_, inner) => shape_of(program, locals, inner),
+        Expression::Variable(name) => Ok(named_shape(scope, &name.text)),
+        Expression::Call(name, _) => Ok(call_shape(scope.program, &name.text)),
+        Expression::Grouped(_, inner) => shape_of(scope, inner),
         Expression::Suffixed(primary, suffixes) => {
-            let left = shape_of(program, locals, primary)?;
-            Ok(suffixed_shape(program, suffixes, left))
+            let left = shape_of(scope, primary)?;
+            Ok(suffixed_shape(scope.program, suffixes, left))
         }
         Expression::Prefixed(_, operator, operand) => {
-            prefix_shape(*operator, shape_of(program, locals, operand)?)
+            prefix_shape(*operator, shape_of(scope, operand)?)
         }
-        Expression::New(_, made) => new_shape(program, locals, made),
-        Expression::NewIn(_, _, made) => new_shape(program, locals, made),
+        Expression::New(_, made) => new_shape(scope, made),
+        Expression::NewIn(_, _, made) => new_shape(scope, made),
         Expression::Chain(first, links) => {
-            let left = shape_of(program, locals, first)?;
-            linked_shape(program, locals, links, left)
+            let left = shape_of(scope, first)?;
+            linked_shape(scope, links, left)
         }
         Expression::AllOf(_, _) | Expression::AnyOf(_, _) => Ok(Shape::Int),
-        Expression::Assign(place, _) => shape_of(program, locals, place),
+        Expression::Assign(place, _) => shape_of(scope, place),
         Expression::NumElts(_, _) => Ok(Shape::Unsigned),
-        Expression::Text(_, _) | Expression::UniqueRegion(_) | Expression::MakeUnion(_, _, _) => Ok(
-            Shape::Void,
-        ),
+        Expression::Text(_, _) => Ok(Shape::text()),
+        Expression::UniqueRegion(_) | Expression::MakeUnion(_, _, _) => Ok(Shape::Void),
     }
 }

@@ -1,221 +1,340 @@
 // Statements and blocks.
 
-ghost use Rattle.std.specs.Prelude.{◌≡◌, ◌∷◌, ◌++◌, [], OnOk, IfOk, length, map};
-ghost use Rattle.cyc_tree.specs.View.{statement_tree as source_tree, item_tree, items_of};
+ghost use Rattle.std.specs.Prelude.{◌≡◌, ◌∷◌, ◌++◌, [], suc, Some, None, length, map};
+ghost use Rattle.cyc_tree.specs.View.{expression_tree, statement_tree as source_tree, item_tree, items_of, name_tree};
 ghost use Rattle.cyc_core.specs.Trees.{statement_tree};
 ghost use Rattle.source_meaning.specs.Programs.{world_of};
 ghost use Rattle.core_meaning.specs.Core as core;
-ghost use Rattle.source_lowering.specs.Lowered.{all_of};
+ghost use Rattle.source_lowering.specs.Lowered.{all_of, expression_code, expression_values};
 ghost use Rattle.source_lowering.specs.Programs.{block_shapes, item_values, items_code, locals_of, outward, statement_code, statement_values};
-ghost use Rattle.source_lowering.specs.Lowerable.{TakesItems, TakesStatement};
+ghost use Rattle.source_lowering.specs.Lowerable.{Takes, TakesItems, TakesStatement};
+ghost use Rattle.lower_checks.specs.Scoped.{names_in, world_in};
+ghost use Rattle.lower_checks.specs.Structs.{AreVariables};
 ghost use Rattle.lower_checks.specs.Views.{regions_tree, shape_tree, stored_tree};
-ghost use Rattle.lower_checks.specs.Visible.{left, names_of};
-ghost use Rattle.lower_checks.specs.Refusals.{NeverRefused};
+ghost use Rattle.lower_checks.specs.Visible.{declared as declared_as, left, names_of};
+ghost use Rattle.lower_checks.specs.Writing.{Emits, IsApart, IsSound, Stays, Writes, next_of};
 
 use crate::assigned::lower_run;
+use crate::body::Body;
 use crate::declaration::{declared, lower_declaration};
-use crate::emit::{emit_block, emit_if, emit_while};
 use crate::expression::lower_expression;
-use crate::fault::LowerFault;
 use crate::leaving::{RegionsAround, lower_leaving, lower_left, lower_return};
 use crate::locals::Locals;
 use crate::names::number;
 use crate::objects::locals_of;
+use crate::scope::Scope;
 use crate::shape::Shape;
 use crate::stored::{Stored, add_stored};
 use crate::table::Table;
-use cyc_core::Statement;
-use cyc_tree::{BlockItem, Statement as Source};
-use std::alloc::Global;
+use cyc_core::{Statement, Temporary};
+use cyc_tree::{BlockItem, Expression, Name, Statement as Source};
 
 /// Appends what a statement does, in a function with a result of this shape, among regions; appends the shapes of the unnamed values. The
 /// next unnamed value's number is how many there are.
 #[cycle(statement)]
 fn lower_statement<'p>(
-    alloc: Global,
     program: &Table<'p>,
-    shape: Shape<'_>,
+    shape: &Shape<'_>,
     locals: &mut Locals<'p>,
     statement: &'p Source,
-    body: &mut Vec<Statement>,
-    own: &mut Vec<Shape<'p>>,
+    body: &mut Body<'p>,
     around: RegionsAround,
-) -> Result<(), LowerFault>
-    ensures code { let w = world_of program.now in
+)
+    requires taken { IsSound body.old → TakesStatement (world_of program.now) (shape_tree shape.now) (names_of locals.old) (source_tree statement.now) }
+    ensures writes { let w = world_of program.now in
         let names = names_of locals.old in
-        OnOk result
-        (map statement_tree body.new.items ≡
-        map statement_tree body.old.items ++
-        statement_code w (shape_tree shape.entry) names (regions_tree around) (length own.old.items) (source_tree statement.entry.now)) }
-    ensures values { OnOk result
-        (map shape_tree own.new.items ≡
-        map shape_tree own.old.items ++
-        statement_values (world_of program.now) (names_of locals.old) (source_tree statement.entry.now)) }
-    ensures kept { OnOk result (locals.new ≡ locals.old) }
-    ensures taken { let w = world_of program.now in
-        TakesStatement w (shape_tree shape.entry) (names_of locals.old) (source_tree statement.entry.now) → NeverRefused result }
+        let s = source_tree statement.entry.now in
+        Writes body.old body.new (statement_code w (shape_tree shape.now) names (regions_tree around) (next_of body.old) s) (statement_values w names s) }
+    ensures kept { IsSound body.new → locals.new ≡ locals.old }
 {
     let to = around.value();
     match statement {
-        Source::Empty(_) => Ok(()),
-        Source::Block(_, items) => {
-            lower_block(alloc, program, shape, locals, items, body, own, around)
-        }
-        Source::Run(value) => lower_run(alloc, program, locals, value, body, own, to),
+        Source::Empty(_) => {}
+        Source::Block(_, items) => lower_block(program, shape, locals, items, body, around),
+        Source::Run(value) => lower_run(
+            &Scope {
+                alloc: body.alloc,
+                program,
+                locals,
+                numbers: None,
+            },
+            value,
+            body,
+            to,
+        ),
         Source::If(_, condition, these) => {
-            lower_expression(alloc, program, locals, condition, body, own, to)?;
-            let these = lower_part(alloc, program, shape, locals, these, own, around)?;
-            emit_if(body, to, these, Vec::new(alloc))
+            lower_expression(
+                &Scope {
+                    alloc: body.alloc,
+                    program,
+                    locals,
+                    numbers: None,
+                },
+                condition,
+                body,
+                to,
+            );
+            let these = lower_part(program, shape, locals, these, body, around);
+            body.branch(to, these, Vec::new(body.alloc));
         }
         Source::IfElse(_, condition, these, those) => {
-            lower_expression(alloc, program, locals, condition, body, own, to)?;
-            let these = lower_part(alloc, program, shape, locals, these, own, around)?;
-            let those = lower_part(alloc, program, shape, locals, those, own, around)?;
-            emit_if(body, to, these, those)
+            lower_expression(
+                &Scope {
+                    alloc: body.alloc,
+                    program,
+                    locals,
+                    numbers: None,
+                },
+                condition,
+                body,
+                to,
+            );
+            let these = lower_part(program, shape, locals, these, body, around);
+            let those = lower_part(program, shape, locals, those, body, around);
+            body.branch(to, these, those);
         }
         Source::While(_, condition, turn) => {
-            let mut test = Vec::new(alloc);
-            lower_expression(alloc, program, locals, condition, &mut test, own, to)?;
-            let turn = lower_part(alloc, program, shape, locals, turn, own, around.in_loop())?;
-            emit_while(body, test, to, turn)
+            let test = lower_test(
+                &Scope {
+                    alloc: body.alloc,
+                    program,
+                    locals,
+                    numbers: None,
+                },
+                condition,
+                body,
+                to,
+            );
+            let turn = lower_part(program, shape, locals, turn, body, around.in_loop());
+            body.turns(test, to, turn);
         }
         Source::Break(_) => lower_left(body, around, around.inner, Statement::Break),
         Source::Continue(_) => lower_left(body, around, around.inner, Statement::Continue),
         Source::Return(_, None) => lower_left(body, around, around.all, Statement::Return(None)),
         Source::Return(_, Some(value)) => {
-            lower_return(alloc, program, shape, locals, value, body, own, around)
+            lower_return(
+                &Scope {
+                    alloc: body.alloc,
+                    program,
+                    locals,
+                    numbers: None,
+                },
+                shape,
+                value,
+                body,
+                around,
+            )
         }
-        _ => Err(LowerFault::NotTaken),
+        Source::Exchange(_, _)
+        | Source::Switch(_, _, _)
+        | Source::FreeUnique(_, _)
+        | Source::FreeKey(_, _) => body.never(),
     }
+}
+
+/// What leaves the value of a loop's condition in a temporary; appends the shapes of the unnamed values.
+fn lower_test<'p>(
+    scope: &Scope<'_, 'p>,
+    condition: &'p Expression,
+    body: &mut Body<'p>,
+    to: Temporary,
+) -> Vec<Statement>
+    requires taken { IsSound body.old → Takes (world_in scope.now) (names_in scope.now) (expression_tree condition.now) }
+    ensures apart { IsSound body.new → IsApart body.old body.new (expression_values (world_in scope.now) (names_in scope.now) (expression_tree condition.entry.now)) }
+    ensures part { let e = expression_tree condition.entry.now in
+        IsSound body.new → map statement_tree result.items ≡ expression_code (world_in scope.now) (names_in scope.now) e to.0 (next_of body.old) }
+{
+    let outer = body.begin();
+    lower_expression(scope, condition, body, to);
+    body.end(outer)
 }
 
 /// What a statement that is a part of another does; appends the shapes of the unnamed values.
 #[cycle(statement)]
 fn lower_part<'p>(
-    alloc: Global,
     program: &Table<'p>,
-    shape: Shape<'_>,
+    shape: &Shape<'_>,
     locals: &mut Locals<'p>,
     statement: &'p Source,
-    own: &mut Vec<Shape<'p>>,
+    body: &mut Body<'p>,
     around: RegionsAround,
-) -> Result<Vec<Statement>, LowerFault>
-    ensures code { let w = world_of program.now in
-        let names = names_of locals.old in
-        IfOk result
-        (λ body.
-        map statement_tree body.items ≡
-        statement_code w (shape_tree shape.entry) names (regions_tree around) (length own.old.items) (source_tree statement.entry.now)) }
-    ensures values { OnOk result
-        (map shape_tree own.new.items ≡
-        map shape_tree own.old.items ++
-        statement_values (world_of program.now) (names_of locals.old) (source_tree statement.entry.now)) }
-    ensures kept { OnOk result (locals.new ≡ locals.old) }
-    ensures taken { let w = world_of program.now in
-        TakesStatement w (shape_tree shape.entry) (names_of locals.old) (source_tree statement.entry.now) → NeverRefused result }
+) -> Vec<Statement>
+    requires taken { IsSound body.old → TakesStatement (world_of program.now) (shape_tree shape.now) (names_of locals.old) (source_tree statement.now) }
+    ensures apart { IsSound body.new → IsApart body.old body.new (statement_values (world_of program.now) (names_of locals.old) (source_tree statement.entry.now)) }
+    ensures part { let s = source_tree statement.entry.now in
+        IsSound body.new → map statement_tree result.items ≡
+        statement_code (world_of program.now) (shape_tree shape.now) (names_of locals.old) (regions_tree around) (next_of body.old) s }
+    ensures kept { IsSound body.new → locals.new ≡ locals.old }
 {
-    let mut body = Vec::new(alloc);
-    lower_statement(
-        alloc, program, shape, locals, statement, &mut body, own, around,
-    )?;
-    Ok(body)
+    let outer = body.begin();
+    lower_statement(program, shape, locals, statement, body, around);
+    body.end(outer)
+}
+
+/// Begins a block.
+fn enter(locals: &mut Locals<'_>, body: &mut Body<'_>)
+    ensures stays { Stays body.old body.new }
+    ensures entered { IsSound body.new → locals.new ≡ None ∷ locals.old }
+{
+    if let Err(fault) = locals.enter() {
+        body.note(fault);
+    }
+}
+
+/// Appends a block of these locals.
+pub fn lower_inside(
+    program: &Table<'_>,
+    all: &[Stored<'_>],
+    body: &mut Body<'_>,
+    inside: Vec<Statement>,
+)
+    requires taken { IsSound body.old → AreVariables (world_of program.now).structs (map stored_tree all.now) }
+    ensures { Emits body.old body.new
+        (core.Block (locals_of (world_of program.now) (map stored_tree all.now)) (all_of (map statement_tree inside.items)) ∷ []) }
+{
+    match locals_of(body.alloc, program, all) {
+        Ok(locals) => body.block(locals, inside),
+        Err(fault) => body.note(fault),
+    }
 }
 
 /// Appends a block with what its items do; appends the shapes of the unnamed values.
 #[cycle(statement)]
 fn lower_block<'p>(
-    alloc: Global,
     program: &Table<'p>,
-    shape: Shape<'_>,
+    shape: &Shape<'_>,
     locals: &mut Locals<'p>,
     items: &'p [BlockItem],
-    body: &mut Vec<Statement>,
-    own: &mut Vec<Shape<'p>>,
+    body: &mut Body<'p>,
     around: RegionsAround,
-) -> Result<(), LowerFault>
-    ensures code { let w = world_of program.now in
+)
+    requires taken { IsSound body.old →
+        TakesItems (world_of program.now) (shape_tree shape.now) (outward (names_of locals.old)) 0 (items_of (map item_tree items.now)) }
+    ensures writes { let w = world_of program.now in
+        let names = outward (names_of locals.old) in
         let inside = items_of (map item_tree items.entry.now) in
-        let code = items_code w (shape_tree shape.entry) (outward (names_of locals.old)) (regions_tree around) 0 (length own.old.items) inside in
-        OnOk result
-        (map statement_tree body.new.items ≡ map statement_tree body.old.items ++ core.Block (locals_of w (block_shapes inside)) (all_of code) ∷ []) }
-    ensures values { let inside = items_of (map item_tree items.entry.now) in
-        OnOk result
-        (map shape_tree own.new.items ≡
-        map shape_tree own.old.items ++ item_values (world_of program.now) (outward (names_of locals.old)) 0 inside) }
-    ensures kept { OnOk result (locals.new ≡ locals.old) }
-    ensures taken { let w = world_of program.now in
-        let inside = items_of (map item_tree items.entry.now) in
-        TakesItems w (shape_tree shape.entry) (outward (names_of locals.old)) 0 inside → NeverRefused result }
+        Writes body.old body.new
+        (core.Block (locals_of w (block_shapes inside))
+        (all_of (items_code w (shape_tree shape.now) names (regions_tree around) 0 (next_of body.old) inside)) ∷ [])
+        (item_values w names 0 inside) }
+    ensures kept { IsSound body.new → locals.new ≡ locals.old }
 {
-    let mut declared_here = Vec::new(alloc);
-    let mut inside = Vec::new(alloc);
-    locals.enter()?;
+    let outer = body.begin();
+    let mut declared_here = Vec::new(body.alloc);
+    enter(locals, body);
     lower_items(
-        alloc,
         program,
         shape,
         locals,
         items,
         &mut declared_here,
-        &mut inside,
-        own,
+        body,
         around,
-    )?;
+    );
     locals.leave();
-    emit_block(body, locals_of(alloc, program, &declared_here)?, inside)
+    let inside = body.end(outer);
+    lower_inside(program, &declared_here, body, inside);
+}
+
+/// Adds what a further local is.
+fn add<'p>(declared_here: &mut Vec<Stored<'p>>, stored: Stored<'p>, body: &mut Body<'_>)
+    ensures stays { Stays body.old body.new }
+    ensures added { IsSound body.new → map stored_tree declared_here.new.items ≡ map stored_tree declared_here.old.items ++ stored_tree stored.entry ∷ [] }
+    ensures grows { IsSound body.new → length declared_here.new.items ≡ suc (length declared_here.old.items) }
+{
+    if let Err(fault) = add_stored(declared_here, stored) {
+        body.note(fault);
+    }
+}
+
+/// Declares a further local of the innermost block by its name.
+fn bind<'p>(
+    locals: &mut Locals<'p>,
+    name: &'p Name,
+    stored: Stored<'p>,
+    index: u32,
+    body: &mut Body<'_>,
+)
+    ensures stays { Stays body.old body.new }
+    ensures declared { IsSound body.new → locals.new ≡ Some (declared_as (name_tree name.entry.now).text stored.entry index) ∷ locals.old }
+{
+    if let Err(fault) = locals.declare(name, stored, index) {
+        body.note(fault);
+    }
+}
+
+/// Declares a further local of the innermost block, which has this number in it.
+pub fn declare<'p>(
+    locals: &mut Locals<'p>,
+    declared_here: &mut Vec<Stored<'p>>,
+    name: &'p Name,
+    stored: Stored<'p>,
+    index: u32,
+    body: &mut Body<'_>,
+)
+    ensures stays { Stays body.old body.new }
+    ensures declared { IsSound body.new → locals.new ≡ Some (declared_as (name_tree name.entry.now).text stored.entry index) ∷ locals.old }
+    ensures added { IsSound body.new → map stored_tree declared_here.new.items ≡ map stored_tree declared_here.old.items ++ stored_tree stored.entry ∷ [] }
+    ensures grows { IsSound body.new → length declared_here.new.items ≡ suc (length declared_here.old.items) }
+{
+    add(declared_here, stored, body);
+    bind(locals, name, stored, index, body);
 }
 
 /// Appends what the items of a block do, the locals that they declare, and the shapes of the unnamed values. The next local's
 /// number is how many there are, and so is the next unnamed value's. The regions that the items declare are freed at the end.
 #[cycle(statement)]
 pub fn lower_items<'p>(
-    alloc: Global,
     program: &Table<'p>,
-    shape: Shape<'_>,
+    shape: &Shape<'_>,
     locals: &mut Locals<'p>,
     items: &'p [BlockItem],
     declared_here: &mut Vec<Stored<'p>>,
-    body: &mut Vec<Statement>,
-    own: &mut Vec<Shape<'p>>,
+    body: &mut Body<'p>,
     around: RegionsAround,
-) -> Result<(), LowerFault>
-    ensures code { let w = world_of program.now in
+)
+    requires taken { let index = length declared_here.old.items in
+        IsSound body.old → TakesItems (world_of program.now) (shape_tree shape.now) (names_of locals.old) index (items_of (map item_tree items.now)) }
+    ensures writes { let w = world_of program.now in
+        let names = names_of locals.old in
         let index = length declared_here.old.items in
         let inside = items_of (map item_tree items.entry.now) in
-        OnOk result
-        (map statement_tree body.new.items ≡
-        map statement_tree body.old.items ++
-        items_code w (shape_tree shape.entry) (names_of locals.old) (regions_tree around) index (length own.old.items) inside) }
-    ensures values { let index = length declared_here.old.items in
-        let inside = items_of (map item_tree items.entry.now) in
-        OnOk result
-        (map shape_tree own.new.items ≡
-        map shape_tree own.old.items ++ item_values (world_of program.now) (names_of locals.old) index inside) }
-    ensures shapes { OnOk result
-        (map stored_tree declared_here.new.items ≡
-        map stored_tree declared_here.old.items ++ block_shapes (items_of (map item_tree items.entry.now))) }
-    ensures left { OnOk result (left locals.new ≡ left locals.old) }
-    ensures taken { let w = world_of program.now in
-        let index = length declared_here.old.items in
-        let inside = items_of (map item_tree items.entry.now) in
-        TakesItems w (shape_tree shape.entry) (names_of locals.old) index inside → NeverRefused result }
+        Writes body.old body.new (items_code w (shape_tree shape.now) names (regions_tree around) index (next_of body.old) inside)
+        (item_values w names index inside) }
+    ensures shapes { IsSound body.new →
+        map stored_tree declared_here.new.items ≡ map stored_tree declared_here.old.items ++ block_shapes (items_of (map item_tree items.entry.now)) }
+    ensures left { IsSound body.new → left locals.new ≡ left locals.old }
 {
     let mut regions = around;
     'each: for item in items {
         match item {
             BlockItem::Declare(declaration) => {
-                let index = number(declared_here.len())?;
-                let to = regions.value();
-                lower_declaration(alloc, program, locals, declaration, body, own, to, index)?;
-                let stored = declared(declaration)?;
-                add_stored(declared_here, stored)?;
-                locals.declare(declaration.local(), stored, index)?;
-                regions = regions.with(declaration)?;
+                let index = body.number(number(declared_here.len()));
+                let stored = {
+                    let scope = Scope {
+                        alloc: body.alloc,
+                        program,
+                        locals,
+                        numbers: None,
+                    };
+                    let stored = declared(&scope, declaration, body);
+                    lower_declaration(&scope, declaration, body, regions.value(), index);
+                    stored
+                };
+                declare(
+                    locals,
+                    declared_here,
+                    declaration.local(),
+                    stored,
+                    index,
+                    body,
+                );
+                regions = regions.with(body, declaration);
             }
             BlockItem::Execute(statement) => {
-                lower_statement(alloc, program, shape, locals, statement, body, own, regions)?;
+                lower_statement(program, shape, locals, statement, body, regions);
             }
         }
     }
-    lower_leaving(body, regions.all, regions.all.saturating_sub(around.all))
+    lower_leaving(body, regions.all, regions.all.saturating_sub(around.all));
 }

@@ -8,7 +8,7 @@ ghost use Rattle.lower_checks.specs.Refusals.{NeverRefused};
 ghost use Rattle.lower_checks.specs.Views.{shape_tree, stored_tree};
 
 use crate::fault::LowerFault;
-use crate::shape::{Shape, Written};
+use crate::shape::{Pointee, Shape, Written};
 use cyc_tree::TypeName;
 
 /// What a name stands for.
@@ -41,7 +41,7 @@ impl<'p> Stored<'p> {
     {
         match self {
             Stored::One(shape) => shape,
-            Stored::Array(_, of) => Shape::Fat(of),
+            Stored::Array(_, of) => Shape::Fat(Pointee::Written(of)),
         }
     }
 }

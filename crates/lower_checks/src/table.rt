@@ -1,16 +1,18 @@
 // The functions, globals and structs of a program, by their names.
 
-ghost use Rattle.std.specs.Prelude.{◌≡◌, ℕ, suc, List, ◌∷◌, [], IfOk, OnOk, IfSome, option_copied, option_map};
+ghost use Rattle.std.specs.Prelude.{◌≡◌, ℕ, suc, List, ◌∷◌, [], IfOk, OnOk, IfSome, length, map, option_copied, option_map};
 ghost use Rattle.cyc_tree.specs.Tree as tree;
 ghost use Rattle.cyc_tree.specs.View.{program_tree, function_tree, global_tree};
 ghost use Rattle.source_meaning.specs.Shapes.{StructShape, written, settled};
-ghost use Rattle.source_meaning.specs.Places.{bound_to, or_else};
+ghost use Rattle.source_meaning.specs.Places.{bound_to, or_else, string_at};
+ghost use Rattle.source_meaning.specs.Strings.{program_strings};
+ghost use Rattle.listed_strings.specs.Listing.{literal_of};
 ghost use Rattle.source_meaning.specs.Calls.{function_of};
 ghost use Rattle.source_meaning.specs.Programs.{functions_of, routine_of, globals_from, global_shape, structs_from, unions_of, world_of};
 ghost use Rattle.source_lowering.specs.Lowered.{number_of};
 ghost use Rattle.source_meaning.specs.Sizes.{union_extent};
 ghost use Rattle.lower_checks.specs.Structs.{IsFound, Knows, room_tree};
-ghost use Rattle.lower_checks.specs.Views.{found_entity, stored_tree};
+ghost use Rattle.lower_checks.specs.Views.{found_entity, stored_tree, text_value};
 ghost use Rattle.lower_checks.specs.Tables.{first_function, function_in, global_in};
 ghost use Rattle.cyc_core.specs.Trees.{layout_tree};
 ghost use Rattle.source_lowering.specs.Layouts.{layout_of};
@@ -19,11 +21,12 @@ ghost use Rattle.lower_checks.specs.Refusals.{NeverRefused};
 
 use crate::fault::LowerFault;
 use crate::first::Firsts;
-use crate::layouts::{Known, Room, Structs};
+use crate::layouts::{Known, Room, Structs, sum};
 use crate::names::after;
 use crate::stored::Stored;
 use cyc_core::Width;
 use cyc_tree::{Function, Global as Declared, Initial, Item};
+use listed_strings::{Literal, Strings};
 use std::alloc::Global;
 use std::marker::Model;
 
@@ -41,13 +44,24 @@ pub struct Callee<'p> {
     pub number: u32,
 }
 
-/// A program, with its functions, globals and structs by their names. A contract sees it as the program's tree.
+/// A string: the number of its object in the data, and how many bytes it has with the final 0.
+#[derive(Clone, Copy)]
+pub struct Text {
+    pub object: u32,
+    pub count: u32,
+}
+
+/// A program, with its functions, globals and structs by their names, and its strings by their places. A contract sees it as the
+/// program's tree.
 #[derive(Drop)]
 pub struct Table<'p> {
     items: &'p [Item],
     functions: Firsts<'p, Callee<'p>>,
     globals: Firsts<'p, Found<'p>>,
     structs: Structs<'p>,
+    strings: Strings<'p>,
+    // how many globals there are, behind which the strings lie
+    behind: u32,
 }
 
 impl<'p> Model for Table<'p> {
@@ -63,7 +77,7 @@ impl<'p> Model for Table<'p> {
 
     ghost view = { λ t. program_tree t.items.now };
 
-    ghost invariant = { λ t. AreTables (program_tree t.items.now) t.functions t.globals t.structs };
+    ghost invariant = { λ t. AreTables (program_tree t.items.now) t.functions t.globals t.structs t.strings t.behind };
 }
 
 /// The first function of each name.
@@ -93,6 +107,20 @@ pub fn global_stored<'p>(global: &'p Declared) -> Stored<'p>
         Initial::Array(count) => Stored::array(&global.of, *count),
         Initial::None | Initial::Constant(_) => Stored::one(&global.of),
     }
+}
+
+/// How many globals there are.
+fn globals_many(items: &[Item]) -> Result<u32, LowerFault>
+    ensures many { IfOk result (λ many. many ≡ length (globals_from (program_tree items.now) 0)) }
+    ensures taken { NeverRefused result }
+{
+    let mut many = 0;
+    'each: for item in items {
+        if let Item::Global(_) = item {
+            many = after(many)?;
+        }
+    }
+    Ok(many)
 }
 
 /// Adds a global of this number, which is the first of its name where there is none. Fails only where no host memory is left.
@@ -154,14 +182,18 @@ impl<'p> Table<'p> {
         ensures taken { let p = program_tree items.entry.now in
             AreStructs (world_of p).unions (world_of p).structs → TakesProgram (world_of p) p → NeverRefused result }
     {
+        let behind = globals_many(items)?;
         let functions = first_functions(alloc, items)?;
         let globals = first_globals(alloc, items)?;
         let structs = all_structs(alloc, items)?;
+        let strings = Strings::of(alloc, items)?;
         Ok(Table {
             items,
             functions,
             globals,
             structs,
+            strings,
+            behind,
         })
     }
 
@@ -189,6 +221,27 @@ impl<'p> Table<'p> {
         Room {
             size: 4,
             align: Width::Word,
+        }
+    }
+
+    /// The string literals, in the order of the text.
+    pub fn strings(&self) -> &[Literal<'p>]
+        ensures { map literal_of result.now ≡ program_strings self.now }
+    {
+        self.strings.all()
+    }
+
+    /// The string of a place.
+    pub fn text_at(&self, at: u32) -> Result<Option<Text>, LowerFault>
+        ensures text { IfOk result (λ text. option_map text_value text ≡ string_at (world_of self.now).strings at) }
+        ensures taken { NeverRefused result }
+    {
+        match self.strings.at(at) {
+            Some(found) => Ok(Some(Text {
+                object: sum(self.behind, found.number)?,
+                count: found.count,
+            })),
+            None => Ok(None),
         }
     }
 

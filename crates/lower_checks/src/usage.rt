@@ -51,7 +51,8 @@ fn of_operation(operation: Operation) -> u64
         | Operation::HeapHandle(t)
         | Operation::RegionNew(t)
         | Operation::RegionFree(t) => up_to(t),
-        Operation::Narrow(t, x)
+        Operation::Move(t, x)
+        | Operation::Narrow(t, x)
         | Operation::Offset(t, x, _, _)
         | Operation::Load(t, x, _)
         | Operation::Store(t, _, x)
@@ -60,7 +61,6 @@ fn of_operation(operation: Operation) -> u64
         Operation::Apply(_, t, x, y)
         | Operation::SamePlace(t, x, y)
         | Operation::Element(t, x, y, _, _) => { u64::max(up_to(t), u64::max(up_to(x), up_to(y))) }
-        Operation::Move(_, _) => 0,
     }
 }
 

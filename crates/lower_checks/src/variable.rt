@@ -1,30 +1,28 @@
 // Variables are read and written, and pointers to them are made.
 
-ghost use Rattle.std.specs.Prelude.{◌≡◌, ◌++◌, IfOk, OnOk, map};
-ghost use Rattle.cyc_core.specs.Trees.{statement_tree};
-ghost use Rattle.source_meaning.specs.Programs.{world_of};
+ghost use Rattle.std.specs.Prelude.{◌≡◌};
 ghost use Rattle.source_lowering.specs.Lowered.{address_by, get_code, get_local, load_global, local_named, named_shape, put_by, put_local, store_global, stored_code, valued};
 ghost use Rattle.source_meaning.specs.Places.{bound_to};
+ghost use Rattle.lower_checks.specs.Scoped.{names_in, world_in};
 ghost use Rattle.lower_checks.specs.Views.{shape_tree, stored_tree};
-ghost use Rattle.lower_checks.specs.Visible.{names_of};
-ghost use Rattle.lower_checks.specs.Refusals.{NeverRefused};
+ghost use Rattle.lower_checks.specs.Writing.{Emits};
 
-use crate::emit::emit_operation;
+use crate::body::Body;
 use crate::fat::lower_bounds;
-use crate::fault::LowerFault;
-use crate::locals::Locals;
 use crate::member::Reached;
-use crate::names::{Named, further};
+use crate::names::Named;
+use crate::numbers::number_named;
+use crate::scope::Scope;
 use crate::shape::Shape;
 use crate::stored::Stored;
-use crate::table::{Found, Table};
+use crate::table::Found;
 use crate::words::{lower_loads, lower_stores};
-use cyc_core::{Operation, Statement, Temporary, Variable, Width};
+use cyc_core::{Operation, Temporary, Variable, Width};
 
 /// The place of a local among those of the blocks.
-fn place_of(local: Named<'_>) -> Variable
-    ensures out { result.out ≡ local.entry.out }
-    ensures index { result.index ≡ local.entry.index }
+fn place_of(local: &Named<'_>) -> Variable
+    ensures out { result.out ≡ local.now.out }
+    ensures index { result.index ≡ local.now.index }
 {
     Variable {
         out: local.out,
@@ -34,205 +32,152 @@ fn place_of(local: Named<'_>) -> Variable
 
 /// Appends what reads a local into a temporary and those behind it: a word by one operation, and a fat pointer part by part. An array's
 /// name is a fat pointer to its first element.
-fn lower_get_local(
-    body: &mut Vec<Statement>,
-    local: Named<'_>,
-    to: Temporary,
-) -> Result<(), LowerFault>
-    ensures code { let l = local.entry in
-        OnOk result
-        (map statement_tree body.new.items ≡
-        map statement_tree body.old.items ++ get_local (stored_tree l.stored) to.0 l.out l.index) }
-    ensures taken { NeverRefused result }
+fn lower_get_local(body: &mut Body<'_>, local: &Named<'_>, to: Temporary)
+    ensures { Emits body.old body.new (get_local (stored_tree local.now.stored) to.0 local.now.out local.now.index) }
 {
     let at = place_of(local);
-    match local.stored {
+    match &local.stored {
         Stored::Array(count, _) => {
-            emit_operation(body, Operation::LocalAddress(to, at))?;
-            lower_bounds(body, to, count)
+            body.operation(Operation::LocalAddress(to, at));
+            lower_bounds(body, to, *count);
         }
         Stored::One(Shape::Fat(of)) => {
-            emit_operation(body, Operation::LocalAddress(to, at))?;
-            lower_loads(body, Reached::at_once(Shape::Fat(of)), to)
+            body.operation(Operation::LocalAddress(to, at));
+            lower_loads(body, &Reached::at_once(Shape::Fat(*of)), to);
         }
-        Stored::One(shape) => emit_operation(body, Operation::Get(to, at, shape.width())),
+        Stored::One(shape) => body.operation(Operation::Get(to, at, shape.width())),
     }
 }
 
 /// Appends what reads a global into a temporary and those behind it. An array's name is a fat pointer to its first element.
-fn lower_load_global(
-    body: &mut Vec<Statement>,
-    global: Found<'_>,
-    to: Temporary,
-) -> Result<(), LowerFault>
-    ensures code { let g = global.entry in
-        OnOk result
-        (map statement_tree body.new.items ≡
-        map statement_tree body.old.items ++ load_global (stored_tree g.stored) to.0 g.object) }
-    ensures taken { NeverRefused result }
+fn lower_load_global(body: &mut Body<'_>, global: &Found<'_>, to: Temporary)
+    ensures { Emits body.old body.new (load_global (stored_tree global.now.stored) to.0 global.now.object) }
 {
-    emit_operation(body, Operation::DataAddress(to, global.object))?;
-    match global.stored {
-        Stored::Array(count, _) => lower_bounds(body, to, count),
-        Stored::One(shape) => lower_loads(body, Reached::at_once(shape), to),
+    body.operation(Operation::DataAddress(to, global.object));
+    match &global.stored {
+        Stored::Array(count, _) => lower_bounds(body, to, *count),
+        Stored::One(shape) => lower_loads(body, &Reached::at_once(*shape), to),
     }
 }
 
 /// Appends what reads the variable of a name into a temporary and those behind it; gives the shape of its value, which is `void` where
 /// there is none of that name.
+#[tactic(auto, using(crate::proofs::Naming::found_first, crate::proofs::Naming::found_behind))]
 pub fn lower_get<'p>(
-    program: &Table<'p>,
-    locals: &Locals<'p>,
-    body: &mut Vec<Statement>,
+    scope: &Scope<'_, 'p>,
+    body: &mut Body<'_>,
     name: &[u8],
     to: Temporary,
-) -> Result<Shape<'p>, LowerFault>
-    ensures code { OnOk result
-        (map statement_tree body.new.items ≡
-        map statement_tree body.old.items ++ get_code (world_of program.now) (names_of locals.now) name.now to.0) }
-    ensures shape { IfOk result (λ shape. shape_tree shape ≡ valued (named_shape (world_of program.now) (names_of locals.now) name.now)) }
-    ensures taken { NeverRefused result }
+) -> Shape<'p>
+    ensures code { Emits body.old body.new (get_code (world_in scope.now) (names_in scope.now) name.now to.0) }
+    ensures shape { shape_tree result ≡ valued (named_shape (world_in scope.now) (names_in scope.now) name.now) }
 {
-    if let Some(local) = locals.named(name) {
-        lower_get_local(body, local, to)?;
-        return Ok(local.stored.value());
+    if let Some(number) = number_named(&scope.numbers, name) {
+        body.operation(Operation::Move(to, number.held));
+        return Shape::Unsigned;
     }
-    let Some(global) = program.global_named(name) else {
-        return Ok(Shape::Void);
+    if let Some(local) = scope.locals.named(name) {
+        lower_get_local(body, &local, to);
+        return local.stored.value();
+    }
+    let Some(global) = scope.program.global_named(name) else {
+        return Shape::Void;
     };
-    lower_load_global(body, global, to)?;
-    Ok(global.stored.value())
+    lower_load_global(body, &global, to);
+    global.stored.value()
 }
 
 /// Appends what stores the value in a temporary and those behind it in a local of a shape: a word by one operation, and a fat pointer
 /// by the local's address, which comes into another temporary.
 pub fn lower_store_local(
-    body: &mut Vec<Statement>,
-    shape: Shape<'_>,
+    body: &mut Body<'_>,
+    shape: &Shape<'_>,
     local: Variable,
     address: Temporary,
     from: Temporary,
-) -> Result<(), LowerFault>
-    ensures code { OnOk result
-        (map statement_tree body.new.items ≡
-        map statement_tree body.old.items ++ stored_code (shape_tree shape.entry) address.0 from.0 local.out local.index) }
-    ensures taken { NeverRefused result }
+)
+    ensures { Emits body.old body.new (stored_code (shape_tree shape.now) address.0 from.0 local.out local.index) }
 {
     match shape {
         Shape::Fat(_) => {
-            emit_operation(body, Operation::LocalAddress(address, local))?;
-            lower_stores(body, Reached::at_once(shape), address, from)
+            body.operation(Operation::LocalAddress(address, local));
+            lower_stores(body, &Reached::at_once(*shape), address, from);
         }
-        _ => emit_operation(body, Operation::Put(local, shape.width(), from)),
+        _ => body.operation(Operation::Put(local, shape.width(), from)),
     }
 }
 
 /// Appends what stores the value in a temporary and those behind it in a local.
-pub fn lower_put_local(
-    body: &mut Vec<Statement>,
-    stored: Stored<'_>,
-    local: Variable,
-    from: Temporary,
-) -> Result<(), LowerFault>
-    ensures code { OnOk result
-        (map statement_tree body.new.items ≡
-        map statement_tree body.old.items ++ put_local (stored_tree stored.entry) from.0 local.out local.index) }
-    ensures taken { NeverRefused result }
+pub fn lower_put_local(body: &mut Body<'_>, stored: &Stored<'_>, local: Variable, from: Temporary)
+    ensures { Emits body.old body.new (put_local (stored_tree stored.now) from.0 local.out local.index) }
 {
     match stored {
         Stored::One(shape) => {
-            let address = further(from, shape.words())?;
-            lower_store_local(body, shape, local, address, from)
+            let address = body.further(from, shape.words());
+            lower_store_local(body, shape, local, address, from);
         }
-        Stored::Array(_, _) => emit_operation(body, Operation::Put(local, Width::Word, from)),
+        Stored::Array(_, _) => body.operation(Operation::Put(local, Width::Word, from)),
     }
 }
 
 /// Appends what stores the value in a temporary and those behind it in a global of a shape and a number, by its address, which comes
 /// behind the value.
-fn lower_store_at(
-    body: &mut Vec<Statement>,
-    shape: Shape<'_>,
-    object: u32,
-    from: Temporary,
-) -> Result<(), LowerFault>
-    ensures code { OnOk result
-        (map statement_tree body.new.items ≡
-        map statement_tree body.old.items ++ store_global (shape_tree shape.entry) from.0 object) }
-    ensures taken { NeverRefused result }
+fn lower_store_at(body: &mut Body<'_>, shape: &Shape<'_>, object: u32, from: Temporary)
+    ensures { Emits body.old body.new (store_global (shape_tree shape.now) from.0 object) }
 {
-    let address = further(from, shape.words())?;
-    emit_operation(body, Operation::DataAddress(address, object))?;
-    lower_stores(body, Reached::at_once(shape), address, from)
+    let address = body.further(from, shape.words());
+    body.operation(Operation::DataAddress(address, object));
+    lower_stores(body, &Reached::at_once(*shape), address, from);
 }
 
 /// Appends what stores the value in a temporary and those behind it in a global: in an array, a word.
-fn lower_store_global(
-    body: &mut Vec<Statement>,
-    global: Found<'_>,
-    from: Temporary,
-) -> Result<(), LowerFault>
-    ensures code { let g = global.entry in
-        OnOk result
-        (map statement_tree body.new.items ≡
-        map statement_tree body.old.items ++ store_global (stored_tree g.stored) from.0 g.object) }
-    ensures taken { NeverRefused result }
+fn lower_store_global(body: &mut Body<'_>, global: &Found<'_>, from: Temporary)
+    ensures { Emits body.old body.new (store_global (stored_tree global.now.stored) from.0 global.now.object) }
 {
-    match global.stored {
+    match &global.stored {
         Stored::One(shape) => lower_store_at(body, shape, global.object, from),
-        Stored::Array(_, _) => lower_store_at(body, Shape::Int, global.object, from),
+        Stored::Array(_, _) => lower_store_at(body, &Shape::Int, global.object, from),
     }
 }
 
-/// Appends what stores the value in a temporary and those behind it in the variable of a name.
-pub fn lower_named<'p>(
-    program: &Table<'p>,
-    locals: &Locals<'p>,
-    body: &mut Vec<Statement>,
-    name: &[u8],
-    from: Temporary,
-) -> Result<Shape<'p>, LowerFault>
-    ensures code { OnOk result
-        (map statement_tree body.new.items ≡
-        map statement_tree body.old.items ++
-        put_by (local_named (names_of locals.now) name.now) (bound_to (world_of program.now).globals name.now) from.0) }
-    ensures shape { IfOk result (λ shape. shape_tree shape ≡ valued (named_shape (world_of program.now) (names_of locals.now) name.now)) }
-    ensures taken { NeverRefused result }
+/// Appends what stores the value in a temporary and those behind it in the variable of a name. An element's number is no place, and
+/// nothing is stored in it.
+#[tactic(auto, using(crate::proofs::Naming::found_first, crate::proofs::Naming::found_behind))]
+pub fn lower_named(scope: &Scope<'_, '_>, body: &mut Body<'_>, name: &[u8], from: Temporary)
+    ensures { Emits body.old body.new (put_by (local_named (names_in scope.now) name.now) (bound_to (world_in scope.now).globals name.now) from.0) }
 {
-    if let Some(local) = locals.named(name) {
-        lower_put_local(body, local.stored, place_of(local), from)?;
-        return Ok(local.stored.value());
+    if let Some(_) = number_named(&scope.numbers, name) {
+        return;
     }
-    let Some(global) = program.global_named(name) else {
-        return Ok(Shape::Void);
-    };
-    lower_store_global(body, global, from)?;
-    Ok(global.stored.value())
+    if let Some(local) = scope.locals.named(name) {
+        lower_put_local(body, &local.stored, place_of(&local), from);
+    } else if let Some(global) = scope.program.global_named(name) {
+        lower_store_global(body, &global, from);
+    }
 }
 
 /// Appends what leaves a pointer to the variable of a name in a temporary; gives the shape of its value, which is `void` where there is
 /// none of that name.
+#[tactic(auto, using(crate::proofs::Naming::found_first, crate::proofs::Naming::found_behind))]
 pub fn lower_address<'p>(
-    program: &Table<'p>,
-    locals: &Locals<'p>,
-    body: &mut Vec<Statement>,
+    scope: &Scope<'_, 'p>,
+    body: &mut Body<'_>,
     name: &[u8],
     to: Temporary,
-) -> Result<Shape<'p>, LowerFault>
-    ensures code { OnOk result
-        (map statement_tree body.new.items ≡
-        map statement_tree body.old.items ++
-        address_by (local_named (names_of locals.now) name.now) (bound_to (world_of program.now).globals name.now) to.0) }
-    ensures shape { IfOk result (λ shape. shape_tree shape ≡ valued (named_shape (world_of program.now) (names_of locals.now) name.now)) }
-    ensures taken { NeverRefused result }
+) -> Shape<'p>
+    ensures code { Emits body.old body.new (address_by (local_named (names_in scope.now) name.now) (bound_to (world_in scope.now).globals name.now) to.0) }
+    ensures shape { shape_tree result ≡ valued (named_shape (world_in scope.now) (names_in scope.now) name.now) }
 {
-    if let Some(local) = locals.named(name) {
-        emit_operation(body, Operation::LocalAddress(to, place_of(local)))?;
-        return Ok(local.stored.value());
+    if let Some(_) = number_named(&scope.numbers, name) {
+        return Shape::Unsigned;
     }
-    let Some(global) = program.global_named(name) else {
-        return Ok(Shape::Void);
+    if let Some(local) = scope.locals.named(name) {
+        body.operation(Operation::LocalAddress(to, place_of(&local)));
+        return local.stored.value();
+    }
+    let Some(global) = scope.program.global_named(name) else {
+        return Shape::Void;
     };
-    emit_operation(body, Operation::DataAddress(to, global.object))?;
-    Ok(global.stored.value())
+    body.operation(Operation::DataAddress(to, global.object));
+    global.stored.value()
 }

@@ -1,9 +1,8 @@
 // Structs as values: made of their members, or copied from a place.
 
-ghost use Rattle.std.specs.Prelude.{◌≡◌, ◌+◌, ◌++◌, ◌∷◌, suc, true, OnOk, length, map};
+ghost use Rattle.std.specs.Prelude.{◌≡◌, ◌+◌, ◌++◌, ◌∷◌, suc, true, map};
 ghost use Rattle.core_meaning.specs.Core as core;
 ghost use Rattle.cyc_tree.specs.View.{member_tree, expression_tree, expressions_of};
-ghost use Rattle.cyc_core.specs.Trees.{statement_tree};
 ghost use Rattle.source_meaning.specs.Shapes.{StructShape, part_of, parts_of};
 ghost use Rattle.source_meaning.specs.Programs.{world_of};
 ghost use Rattle.source_lowering.specs.Lowered.{
@@ -30,29 +29,26 @@ ghost use Rattle.source_lowering.specs.Lowerable.{
   TakesPlace,
   TakesWhole,
 };
+ghost use Rattle.lower_checks.specs.Scoped.{names_in, world_in};
 ghost use Rattle.lower_checks.specs.Structs.{HasRoom, HaveRoom};
 ghost use Rattle.lower_checks.specs.Views.{shape_tree};
-ghost use Rattle.lower_checks.specs.Visible.{names_of};
-ghost use Rattle.lower_checks.specs.Refusals.{NeverRefused};
+ghost use Rattle.lower_checks.specs.Writing.{Emits, IsSound, Writes, next_of};
 
-use crate::emit::{emit_copy, emit_operation};
+use crate::body::Body;
 use crate::expression::lower_expression;
-use crate::fault::LowerFault;
-use crate::layouts::{rounded, sum};
-use crate::locals::Locals;
+use crate::layouts::rounded;
 use crate::member::Reached;
-use crate::names::{after, number};
-use crate::objects::struct_layout;
+use crate::objects::lower_copy;
 use crate::place::lower_place;
-use crate::shape::{Shape, add_shape};
+use crate::scope::Scope;
+use crate::shape::Shape;
 use crate::shaped::shape_of;
 use crate::sizes::{count, extent};
 use crate::table::Table;
 use crate::values::lower_conversion;
 use crate::words::lower_stores;
-use cyc_core::{Operation, Statement, Temporary};
+use cyc_core::{Operation, Temporary};
 use cyc_tree::{Expression, Member, Prefix};
-use std::alloc::Global;
 
 /// Where a member goes: so many cells and bytes from where the pointer in a temporary leads.
 #[derive(Clone, Copy)]
@@ -63,223 +59,152 @@ struct Slot {
 }
 
 /// Appends what copies a struct of a shape from where the pointer in a temporary leads to the unnamed value of a number, and leaves a
-/// pointer to that value in the temporary. Refuses what is no struct.
+/// pointer to that value in the temporary.
 fn lower_copied(
     program: &Table<'_>,
-    shape: Shape<'_>,
-    body: &mut Vec<Statement>,
+    shape: &Shape<'_>,
+    body: &mut Body<'_>,
     value: u32,
     to: Temporary,
-) -> Result<(), LowerFault>
-    ensures code { OnOk result
-        (map statement_tree body.new.items ≡
-        map statement_tree body.old.items ++ copied_code (world_of program.now) (shape_tree shape.entry) to.0 value) }
-    ensures taken { IsStructShape (world_of program.now).structs (shape_tree shape.entry) → NeverRefused result }
+)
+    requires taken { IsSound body.old → IsStructShape (world_of program.now).structs (shape_tree shape.now) }
+    ensures { Emits body.old body.new (copied_code (world_of program.now) (shape_tree shape.now) to.0 value) }
 {
-    let next = Temporary(after(to.0)?);
-    let layout = struct_layout(program, shape)?;
-    emit_operation(body, Operation::OwnAddress(next, value))?;
-    emit_copy(body, next, to, layout)?;
-    emit_operation(body, Operation::OwnAddress(to, value))
+    let next = body.further(to, 1);
+    body.operation(Operation::OwnAddress(next, value));
+    lower_copy(program, shape, body, next, to);
+    body.operation(Operation::OwnAddress(to, value));
 }
 
-/// Appends what copies a struct to where a member goes, from where the pointer in the next temporary leads. Refuses what is no struct.
-fn lower_struct_member(
-    program: &Table<'_>,
-    shape: Shape<'_>,
-    body: &mut Vec<Statement>,
-    slot: Slot,
-) -> Result<(), LowerFault>
-    ensures code { OnOk result
-        (map statement_tree body.new.items ≡
-        map statement_tree body.old.items ++
-        struct_member_code (world_of program.now) (shape_tree shape.entry) slot.to.0 slot.cells slot.bytes) }
-    ensures taken { IsStructShape (world_of program.now).structs (shape_tree shape.entry) → NeverRefused result }
+/// Appends what copies a struct to where a member goes, from where the pointer in the next temporary leads.
+fn lower_struct_member(program: &Table<'_>, shape: &Shape<'_>, body: &mut Body<'_>, slot: Slot)
+    requires taken { IsSound body.old → IsStructShape (world_of program.now).structs (shape_tree shape.now) }
+    ensures { Emits body.old body.new (struct_member_code (world_of program.now) (shape_tree shape.now) slot.to.0 slot.cells slot.bytes) }
 {
-    let from = Temporary(after(slot.to.0)?);
-    let at = Temporary(after(from.0)?);
-    let layout = struct_layout(program, shape)?;
-    emit_operation(body, Operation::Offset(at, slot.to, slot.cells, slot.bytes))?;
-    emit_copy(body, at, from, layout)
+    let from = body.further(slot.to, 1);
+    let at = body.further(slot.to, 2);
+    body.operation(Operation::Offset(at, slot.to, slot.cells, slot.bytes));
+    lower_copy(program, shape, body, at, from);
 }
 
 /// Appends what converts the value in the next temporary to a member's shape, and stores it where the member goes.
 fn lower_word_member(
-    alloc: Global,
     program: &Table<'_>,
-    shape: Shape<'_>,
-    from: Shape<'_>,
-    body: &mut Vec<Statement>,
+    shape: &Shape<'_>,
+    from: &Shape<'_>,
+    body: &mut Body<'_>,
     slot: Slot,
-) -> Result<(), LowerFault>
-    ensures code { OnOk result
-        (map statement_tree body.new.items ≡
-        map statement_tree body.old.items ++
-        word_member_code (world_of program.now) (shape_tree shape.entry) (shape_tree from.entry) slot.to.0 slot.cells slot.bytes) }
-    ensures taken { NeverRefused result }
+)
+    ensures { Emits body.old body.new
+        (word_member_code (world_of program.now) (shape_tree shape.now) (shape_tree from.now) slot.to.0 slot.cells slot.bytes) }
 {
-    let value = Temporary(after(slot.to.0)?);
-    lower_conversion(alloc, program, body, shape, from, value)?;
+    let value = body.further(slot.to, 1);
+    lower_conversion(program, body, shape, from, value);
     let reached = Reached {
-        shape,
+        shape: *shape,
         cells: slot.cells,
         bytes: slot.bytes,
     };
-    lower_stores(body, reached, slot.to, value)
+    lower_stores(body, &reached, slot.to, value);
 }
 
 /// Appends what copies the struct that an expression names to a further unnamed value, and leaves a pointer to that value in a
-/// temporary; appends the shapes of the unnamed values. Refuses what names no struct.
+/// temporary; appends the shapes of the unnamed values.
 #[cycle(expression)]
-fn lower_read<'p>(
-    alloc: Global,
-    program: &Table<'p>,
-    locals: &Locals<'p>,
-    place: &'p Expression,
-    body: &mut Vec<Statement>,
-    own: &mut Vec<Shape<'p>>,
-    to: Temporary,
-) -> Result<(), LowerFault>
-    ensures code { let w = world_of program.now in
-        let names = names_of locals.now in
+fn lower_read<'p>(scope: &Scope<'_, 'p>, place: &'p Expression, body: &mut Body<'p>, to: Temporary)
+    requires taken { let w = world_in scope.now in
+        let names = names_in scope.now in
+        let e = expression_tree place.now in
+        IsSound body.old → TakesPlace w names e × IsStructShape w.structs (static_shape w names e) }
+    ensures writes { let w = world_in scope.now in
+        let names = names_in scope.now in
         let e = expression_tree place.entry.now in
-        let number = length own.old.items in
-        OnOk result
-        (map statement_tree body.new.items ≡
-        map statement_tree body.old.items ++ (place_code w names e to.0 (suc number) ++ copied_code w (static_shape w names e) to.0 number)) }
-    ensures values { let w = world_of program.now in
-        let names = names_of locals.now in
-        let e = expression_tree place.entry.now in
-        OnOk result
-        (map shape_tree own.new.items ≡ map shape_tree own.old.items ++ (static_shape w names e ∷ expression_values w names e)) }
-    ensures taken { let w = world_of program.now in
-        let names = names_of locals.now in
-        let e = expression_tree place.entry.now in
-        TakesPlace w names e → IsStructShape w.structs (static_shape w names e) → NeverRefused result }
+        let number = next_of body.old in
+        Writes body.old body.new (place_code w names e to.0 (suc number) ++ copied_code w (static_shape w names e) to.0 number)
+        (static_shape w names e ∷ expression_values w names e) }
 {
-    let shape = shape_of(program, locals, place)?;
-    let value = number(own.len())?;
-    add_shape(own, shape)?;
-    lower_place(alloc, program, locals, place, body, own, to)?;
-    lower_copied(program, shape, body, value, to)
+    let shape = body.known(shape_of(scope, place));
+    let value = body.value(&shape);
+    lower_place(scope, place, body, to);
+    lower_copied(scope.program, &shape, body, value, to);
 }
 
 /// Appends what makes an unnamed value of an expression that is a struct, and leaves a pointer to it in a temporary; appends the shapes
-/// of the unnamed values. The next unnamed value's number is how many there are. Refuses what is no struct.
+/// of the unnamed values. The next unnamed value's number is how many there are.
 #[cycle(expression)]
 pub fn lower_whole<'p>(
-    alloc: Global,
-    program: &Table<'p>,
-    locals: &Locals<'p>,
+    scope: &Scope<'_, 'p>,
     expression: &'p Expression,
-    body: &mut Vec<Statement>,
-    own: &mut Vec<Shape<'p>>,
+    body: &mut Body<'p>,
     to: Temporary,
-) -> Result<(), LowerFault>
-    ensures code { let w = world_of program.now in
-        OnOk result
-        (map statement_tree body.new.items ≡
-        map statement_tree body.old.items ++
-        whole_code w (names_of locals.now) (expression_tree expression.entry.now) to.0 (length own.old.items)) }
-    ensures values { OnOk result
-        (map shape_tree own.new.items ≡
-        map shape_tree own.old.items ++ whole_values (world_of program.now) (names_of locals.now) (expression_tree expression.entry.now)) }
-    ensures taken { TakesWhole (world_of program.now) (names_of locals.now) (expression_tree expression.entry.now) → NeverRefused result }
+)
+    requires taken { IsSound body.old → TakesWhole (world_in scope.now) (names_in scope.now) (expression_tree expression.now) }
+    ensures writes { let w = world_in scope.now in
+        let names = names_in scope.now in
+        let e = expression_tree expression.entry.now in
+        Writes body.old body.new (whole_code w names e to.0 (next_of body.old)) (whole_values w names e) }
 {
     match expression {
-        Expression::Call(name, arguments) => lower_made(
-            alloc, program, locals, &name.text, arguments, body, own, to,
-        ),
-        Expression::Grouped(_, inner) => {
-            lower_whole(alloc, program, locals, inner, body, own, to)
-        }
+        Expression::Call(name, arguments) => lower_made(scope, &name.text, arguments, body, to),
+        Expression::Grouped(_, inner) => lower_whole(scope, inner, body, to),
         Expression::Variable(_)
         | Expression::Suffixed(_, _)
         | Expression::Prefixed(_, Prefix::Dereference, _) => {
-            lower_read(alloc, program, locals, expression, body, own, to)
+            lower_read(scope, expression, body, to)
         }
-        _ => Err(LowerFault::NotTaken),
+        _ => body.never(),
     }
 }
 
 /// Appends what makes an unnamed value of a struct of a tag, and leaves a pointer to it in a temporary; appends the shapes of the unnamed
-/// values. Refuses a tag that no struct has.
+/// values.
 #[cycle(expression)]
 fn lower_made<'p>(
-    alloc: Global,
-    program: &Table<'p>,
-    locals: &Locals<'p>,
+    scope: &Scope<'_, 'p>,
     tag: &'p [u8],
     arguments: &'p [Expression],
-    body: &mut Vec<Statement>,
-    own: &mut Vec<Shape<'p>>,
+    body: &mut Body<'p>,
     to: Temporary,
-) -> Result<(), LowerFault>
-    ensures code { let w = world_of program.now in
-        let number = length own.old.items in
-        OnOk result
-        (map statement_tree body.new.items ≡
-        map statement_tree body.old.items ++
-        (core.Do (core.OwnAddress to.0 number) ∷
-        members_code w (names_of locals.now) (parts_of w.structs tag.entry.now)
-        (expressions_of (map expression_tree arguments.entry.now)) to.0 0 0 (suc number))) }
-    ensures values { let w = world_of program.now in
-        OnOk result
-        (map shape_tree own.new.items ≡
-        map shape_tree own.old.items ++
-        (StructShape tag.entry.now ∷
-        made_values w (names_of locals.now) (parts_of w.structs tag.entry.now) (expressions_of (map expression_tree arguments.entry.now)))) }
-    ensures taken { let w = world_of program.now in
-        makes_struct w tag.entry.now ≡ true →
-        TakesMade w (names_of locals.now) (parts_of w.structs tag.entry.now) (expressions_of (map expression_tree arguments.entry.now)) →
-        NeverRefused result }
+)
+    requires taken { let w = world_in scope.now in
+        IsSound body.old → (makes_struct w tag.now ≡ true) ×
+        TakesMade w (names_in scope.now) (parts_of w.structs tag.now) (expressions_of (map expression_tree arguments.now)) }
+    ensures writes { let w = world_in scope.now in
+        let number = next_of body.old in
+        let names = names_in scope.now in
+        let parts = parts_of w.structs tag.entry.now in
+        let es = expressions_of (map expression_tree arguments.entry.now) in
+        Writes body.old body.new (core.Do (core.OwnAddress to.0 number) ∷ members_code w names parts es to.0 0 0 (suc number))
+        (StructShape tag.entry.now ∷ made_values w names parts es) }
 {
-    let Some(known) = program.struct_of(tag) else {
-        return Err(LowerFault::NotTaken);
-    };
-    let value = number(own.len())?;
-    emit_operation(body, Operation::OwnAddress(to, value))?;
-    add_shape(own, Shape::Struct(tag))?;
-    lower_members(
-        alloc,
-        program,
-        locals,
-        known.members,
-        arguments,
-        body,
-        own,
-        to,
-    )
+    match scope.program.struct_of(tag) {
+        Some(known) => {
+            let value = body.value(&Shape::Struct(tag));
+            body.operation(Operation::OwnAddress(to, value));
+            lower_members(scope, known.members, arguments, body, to);
+        }
+        None => body.never(),
+    }
 }
 
 /// Appends what gives the members of a struct, to which the pointer in a temporary leads, the values of arguments, each where its member
 /// lies; appends the shapes of the unnamed values.
 #[cycle(expression)]
 fn lower_members<'p>(
-    alloc: Global,
-    program: &Table<'p>,
-    locals: &Locals<'p>,
+    scope: &Scope<'_, 'p>,
     members: &[Member],
     arguments: &'p [Expression],
-    body: &mut Vec<Statement>,
-    own: &mut Vec<Shape<'p>>,
+    body: &mut Body<'p>,
     to: Temporary,
-) -> Result<(), LowerFault>
-    ensures code { OnOk result
-        (map statement_tree body.new.items ≡
-        map statement_tree body.old.items ++
-        members_code (world_of program.now) (names_of locals.now) (map part_of (map member_tree members.now))
-        (expressions_of (map expression_tree arguments.entry.now)) to.0 0 0 (length own.old.items)) }
-    ensures values { OnOk result
-        (map shape_tree own.new.items ≡
-        map shape_tree own.old.items ++
-        made_values (world_of program.now) (names_of locals.now) (map part_of (map member_tree members.now))
-        (expressions_of (map expression_tree arguments.entry.now))) }
-    ensures taken { let w = world_of program.now in
+)
+    requires taken { let w = world_in scope.now in
         let parts = map part_of (map member_tree members.now) in
-        HaveRoom w.structs parts →
-        TakesMade w (names_of locals.now) parts (expressions_of (map expression_tree arguments.entry.now)) →
-        NeverRefused result }
+        IsSound body.old → HaveRoom w.structs parts × TakesMade w (names_in scope.now) parts (expressions_of (map expression_tree arguments.now)) }
+    ensures writes { let w = world_in scope.now in
+        let names = names_in scope.now in
+        let parts = map part_of (map member_tree members.now) in
+        let es = expressions_of (map expression_tree arguments.entry.now) in
+        Writes body.old body.new (members_code w names parts es to.0 0 0 (next_of body.old)) (made_values w names parts es) }
 {
     let mut left = members;
     let mut slot = Slot {
@@ -289,61 +214,49 @@ fn lower_members<'p>(
     };
     'each: for argument in arguments {
         let [member, others @ ..] = left else {
-            return Ok(());
+            return;
         };
         let shape = Shape::of(&member.of);
-        let room = extent(program, shape);
-        slot.bytes = rounded(slot.bytes, room.align)?;
-        lower_member(alloc, program, locals, shape, argument, body, own, slot)?;
-        slot.cells = sum(slot.cells, count(program, shape)?)?;
-        slot.bytes = sum(slot.bytes, room.size)?;
+        let room = extent(scope.program, shape);
+        slot.bytes = body.number(rounded(slot.bytes, room.align));
+        lower_member(scope, &shape, argument, body, slot);
+        let cells = body.number(count(scope.program, shape));
+        slot.cells = body.sum(slot.cells, cells);
+        slot.bytes = body.sum(slot.bytes, room.size);
         left = others;
     }
-    Ok(())
 }
 
 /// Appends what gives a member of a shape the value of an argument; appends the shapes of the unnamed values.
 #[cycle(expression)]
 fn lower_member<'p>(
-    alloc: Global,
-    program: &Table<'p>,
-    locals: &Locals<'p>,
-    shape: Shape<'_>,
+    scope: &Scope<'_, 'p>,
+    shape: &Shape<'_>,
     argument: &'p Expression,
-    body: &mut Vec<Statement>,
-    own: &mut Vec<Shape<'p>>,
+    body: &mut Body<'p>,
     slot: Slot,
-) -> Result<(), LowerFault>
-    ensures code { let w = world_of program.now in
-        let names = names_of locals.now in
+)
+    requires taken { let w = world_in scope.now in
+        let names = names_in scope.now in
+        let e = expression_tree argument.now in
+        IsSound body.old → HasRoom w.structs (shape_tree shape.now) × TakesMember (shape_tree shape.now) (TakesWhole w names e) (Takes w names e) }
+    ensures writes { let w = world_in scope.now in
+        let names = names_in scope.now in
         let e = expression_tree argument.entry.now in
-        OnOk result
-        (map statement_tree body.new.items ≡
-        map statement_tree body.old.items ++
-        member_code w (shape_tree shape.entry) (static_shape w names e) slot.to.0 slot.cells slot.bytes
-        (whole_code w names e (slot.to.0 + 1) (length own.old.items)) (expression_code w names e (slot.to.0 + 1) (length own.old.items))) }
-    ensures values { let w = world_of program.now in
-        let names = names_of locals.now in
-        let e = expression_tree argument.entry.now in
-        OnOk result
-        (map shape_tree own.new.items ≡
-        map shape_tree own.old.items ++ values_by (shape_tree shape.entry) (whole_values w names e) (expression_values w names e)) }
-    ensures taken { let w = world_of program.now in
-        let names = names_of locals.now in
-        let e = expression_tree argument.entry.now in
-        HasRoom w.structs (shape_tree shape.entry) →
-        TakesMember (shape_tree shape.entry) (TakesWhole w names e) (Takes w names e) →
-        NeverRefused result }
+        Writes body.old body.new
+        (member_code w (shape_tree shape.now) (static_shape w names e) slot.to.0 slot.cells slot.bytes
+        (whole_code w names e (slot.to.0 + 1) (next_of body.old)) (expression_code w names e (slot.to.0 + 1) (next_of body.old)))
+        (values_by (shape_tree shape.now) (whole_values w names e) (expression_values w names e)) }
 {
-    let next = Temporary(after(slot.to.0)?);
+    let next = body.further(slot.to, 1);
     match shape {
         Shape::Struct(_) => {
-            lower_whole(alloc, program, locals, argument, body, own, next)?;
-            lower_struct_member(program, shape, body, slot)
+            lower_whole(scope, argument, body, next);
+            lower_struct_member(scope.program, shape, body, slot);
         }
         _ => {
-            let from = lower_expression(alloc, program, locals, argument, body, own, next)?;
-            lower_word_member(alloc, program, shape, from, body, slot)
+            let from = lower_expression(scope, argument, body, next);
+            lower_word_member(scope.program, shape, &from, body, slot);
         }
     }
 }

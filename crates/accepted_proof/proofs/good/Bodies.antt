@@ -5,7 +5,8 @@ use Rattle.cyc_tree.specs.Operands.{ExpressionHasOperands, ItemsHaveOperands, St
 use Rattle.cyc_tree.specs.Places.{expression_place}
 use Rattle.cyc_tree.specs.Tree.{BlockItems, Declare, Execute, Expression, NoItems, Statement}
 use Rattle.type_proof.specs.Entries.{IsPlain, IsObjectType}
-use Rattle.type_proof.specs.Judged.{Condition, ItemsJudged, Returned, StatementJudged, safe_forms}
+use Rattle.type_proof.specs.Judged.{Condition, ItemsJudged, Returned, StatementJudged}
+use Rattle.accepted_programs.specs.Supported.{supported}
 use Rattle.source_typing.specs.Conversions.{converts}
 use Rattle.source_typing.specs.Declarations.{declare}
 use Rattle.source_typing.specs.Expressions.{judge}
@@ -13,7 +14,7 @@ use Rattle.source_typing.specs.Faults.{type_rule}
 use Rattle.source_typing.specs.Scope.{Env, Value, block_entered}
 use Rattle.source_typing.specs.Statements.{condition, condition_faults, in_a_loop, items_faults, returned, statement_faults}
 use Rattle.source_typing.specs.Taken.{declaration_taken, items_taken, statement_taken, taken}
-use Rattle.source_typing.specs.Types.{Fat, Handle, Char, Int, StaticType, Struct, Thin, Unsigned, Void, is_testable}
+use Rattle.source_typing.specs.Types.{Fat, Handle, Char, Int, StaticType, Struct, Thin, Union, Unsigned, Void, is_testable}
 use Rattle.source_typing.specs.Verdicts.{Faulty, Of, Unjudged, Verdict, after, faults_of, if_fits}
 use Rattle.source_typing.specs.Ways.{ways_of}
 use Rattle.source_typing.proofs.Inversion.{none_of_both, test_is}
@@ -39,6 +40,7 @@ returned_clean g at Void (Faulty f fs) h e = absurd cc
 returned_clean g at (Thin b r t) (Faulty f fs) h e = absurd cc
 returned_clean g at (Fat r t) (Faulty f fs) h e = absurd cc
 returned_clean g at (Struct tag rs) (Faulty f fs) h e = absurd cc
+returned_clean g at (Union tag rs) (Faulty f fs) h e = absurd cc
 returned_clean g at (Handle r) (Faulty f fs) h e = absurd cc
 returned_clean g at _ (Faulty f fs) h e = absurd h
 
@@ -52,6 +54,7 @@ returned_object g at Void v h e = absurd cc
 returned_object g at (Thin b r t) v h e = (h, e)
 returned_object g at (Fat r t) v h e = (h, e)
 returned_object g at (Struct tag rs) v h e = (h, e)
+returned_object g at (Union tag rs) v h e = (h, e)
 returned_object g at (Handle r) v h e = (h, e)
 returned_object g at _ v h e = absurd h
 
@@ -64,13 +67,14 @@ nothing_returned g at Char h e = absurd cc
 nothing_returned g at (Thin b r t) h e = absurd cc
 nothing_returned g at (Fat r t) h e = absurd cc
 nothing_returned g at (Struct tag rs) h e = absurd cc
+nothing_returned g at (Union tag rs) h e = absurd cc
 nothing_returned g at (Handle r) h e = absurd cc
 nothing_returned g at _ h e = absurd h
 
 -- ---- statements
 
 module _ (expressions : ExpressionsJudged) where
-  condition_good : (e : Expression) (g : Env) → IsGood g → taken safe_forms e ≡ e → ExpressionHasOperands e → condition_faults g e ≡ []
+  condition_good : (e : Expression) (g : Env) → IsGood g → taken supported e ≡ e → ExpressionHasOperands e → condition_faults g e ≡ []
       → Condition g e
   condition_good e g h t o p =
       let at : ℕ = expression_place e in
@@ -78,7 +82,7 @@ module _ (expressions : ExpressionsJudged) where
       let d : faults_of (after (Of a.accepted.value) (condition at)) ≡ [] = subst (λ z. faults_of (after z (condition at)) ≡ []) a.accepted.judged p in
       record { accepted = a.accepted; testable = tested_is (is_testable a.accepted.value.type) at a.accepted.value d }
 
-  return_good : (e : Expression) (g : Env) (at : ℕ) (r : StaticType) → IsPlain r → g.result ≡ Some r → IsGood g → taken safe_forms e ≡ e
+  return_good : (e : Expression) (g : Env) (at : ℕ) (r : StaticType) → IsPlain r → g.result ≡ Some r → IsGood g → taken supported e ≡ e
       → ExpressionHasOperands e
       → returned g at g.result (Some (judge g e)) ≡ []
       → Returned g e
@@ -95,31 +99,31 @@ module _ (expressions : ExpressionsJudged) where
 
   mutual
     pub statement_good : (x : Statement) (g : Env) (c : Bool) (r : StaticType) → IsPlain r → g.result ≡ Some r → IsGood g
-        → statement_taken safe_forms x ≡ x
+        → statement_taken supported x ≡ x
         → StatementHasOperands x
         → statement_faults g c x ≡ []
-        → StatementJudged g x
+        → StatementJudged g c x
     statement_good (Statement.Empty at) g c r k f h t o p = tt
     statement_good (Statement.Block at items) g c r k f h t o p =
-        let i : items_taken safe_forms items ≡ items = cc in items_good items (block_entered g) c r k f (good_block g h) i o p
+        let i : items_taken supported items ≡ items = cc in items_good items (block_entered g) c r k f (good_block g h) i o p
     statement_good (Statement.Run e) g c r k f h t o p =
-        let i : taken safe_forms e ≡ e = cc in (expression_good expressions e g h i o p).accepted
+        let i : taken supported e ≡ e = cc in (expression_good expressions e g h i o p).accepted
     statement_good (Statement.Exchange a b) g c r k f h t o p = absurd cc
     statement_good (Statement.If at e x) g c r k f h t o p =
-        let i : taken safe_forms e ≡ e = cc in
-        let j : statement_taken safe_forms x ≡ x = cc in
+        let i : taken supported e ≡ e = cc in
+        let j : statement_taken supported x ≡ x = cc in
         let z = none_of_both (condition_faults g e) (statement_faults g c x) p in
         (condition_good e g h i o.0 z.0, statement_good x g c r k f h j o.1 z.1)
     statement_good (Statement.IfElse at e x y) g c r k f h t o p =
-        let i : taken safe_forms e ≡ e = cc in
-        let j : statement_taken safe_forms x ≡ x = cc in
-        let l : statement_taken safe_forms y ≡ y = cc in
+        let i : taken supported e ≡ e = cc in
+        let j : statement_taken supported x ≡ x = cc in
+        let l : statement_taken supported y ≡ y = cc in
         let z = none_of_both (condition_faults g e ++ statement_faults g c x) (statement_faults g c y) p in
         let w = none_of_both (condition_faults g e) (statement_faults g c x) z.0 in
         (condition_good e g h i o.0 w.0, (statement_good x g c r k f h j o.1.0 w.1, statement_good y g c r k f h l o.1.1 z.1))
     statement_good (Statement.While at e x) g c r k f h t o p =
-        let i : taken safe_forms e ≡ e = cc in
-        let j : statement_taken safe_forms x ≡ x = cc in
+        let i : taken supported e ≡ e = cc in
+        let j : statement_taken supported x ≡ x = cc in
         let z = none_of_both (condition_faults g e) (statement_faults (in_a_loop g) c x) p in
         (condition_good e g h i o.0 z.0, statement_good x (in_a_loop g) c r k f (good_loop g h) j o.1 z.1)
     statement_good (Statement.Switch at e cs) g c r k f h t o p = absurd cc
@@ -128,24 +132,24 @@ module _ (expressions : ExpressionsJudged) where
     statement_good (Statement.Return at None) g c r k f h t o p =
         f ∙ ap (λ z. Some z) (nothing_returned g at r k (subst (λ z. returned g at z None ≡ []) f p))
     statement_good (Statement.Return at (Some e)) g c r k f h t o p =
-        let i : taken safe_forms e ≡ e = cc in return_good e g at r k f h i o p
+        let i : taken supported e ≡ e = cc in return_good e g at r k f h i o p
     statement_good (Statement.FreeUnique at x) g c r k f h t o p = absurd cc
     statement_good (Statement.FreeKey at x) g c r k f h t o p = absurd cc
 
-    pub items_good : (x : BlockItems) (g : Env) (c : Bool) (r : StaticType) → IsPlain r → g.result ≡ Some r → IsGood g → items_taken safe_forms x ≡ x
+    pub items_good : (x : BlockItems) (g : Env) (c : Bool) (r : StaticType) → IsPlain r → g.result ≡ Some r → IsGood g → items_taken supported x ≡ x
         → ItemsHaveOperands x
         → items_faults g c x ≡ []
-        → ItemsJudged g x
+        → ItemsJudged g c x
     items_good NoItems g c r k f h t o p = tt
     items_good (Declare d others) g c r k f h t o p =
-        let i : declaration_taken safe_forms d ≡ d = cc in
-        let j : items_taken safe_forms others ≡ others = cc in
+        let i : declaration_taken supported d ≡ d = cc in
+        let j : items_taken supported others ≡ others = cc in
         let z = none_of_both (declare g d).faults (items_faults (declare g d).scope c others) p in
         let a = declaration_good expressions d g h i o.0 z.0 in
         (a.judged, items_good others (declare g d).scope c r k (a.result ∙ f) a.good j o.1 z.1)
     items_good (Execute x others) g c r k f h t o p =
-        let i : statement_taken safe_forms x ≡ x = cc in
-        let j : items_taken safe_forms others ≡ others = cc in
+        let i : statement_taken supported x ≡ x = cc in
+        let j : items_taken supported others ≡ others = cc in
         let d : Bool = c && (ways_of x).falls in
         let z = none_of_both (statement_faults g c x) (items_faults g d others) p in
         (statement_good x g c r k f h i o.0 z.0, items_good others g d r k f h j o.1 z.1)

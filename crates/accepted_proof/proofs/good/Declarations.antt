@@ -8,6 +8,7 @@ use Rattle.cyc_tree.specs.Tree as tree
 use Rattle.cyc_tree.specs.Tree.{Expression, Initializer, TypeName}
 use Rattle.type_proof.proofs.statements.Lexical.{lexical, names_with, with_region_is}
 use Rattle.type_proof.specs.Judged.{Accepted, DeclarationJudged, arrayed, extended, safe_forms}
+use Rattle.accepted_programs.specs.Supported.{supported}
 use Rattle.source_typing.specs.Conversions.{conversion, converts}
 use Rattle.source_typing.specs.Converts.{Converts}
 use Rattle.source_typing.specs.Declarations.{converted_to, declare, region_declared, set_faults, set_type, unset_type, what_after, what_of, with_region}
@@ -29,6 +30,8 @@ use Rattle.source_typing.proofs.Converting.{broken_is, conversion_is}
 use Rattle.source_typing.proofs.Inversion.{none_of_both}
 use Rattle.accepted_proof.specs.Good.{ExpressionsJudged, IsGood, IsGoodValue, Surely}
 use Rattle.accepted_proof.proofs.Sure.{surely_is}
+use Rattle.accepted_proof.proofs.Wider.{IsWithin, taken_within}
+use Rattle.accepted_proof.proofs.StructMembers.{no_union_good, struct_members, tables_good}
 use Rattle.accepted_proof.proofs.good.Scopes.{good_array, good_local, good_region, one_more}
 use Rattle.accepted_proof.proofs.good.Locals.{IsLocalType, local_begins, local_shape, set_good, unset_good}
 
@@ -43,13 +46,35 @@ pub record GoodExpression (g : Env) (e : Expression) : Type 0 where
 pub converted_is : (g : Env) (v : Value) (t : StaticType) → converts g v t ≡ [] → Converts g.regions v.type t
 converted_is g v t e = conversion_is g.regions v.type t (broken_is v.at (conversion g.regions v.type t) e)
 
+-- what is accepted is of forms that are proved safe
+supported_are_safe : IsWithin supported safe_forms
+supported_are_safe = record {
+  structs = λ e. cc;
+  pointers = λ e. cc;
+  regions = λ e. cc;
+  arrays = λ e. cc;
+  strings = λ e. cc;
+  filled = λ e. cc;
+  unions = λ e. cc;
+  unique = λ e. cc;
+}
+
 module _ (expressions : ExpressionsJudged) where
-  pub expression_good : (e : Expression) (g : Env) → IsGood g → taken safe_forms e ≡ e → ExpressionHasOperands e → faults_of (judge g e) ≡ []
+  pub expression_good : (e : Expression) (g : Env) → IsGood g → taken supported e ≡ e → ExpressionHasOperands e → faults_of (judge g e) ≡ []
       → GoodExpression g e
   expression_good e g h t o p =
       let s : Surely (λ v. IsGoodValue g v) (judge g e) = subst (λ z. Surely (λ v. IsGoodValue g v) (judge g z)) t (expressions e g h) in
       let z = surely_is (λ v. IsGoodValue g v) (judge g e) s p in
-      record { accepted = record { value = z.0; judged = z.1; is_taken = t; operands = o }; good = z.2 }
+      record {
+        accepted = record {
+          value = z.0;
+          judged = z.1;
+          is_taken = taken_within supported safe_forms supported_are_safe e t;
+          operands = o;
+          members = struct_members e g (no_union_good g.regions.count g.tables (tables_good g h));
+        };
+        good = z.2;
+      }
 
 -- ---- what is in scope after a declaration
 
@@ -71,7 +96,7 @@ local_taken false g at d e p q = absurd (by (subst (λ z. (declare g z).faults �
 
 -- ---- locals
 
-unset_declared : (g : Env) (t : TypeName) (x : tree.Name) → IsGood g → takes_type safe_forms t ≡ true
+unset_declared : (g : Env) (t : TypeName) (x : tree.Name) → IsGood g → takes_type supported t ≡ true
     → (declare g (tree.Local t x Initializer.Unset)).faults ≡ []
     → GoodDeclaration g (tree.Local t x Initializer.Unset)
 unset_declared g t x h e p =
@@ -86,7 +111,7 @@ unset_declared g t x h e p =
     }
 
 -- an array
-array_declared : (g : Env) (t : TypeName) (x : tree.Name) (n : ℕ) → IsGood g → takes_type safe_forms t ≡ true
+array_declared : (g : Env) (t : TypeName) (x : tree.Name) (n : ℕ) → IsGood g → takes_type supported t ≡ true
     → (declare g (tree.Local t x (Initializer.Elements n))).faults ≡ []
     → GoodDeclaration g (tree.Local t x (Initializer.Elements n))
 array_declared g t x n h e p =
@@ -101,7 +126,7 @@ array_declared g t x n h e p =
     }
 
 -- a local whose initializer is in order
-set_declared : (g : Env) (t : TypeName) (x : tree.Name) (e : Expression) → IsGood g → takes_type safe_forms t ≡ true → GoodExpression g e
+set_declared : (g : Env) (t : TypeName) (x : tree.Name) (e : Expression) → IsGood g → takes_type supported t ≡ true → GoodExpression g e
     → set_faults g (judge g e) (set_type g t (judge g e)) ≡ []
     → second g x ≡ []
     → GoodDeclaration g (tree.Local t x (Initializer.Value e))
@@ -151,7 +176,7 @@ region_good g at r x h p =
 -- ---- all declarations
 
 module _ (expressions : ExpressionsJudged) where
-  value_declared : (g : Env) (t : TypeName) (x : tree.Name) (e : Expression) → IsGood g → takes_type safe_forms t ≡ true → taken safe_forms e ≡ e
+  value_declared : (g : Env) (t : TypeName) (x : tree.Name) (e : Expression) → IsGood g → takes_type supported t ≡ true → taken supported e ≡ e
       → ExpressionHasOperands e
       → (declare g (tree.Local t x (Initializer.Value e))).faults ≡ []
       → GoodDeclaration g (tree.Local t x (Initializer.Value e))
@@ -162,7 +187,7 @@ module _ (expressions : ExpressionsJudged) where
       let c = none_of_both (faults_of (set_type g t v)) (faults_of v) b.0 in
       set_declared g t x e h k (expression_good expressions e g h j o c.1) a.0 a.1
 
-  pub declaration_good : (d : tree.Declaration) (g : Env) → IsGood g → declaration_taken safe_forms d ≡ d → DeclarationHasOperands d
+  pub declaration_good : (d : tree.Declaration) (g : Env) → IsGood g → declaration_taken supported d ≡ d → DeclarationHasOperands d
       → (declare g d).faults ≡ []
       → GoodDeclaration g d
   declaration_good (tree.Region at r x) g h t o p = region_good g at r x h p
@@ -170,15 +195,15 @@ module _ (expressions : ExpressionsJudged) where
   declaration_good (tree.Alias at r u x y) g h t o p = absurd cc
   declaration_good (tree.NewKey at r x) g h t o p = absurd cc
   declaration_good (tree.Local u x i) g h t o p =
-      let k = safe_forms in
+      let k = supported in
       let b = local_taken (takes_type k u && takes_initializer k i) g u.at (tree.Local u x (initializer_taken k i)) (tree.Local u x i) t p in
       let c = and_parts (takes_type k u) (takes_initializer k i) b in
       by i c.0 c.1 o p (subst (λ z. declared_if z u.at (tree.Local u x (initializer_taken k i)) ≡ tree.Local u x i) b t)
     where
-      by : (i : Initializer) → takes_type safe_forms u ≡ true → takes_initializer safe_forms i ≡ true → DeclarationHasOperands (tree.Local u x i)
+      by : (i : Initializer) → takes_type supported u ≡ true → takes_initializer supported i ≡ true → DeclarationHasOperands (tree.Local u x i)
           → (declare g (tree.Local u x i)).faults ≡ []
-          → tree.Local u x (initializer_taken safe_forms i) ≡ tree.Local u x i
+          → tree.Local u x (initializer_taken supported i) ≡ tree.Local u x i
           → GoodDeclaration g (tree.Local u x i)
       by Initializer.Unset k q o p t = unset_declared g u x h k p
       by (Initializer.Elements n) k q o p t = array_declared g u x n h k p
-      by (Initializer.Value e) k q o p t = let j : taken safe_forms e ≡ e = cc in value_declared g u x e h k j o p
+      by (Initializer.Value e) k q o p t = let j : taken supported e ≡ e = cc in value_declared g u x e h k j o p

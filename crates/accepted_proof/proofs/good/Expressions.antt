@@ -1,31 +1,30 @@
--- Each expression of integers, pointers, structs, arrays and regions is at fault or in order, where all is known of each name in scope.
+-- Each expression of the forms that are taken is at fault or in order, where all is known of each name in scope.
 use Rattle.std.proofs.Common.{◌≡◌, ℕ, Bool, true, false, List, [], ◌∷◌, refl, sym, subst}
 use Rattle.std.specs.Prelude.{◌&&◌}
 use Rattle.cyc_tree.specs.declared.expression.Operator.{Operator}
-use Rattle.cyc_tree.specs.Tree.{Array, Arrow, Dot, Expression, Expressions, Index, Links, MoreExpressions, MoreLinks, Name, NoExpressions, NoLinks, NoSuffixes}
-use Rattle.cyc_tree.specs.Tree.{One, Suffixes}
+use Rattle.cyc_tree.specs.Tree.{Array, Arrow, Dot, Expression, Expressions, Index, Links, Made, MoreExpressions, MoreLinks, Name, NoExpressions, NoLinks}
+use Rattle.cyc_tree.specs.Tree.{NoSuffixes, One, Suffixes}
 use Rattle.source_meaning.specs.Calls.{number_type}
 use Rattle.source_meaning.specs.Expressions.{is_unique_region}
 use Rattle.source_typing.specs.Calls.{called, target}
 use Rattle.source_typing.specs.Expressions.{judge, judge_all, judge_links, judge_made_in, judge_suffixes, judge_tests, number_typed}
 use Rattle.source_typing.specs.Fixing.{more}
-use Rattle.source_typing.specs.Making.{To, goal_of, inside}
+use Rattle.source_typing.specs.Making.{Goal, To, elements, goal_of, inside, with_counter}
 use Rattle.source_typing.specs.Operators.{applied, counted, prefixed, string, tested_both}
 use Rattle.source_typing.specs.Places.{arrow, assigned, grouped, indexed, member}
 use Rattle.source_typing.specs.Regions.{Region, TheHeap}
-use Rattle.source_typing.specs.Scope.{Env, Local, Nowhere, Value, in_scope, meant, value, with_locals}
-use Rattle.source_typing.specs.Tables.{Tables}
-use Rattle.source_typing.specs.Named.{Below, TypeBelow}
+use Rattle.source_typing.specs.Scope.{Env, Nowhere, Value, in_scope, meant, value}
+use Rattle.source_typing.specs.Named.{TypeBelow}
 use Rattle.source_typing.specs.Taken.{all_taken, are_linked, are_some, are_suffixed, if_taken, links_taken, made_taken, suffixes_taken, taken, takes_handle}
 use Rattle.source_typing.specs.Taken.{takes_made, takes_prefix, takes_suffixes}
-use Rattle.type_proof.specs.Judged.{safe_forms}
+use Rattle.accepted_programs.specs.Supported.{supported}
 use Rattle.source_typing.specs.Types.{Char, Handle, Null}
 use Rattle.source_typing.specs.Verdicts.{Of, Verdict, after, both}
 use Rattle.cyc_tree.specs.Operands.{AreSuffixed}
 use Rattle.cyc_tree.specs.Places.{expression_place}
 use Rattle.type_proof.proofs.expressions.Fixed.{ValuesBelow}
 use Rattle.type_proof.proofs.expressions.Integers.{type_integer}
-use Rattle.accepted_proof.specs.Good.{AllGood, ExpressionsJudged, IsGood, IsGoodValue, IsValueType, SeatBelow, Surely}
+use Rattle.accepted_proof.specs.Good.{ExpressionsJudged, IsGood, IsGoodValue, IsValueType, SeatBelow, Surely}
 use Rattle.accepted_proof.proofs.good.Names.{
   IsGoodPlace,
   IsGoodResult,
@@ -34,24 +33,18 @@ use Rattle.accepted_proof.proofs.good.Names.{
   found_good,
   target_judged,
 }
-use Rattle.accepted_proof.proofs.good.Scopes.{good_inside}
-use Rattle.accepted_proof.proofs.good.Makings.{handle_good, made_good, made_there}
+use Rattle.accepted_proof.proofs.good.Scopes.{good_counter, good_inside}
+use Rattle.accepted_proof.proofs.good.Makings.{IsGoal, IsKnownOperand, array_good, array_there, elements_good, handle_good, made_good}
+use Rattle.accepted_proof.proofs.good.Makings.{made_there}
 use Rattle.accepted_proof.proofs.good.Operators.{applied_judged, both_tested_judged, counted_judged, integer_judged, object_value, string_judged}
 use Rattle.accepted_proof.proofs.good.Places.{arrow_judged, assigned_judged, indexed_judged, member_judged, placed, prefixed_judged, valued, variable_judged}
+use Rattle.accepted_proof.proofs.StructMembers.{tables_good}
 use Rattle.accepted_proof.proofs.Sure.{surely_after, surely_also, surely_both}
 use Rattle.source_typing.proofs.TakenExpressions.{no_unique}
 
 -- an expression of the forms that are taken
 abbrev kept : Expression → Expression
-kept e = taken safe_forms e
-
--- what is known of the names in scope is known of the program's names
-behind_locals : (n : ℕ) (ls : List Local) (g : Tables) → AllGood n (with_locals ls g) → AllGood n g
-behind_locals n [] g h = h
-behind_locals n (l ∷ ls) g h = behind_locals n ls g h.1
-
-tables_good : (g : Env) → IsGood g → AllGood g.regions.count g.tables
-tables_good g h = behind_locals g.regions.count g.locals g.tables h.names
+kept e = taken supported e
 
 module _ (g : Env) (good : IsGood g) where
   -- an expression is at fault, or it is in order
@@ -213,33 +206,33 @@ not_unique (Expression.MakeUnion tag f e) h = refl
 not_unique (Expression.NumElts at e) h = refl
 not_unique (Expression.Grouped at e) h = not_unique e h
 not_unique (Expression.Suffixed e es) h =
-    no_unique (are_suffixed es && takes_suffixes safe_forms es) (expression_place e) (Expression.Suffixed (kept e) (suffixes_taken safe_forms es)) refl
-not_unique (Expression.Prefixed at o e) h = no_unique (takes_prefix safe_forms o) at (Expression.Prefixed at o (kept e)) refl
-not_unique (Expression.New at new) h = no_unique (takes_made safe_forms new) at (Expression.New at (made_taken safe_forms new)) refl
+    no_unique (are_suffixed es && takes_suffixes supported es) (expression_place e) (Expression.Suffixed (kept e) (suffixes_taken supported es)) refl
+not_unique (Expression.Prefixed at o e) h = no_unique (takes_prefix supported o) at (Expression.Prefixed at o (kept e)) refl
+not_unique (Expression.New at new) h = no_unique (takes_made supported new) at (Expression.New at (made_taken supported new)) refl
 not_unique (Expression.NewIn at e new) h =
-    no_unique (takes_handle safe_forms (is_unique_region e) && takes_made safe_forms new) at
-    (Expression.NewIn at (kept e) (made_taken safe_forms new)) refl
-not_unique (Expression.Chain e es) h = no_unique (are_linked es) (expression_place e) (Expression.Chain (kept e) (links_taken safe_forms es)) refl
-not_unique (Expression.AllOf e es) h = no_unique (are_some es) (expression_place e) (Expression.AllOf (kept e) (all_taken safe_forms es)) refl
-not_unique (Expression.AnyOf e es) h = no_unique (are_some es) (expression_place e) (Expression.AnyOf (kept e) (all_taken safe_forms es)) refl
+    no_unique (takes_handle supported (is_unique_region e) && takes_made supported new) at
+    (Expression.NewIn at (kept e) (made_taken supported new)) refl
+not_unique (Expression.Chain e es) h = no_unique (are_linked es) (expression_place e) (Expression.Chain (kept e) (links_taken supported es)) refl
+not_unique (Expression.AllOf e es) h = no_unique (are_some es) (expression_place e) (Expression.AllOf (kept e) (all_taken supported es)) refl
+not_unique (Expression.AnyOf e es) h = no_unique (are_some es) (expression_place e) (Expression.AnyOf (kept e) (all_taken supported es)) refl
 not_unique (Expression.Assign a b) h = refl
 
 -- a making in the region of a handle
-new_in : (g : Env) (good : IsGood g) (at : ℕ) (handle e : Expression) → Judged g good (kept handle)
-    → ((r : Region) → Below g.regions.count r → Surely (λ w. IsGoodValue g w) (judge (inside (Of (To r)) g) (kept e)))
-    → Judged g good (kept (Expression.NewIn at handle (One e)))
-new_in g good at handle e h k = by (is_unique_region handle) (not_unique handle)
+new_in : (g : Env) (good : IsGood g) (at : ℕ) (handle : Expression) (new : Made) → Judged g good (kept handle)
+    → ((goal : Verdict Goal) → Surely (λ x. IsGoal g x) goal → Surely (λ w. IsGoodValue g w) (judge_made_in g at goal new))
+    → Judged g good (if_taken (takes_handle supported (is_unique_region handle) && true) at (Expression.NewIn at (kept handle) new))
+new_in g good at handle new h k = by (is_unique_region handle) (not_unique handle)
   where
     by : (b : Bool) → (b ≡ false → is_unique_region (kept handle) ≡ false)
-        → Judged g good (if_taken (takes_handle safe_forms b && true) at (Expression.NewIn at (kept handle) (One (kept e))))
+        → Judged g good (if_taken (takes_handle supported b && true) at (Expression.NewIn at (kept handle) new))
     by true n = tt
     by false n =
-        subst (λ c. Surely (λ w. IsGoodValue g w) (judge_made_in g at (goal_of c g (judge g (kept handle))) (One (kept e)))) (sym (n refl))
-        (made_good g at (goal_of false g (judge g (kept handle))) (kept e) (handle_good g (kept handle) h) k)
+        subst (λ c. Surely (λ w. IsGoodValue g w) (judge_made_in g at (goal_of c g (judge g (kept handle))) new)) (sym (n refl))
+        (k (goal_of false g (judge g (kept handle))) (handle_good g (kept handle) h))
 
-no_array : (g : Env) (good : IsGood g) (b : Bool) (at : ℕ) (e : Expression) → Judged g good (if_taken (takes_handle safe_forms b && false) at e)
-no_array g good true at e = tt
-no_array g good false at e = tt
+-- an operand, by its type alone
+known_operand : (g : Env) (v : Verdict Value) → Surely (λ w. IsGoodValue g w) v → Surely (λ w. IsKnownOperand g w) v
+known_operand g v h = surely_also (λ w. IsGoodValue g w) (λ w. IsKnownOperand g w) v h (λ w k. (k.type, k.below))
 
 -- ---- expressions
 
@@ -251,7 +244,7 @@ mutual
   expression_judged (Expression.Character at byte) g good =
       valued g (record { at = at; type = Char; seat = Nowhere }) (record { type = tt; below = tt; nowhere = refl })
   expression_judged (Expression.Text at bytes) g good =
-      if_kept g good safe_forms.strings at (Expression.Text at bytes)
+      if_kept g good supported.strings at (Expression.Text at bytes)
       (surely_also (λ v. IsGoodResult g.regions.count v) (λ v. IsGoodValue g v) (string at bytes) (string_judged g.regions.count at bytes) (valued g))
   expression_judged (Expression.Null at) g good =
       valued g (record { at = at; type = Null; seat = Nowhere }) (record { type = tt; below = tt; nowhere = refl })
@@ -260,10 +253,10 @@ mutual
   expression_judged (Expression.UniqueRegion at) g good = tt
   expression_judged (Expression.Variable x) g good = variable_good g good x
   expression_judged (Expression.Call x es) g good =
-      call_good g good x (all_taken safe_forms es) (arguments_good g good (all_taken safe_forms es) (each_judged es g good))
+      call_good g good x (all_taken supported es) (arguments_good g good (all_taken supported es) (each_judged es g good))
   expression_judged (Expression.MakeUnion tag f e) g good = tt
   expression_judged (Expression.NumElts at e) g good =
-      if_kept g good safe_forms.arrays at (Expression.NumElts at (kept e))
+      if_kept g good supported.arrays at (Expression.NumElts at (kept e))
       (surely_after (λ v. IsGoodValue g v) (λ v. IsGoodValue g v) (judge g (kept e)) (counted at) (expression_judged e g good)
       (λ a h. surely_also (λ v. IsGoodResult g.regions.count v) (λ v. IsGoodValue g v) (counted at a) (counted_judged g.regions.count at a) (valued g)))
   expression_judged (Expression.Grouped at e) g good =
@@ -271,25 +264,30 @@ mutual
       (λ a h. record { type = h.type; below = h.below; seat = h.seat; object = h.object })
   expression_judged (Expression.Suffixed e NoSuffixes) g good = tt
   expression_judged (Expression.Suffixed e (Index index others)) g good =
-      if_kept g good (takes_suffixes safe_forms (Index index others)) (expression_place e)
-      (Expression.Suffixed (kept e) (suffixes_taken safe_forms (Index index others)))
-      (suffixed_judged g good (kept e) (suffixes_taken safe_forms (Index index others)) tt (expression_judged e g good)
+      if_kept g good (takes_suffixes supported (Index index others)) (expression_place e)
+      (Expression.Suffixed (kept e) (suffixes_taken supported (Index index others)))
+      (suffixed_judged g good (kept e) (suffixes_taken supported (Index index others)) tt (expression_judged e g good)
       (expression_judged index g good, each_suffixed others g good))
   expression_judged (Expression.Suffixed e (Dot f others)) g good =
-      if_kept g good (takes_suffixes safe_forms (Dot f others)) (expression_place e) (Expression.Suffixed (kept e) (suffixes_taken safe_forms (Dot f others)))
-      (suffixed_judged g good (kept e) (suffixes_taken safe_forms (Dot f others)) tt (expression_judged e g good) (each_suffixed others g good))
+      if_kept g good (takes_suffixes supported (Dot f others)) (expression_place e) (Expression.Suffixed (kept e) (suffixes_taken supported (Dot f others)))
+      (suffixed_judged g good (kept e) (suffixes_taken supported (Dot f others)) tt (expression_judged e g good) (each_suffixed others g good))
   expression_judged (Expression.Suffixed e (Arrow f others)) g good =
-      if_kept g good (takes_suffixes safe_forms (Arrow f others)) (expression_place e)
-      (Expression.Suffixed (kept e) (suffixes_taken safe_forms (Arrow f others)))
-      (suffixed_judged g good (kept e) (suffixes_taken safe_forms (Arrow f others)) tt (expression_judged e g good) (each_suffixed others g good))
+      if_kept g good (takes_suffixes supported (Arrow f others)) (expression_place e)
+      (Expression.Suffixed (kept e) (suffixes_taken supported (Arrow f others)))
+      (suffixed_judged g good (kept e) (suffixes_taken supported (Arrow f others)) tt (expression_judged e g good) (each_suffixed others g good))
   expression_judged (Expression.Prefixed at o e) g good =
-      if_kept g good (takes_prefix safe_forms o) at (Expression.Prefixed at o (kept e))
+      if_kept g good (takes_prefix supported o) at (Expression.Prefixed at o (kept e))
       (surely_after (λ v. IsGoodValue g v) (λ v. IsGoodValue g v) (judge g (kept e)) (prefixed g at o) (expression_judged e g good)
       (λ a h. prefixed_judged g at o a h))
   expression_judged (Expression.New at (One e)) g good = made_there g at TheHeap (judge g (kept e)) (expression_judged e g good) tt
-  expression_judged (Expression.New at (Array index count e)) g good = tt
+  expression_judged (Expression.New at (Array x c e)) g good =
+      let inner : Env = with_counter x g in
+      array_there g at TheHeap (both (judge g (kept c)) (judge inner (kept e)) (elements at))
+      (elements_good g at (judge g (kept c)) (judge inner (kept e)) (known_operand g (judge g (kept c)) (expression_judged c g good))
+      (known_operand inner (judge inner (kept e)) (expression_judged e inner (good_counter x g good)))) tt
   expression_judged (Expression.NewIn at handle (One e)) g good =
-      new_in g good at handle e (expression_judged handle g good) (λ r b. as_outside r (expression_judged e (inside (Of (To r)) g) (good_inside r g b good)))
+      new_in g good at handle (One (kept e)) (expression_judged handle g good)
+      (λ goal l. made_good g at goal (kept e) l (λ r b. as_outside r (expression_judged e (inside (Of (To r)) g) (good_inside r g b good))))
     where
       outside : (r : Region) (v : Value) → IsGoodValue (inside (Of (To r)) g) v → IsGoodValue g v
       outside r v h = record { type = h.type; below = h.below; seat = h.seat; object = h.object }
@@ -298,32 +296,39 @@ mutual
           → Surely (λ v. IsGoodValue g v) (judge (inside (Of (To r)) g) (kept e))
       as_outside r h =
           surely_also (λ v. IsGoodValue (inside (Of (To r)) g) v) (λ v. IsGoodValue g v) (judge (inside (Of (To r)) g) (kept e)) h (outside r)
-  expression_judged (Expression.NewIn at handle (Array index count e)) g good =
-      no_array g good (is_unique_region handle) at (Expression.NewIn at (kept handle) (made_taken safe_forms (Array index count e)))
+  expression_judged (Expression.NewIn at handle (Array x c e)) g good =
+      new_in g good at handle (Array x (kept c) (kept e)) (expression_judged handle g good)
+      (λ goal l. array_good g at goal x (kept c) (kept e) l (λ r b.
+      let within : Env = inside (Of (To r)) g in
+      let inner : Env = with_counter x within in
+      let good_within : IsGood within = good_inside r g b good in
+      elements_good g at (judge within (kept c)) (judge inner (kept e))
+      (known_operand within (judge within (kept c)) (expression_judged c within good_within))
+      (known_operand inner (judge inner (kept e)) (expression_judged e inner (good_counter x within good_within)))))
   expression_judged (Expression.Chain e NoLinks) g good = tt
   expression_judged (Expression.Chain e (MoreLinks o y es)) g good =
-      chain_good g good (kept e) o (kept y) (links_taken safe_forms es) (expression_judged e g good) (each_linked (MoreLinks o y es) g good)
+      chain_good g good (kept e) o (kept y) (links_taken supported es) (expression_judged e g good) (each_linked (MoreLinks o y es) g good)
   expression_judged (Expression.AllOf e NoExpressions) g good = tt
   expression_judged (Expression.AllOf e (MoreExpressions y es)) g good =
-      tests_joined g good (kept e) (kept y) (all_taken safe_forms es) (expression_judged e g good) (each_judged (MoreExpressions y es) g good)
+      tests_joined g good (kept e) (kept y) (all_taken supported es) (expression_judged e g good) (each_judged (MoreExpressions y es) g good)
   expression_judged (Expression.AnyOf e NoExpressions) g good = tt
   expression_judged (Expression.AnyOf e (MoreExpressions y es)) g good =
-      tests_joined g good (kept e) (kept y) (all_taken safe_forms es) (expression_judged e g good) (each_judged (MoreExpressions y es) g good)
+      tests_joined g good (kept e) (kept y) (all_taken supported es) (expression_judged e g good) (each_judged (MoreExpressions y es) g good)
   expression_judged (Expression.Assign a b) g good =
       surely_both (λ w. IsGoodValue g w) (λ w. IsGoodValue g w) (λ w. IsGoodValue g w) (judge g (kept a)) (judge g (kept b)) (assigned g)
       (expression_judged a g good) (expression_judged b g good) (λ u v c d. assigned_judged g u v c)
 
-  each_judged : (es : Expressions) (g : Env) (good : IsGood g) → AllJudged g good (all_taken safe_forms es)
+  each_judged : (es : Expressions) (g : Env) (good : IsGood g) → AllJudged g good (all_taken supported es)
   each_judged NoExpressions g good = tt
   each_judged (MoreExpressions e es) g good = (expression_judged e g good, each_judged es g good)
 
-  each_suffixed : (es : Suffixes) (g : Env) (good : IsGood g) → SuffixesJudged g good (suffixes_taken safe_forms es)
+  each_suffixed : (es : Suffixes) (g : Env) (good : IsGood g) → SuffixesJudged g good (suffixes_taken supported es)
   each_suffixed NoSuffixes g good = tt
   each_suffixed (Index index es) g good = (expression_judged index g good, each_suffixed es g good)
   each_suffixed (Dot f es) g good = each_suffixed es g good
   each_suffixed (Arrow f es) g good = each_suffixed es g good
 
-  each_linked : (es : Links) (g : Env) (good : IsGood g) → LinksJudged g good (links_taken safe_forms es)
+  each_linked : (es : Links) (g : Env) (good : IsGood g) → LinksJudged g good (links_taken supported es)
   each_linked NoLinks g good = tt
   each_linked (MoreLinks o e es) g good = (expression_judged e g good, each_linked es g good)
 

@@ -10,7 +10,8 @@ use Rattle.source_meaning.specs.Programs.{is_main, routine_of}
 use Rattle.source_meaning.specs.Shapes.{Part, has_tag, part_of}
 use Rattle.source_meaning.specs.Steps.{World}
 use Rattle.type_proof.specs.Entries.{AreObjects, Function}
-use Rattle.type_proof.specs.Judged.{ItemsJudged, extended, safe_forms}
+use Rattle.type_proof.specs.Judged.{ItemsJudged, extended}
+use Rattle.accepted_programs.specs.Supported.{supported}
 use Rattle.source_typing.specs.Named.{AllBelow, BoundsBelow, TypeBelow, TypesBelow}
 use Rattle.type_proof.specs.Programs.{FunctionJudged, name_alone, with_all}
 use Rattle.source_typing.specs.Faults.{name_rule, own_after, test, type_rule}
@@ -81,7 +82,7 @@ entry_more n (OfFunction s) h = h
 entry_more n (OfBuiltin k) h = h
 entry_more n (OfValue (Arrayed t r)) h =
     let least : 0 ≤ n = omega arith in (h.0, object_more 0 n t least h.0 h.1, below_more 0 n r least h.2)
-entry_more n (OfValue Counter) h = absurd h
+entry_more n (OfValue Counter) h = tt
 entry_more n (OfValue Unknown) h = absurd h
 entry_more n (OfTag t) h = h
 entry_more n OfOther h = absurd h
@@ -118,13 +119,13 @@ outside_good g i f a k =
 pub record FunctionGood (g : Tables) (i : ℕ) (f : tree.Function) : Type 0 where
   pub clean : (head_of false g f).faults ≡ []
   pub head : HeadGood g f
-  pub body : ItemsJudged (with_all (map part_of f.parameters) head.signature.types (function_scope false g i (head_of false g f))) f.body
+  pub body : ItemsJudged (with_all (map part_of f.parameters) head.signature.types (function_scope false g i (head_of false g f))) true f.body
   pub end : end_reached f (head_of false g f) ≡ false
   pub faults : items_faults (with_all (map part_of f.parameters) head.signature.types (function_scope false g i (head_of false g f))) true f.body ≡ []
   pub flow : body_flow (with_all (map part_of f.parameters) head.signature.types (function_scope false g i (head_of false g f))) f ≡ []
 
 module _ (bodies : BodiesJudged) where
-  pub function_good : (g : Tables) (i : ℕ) (f : tree.Function) → AllGood 0 g → function_taken safe_forms f ≡ f → ItemsHaveOperands f.body
+  pub function_good : (g : Tables) (i : ℕ) (f : tree.Function) → AllGood 0 g → function_taken supported f ≡ f → ItemsHaveOperands f.body
       → function_faults false g i f ≡ [] → body_flow (body_scope false g i f (head_of false g f)) f ≡ []
       → FunctionGood g i f
   function_good g i f a t o p flow =

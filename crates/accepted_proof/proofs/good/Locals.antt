@@ -17,8 +17,8 @@ use Rattle.source_typing.specs.Regions.{Region}
 use Rattle.source_typing.specs.Scope.{Env, Value, in_scope}
 use Rattle.source_typing.specs.Tables.{has_beginning, or_heap}
 use Rattle.source_typing.specs.Taken.{takes_type}
-use Rattle.type_proof.specs.Judged.{safe_forms}
-use Rattle.source_typing.specs.Types.{Handle, Char, Fat, Int, Null, PartialType, StaticType, Struct, Thin, Unique, Unsigned, Void, shape_of}
+use Rattle.accepted_programs.specs.Supported.{supported}
+use Rattle.source_typing.specs.Types.{Handle, Char, Fat, Int, Null, PartialType, StaticType, Struct, Thin, Union, Unique, Unsigned, Void, shape_of}
 use Rattle.source_typing.specs.Verdicts.{Of, after, if_fits}
 use Rattle.source_typing.specs.Written.{Found, Is, IsUnique, Missing}
 use Rattle.accepted_proof.specs.Good.{IsGood, IsValueType, Surely}
@@ -177,7 +177,7 @@ local_good g of at count set s p (WritesNothing v e) k =
 -- ---- types of locals
 
 -- a local, or an array of so many elements
-pub unset_good : (g : Env) (t : TypeName) (count : Option ℕ) → IsGood g → takes_type safe_forms t ≡ true
+pub unset_good : (g : Env) (t : TypeName) (count : Option ℕ) → IsGood g → takes_type supported t ≡ true
     → Surely (λ u. IsLocalType g t false u) (unset_type g t count)
 unset_good g t count h e =
     surely_after (λ p. IsWritten g.regions.count t p) (λ u. IsLocalType g t false u) (type_in_scope g t) (local_type g t.at count false None)
@@ -190,7 +190,7 @@ from_good : (g : Env) (of : TypeName) (at : ℕ) (b : Bool) (v : Value) (p : Par
 from_good g of at true v p k w = local_good g of at None true (Some v.type) p w k
 from_good g of at false v p k w = local_good g of at None true None p w tt
 
-pub set_good : (g : Env) (t : TypeName) (v : Value) → IsGood g → IsValueType v.type → TypeBelow g.regions.count v.type → takes_type safe_forms t ≡ true
+pub set_good : (g : Env) (t : TypeName) (v : Value) → IsGood g → IsValueType v.type → TypeBelow g.regions.count v.type → takes_type supported t ≡ true
     → Surely (λ u. IsLocalType g t true u) (set_type g t (Of v))
 set_good g t v h k b e =
     surely_after (λ p. IsWritten g.regions.count t p) (λ u. IsLocalType g t true u) (type_in_scope g t) (taken_from g t.at (misses_region g t) (Of v))
@@ -211,6 +211,7 @@ object_shape Char h = tt
 object_shape (Thin b r t) h = (refl, object_shape t h)
 object_shape (Fat r t) h = object_shape t h
 object_shape (Struct tag rs) h = tt
+object_shape (Union tag rs) h = tt
 object_shape (Handle r) h = tt
 object_shape _ h = absurd h
 
@@ -223,6 +224,7 @@ value_shape Char h = tt
 value_shape (Thin b r t) h = (refl, object_shape t h)
 value_shape (Fat r t) h = object_shape t h
 value_shape (Struct tag rs) h = tt
+value_shape (Union tag rs) h = tt
 value_shape (Handle r) h = tt
 value_shape _ h = absurd h
 

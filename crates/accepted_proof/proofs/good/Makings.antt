@@ -1,19 +1,21 @@
 -- Makings are at fault or in order, where their handles and what they make are.
 use Rattle.std.proofs.Common.{◌≡◌, ℕ, Bool, true, false, List, refl}
-use Rattle.cyc_tree.specs.Tree.{Expression, One}
+use Rattle.cyc_tree.specs.Tree.{Array, Expression, Name, One}
 use Rattle.source_typing.specs.Expressions.{judge, judge_made_in}
 use Rattle.source_typing.specs.Faults.{Fault}
-use Rattle.source_typing.specs.Making.{Goal, NoHandle, To, ToUnique, goal_of, handled, handled_of, inside, live_goal, made, made_to, with_goal}
+use Rattle.source_typing.specs.Making.{Goal, NoHandle, To, ToUnique, array_made, elements, goal_of, handled, handled_of, inside, live_goal, made, made_to}
+use Rattle.source_typing.specs.Making.{with_counter, with_goal}
 use Rattle.source_typing.specs.Regions.{Region}
 use Rattle.source_typing.specs.Scope.{Env, Nowhere, Value, is_live}
-use Rattle.source_typing.specs.Types.{Char, Fat, Handle, Int, Key, Null, StaticType, Struct, Thin, Union, Unique, Unsigned, Void, is_makeable}
-use Rattle.source_typing.specs.Verdicts.{Faulty, Of, Unjudged, Verdict}
-use Rattle.std.proofs.lemmas.Bool.{false≢true}
+use Rattle.source_typing.specs.Types.{Char, Fat, Handle, Int, Key, Null, StaticType, Struct, Thin, Union, Unique, Unsigned, Void, is_integer, is_makeable}
+use Rattle.source_typing.specs.Verdicts.{Faulty, Of, Unjudged, Verdict, both, if_fits}
+use Rattle.std.specs.Prelude.{◌&&◌}
+use Rattle.std.proofs.lemmas.Bool.{and_parts, false≢true}
 use Rattle.type_proof.specs.Entries.{IsObjectType}
 use Rattle.source_typing.specs.Named.{Below, TypeBelow}
 use Rattle.accepted_proof.specs.Good.{IsGoodValue, IsValueType, Surely}
 use Rattle.accepted_proof.proofs.good.Places.{valued}
-use Rattle.accepted_proof.proofs.Sure.{surely_after, surely_fits}
+use Rattle.accepted_proof.proofs.Sure.{surely_after, surely_both, surely_fits}
 
 module _ (g : Env) where
   -- what is made is an object
@@ -67,10 +69,16 @@ module _ (g : Env) where
   made_nowhere at (Faulty f fs) = tt
   made_nowhere at (Of v) = surely_fits (λ w. IsGoodValue g w) (is_makeable v.type) at v.type (made_to at NoHandle) (λ e. tt)
 
-  made_faulty : (at : ℕ) (f : Fault) (fs : List Fault) (v : Verdict Value) → Surely (λ w. IsGoodValue g w) (with_goal at (Faulty f fs) v (made at))
-  made_faulty at f fs (Faulty c cs) = tt
-  made_faulty at f fs Unjudged = tt
-  made_faulty at f fs (Of v) = tt
+  array_nowhere : (at : ℕ) (v : Verdict Value) → Surely (λ w. IsGoodValue g w) (with_goal at (Of NoHandle) v (array_made at))
+  array_nowhere at Unjudged = tt
+  array_nowhere at (Faulty f fs) = tt
+  array_nowhere at (Of v) = tt
+
+  goal_faulty : (at : ℕ) (f : Fault) (fs : List Fault) (v : Verdict Value) (rule : Goal → Value → Verdict Value)
+      → Surely (λ w. IsGoodValue g w) (with_goal at (Faulty f fs) v rule)
+  goal_faulty at f fs (Faulty c cs) rule = tt
+  goal_faulty at f fs Unjudged rule = tt
+  goal_faulty at f fs (Of v) rule = tt
 
   pub made_there : (at : ℕ) (r : Region) (v : Verdict Value) → Surely (λ w. IsGoodValue g w) v → Below g.regions.count r
       → Surely (λ w. IsGoodValue g w) (with_goal at (Of (To r)) v (made at))
@@ -82,11 +90,54 @@ module _ (g : Env) where
   pub made_good : (at : ℕ) (goal : Verdict Goal) (e : Expression) → Surely (λ x. IsGoal x) goal
       → ((r : Region) → Below g.regions.count r → Surely (λ w. IsGoodValue g w) (judge (inside (Of (To r)) g) e))
       → Surely (λ w. IsGoodValue g w) (judge_made_in g at goal (One e))
-  made_good at (Faulty f fs) e h k = made_faulty at f fs (judge (inside (Faulty f fs) g) e)
+  made_good at (Faulty f fs) e h k = goal_faulty at f fs (judge (inside (Faulty f fs) g) e) (made at)
   made_good at Unjudged e h k = absurd h
   made_good at (Of (To r)) e h k = made_there at r (judge (inside (Of (To r)) g) e) (k r h) h
   made_good at (Of ToUnique) e h k = absurd h
   made_good at (Of NoHandle) e h k = made_nowhere at (judge (inside (Of NoHandle) g) e)
+
+  -- ---- arrays
+
+  -- an element: an object, whose type speaks of regions in scope
+  abbrev pub IsElement : Value → Type 0
+  IsElement v = IsObjectType v.type × TypeBelow g.regions.count v.type
+
+  abbrev pub IsKnownOperand : Value → Type 0
+  IsKnownOperand v = IsValueType v.type × TypeBelow g.regions.count v.type
+
+  pub elements_good : (at : ℕ) (c e : Verdict Value) → Surely (λ v. IsKnownOperand v) c
+      → Surely (λ v. IsKnownOperand v) e → Surely (λ v. IsElement v) (both c e (elements at))
+  elements_good at c e h k =
+      surely_both (λ v. IsKnownOperand v) (λ v. IsKnownOperand v) (λ v. IsElement v) c e (elements at) h k
+      (λ a b l m. by a b m (is_integer a.type && is_makeable b.type) refl)
+    where
+      by : (a b : Value) → IsKnownOperand b → (t : Bool) → is_integer a.type && is_makeable b.type ≡ t
+          → Surely (λ v. IsElement v) (if_fits t at b)
+      by a b m true z = (makeable_object b.type m.0 (and_parts (is_integer a.type) (is_makeable b.type) z).1, m.1)
+      by a b m false z = tt
+
+  pub array_there : (at : ℕ) (r : Region) (v : Verdict Value) → Surely (λ w. IsElement w) v → Below g.regions.count r
+      → Surely (λ w. IsGoodValue g w) (with_goal at (Of (To r)) v (array_made at))
+  array_there at r (Faulty c cs) h b = tt
+  array_there at r Unjudged h b = absurd h
+  array_there at r (Of v) h b =
+      valued g (record { at = at; type = Fat r v.type; seat = Nowhere }) (record { type = h.0; below = (b, h.1); nowhere = refl })
+
+  -- count and element are judged in the region of the handle
+  pub array_good : (at : ℕ) (goal : Verdict Goal) (x : Name) (c e : Expression) → Surely (λ y. IsGoal y) goal
+      → ((r : Region) → Below g.regions.count r
+      → Surely (λ w. IsElement w) (both (judge (inside (Of (To r)) g) c) (judge (with_counter x (inside (Of (To r)) g)) e) (elements at)))
+      → Surely (λ w. IsGoodValue g w) (judge_made_in g at goal (Array x c e))
+  array_good at (Faulty f fs) x c e h k =
+      let inner : Env = inside (Faulty f fs) g in
+      goal_faulty at f fs (both (judge inner c) (judge (with_counter x inner) e) (elements at)) (array_made at)
+  array_good at Unjudged x c e h k = absurd h
+  array_good at (Of (To r)) x c e h k =
+      let inner : Env = inside (Of (To r)) g in
+      array_there at r (both (judge inner c) (judge (with_counter x inner) e) (elements at)) (k r h) h
+  array_good at (Of ToUnique) x c e h k = absurd h
+  array_good at (Of NoHandle) x c e h k =
+      let inner : Env = inside (Of NoHandle) g in array_nowhere at (both (judge inner c) (judge (with_counter x inner) e) (elements at))
 
   pub handle_good : (e : Expression) → Surely (λ v. IsGoodValue g v) (judge g e) → Surely (λ x. IsGoal x) (goal_of false g (judge g e))
   handle_good e h =

@@ -73,7 +73,7 @@ target_judged count at (Some (OfTag t)) h =
     (subst (λ b. Surely (λ u. IsGoodTarget u) (if_sound b (Of (ToStruct t)))) (sym h.sound) h)
 target_judged count at (Some (OfValue (Stored t r))) h = tt
 target_judged count at (Some (OfValue (Arrayed t r))) h = tt
-target_judged count at (Some (OfValue Counter)) h = absurd h
+target_judged count at (Some (OfValue Counter)) h = tt
 target_judged count at (Some (OfValue Unknown)) h = absurd h
 target_judged count at (Some OfOther) h = absurd h
 
@@ -156,7 +156,7 @@ plain_value (Unique n t) h = absurd h
 plain_value (Handle r) h = tt
 plain_value (Key r) h = absurd h
 plain_value (Struct tag rs) h = h
-plain_value (Union tag rs) h = absurd h
+plain_value (Union tag rs) h = h
 
 -- the functions that every program has take integers
 builtins_are : (n : ℕ) → some_types (replicate n Int) ≡ builtin_parameters n

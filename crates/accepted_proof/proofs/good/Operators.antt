@@ -134,14 +134,15 @@ module _ (count : ℕ) (g : Env) where
   compared_judged at (Thin n r t) (Handle q) h k = tt
   compared_judged at (Thin n r t) (Key q) h k = absurd k
   compared_judged at (Thin n r t) (Struct tag qs) h k = tt
-  compared_judged at (Thin n r t) (Union tag qs) h k = absurd k
+  compared_judged at (Thin n r t) (Union tag qs) h k = tt
   compared_judged at (Fat r t) u h k = null_judged ((is_pointer (Fat r t) && is_null u) || (is_null (Fat r t) && is_pointer u)) at
   compared_judged at (Unique n t) u h k = absurd h
   compared_judged at (Handle r) u h k = null_judged ((is_pointer (Handle r) && is_null u) || (is_null (Handle r) && is_pointer u)) at
   compared_judged at (Key r) u h k = absurd h
   compared_judged at (Struct tag rs) u h k =
       null_judged ((is_pointer (Struct tag rs) && is_null u) || (is_null (Struct tag rs) && is_pointer u)) at
-  compared_judged at (Union tag rs) u h k = absurd h
+  compared_judged at (Union tag rs) u h k =
+      null_judged ((is_pointer (Union tag rs) && is_null u) || (is_null (Union tag rs) && is_pointer u)) at
 
   equality_judged : (b : Bool) (at : ℕ) (t u : StaticType) → IsValueType t → IsValueType u → Surely (λ v. IsGoodResult count v) (if_equality b g at t u)
   equality_judged true at t u h k = compared_judged at t u h k
@@ -175,4 +176,4 @@ module _ (count : ℕ) (g : Env) where
   applied_judged o at (Handle r) u h b k = joined_judged (is_integer (Handle r) && is_integer u) o at (Handle r) u refl h k
   applied_judged o at (Key r) u h b k = absurd h
   applied_judged o at (Struct tag rs) u h b k = joined_judged (is_integer (Struct tag rs) && is_integer u) o at (Struct tag rs) u refl h k
-  applied_judged o at (Union tag rs) u h b k = absurd h
+  applied_judged o at (Union tag rs) u h b k = joined_judged (is_integer (Union tag rs) && is_integer u) o at (Union tag rs) u refl h k

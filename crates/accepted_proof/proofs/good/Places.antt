@@ -51,7 +51,8 @@ variable_judged g at (Some (OfValue (Stored t r))) h =
     placed g (record { at = at; type = t; seat = In r }) (record { type = h.0; below = h.1; seat = h.2 })
 variable_judged g at (Some (OfValue (Arrayed t r))) h =
     valued g (record { at = at; type = Fat r t; seat = Nowhere }) (record { type = h.0; below = (h.2, h.1); nowhere = refl })
-variable_judged g at (Some (OfValue Counter)) h = absurd h
+variable_judged g at (Some (OfValue Counter)) h =
+    valued g (record { at = at; type = Unsigned; seat = Nowhere }) (record { type = tt; below = tt; nowhere = refl })
 variable_judged g at (Some (OfValue Unknown)) h = absurd h
 variable_judged g at (Some (OfTag t)) h = surely_other (λ v. IsGoodValue g v) t.sound at h.sound
 variable_judged g at (Some (OfFunction s)) h = surely_other (λ v. IsGoodValue g v) s.sound at h.sound
@@ -78,7 +79,7 @@ contents_judged g at (Unique n t) w h = absurd w
 contents_judged g at (Handle r) w h = tt
 contents_judged g at (Key r) w h = absurd w
 contents_judged g at (Struct tag rs) w h = tt
-contents_judged g at (Union tag rs) w h = absurd w
+contents_judged g at (Union tag rs) w h = tt
 
 -- ---- elements of arrays
 
@@ -162,7 +163,7 @@ member_judged g x at (Unique n t) (In r) h w b k = absurd w
 member_judged g x at (Handle q) (In r) h w b k = tt
 member_judged g x at (Key q) (In r) h w b k = absurd w
 member_judged g x at (Struct tag rs) (In r) h w b k = part_judged g at (In r) tag rs x h b k
-member_judged g x at (Union tag rs) (In r) h w b k = absurd w
+member_judged g x at (Union tag rs) (In r) h w b k = tt
 
 arrow_live_judged : (g : Env) (x : tree.Name) (at : ℕ) (b : Bool) (r : Region) (tag : List ℕ) (rs : List Region) → AllGood g.regions.count g.tables
     → AllBelow g.regions.count rs → Below g.regions.count r → Surely (λ v. IsGoodPlace g.regions.count v) (arrow_live b g x at r tag rs)
@@ -182,7 +183,7 @@ thin_arrow g x at n r (Fat q t) h w b k = tt
 thin_arrow g x at n r (Unique m t) h w b k = absurd w
 thin_arrow g x at n r (Handle q) h w b k = tt
 thin_arrow g x at n r (Key q) h w b k = absurd w
-thin_arrow g x at n r (Union tag rs) h w b k = absurd w
+thin_arrow g x at n r (Union tag rs) h w b k = tt
 
 -- through a fat pointer as through a thin one
 fat_arrow : (g : Env) (x : tree.Name) (at : ℕ) (r : Region) (t : StaticType) → arrow_of g x at (Fat r t) ≡ arrow_of g x at (Thin true r t)
@@ -203,7 +204,7 @@ arrow_judged g x at (Unique n t) h w b = absurd w
 arrow_judged g x at (Handle r) h w b = tt
 arrow_judged g x at (Key r) h w b = absurd w
 arrow_judged g x at (Struct tag rs) h w b = tt
-arrow_judged g x at (Union tag rs) h w b = absurd w
+arrow_judged g x at (Union tag rs) h w b = tt
 
 -- ---- assignments
 
@@ -223,7 +224,7 @@ assigned_value t o = by t o
     by (Unique n t) o = absurd o
     by (Handle r) o = tt
     by (Key r) o = absurd o
-    by (Union tag rs) o = absurd o
+    by (Union tag rs) o = tt
 
 pub assigned_judged : (g : Env) (to from : Value) → IsGoodValue g to → Surely (λ v. IsGoodValue g v) (assigned g to from)
 assigned_judged g to from h = by (is_place to.seat) refl

@@ -1,4 +1,5 @@
--- A scope in which all is known of each name stays one: where a block or a loop begins, in an `rnew`, and after a local, an array and a lexical region.
+-- A scope in which all is known of each name stays one: where a block or a loop begins, in an `rnew` and an element, and after a local, an array and a
+-- lexical region.
 use Rattle.std.proofs.Common.{◌≡◌, ℕ, Bool, true, false, List, [], ◌∷◌, arith, refl}
 use Rattle.std.specs.Prelude.{◌+◌, if◌then◌else◌, is_some, not}
 use Rattle.cyc_tree.specs.Tree as tree
@@ -10,7 +11,7 @@ use Rattle.source_typing.proofs.NamedBelow.{below_up, names_up}
 use Rattle.type_proof.proofs.statements.Surroundings.{type_up}
 use Rattle.source_typing.specs.Declarations.{name_added}
 use Rattle.source_typing.specs.Faults.{name_rule, test}
-use Rattle.source_typing.specs.Making.{To, inside}
+use Rattle.source_typing.specs.Making.{To, inside, with_counter}
 use Rattle.source_typing.specs.Regions.{Region}
 use Rattle.source_typing.specs.Scope.{Enclosing, Env, block_entered, in_scope, is_second, next_region, second, with_local}
 use Rattle.source_typing.specs.Statements.{in_a_loop}
@@ -25,7 +26,7 @@ use Rattle.accepted_proof.specs.Good.{AllGood, IsAround, IsGood, IsGoodEntry, Na
 pub entry_up : (n : ℕ) (e : Entry) → IsGoodEntry n e → IsGoodEntry (n + 1) e
 entry_up n (OfValue (Stored t r)) h = (h.0, type_up n t h.1, below_up n r h.2)
 entry_up n (OfValue (Arrayed t r)) h = (h.0, type_up n t h.1, below_up n r h.2)
-entry_up n (OfValue Counter) h = absurd h
+entry_up n (OfValue Counter) h = tt
 entry_up n (OfValue Unknown) h = absurd h
 entry_up n (OfTag t) h = h
 entry_up n (OfFunction s) h = h
@@ -56,6 +57,10 @@ good_loop g h = record { names = h.names; regions = h.regions; frame = h.frame; 
 -- in an `rnew` of a region that is in scope
 pub good_inside : (r : Region) (g : Env) → Below g.regions.count r → IsGood g → IsGood (inside (Of (To r)) g)
 good_inside r g b h = record { names = h.names; regions = h.regions; frame = h.frame; enclosing = record { region = r; is = refl; below = b } }
+
+-- in an element of an array that is made
+pub good_counter : (x : tree.Name) (g : Env) → IsGood g → IsGood (with_counter x g)
+good_counter x g h = record { names = (tt, h.names); regions = h.regions; frame = h.frame; enclosing = h.enclosing }
 
 -- after a lexical region
 name_below : (n : ℕ) (names : List RegionNamed) (x : tree.Name) (r : Region) (b : Bool) → NamesBelow n names → Below n r → NamesBelow n (name_added b x r names)

@@ -16,7 +16,7 @@ use Rattle.source_typing.specs.Regions.{TheHeap}
 use Rattle.source_typing.specs.Scope.{at_item}
 use Rattle.source_typing.specs.Tables.{Entry, Named, OfOther, OfValue, Tables}
 use Rattle.source_typing.specs.Taken.{Taken, constant_forms, function_taken, item_forms, item_taken, only_taken}
-use Rattle.type_proof.specs.Judged.{safe_forms}
+use Rattle.accepted_programs.specs.Supported.{supported}
 use Rattle.source_typing.specs.Types.{StaticType}
 use Rattle.source_typing.specs.Verdicts.{Of}
 use Rattle.source_typing.proofs.Inversion.{none_of_both}
@@ -80,7 +80,7 @@ is_clean_program k p e =
 
 -- a head without fault
 pub record HeadKnown (h : Tables) (f : tree.Function) : Type 0 where
-  pub is_taken : function_taken safe_forms f ≡ f
+  pub is_taken : function_taken supported f ≡ f
   pub clean : (head_of false h f).faults ≡ []
 
 pub known_good : (h : Tables) (f : tree.Function) → KnowsTags h → HeadKnown h f → HeadGood h f
@@ -101,25 +101,25 @@ AreHeaded h i (j ∷ js) [] = ⊥
 
 -- The program's own tables `g` have the same tags as `h`: what has no fault by them has none where tags alone are known.
 pub all_headed : (g h : Tables) (i : ℕ) (js : List Judged) (is : List Item) → KnowsTags h → AreAligned g h → AreNamed js is
-    → only_taken safe_forms is ≡ is
-    → constant_forms safe_forms is ≡ [] → items_from false g i is ≡ [] → AreHeaded h i js is
+    → only_taken supported is ≡ is
+    → constant_forms supported is ≡ [] → items_from false g i is ≡ [] → AreHeaded h i js is
 all_headed g h i [] [] tags s n t f p = tt
 all_headed g h i [] (x ∷ is) tags s n t f p = absurd n
 all_headed g h i (j ∷ js) [] tags s n t f p = absurd n
 all_headed g h i (j ∷ js) (tree.StructItem x ∷ is) tags s n t f p =
-    let b : only_taken safe_forms is ≡ is = cc in (n.0, all_headed g h (suc i) js is tags s n.1 b f p)
+    let b : only_taken supported is ≡ is = cc in (n.0, all_headed g h (suc i) js is tags s n.1 b f p)
 all_headed g h i (j ∷ js) (tree.UnionItem x ∷ is) tags s n t f p = absurd n.0
 all_headed g h i (j ∷ js) (tree.GlobalItem x ∷ is) tags s n t f p =
-    let a : item_taken safe_forms (tree.GlobalItem x) ≡ tree.GlobalItem x = cc in
-    let b : only_taken safe_forms is ≡ is = cc in
-    let c : (item_forms safe_forms (tree.GlobalItem x) ≡ []) × (constant_forms safe_forms is ≡ []) =
-    none_of_both (item_forms safe_forms (tree.GlobalItem x)) (constant_forms safe_forms is) f in
+    let a : item_taken supported (tree.GlobalItem x) ≡ tree.GlobalItem x = cc in
+    let b : only_taken supported is ≡ is = cc in
+    let c : (item_forms supported (tree.GlobalItem x) ≡ []) × (constant_forms supported is ≡ []) =
+    none_of_both (item_forms supported (tree.GlobalItem x)) (constant_forms supported is) f in
     let d : (global_faults (at_item false g i) x ≡ []) × (items_from false g (suc i) is ≡ []) =
     none_of_both (global_faults (at_item false g i) x) (items_from false g (suc i) is) p in
     ((n.0, global_good h i x tags a c.0 (sym (global_faults_same g h s i x) ∙ d.0)), all_headed g h (suc i) js is tags s n.1 b c.1 d.1)
 all_headed g h i (j ∷ js) (tree.FunctionItem x ∷ is) tags s n t f p =
-    let a : function_taken safe_forms x ≡ x = cc in
-    let b : only_taken safe_forms is ≡ is = cc in
+    let a : function_taken supported x ≡ x = cc in
+    let b : only_taken supported is ≡ is = cc in
     let d : (function_faults false g i x ≡ []) × (items_from false g (suc i) is ≡ []) =
     none_of_both (function_faults false g i x) (items_from false g (suc i) is) p in
     let e : (head_of false h x).faults ≡ [] =

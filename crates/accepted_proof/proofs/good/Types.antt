@@ -16,7 +16,7 @@ use Rattle.source_typing.specs.Regions.{Region}
 use Rattle.source_typing.specs.Tables.{Arrayed, Counter, Entry, OfBuiltin, OfFunction, OfOther, OfTag, OfValue, Stored, Tables, Unknown, as_tag, find}
 use Rattle.source_typing.specs.Tables.{tag_in}
 use Rattle.source_typing.specs.Taken.{Taken, takes_base, takes_pointers, takes_region, takes_sign, takes_type}
-use Rattle.type_proof.specs.Judged.{safe_forms}
+use Rattle.accepted_programs.specs.Supported.{supported}
 use Rattle.source_typing.specs.Types.{Char, Fat, Handle, Int, Key, PartialType, Struct, Thin, Unsigned, Void, same_bool, shape_of}
 use Rattle.source_typing.specs.Verdicts.{Faulty, Of, Unjudged, Verdict, unless_faulty}
 use Rattle.source_typing.specs.Written.{
@@ -257,12 +257,12 @@ count_is g tag [] m s e = length-replicate (regions_of_tag (tag_in g tag.text)) 
 count_is g tag (r ∷ rs) m s e = length-map (r ∷ rs) (λ r. spot false (Some r)) ∙ eqb-true (length (r ∷ rs)) m e
 
 -- a type that is taken, where a region in scope is found for each argument and pointer, or a missing one
-pub written_good : (n : ℕ) (g : Tables) (t : TypeName) (fs : List Found) (bad : List Fault) → KnowsTags g → takes_type safe_forms t ≡ true
+pub written_good : (n : ℕ) (g : Tables) (t : TypeName) (fs : List Found) (bad : List Fault) → KnowsTags g → takes_type supported t ≡ true
     → AreAllFound n (length (base_spots g t.base)) t.pointers fs
     → Surely (λ p. IsWritten n t p) (written_with g t (fs, bad))
 written_good n g t fs bad tags e h =
-    let a = and_parts (takes_base safe_forms t.base) (takes_pointers safe_forms t.pointers) e in
-    by t.base a.0 (pointers_shared safe_forms refl t.pointers a.1) h
+    let a = and_parts (takes_base supported t.base) (takes_pointers supported t.pointers) e in
+    by t.base a.0 (pointers_shared supported refl t.pointers a.1) h
   where
     with_base : tree.Base → TypeName
     with_base b = record { at = t.at; base = b; pointers = t.pointers }
@@ -289,7 +289,7 @@ written_good n g t fs bad tags e h =
             object_written n t (tree.Struct tag rs) (with_arguments m (Struct tag.text) [] t.pointers fs) k
             (struct_pointed n m tag.text [] t.pointers fs k tt (subst (λ (c : ℕ). AreAllFound n c t.pointers fs) (count_is g tag rs m s q) h))
 
-    by : (b : tree.Base) → takes_base safe_forms b ≡ true → AreShared t.pointers → AreAllFound n (length (base_spots g b)) t.pointers fs
+    by : (b : tree.Base) → takes_base supported b ≡ true → AreShared t.pointers → AreAllFound n (length (base_spots g b)) t.pointers fs
         → Surely (λ p. IsWritten n (with_base b) p) (written_with g (with_base b) (fs, bad))
     by tree.Int q k h = word tree.Int Int k h (record { object = tt; unowned = tt; shape = refl })
     by tree.Unsigned q k h = word tree.Unsigned Unsigned k h (record { object = tt; unowned = tt; shape = refl })
@@ -306,11 +306,11 @@ written_good n g t fs bad tags e h =
 
 -- one by the region names in scope
 pub in_scope_good : (n : ℕ) (g : Tables) (names : List RegionNamed) (t : TypeName) → KnowsTags g → NamesBelow n names
-    → takes_type safe_forms t ≡ true → Surely (λ p. IsWritten n t p) (written g names t)
+    → takes_type supported t ≡ true → Surely (λ p. IsWritten n t p) (written g names t)
 in_scope_good n g names t tags h e =
-    let a = and_parts (takes_base safe_forms t.base) (takes_pointers safe_forms t.pointers) e in
+    let a = and_parts (takes_base supported t.base) (takes_pointers supported t.pointers) e in
     written_good n g t (all_found names (spots_of g t)).0 (all_found names (spots_of g t)).1 tags e
-    (spots_found n names (base_spots g t.base) t.pointers h (base_arguments g t.base) (pointers_shared safe_forms refl t.pointers a.1))
+    (spots_found n names (base_spots g t.base) t.pointers h (base_arguments g t.base) (pointers_shared supported refl t.pointers a.1))
 
 -- all is known of the names in scope: so all tags are
 entry_known : (n : ℕ) (e : Entry) → IsGoodEntry n e → IsKnownEntry e

@@ -12,7 +12,7 @@ use Rattle.source_meaning.specs.Shapes.{ArrayShape, Layout, Shape, settled, writ
 use Rattle.source_meaning.specs.Steps.{World}
 use Rattle.type_proof.specs.Entries.{IsObjectType}
 use Rattle.type_proof.specs.Judged.{Condition, DeclarationJudged, ItemsJudged, LocalArray, LocalSet, LocalUnset, RegionOpened, Returned, StatementJudged}
-use Rattle.type_proof.specs.Judged.{safe_forms}
+use Rattle.accepted_programs.specs.Supported.{supported}
 use Rattle.source_typing.specs.Converts.{Converts}
 use Rattle.source_typing.specs.Declarations.{converted_to, declare, local_type, misses_region, set_faults, set_type, taken_from, unset_type, with_region}
 use Rattle.source_typing.specs.Expressions.{judge}
@@ -28,7 +28,7 @@ use Rattle.source_typing.specs.Ways.{ways_of}
 use Rattle.source_typing.specs.Written.{all_found, spots_of}
 use Rattle.source_typing.proofs.Inversion.{none_of_both}
 use Rattle.accepted_proof.proofs.good.Declarations.{local_taken}
-use Rattle.accepted_proof.proofs.Known.{IsKnown, IsKnownValue, IsWord, converts_struct, converts_word, testable_word}
+use Rattle.accepted_proof.proofs.Known.{IsKnown, IsKnownValue, IsWord, converts_struct, converts_union, converts_word, testable_word}
 use Rattle.accepted_proof.proofs.lowered.Calls.{struct_taken}
 use Rattle.accepted_proof.proofs.lowered.Expressions.{taken_is}
 use Rattle.accepted_proof.proofs.lowered.Forms.{IsGiven, IsKnownScope, IsTaken, TakenAs, word_is}
@@ -93,6 +93,8 @@ module _ (w : World) where
   value_takes names g e v (Struct tag rs) o c k =
       struct_taken w names (Struct tag rs) e tt
       (subst (λ (t : StaticType). TakenAs w names t e) (converts_struct g.regions v.type (Struct tag rs) c tt) k.value)
+  value_takes names g e v (Union tag rs) o c k =
+      absurd (subst (λ (t : StaticType). IsKnownValue w.structs t) (converts_union g.regions v.type (Union tag rs) c tt) k.known)
   value_takes names g e v _ o c k = absurd o
 
   -- a declaration that is taken, and what is known after it
@@ -101,7 +103,7 @@ module _ (w : World) where
     scope : IsKnownScope w (named_here (tree.local_of d).text (local_shape d) index ∷ names) (declare g d).scope
     result : (declare g d).scope.result ≡ g.result
 
-  unset_takes : (names : List Named) (index : ℕ) (g : Env) (u : TypeName) (x : tree.Name) → IsKnownScope w names g → takes_type safe_forms u ≡ true
+  unset_takes : (names : List Named) (index : ℕ) (g : Env) (u : TypeName) (x : tree.Name) → IsKnownScope w names g → takes_type supported u ≡ true
       → LocalUnset g u x → (declare g (tree.Local u x Initializer.Unset)).faults ≡ [] → DeclarationTaken names index g (tree.Local u x Initializer.Unset)
   unset_takes names index g u x scope e j p =
       let f = none_of_both (faults_of (unset_type g u None)) (second g x) p in
@@ -118,7 +120,7 @@ module _ (w : World) where
         result = ap (λ (s : Env). s.result) j.scope;
       }
 
-  array_takes : (names : List Named) (index : ℕ) (g : Env) (u : TypeName) (x : tree.Name) (n : ℕ) → IsKnownScope w names g → takes_type safe_forms u ≡ true
+  array_takes : (names : List Named) (index : ℕ) (g : Env) (u : TypeName) (x : tree.Name) (n : ℕ) → IsKnownScope w names g → takes_type supported u ≡ true
       → LocalArray g u x n → (declare g (tree.Local u x (Initializer.Elements n))).faults ≡ []
       → DeclarationTaken names index g (tree.Local u x (Initializer.Elements n))
   array_takes names index g u x n scope e j p =
@@ -141,7 +143,7 @@ module _ (w : World) where
       }
 
   set_takes : (names : List Named) (index : ℕ) (g : Env) (u : TypeName) (x : tree.Name) (e : Expression) → IsKnownScope w names g
-      → takes_type safe_forms u ≡ true → taken safe_forms e ≡ e → LocalSet g u x e
+      → takes_type supported u ≡ true → taken supported e ≡ e → LocalSet g u x e
       → (declare g (tree.Local u x (Initializer.Value e))).faults ≡ []
       → DeclarationTaken names index g (tree.Local u x (Initializer.Value e))
   set_takes names index g u x e scope q t j p =
@@ -180,34 +182,34 @@ module _ (w : World) where
       by (tree.Heap at) = refl
       by (tree.Unique at) = refl
 
-  declaration_takes : (d : tree.Declaration) (names : List Named) (index : ℕ) (g : Env) → IsKnownScope w names g → declaration_taken safe_forms d ≡ d
+  declaration_takes : (d : tree.Declaration) (names : List Named) (index : ℕ) (g : Env) → IsKnownScope w names g → declaration_taken supported d ≡ d
       → DeclarationJudged g d → (declare g d).faults ≡ [] → DeclarationTaken names index g d
   declaration_takes (tree.Region at r x) names index g scope t j p = region_takes names index g at r x scope j
   declaration_takes (tree.Open at r x y) names index g scope t j p = absurd j
   declaration_takes (tree.Alias at r u x y) names index g scope t j p = absurd j
   declaration_takes (tree.NewKey at r x) names index g scope t j p = absurd j
   declaration_takes (tree.Local u x i) names index g scope t j p =
-      let k = safe_forms in
+      let k = supported in
       let b = local_taken (takes_type k u && takes_initializer k i) g u.at (tree.Local u x (initializer_taken k i)) (tree.Local u x i) t p in
       let c = and_parts (takes_type k u) (takes_initializer k i) b in
       by i c.0 j p (subst (λ z. declared_if z u.at (tree.Local u x (initializer_taken k i)) ≡ tree.Local u x i) b t)
     where
-      by : (i : Initializer) → takes_type safe_forms u ≡ true → DeclarationJudged g (tree.Local u x i) → (declare g (tree.Local u x i)).faults ≡ []
-          → tree.Local u x (initializer_taken safe_forms i) ≡ tree.Local u x i → DeclarationTaken names index g (tree.Local u x i)
+      by : (i : Initializer) → takes_type supported u ≡ true → DeclarationJudged g (tree.Local u x i) → (declare g (tree.Local u x i)).faults ≡ []
+          → tree.Local u x (initializer_taken supported i) ≡ tree.Local u x i → DeclarationTaken names index g (tree.Local u x i)
       by Initializer.Unset q j p t = unset_takes names index g u x scope q j p
       by (Initializer.Elements n) q j p t = array_takes names index g u x n scope q j p
-      by (Initializer.Value e) q j p t = let i : taken safe_forms e ≡ e = cc in set_takes names index g u x e scope q i j p
+      by (Initializer.Value e) q j p t = let i : taken supported e ≡ e = cc in set_takes names index g u x e scope q i j p
 
   -- ---- statements
 
-  condition_takes : (names : List Named) (g : Env) (e : Expression) → IsKnownScope w names g → taken safe_forms e ≡ e → Condition g e → Takes w names e
+  condition_takes : (names : List Named) (g : Env) (e : Expression) → IsKnownScope w names g → taken supported e ≡ e → Condition g e → Takes w names e
   condition_takes names g e scope t c =
       let v : Value = c.accepted.value in
       let k : IsTaken w names e v = taken_is w names g scope e v t c.accepted.judged in
       (word_is w names v.type e (testable_word v.type c.testable) k.value).takes
 
   module _ (r : StaticType) (given : IsGiven w.structs r) where
-    return_takes : (names : List Named) (g : Env) (e : Expression) → g.result ≡ Some r → IsKnownScope w names g → taken safe_forms e ≡ e → Returned g e
+    return_takes : (names : List Named) (g : Env) (e : Expression) → g.result ≡ Some r → IsKnownScope w names g → taken supported e ≡ e → Returned g e
         → Takes w names e
     return_takes names g e f scope t j =
         let v : Value = j.fitting.accepted.value in
@@ -219,55 +221,55 @@ module _ (w : World) where
 
     mutual
       statement_takes : (x : Statement) (names : List Named) (g : Env) (c : Bool) → g.result ≡ Some r → IsKnownScope w names g
-          → statement_taken safe_forms x ≡ x → StatementJudged g x → statement_faults g c x ≡ [] → TakesStatement w (shape_of r) names x
+          → statement_taken supported x ≡ x → StatementJudged g c x → statement_faults g c x ≡ [] → TakesStatement w (shape_of r) names x
       statement_takes (Statement.Empty at) names g c f scope t j p = tt
       statement_takes (Statement.Block at items) names g c f scope t j p =
-          let i : items_taken safe_forms items ≡ items = cc in
+          let i : items_taken supported items ≡ items = cc in
           items_takes items (outward names) 0 (block_entered g) c f (scope_block w names g scope) i j p
       statement_takes (Statement.Run e) names g c f scope t j p =
-          let i : taken safe_forms e ≡ e = cc in (taken_is w names g scope e j.value i j.judged).run
+          let i : taken supported e ≡ e = cc in (taken_is w names g scope e j.value i j.judged).run
       statement_takes (Statement.Exchange a b) names g c f scope t j p = absurd j
       statement_takes (Statement.If at e x) names g c f scope t j p =
-          let i : taken safe_forms e ≡ e = cc in
-          let k : statement_taken safe_forms x ≡ x = cc in
+          let i : taken supported e ≡ e = cc in
+          let k : statement_taken supported x ≡ x = cc in
           let z = none_of_both (condition_faults g e) (statement_faults g c x) p in
           (condition_takes names g e scope i j.0, statement_takes x names g c f scope k j.1 z.1)
       statement_takes (Statement.IfElse at e x y) names g c f scope t j p =
-          let i : taken safe_forms e ≡ e = cc in
-          let k : statement_taken safe_forms x ≡ x = cc in
-          let l : statement_taken safe_forms y ≡ y = cc in
+          let i : taken supported e ≡ e = cc in
+          let k : statement_taken supported x ≡ x = cc in
+          let l : statement_taken supported y ≡ y = cc in
           let z = none_of_both (condition_faults g e ++ statement_faults g c x) (statement_faults g c y) p in
           let u = none_of_both (condition_faults g e) (statement_faults g c x) z.0 in
           (condition_takes names g e scope i j.0, (statement_takes x names g c f scope k j.1.0 u.1, statement_takes y names g c f scope l j.1.1 z.1))
       statement_takes (Statement.While at e x) names g c f scope t j p =
-          let i : taken safe_forms e ≡ e = cc in
-          let k : statement_taken safe_forms x ≡ x = cc in
+          let i : taken supported e ≡ e = cc in
+          let k : statement_taken supported x ≡ x = cc in
           let z = none_of_both (condition_faults g e) (statement_faults (in_a_loop g) c x) p in
           (condition_takes names g e scope i j.0, statement_takes x names (in_a_loop g) c f (scope_loop w names g scope) k j.1 z.1)
-      statement_takes (Statement.Switch at e cs) names g c f scope t j p = absurd j
+      statement_takes (Statement.Switch at e cs) names g c f scope t j p = absurd cc
       statement_takes (Statement.Break at) names g c f scope t j p = tt
       statement_takes (Statement.Continue at) names g c f scope t j p = tt
       statement_takes (Statement.Return at None) names g c f scope t j p =
           let q : Some r ≡ Some Void = sym f ∙ j in let same : r ≡ Void = cc in ap (λ (t : StaticType). shape_of t) same
       statement_takes (Statement.Return at (Some e)) names g c f scope t j p =
-          let i : taken safe_forms e ≡ e = cc in return_takes names g e f scope i j
+          let i : taken supported e ≡ e = cc in return_takes names g e f scope i j
       statement_takes (Statement.FreeUnique at x) names g c f scope t j p = absurd j
       statement_takes (Statement.FreeKey at x) names g c f scope t j p = absurd j
 
       -- the items of a block without fault
       pub items_takes : (x : BlockItems) (names : List Named) (index : ℕ) (g : Env) (c : Bool) → g.result ≡ Some r → IsKnownScope w names g
-          → items_taken safe_forms x ≡ x → ItemsJudged g x → items_faults g c x ≡ [] → TakesItems w (shape_of r) names index x
+          → items_taken supported x ≡ x → ItemsJudged g c x → items_faults g c x ≡ [] → TakesItems w (shape_of r) names index x
       items_takes NoItems names index g c f scope t j p = tt
       items_takes (Declare d others) names index g c f scope t j p =
-          let i : declaration_taken safe_forms d ≡ d = cc in
-          let k : items_taken safe_forms others ≡ others = cc in
+          let i : declaration_taken supported d ≡ d = cc in
+          let k : items_taken supported others ≡ others = cc in
           let z = none_of_both (declare g d).faults (items_faults (declare g d).scope c others) p in
           let a : DeclarationTaken names index g d = declaration_takes d names index g scope i j.0 z.0 in
           let inside : List Named = named_here (tree.local_of d).text (local_shape d) index ∷ names in
           (a.takes, items_takes others inside (suc index) (declare g d).scope c (a.result ∙ f) a.scope k j.1 z.1)
       items_takes (Execute x others) names index g c f scope t j p =
-          let i : statement_taken safe_forms x ≡ x = cc in
-          let k : items_taken safe_forms others ≡ others = cc in
+          let i : statement_taken supported x ≡ x = cc in
+          let k : items_taken supported others ≡ others = cc in
           let d : Bool = c && (ways_of x).falls in
           let z = none_of_both (statement_faults g c x) (items_faults g d others) p in
           (statement_takes x names g c f scope i j.0 z.0, items_takes others names index g d f scope k j.1 z.1)

@@ -1,42 +1,42 @@
--- Each expression of integers, pointers, structs, arrays and lexical regions that was judged is taken by lowering, where all is known of each name in scope.
+-- Each expression of the forms that are taken that was judged is taken by lowering, where all is known of each name in scope.
 use Rattle.std.proofs.Common.{◌≡◌, ℕ, Bool, true, false, Option, Some, None, List, [], ◌∷◌, refl, sym, subst, ap, ◌∙◌}
-use Rattle.std.specs.Prelude.{◌&&◌}
-use Rattle.cyc_tree.specs.declared.expression.Operator.{Operator}
+use Rattle.std.specs.Prelude.{◌&&◌, length, nat_lt}
 use Rattle.cyc_tree.specs.Places.{expression_place}
 use Rattle.cyc_tree.specs.Tree.{Array, Arrow, Dot, Expression, Expressions, Index, Links, MoreExpressions, MoreLinks, Name, NoExpressions, NoLinks, NoSuffixes}
 use Rattle.cyc_tree.specs.Tree.{One, Suffixes}
-use Rattle.source_lowering.specs.Lowerable.{IsNoStruct, TakesAll, TakesLinks}
-use Rattle.source_lowering.specs.Lowered.{Named, linked_shape, static_shape, valued}
+use Rattle.source_lowering.specs.Lowerable.{IsNoStruct}
+use Rattle.source_lowering.specs.Lowered.{Named, number_named, static_shape, valued}
 use Rattle.source_meaning.specs.Calls.{number_type}
 use Rattle.source_meaning.specs.Expressions.{is_unique_region}
 use Rattle.source_meaning.specs.Memory.{IntegerType, AsInt, AsUnsigned, AsChar}
-use Rattle.source_meaning.specs.Operators.{operator_shape}
 use Rattle.source_meaning.specs.Programs.{integer_shape}
-use Rattle.source_meaning.specs.Shapes.{Shape}
+use Rattle.source_meaning.specs.Shapes.{Shape, UnsignedShape}
 use Rattle.source_meaning.specs.Steps.{World}
 use Rattle.source_typing.specs.Expressions.{judge, judge_all, judge_links, judge_suffixes, judge_tests}
 use Rattle.source_typing.specs.Fixing.{more}
-use Rattle.source_typing.specs.Making.{Goal, To, goal_of, handled, inside, made}
+use Rattle.source_typing.specs.Making.{Goal, To, array_made, elements, goal_of, handled, inside, made, with_counter}
 use Rattle.source_typing.specs.Operators.{applied, counted, is_fat, tested_both}
 use Rattle.source_typing.specs.Places.{grouped, variable}
 use Rattle.source_typing.specs.Regions.{TheHeap}
-use Rattle.source_typing.specs.Scope.{Env, In, InBlock, Nowhere, Value, meant, value}
+use Rattle.source_typing.specs.Scope.{Env, In, InBlock, Value, meant, value}
 use Rattle.source_typing.specs.Tables.{Arrayed, Counter, Entry, OfBuiltin, OfFunction, OfOther, OfTag, OfValue, Stored, Unknown}
-use Rattle.source_typing.specs.Taken.{all_taken, are_suffixed, if_taken, links_taken, made_taken, suffixes_taken, taken, takes_handle, takes_suffixes}
-use Rattle.type_proof.specs.Judged.{safe_forms}
-use Rattle.source_typing.specs.Types.{Char, Fat, Handle, Int, Null, StaticType, Unsigned, integer_type, is_testable, shape_of}
-use Rattle.source_typing.specs.Verdicts.{Of, Verdict, after, both, if_fits, other_kind}
+use Rattle.source_typing.specs.Taken.{all_taken, are_suffixed, if_taken, links_taken, suffixes_taken, taken, takes_handle, takes_suffixes}
+use Rattle.accepted_programs.specs.Supported.{supported}
+use Rattle.source_typing.specs.Types.{Char, Fat, Handle, Null, StaticType, Unsigned, integer_type, shape_of}
+use Rattle.source_typing.specs.Verdicts.{Of, Verdict, both, other_kind}
 use Rattle.source_typing.proofs.Inversion.{after_is, assign_is, both_is, call_is, goal_is, links_first, of_is, prefix_is, suffixes_first, tests_first}
-use Rattle.source_typing.proofs.OperatorsFit.{applied_to_is, counted_is, tested_both_is}
-use Rattle.type_proof.proofs.expressions.Makings.{Handled, handled_is}
+use Rattle.source_typing.proofs.OperatorsFit.{applied_to_is, counted_is}
+use Rattle.type_proof.proofs.expressions.FatForms.{text_valued}
+use Rattle.type_proof.proofs.expressions.Makings.{Handled, array_handled, handled_is}
 use Rattle.type_proof.proofs.expressions.WordRules.{Valued, value_of}
-use Rattle.accepted_proof.proofs.Known.{IsKnownValue, IsWord, known_value, testable_word}
+use Rattle.accepted_proof.proofs.Known.{IsKnownValue, IsWord, known_value}
 use Rattle.accepted_proof.proofs.lowered.Forms.{IsKnownScope, IsTaken, TakenWord, taken_grouped, taken_place, taken_word, valued_type, word_is}
 use Rattle.accepted_proof.proofs.lowered.Calls.{AllTaken, call_taken}
-use Rattle.accepted_proof.proofs.lowered.Makings.{making_taken}
+use Rattle.accepted_proof.proofs.lowered.Makings.{array_taken, making_taken}
 use Rattle.accepted_proof.proofs.lowered.Members.{IndicesTaken, suffixed_taken}
-use Rattle.accepted_proof.proofs.lowered.Operators.{AreJoined, applied_seat, are_joined, assign_taken, fits_seat, no_place, prefixed_taken}
-use Rattle.accepted_proof.proofs.lowered.Scopes.{scope_inside}
+use Rattle.accepted_proof.proofs.lowered.Operators.{are_joined, assign_taken, fits_seat, no_place, prefixed_taken}
+use Rattle.accepted_proof.proofs.lowered.Scopes.{scope_counter, scope_inside}
+use Rattle.accepted_proof.proofs.lowered.Several.{AreLinked, AreTested, known_first, linked_more, links_whole, tested_more, tests_whole}
 
 number_shape : (i : IntegerType) → integer_shape i ≡ shape_of (integer_type i)
 number_shape AsInt = refl
@@ -57,48 +57,49 @@ no_kind : (c : Bool) (at : ℕ) (v : Value) → other_kind c at ≡ Of v → ⊥
 no_kind true at v e = cc
 no_kind false at v e = cc
 
-both_seat : (a b v : Value) → tested_both a b ≡ Of v → v.seat ≡ Nowhere
-both_seat a b v e = by (is_testable a.type && is_testable b.type) e
-  where
-    by : (c : Bool) → after (if_fits c a.at Int) (value a.at) ≡ Of v → v.seat ≡ Nowhere
-    by true q = (value_of a.at Int v q).seat
-    by false q = absurd cc
-
 fat_word : (t : StaticType) → is_fat t ≡ true → IsWord t
 fat_word (Fat r t) e = tt
 fat_word _ e = absurd cc
 
 -- a form with suffixes that is taken has some
-some_suffix : (es : Suffixes) → are_suffixed es && takes_suffixes safe_forms es ≡ true → es ≡ NoSuffixes → ⊥
+some_suffix : (es : Suffixes) → are_suffixed es && takes_suffixes supported es ≡ true → es ≡ NoSuffixes → ⊥
 some_suffix NoSuffixes q z = cc
 some_suffix (Rattle.cyc_tree.specs.Tree.Index x others) q z = cc
 some_suffix (Rattle.cyc_tree.specs.Tree.Dot f others) q z = cc
 some_suffix (Rattle.cyc_tree.specs.Tree.Arrow f others) q z = cc
 
-suffixes_kept : (e : Expression) (es : Suffixes) (b : Bool) → are_suffixed es && takes_suffixes safe_forms es ≡ b
-    → if_taken b (expression_place e) (Expression.Suffixed (taken safe_forms e) (suffixes_taken safe_forms es)) ≡ Expression.Suffixed e es
+suffixes_kept : (e : Expression) (es : Suffixes) (b : Bool) → are_suffixed es && takes_suffixes supported es ≡ b
+    → if_taken b (expression_place e) (Expression.Suffixed (taken supported e) (suffixes_taken supported es)) ≡ Expression.Suffixed e es
     → b ≡ true
 suffixes_kept e es true q t = refl
 suffixes_kept e es false q t = absurd cc
 
--- a making in the region of a handle that is taken: none in the unique region, and none of an array
+-- a making in the region of a handle that is taken: none in the unique region
 record HandleKept (h e : Expression) : Type 0 where
   shared : is_unique_region h ≡ false
-  handle : taken safe_forms h ≡ h
-  value : taken safe_forms e ≡ e
+  handle : taken supported h ≡ h
+  value : taken supported e ≡ e
 
 handle_kept : (at : ℕ) (h e : Expression) (b : Bool) → is_unique_region h ≡ b
-    → if_taken (takes_handle safe_forms b && true) at (Expression.NewIn at (taken safe_forms h) (One (taken safe_forms e)))
+    → if_taken (takes_handle supported b && true) at (Expression.NewIn at (taken supported h) (One (taken supported e)))
     ≡ Expression.NewIn at h (One e) → HandleKept h e
 handle_kept at h e true q t = absurd cc
 handle_kept at h e false q t =
-    let i : taken safe_forms h ≡ h = cc in let j : taken safe_forms e ≡ e = cc in record { shared = q; handle = i; value = j }
+    let i : taken supported h ≡ h = cc in let j : taken supported e ≡ e = cc in record { shared = q; handle = i; value = j }
 
-no_array : (at : ℕ) (h : Expression) (x : Name) (n e : Expression) (b : Bool)
-    → if_taken (takes_handle safe_forms b && false) at (Expression.NewIn at (taken safe_forms h) (made_taken safe_forms (Array x n e)))
-    ≡ Expression.NewIn at h (Array x n e) → ⊥
-no_array at h x n e true t = cc
-no_array at h x n e false t = cc
+record ArrayKept (h n e : Expression) : Type 0 where
+  shared : is_unique_region h ≡ false
+  handle : taken supported h ≡ h
+  count : taken supported n ≡ n
+  value : taken supported e ≡ e
+
+array_kept : (at : ℕ) (h : Expression) (x : Name) (n e : Expression) (b : Bool) → is_unique_region h ≡ b
+    → if_taken (takes_handle supported b && true) at (Expression.NewIn at (taken supported h) (Array x (taken supported n) (taken supported e)))
+    ≡ Expression.NewIn at h (Array x n e) → ArrayKept h n e
+array_kept at h x n e true q t = absurd cc
+array_kept at h x n e false q t =
+    let i : taken supported h ≡ h = cc in let j : taken supported n ≡ n = cc in let k : taken supported e ≡ e = cc in
+    record { shared = q; handle = i; count = j; value = k }
 
 module _ (w : World) (names : List Named) (g : Env) (scope : IsKnownScope w names g) where
   abbrev Is : Expression → Value → Type 0
@@ -118,7 +119,11 @@ module _ (w : World) (names : List Named) (g : Env) (scope : IsKnownScope w name
       let shape : static_shape w names (Expression.Variable x) ≡ shape_of (Fat r t) = ap (λ (s : Shape). valued s) k.1 in
       taken_word w names (Expression.Variable x) v (Fat r t) d.type (no_place v d.seat) tt k.2
       (record { takes = subst (λ (s : Shape). IsNoStruct s) (sym shape) tt; shape = shape }) (λ z. z)
-  variable_taken x (Some (OfValue Counter)) v q e = absurd (scope.entries x.text (OfValue Counter) q)
+  variable_taken x (Some (OfValue Counter)) v q e =
+      let d : Valued v Unsigned = value_of x.at Unsigned v e in
+      let shape : static_shape w names (Expression.Variable x) ≡ UnsignedShape = ap (λ (s : Shape). valued s) (scope.entries x.text (OfValue Counter) q) in
+      taken_word w names (Expression.Variable x) v Unsigned d.type (no_place v d.seat) tt tt
+      (record { takes = subst (λ (s : Shape). IsNoStruct s) (sym shape) tt; shape = shape }) (λ z. z)
   variable_taken x (Some (OfValue Unknown)) v q e = absurd cc
   variable_taken x (Some (OfTag t)) v q e = absurd (no_kind t.sound x.at v e)
   variable_taken x (Some (OfFunction s)) v q e = absurd (no_kind s.sound x.at v e)
@@ -135,252 +140,182 @@ module _ (w : World) (names : List Named) (g : Env) (scope : IsKnownScope w name
       making_taken w names (Expression.NewIn at h (One e)) at d.region e a v i (subst (λ (z : Goal). made at z a ≡ Of v) d.goal p)
       (λ n. (shared, (handle.takes, n))) refl (λ z. z)
 
-  -- ---- several operands
-
-  -- of operands that are tested: those behind the first, and what all give
-  record Tested (es : Expressions) (a : Verdict Value) (v : Value) : Type 0 where
-    takes : TakesAll w names es
-    first : (x : Value) × (a ≡ Of x) × (is_testable x.type ≡ true)
-    type : v.type ≡ Int
-    seat : v.seat ≡ Nowhere
-
-  abbrev AreTested : Expressions → Verdict Value → Value → Type 0
-  AreTested NoExpressions a v = (a ≡ Of v)
-  AreTested (MoreExpressions e es) a v = Tested (MoreExpressions e es) a v
-
-  tested_more : (e : Expression) (es : Expressions) (a : Verdict Value) (x y c v : Value) → a ≡ Of x → Is e y → tested_both x y ≡ Of c
-      → both a (judge g e) tested_both ≡ Of c → AreTested es (both a (judge g e) tested_both) v → Tested (MoreExpressions e es) a v
-  tested_more e es a x y c v p h q b k =
-      let r = tested_both_is x y c q in
-      let t : TakenWord w names e y.type = word_is w names y.type e (testable_word y.type r.1) h.value in
-      by es k t.takes (x, p, r.0) r.2
-    where
-      by : (es : Expressions) → AreTested es (both a (judge g e) tested_both) v → Rattle.source_lowering.specs.Lowerable.Takes w names e
-          → (x : Value) × (a ≡ Of x) × (is_testable x.type ≡ true) → c.type ≡ Int → Tested (MoreExpressions e es) a v
-      by NoExpressions k t f i =
-          let z : c ≡ v = of_is c v (sym b ∙ k) in
-          record { takes = (t, tt); first = f; type = ap (λ (y : Value). y.type) (sym z) ∙ i; seat = ap (λ (y : Value). y.seat) (sym z) ∙ both_seat x y c q }
-      by (MoreExpressions d ds) k t f i = record { takes = (t, k.takes); first = f; type = k.type; seat = k.seat }
-
-  -- of operands that are joined from the left
-  record Joined (es : Links) (a : Verdict Value) (v : Value) : Type 0 where
-    takes : TakesLinks w names es
-    first : Value
-    is : a ≡ Of first
-    first_word : IsWord first.type
-    word : IsWord v.type
-    known : IsKnownValue w.structs v.type
-    seat : v.seat ≡ Nowhere
-    shape : (s : Shape) → s ≡ shape_of first.type → linked_shape w names es s ≡ shape_of v.type
-
-  abbrev AreLinked : Links → Verdict Value → Value → Type 0
-  AreLinked NoLinks a v = (a ≡ Of v)
-  AreLinked (MoreLinks o e es) a v = Joined (MoreLinks o e es) a v
-
-  linked_more : (o : Operator) (e : Expression) (es : Links) (a : Verdict Value) (x y c v : Value) → a ≡ Of x → IsKnownValue w.structs x.type → Is e y
-      → applied g o x y ≡ Of c → both a (judge g e) (applied g o) ≡ Of c → AreLinked es (both a (judge g e) (applied g o)) v
-      → Joined (MoreLinks o e es) a v
-  linked_more o e es a x y c v p n h q b k =
-      let j : AreJoined w.structs o x.type y.type c.type = are_joined w.structs g o x.type y.type c.type (applied_to_is g o x.at x.type y.type c q) n in
-      let t : TakenWord w names e y.type = word_is w names y.type e j.second h.value in
-      by es k j t
-    where
-      joined_shape : AreJoined w.structs o x.type y.type c.type → TakenWord w names e y.type → (s : Shape) → s ≡ shape_of x.type
-          → operator_shape o s (static_shape w names e) ≡ shape_of c.type
-      joined_shape j t s z =
-          ap (λ u. operator_shape o u (static_shape w names e)) z ∙ (ap (λ u. operator_shape o (shape_of x.type) u) t.shape ∙ j.shape)
-
-      by : (es : Links) → AreLinked es (both a (judge g e) (applied g o)) v → AreJoined w.structs o x.type y.type c.type → TakenWord w names e y.type
-          → Joined (MoreLinks o e es) a v
-      by NoLinks k j t =
-          let z : c ≡ v = of_is c v (sym b ∙ k) in
-          record {
-            takes = (t.takes, tt);
-            first = x;
-            is = p;
-            first_word = j.first;
-            word = subst (λ (y : Value). IsWord y.type) z j.word;
-            known = subst (λ (y : Value). IsKnownValue w.structs y.type) z j.known;
-            seat = ap (λ (y : Value). y.seat) (sym z) ∙ applied_seat g o x.at x.type y.type c q;
-            shape = λ s u. joined_shape j t s u ∙ ap (λ (y : Value). shape_of y.type) z;
-          }
-      by (MoreLinks o2 d ds) k j t =
-          let z : c ≡ k.first = of_is c k.first (sym b ∙ k.is) in
-          record {
-            takes = (t.takes, k.takes);
-            first = x;
-            is = p;
-            first_word = j.first;
-            word = k.word;
-            known = k.known;
-            seat = k.seat;
-            shape = λ s u. k.shape (operator_shape o s (static_shape w names e)) (joined_shape j t s u ∙ ap (λ (y : Value). shape_of y.type) z);
-          }
-
-  tests_whole : (x e : Expression) (es : Expressions) (a v : Value) → Is e a → Tested es (judge g e) v → judge g e ≡ Of a
-      → (Rattle.source_lowering.specs.Lowerable.Takes w names e × TakesAll w names es → TakenWord w names x Int)
-      → (Rattle.source_lowering.specs.Lowerable.TakesDropped w names (static_shape w names x) x → Rattle.source_lowering.specs.Lowerable.TakesRun w names x)
-      → Is x v
-  tests_whole x e es a v h k p word run =
-      let z : a ≡ k.first.0 = of_is a k.first.0 (sym p ∙ k.first.1) in
-      let t : TakenWord w names e a.type = word_is w names a.type e (testable_word a.type (ap (λ (y : Value). is_testable y.type) z ∙ k.first.2)) h.value in
-      taken_word w names x v Int k.type (no_place v k.seat) tt tt (word (t.takes, k.takes)) run
-
-  known_first : (a x : Value) (e : Expression) → Is e a → Of a ≡ Of x → IsKnownValue w.structs x.type
-  known_first a x e h q = subst (λ (y : Value). IsKnownValue w.structs y.type) (of_is a x q) h.known
-
-  links_whole : (e : Expression) (es : Links) (a v : Value) → Is e a → Joined es (judge g e) v → judge g e ≡ Of a → Is (Expression.Chain e es) v
-  links_whole e es a v h k p =
-      let z : a ≡ k.first = of_is a k.first (sym p ∙ k.is) in
-      let s : TakenWord w names e a.type = word_is w names a.type e (subst (λ (x : Value). IsWord x.type) (sym z) k.first_word) h.value in
-      taken_word w names (Expression.Chain e es) v v.type refl (no_place v k.seat) k.word k.known
-      (record { takes = (s.takes, k.takes); shape = k.shape (static_shape w names e) (s.shape ∙ ap (λ (x : Value). shape_of x.type) z) }) (λ x. x)
+  array_in_taken : (at : ℕ) (h : Expression) (x : Name) (n e : Expression) → is_unique_region h ≡ false → (to : Goal) (y c a b v : Value)
+      → handled g y ≡ Of to → Is h y → Is n c → ((t : ℕ) → IsTaken w (number_named x.text t ∷ names) e a) → elements at c a ≡ Of b
+      → array_made at to b ≡ Of v → Is (Expression.NewIn at h (Array x n e)) v
+  array_in_taken at h x n e shared to y c a b v q k i l m p =
+      let d : Handled g y.type to = array_handled g y.at at y.type to b v q p in
+      let handle : TakenWord w names h y.type = word_is w names y.type h (subst (λ u. IsWord u) (sym d.is) tt) k.value in
+      array_taken w names (Expression.NewIn at h (Array x n e)) at d.region x n e c a b v i l m (subst (λ (z : Goal). array_made at z b ≡ Of v) d.goal p)
+      (λ o. (shared, (handle.takes, o))) refl (λ z. z)
 
 -- ---- all of them
 
-module _ (w : World) (names : List Named) where
+module _ (w : World) where
   mutual
-    pub taken_is : (g : Env) (scope : IsKnownScope w names g) (e : Expression) (v : Value) → taken safe_forms e ≡ e → judge g e ≡ Of v → IsTaken w names e v
-    taken_is g scope (Expression.Number at n suffix) v t p =
+    pub taken_is : (names : List Named) (g : Env) (scope : IsKnownScope w names g) (e : Expression) (v : Value) → taken supported e ≡ e → judge g e ≡ Of v
+        → IsTaken w names e v
+    taken_is names g scope (Expression.Number at n suffix) v t p =
         let i : IntegerType = number_type n suffix in
         let d : Valued v (integer_type i) = value_of at (integer_type i) v p in
         taken_word w names (Expression.Number at n suffix) v (integer_type i) d.type (no_place v d.seat) (number_word i) (number_known w.structs i)
         (record { takes = tt; shape = number_shape i }) (λ z. z)
-    taken_is g scope (Expression.Character at byte) v t p =
+    taken_is names g scope (Expression.Character at byte) v t p =
         let d : Valued v Char = value_of at Char v p in
         taken_word w names (Expression.Character at byte) v Char d.type (no_place v d.seat) tt tt (record { takes = tt; shape = refl }) (λ z. z)
-    taken_is g scope (Expression.Text at bytes) v t p = absurd cc
-    taken_is g scope (Expression.Null at) v t p =
+    taken_is names g scope (Expression.Text at bytes) v t p =
+        let d : Valued v (Fat TheHeap Char) = text_valued at v (nat_lt (length bytes) 4096) p in
+        taken_word w names (Expression.Text at bytes) v (Fat TheHeap Char) d.type (no_place v d.seat) tt tt (record { takes = tt; shape = refl }) (λ z. z)
+    taken_is names g scope (Expression.Null at) v t p =
         let d : Valued v Null = value_of at Null v p in
         taken_word w names (Expression.Null at) v Null d.type (no_place v d.seat) tt tt (record { takes = tt; shape = refl }) (λ z. z)
-    taken_is g scope (Expression.HeapRegion at) v t p =
+    taken_is names g scope (Expression.HeapRegion at) v t p =
         let d : Valued v (Handle TheHeap) = value_of at (Handle TheHeap) v p in
         taken_word w names (Expression.HeapRegion at) v (Handle TheHeap) d.type (no_place v d.seat) tt tt (record { takes = tt; shape = refl }) (λ z. z)
-    taken_is g scope (Expression.UniqueRegion at) v t p = absurd cc
-    taken_is g scope (Expression.Variable x) v t p = variable_taken w names g scope x (meant g x.text) v refl p
-    taken_is g scope (Expression.Call x es) v t p =
-        let i : all_taken safe_forms es ≡ es = cc in
+    taken_is names g scope (Expression.UniqueRegion at) v t p = absurd cc
+    taken_is names g scope (Expression.Variable x) v t p = variable_taken w names g scope x (meant g x.text) v refl p
+    taken_is names g scope (Expression.Call x es) v t p =
+        let i : all_taken supported es ≡ es = cc in
         let z = call_is g x es v p in
-        call_taken w names g x es (meant g x.text) z.0 z.1 v (λ e q. scope.entries x.text e q) z.2 (all_are g scope es z.1 i z.3) z.4
-    taken_is g scope (Expression.MakeUnion tag f e) v t p = absurd cc
-    taken_is g scope (Expression.NumElts at e) v t p =
-        let i : taken safe_forms e ≡ e = cc in
+        call_taken w names g x es (meant g x.text) z.0 z.1 v (λ e q. scope.entries x.text e q) z.2 (all_are names g scope es z.1 i z.3) z.4
+    taken_is names g scope (Expression.MakeUnion tag f e) v t p = absurd cc
+    taken_is names g scope (Expression.NumElts at e) v t p =
+        let i : taken supported e ≡ e = cc in
         let z = after_is (judge g e) (counted at) v p in
         let r = counted_is at z.0 v z.2 in
-        let k : TakenWord w names e z.0.type = word_is w names z.0.type e (fat_word z.0.type r.0) (taken_is g scope e z.0 i z.1).value in
+        let k : TakenWord w names e z.0.type = word_is w names z.0.type e (fat_word z.0.type r.0) (taken_is names g scope e z.0 i z.1).value in
         taken_word w names (Expression.NumElts at e) v Unsigned r.1 (no_place v (fits_seat (is_fat z.0.type) at at Unsigned v z.2)) tt tt
         (record { takes = k.takes; shape = refl }) (λ y. y)
-    taken_is g scope (Expression.Grouped at e) v t p =
-        let i : taken safe_forms e ≡ e = cc in
+    taken_is names g scope (Expression.Grouped at e) v t p =
+        let i : taken supported e ≡ e = cc in
         let z = after_is (judge g e) (grouped at) v p in
         subst (λ (y : Value). IsTaken w names (Expression.Grouped at e) y) (of_is (record { at = at; type = z.0.type; seat = z.0.seat }) v z.2)
-        (taken_grouped w names at e z.0 (taken_is g scope e z.0 i z.1))
-    taken_is g scope (Expression.Suffixed e es) v t p =
-        let kept : Expression = Expression.Suffixed (taken safe_forms e) (suffixes_taken safe_forms es) in
-        let q : are_suffixed es && takes_suffixes safe_forms es ≡ true =
-        suffixes_kept e es (are_suffixed es && takes_suffixes safe_forms es) refl t in
+        (taken_grouped w names at e z.0 (taken_is names g scope e z.0 i z.1))
+    taken_is names g scope (Expression.Suffixed e es) v t p =
+        let kept : Expression = Expression.Suffixed (taken supported e) (suffixes_taken supported es) in
+        let q : are_suffixed es && takes_suffixes supported es ≡ true =
+        suffixes_kept e es (are_suffixed es && takes_suffixes supported es) refl t in
         let u : if_taken true (expression_place e) kept ≡ Expression.Suffixed e es =
         subst (λ b. if_taken b (expression_place e) kept ≡ Expression.Suffixed e es) q t in
-        let i : taken safe_forms e ≡ e = cc in
+        let i : taken supported e ≡ e = cc in
         let z = suffixes_first g (judge g e) es v p in
-        let j : suffixes_taken safe_forms es ≡ es = cc in
-        suffixed_taken w names g scope e es z.0 v (taken_is g scope e z.0 i z.1) (indices_are g scope es j)
+        let j : suffixes_taken supported es ≡ es = cc in
+        suffixed_taken w names g scope e es z.0 v (taken_is names g scope e z.0 i z.1) (indices_are names g scope es j)
         (subst (λ (y : Verdict Value). judge_suffixes g y es ≡ Of v) z.1 p) (some_suffix es q)
-    taken_is g scope (Expression.Prefixed at o e) v t p =
-        let i : taken safe_forms e ≡ e = by o t in
+    taken_is names g scope (Expression.Prefixed at o e) v t p =
+        let i : taken supported e ≡ e = by o t in
         let z = prefix_is g at o e v p in
-        prefixed_taken w names g at o e z.0 v (taken_is g scope e z.0 i z.1) z.2
+        prefixed_taken w names g at o e z.0 v (taken_is names g scope e z.0 i z.1) z.2
       where
-        by : (o : Rattle.cyc_tree.specs.declared.expression.Prefix.Prefix) → taken safe_forms (Expression.Prefixed at o e) ≡ Expression.Prefixed at o e
-            → taken safe_forms e ≡ e
+        by : (o : Rattle.cyc_tree.specs.declared.expression.Prefix.Prefix) → taken supported (Expression.Prefixed at o e) ≡ Expression.Prefixed at o e
+            → taken supported e ≡ e
         by Rattle.cyc_tree.specs.declared.expression.Prefix.TheVariants.Negate t = cc
         by Rattle.cyc_tree.specs.declared.expression.Prefix.TheVariants.Complement t = cc
         by Rattle.cyc_tree.specs.declared.expression.Prefix.TheVariants.Not t = cc
         by Rattle.cyc_tree.specs.declared.expression.Prefix.TheVariants.Dereference t = cc
         by Rattle.cyc_tree.specs.declared.expression.Prefix.TheVariants.AddressOf t = cc
-    taken_is g scope (Expression.New at (One e)) v t p =
-        let i : taken safe_forms e ≡ e = cc in
+    taken_is names g scope (Expression.New at (One e)) v t p =
+        let i : taken supported e ≡ e = cc in
         let z = goal_is at (Of (To TheHeap)) (judge g e) (made at) v p in
-        making_taken w names (Expression.New at (One e)) at TheHeap e z.1 v (taken_is g scope e z.1 i z.3)
+        making_taken w names (Expression.New at (One e)) at TheHeap e z.1 v (taken_is names g scope e z.1 i z.3)
         (subst (λ (y : Goal). made at y z.1 ≡ Of v) (sym (of_is (To TheHeap) z.0 z.2)) z.4) (λ y. y) refl (λ y. y)
-    taken_is g scope (Expression.New at (Array x n e)) v t p = absurd cc
-    taken_is g scope (Expression.NewIn at h (One e)) v t p =
+    taken_is names g scope (Expression.New at (Array x n e)) v t p =
+        let i : taken supported n ≡ n = cc in
+        let j : taken supported e ≡ e = cc in
+        let inner : Env = with_counter x g in
+        let z = goal_is at (Of (To TheHeap)) (both (judge g n) (judge inner e) (elements at)) (array_made at) v p in
+        let y = both_is (judge g n) (judge inner e) (elements at) z.1 z.3 in
+        array_taken w names (Expression.New at (Array x n e)) at TheHeap x n e y.0 y.1 z.1 v (taken_is names g scope n y.0 i y.2)
+        (λ m. taken_is (number_named x.text m ∷ names) inner (scope_counter w names g x m scope) e y.1 j y.3) y.4
+        (subst (λ (q : Goal). array_made at q z.1 ≡ Of v) (sym (of_is (To TheHeap) z.0 z.2)) z.4) (λ q. q) refl (λ q. q)
+    taken_is names g scope (Expression.NewIn at h (One e)) v t p =
         let own : HandleKept h e = handle_kept at h e (is_unique_region h) refl t in
         let goal : Verdict Goal = goal_of (is_unique_region h) g (judge g h) in
         let z = goal_is at goal (judge (inside goal g) e) (made at) v p in
         let y = after_is (judge g h) (handled g) z.0 (subst (λ b. goal_of b g (judge g h) ≡ Of z.0) own.shared z.2) in
-        made_in_taken w names g scope at h e own.shared z.0 y.0 z.1 v y.2 (taken_is g scope h y.0 own.handle y.1)
-        (taken_is (inside goal g) (scope_inside w names goal g scope) e z.1 own.value z.3) z.4
-    taken_is g scope (Expression.NewIn at h (Array x n e)) v t p = absurd (no_array at h x n e (is_unique_region h) t)
-    taken_is g scope (Expression.Chain e NoLinks) v t p = absurd cc
-    taken_is g scope (Expression.Chain e (MoreLinks o y es)) v t p =
-        let i : taken safe_forms e ≡ e = cc in
-        let j : links_taken safe_forms (MoreLinks o y es) ≡ MoreLinks o y es = cc in
+        made_in_taken w names g scope at h e own.shared z.0 y.0 z.1 v y.2 (taken_is names g scope h y.0 own.handle y.1)
+        (taken_is names (inside goal g) (scope_inside w names goal g scope) e z.1 own.value z.3) z.4
+    taken_is names g scope (Expression.NewIn at h (Array x n e)) v t p =
+        let own : ArrayKept h n e = array_kept at h x n e (is_unique_region h) refl t in
+        let goal : Verdict Goal = goal_of (is_unique_region h) g (judge g h) in
+        let within : Env = inside goal g in
+        let inner : Env = with_counter x within in
+        let known : IsKnownScope w names within = scope_inside w names goal g scope in
+        let z = goal_is at goal (both (judge within n) (judge inner e) (elements at)) (array_made at) v p in
+        let u = both_is (judge within n) (judge inner e) (elements at) z.1 z.3 in
+        let y = after_is (judge g h) (handled g) z.0 (subst (λ b. goal_of b g (judge g h) ≡ Of z.0) own.shared z.2) in
+        array_in_taken w names g scope at h x n e own.shared z.0 y.0 u.0 u.1 z.1 v y.2 (taken_is names g scope h y.0 own.handle y.1)
+        (taken_is names within known n u.0 own.count u.2)
+        (λ m. taken_is (number_named x.text m ∷ names) inner (scope_counter w names within x m known) e u.1 own.value u.3) u.4 z.4
+    taken_is names g scope (Expression.Chain e NoLinks) v t p = absurd cc
+    taken_is names g scope (Expression.Chain e (MoreLinks o y es)) v t p =
+        let i : taken supported e ≡ e = cc in
+        let j : links_taken supported (MoreLinks o y es) ≡ MoreLinks o y es = cc in
         let f = links_first g (judge g e) (MoreLinks o y es) v p in
-        let h : IsTaken w names e f.0 = taken_is g scope e f.0 i f.1 in
+        let h : IsTaken w names e f.0 = taken_is names g scope e f.0 i f.1 in
         links_whole w names g scope e (MoreLinks o y es) f.0 v h
-        (links_are g scope (MoreLinks o y es) (judge g e) v j (λ x q. known_first w names g scope f.0 x e h (sym f.1 ∙ q)) p) f.1
-    taken_is g scope (Expression.AllOf e NoExpressions) v t p = absurd cc
-    taken_is g scope (Expression.AllOf e (MoreExpressions y es)) v t p =
-        let i : taken safe_forms e ≡ e = cc in
-        let j : all_taken safe_forms (MoreExpressions y es) ≡ MoreExpressions y es = cc in
+        (links_are names g scope (MoreLinks o y es) (judge g e) v j (λ x q. known_first w names g scope f.0 x e h (sym f.1 ∙ q)) p) f.1
+    taken_is names g scope (Expression.AllOf e NoExpressions) v t p = absurd cc
+    taken_is names g scope (Expression.AllOf e (MoreExpressions y es)) v t p =
+        let i : taken supported e ≡ e = cc in
+        let j : all_taken supported (MoreExpressions y es) ≡ MoreExpressions y es = cc in
         let f = tests_first g (judge g e) (MoreExpressions y es) v p in
-        tests_whole w names g scope (Expression.AllOf e (MoreExpressions y es)) e (MoreExpressions y es) f.0 v (taken_is g scope e f.0 i f.1)
-        (tests_are g scope (MoreExpressions y es) (judge g e) v j p) f.1 (λ z. record { takes = z; shape = refl }) (λ z. z)
-    taken_is g scope (Expression.AnyOf e NoExpressions) v t p = absurd cc
-    taken_is g scope (Expression.AnyOf e (MoreExpressions y es)) v t p =
-        let i : taken safe_forms e ≡ e = cc in
-        let j : all_taken safe_forms (MoreExpressions y es) ≡ MoreExpressions y es = cc in
+        tests_whole w names g scope (Expression.AllOf e (MoreExpressions y es)) e (MoreExpressions y es) f.0 v (taken_is names g scope e f.0 i f.1)
+        (tests_are names g scope (MoreExpressions y es) (judge g e) v j p) f.1 (λ z. record { takes = z; shape = refl }) (λ z. z)
+    taken_is names g scope (Expression.AnyOf e NoExpressions) v t p = absurd cc
+    taken_is names g scope (Expression.AnyOf e (MoreExpressions y es)) v t p =
+        let i : taken supported e ≡ e = cc in
+        let j : all_taken supported (MoreExpressions y es) ≡ MoreExpressions y es = cc in
         let f = tests_first g (judge g e) (MoreExpressions y es) v p in
-        tests_whole w names g scope (Expression.AnyOf e (MoreExpressions y es)) e (MoreExpressions y es) f.0 v (taken_is g scope e f.0 i f.1)
-        (tests_are g scope (MoreExpressions y es) (judge g e) v j p) f.1 (λ z. record { takes = z; shape = refl }) (λ z. z)
-    taken_is g scope (Expression.Assign to from) v t p =
-        let i : taken safe_forms to ≡ to = cc in
-        let j : taken safe_forms from ≡ from = cc in
+        tests_whole w names g scope (Expression.AnyOf e (MoreExpressions y es)) e (MoreExpressions y es) f.0 v (taken_is names g scope e f.0 i f.1)
+        (tests_are names g scope (MoreExpressions y es) (judge g e) v j p) f.1 (λ z. record { takes = z; shape = refl }) (λ z. z)
+    taken_is names g scope (Expression.Assign to from) v t p =
+        let i : taken supported to ≡ to = cc in
+        let j : taken supported from ≡ from = cc in
         let z = assign_is g to from v p in
-        assign_taken w names g to from z.0 z.1 v (taken_is g scope to z.0 i z.2) (taken_is g scope from z.1 j z.3) z.4
+        assign_taken w names g to from z.0 z.1 v (taken_is names g scope to z.0 i z.2) (taken_is names g scope from z.1 j z.3) z.4
 
-    indices_are : (g : Env) (scope : IsKnownScope w names g) (es : Suffixes) → suffixes_taken safe_forms es ≡ es → IndicesTaken w names g scope es
-    indices_are g scope NoSuffixes t = tt
-    indices_are g scope (Index e es) t =
-        let i : taken safe_forms e ≡ e = cc in
-        let j : suffixes_taken safe_forms es ≡ es = cc in
-        (λ b q. taken_is g scope e b i q, indices_are g scope es j)
-    indices_are g scope (Dot f es) t = let j : suffixes_taken safe_forms es ≡ es = cc in indices_are g scope es j
-    indices_are g scope (Arrow f es) t = let j : suffixes_taken safe_forms es ≡ es = cc in indices_are g scope es j
+    indices_are : (names : List Named) (g : Env) (scope : IsKnownScope w names g) (es : Suffixes) → suffixes_taken supported es ≡ es → IndicesTaken w names g scope es
+    indices_are names g scope NoSuffixes t = tt
+    indices_are names g scope (Index e es) t =
+        let i : taken supported e ≡ e = cc in
+        let j : suffixes_taken supported es ≡ es = cc in
+        (λ b q. taken_is names g scope e b i q, indices_are names g scope es j)
+    indices_are names g scope (Dot f es) t = let j : suffixes_taken supported es ≡ es = cc in indices_are names g scope es j
+    indices_are names g scope (Arrow f es) t = let j : suffixes_taken supported es ≡ es = cc in indices_are names g scope es j
 
-    all_are : (g : Env) (scope : IsKnownScope w names g) (es : Expressions) (vs : List Value) → all_taken safe_forms es ≡ es
+    all_are : (names : List Named) (g : Env) (scope : IsKnownScope w names g) (es : Expressions) (vs : List Value) → all_taken supported es ≡ es
         → judge_all g es ≡ Of vs → AllTaken w names es vs
-    all_are g scope NoExpressions vs t p = subst (λ (ys : List Value). AllTaken w names NoExpressions ys) (of_is [] vs p) tt
-    all_are g scope (MoreExpressions e es) vs t p =
-        let i : taken safe_forms e ≡ e = cc in
-        let j : all_taken safe_forms es ≡ es = cc in
+    all_are names g scope NoExpressions vs t p = subst (λ (ys : List Value). AllTaken w names NoExpressions ys) (of_is [] vs p) tt
+    all_are names g scope (MoreExpressions e es) vs t p =
+        let i : taken supported e ≡ e = cc in
+        let j : all_taken supported es ≡ es = cc in
         let z = both_is (judge g e) (judge_all g es) more vs p in
         subst (λ (ys : List Value). AllTaken w names (MoreExpressions e es) ys) (of_is (z.0 ∷ z.1) vs z.4)
-        (taken_is g scope e z.0 i z.2, all_are g scope es z.1 j z.3)
+        (taken_is names g scope e z.0 i z.2, all_are names g scope es z.1 j z.3)
 
-    tests_are : (g : Env) (scope : IsKnownScope w names g) (es : Expressions) (a : Verdict Value) (v : Value) → all_taken safe_forms es ≡ es
+    tests_are : (names : List Named) (g : Env) (scope : IsKnownScope w names g) (es : Expressions) (a : Verdict Value) (v : Value) → all_taken supported es ≡ es
         → judge_tests g a es ≡ Of v → AreTested w names g scope es a v
-    tests_are g scope NoExpressions a v t p = p
-    tests_are g scope (MoreExpressions e es) a v t p =
-        let i : taken safe_forms e ≡ e = cc in
-        let j : all_taken safe_forms es ≡ es = cc in
+    tests_are names g scope NoExpressions a v t p = p
+    tests_are names g scope (MoreExpressions e es) a v t p =
+        let i : taken supported e ≡ e = cc in
+        let j : all_taken supported es ≡ es = cc in
         let b : Verdict Value = both a (judge g e) tested_both in
         let z = tests_first g b es v p in
         let y = both_is a (judge g e) tested_both z.0 z.1 in
-        tested_more w names g scope e es a y.0 y.1 z.0 v y.2 (taken_is g scope e y.1 i y.3) y.4 z.1 (tests_are g scope es b v j p)
+        tested_more w names g scope e es a y.0 y.1 z.0 v y.2 (taken_is names g scope e y.1 i y.3) y.4 z.1 (tests_are names g scope es b v j p)
 
-    links_are : (g : Env) (scope : IsKnownScope w names g) (es : Links) (a : Verdict Value) (v : Value) → links_taken safe_forms es ≡ es
+    links_are : (names : List Named) (g : Env) (scope : IsKnownScope w names g) (es : Links) (a : Verdict Value) (v : Value) → links_taken supported es ≡ es
         → ((x : Value) → a ≡ Of x → IsKnownValue w.structs x.type)
         → judge_links g a es ≡ Of v → AreLinked w names g scope es a v
-    links_are g scope NoLinks a v t n p = p
-    links_are g scope (MoreLinks o e es) a v t n p =
-        let i : taken safe_forms e ≡ e = cc in
-        let j : links_taken safe_forms es ≡ es = cc in
+    links_are names g scope NoLinks a v t n p = p
+    links_are names g scope (MoreLinks o e es) a v t n p =
+        let i : taken supported e ≡ e = cc in
+        let j : links_taken supported es ≡ es = cc in
         let b : Verdict Value = both a (judge g e) (applied g o) in
         let z = links_first g b es v p in
         let y = both_is a (judge g e) (applied g o) z.0 z.1 in
         let k : IsKnownValue w.structs z.0.type = (are_joined w.structs g o y.0.type y.1.type z.0.type
         (applied_to_is g o y.0.at y.0.type y.1.type z.0 y.4) (n y.0 y.2)).known in
-        linked_more w names g scope o e es a y.0 y.1 z.0 v y.2 (n y.0 y.2) (taken_is g scope e y.1 i y.3) y.4 z.1
-        (links_are g scope es b v j (λ x q. subst (λ (u : Value). IsKnownValue w.structs u.type) (of_is z.0 x (sym z.1 ∙ q)) k) p)
+        linked_more w names g scope o e es a y.0 y.1 z.0 v y.2 (n y.0 y.2) (taken_is names g scope e y.1 i y.3) y.4 z.1
+        (links_are names g scope es b v j (λ x q. subst (λ (u : Value). IsKnownValue w.structs u.type) (of_is z.0 x (sym z.1 ∙ q)) k) p)

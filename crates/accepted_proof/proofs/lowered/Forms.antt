@@ -5,7 +5,7 @@ use Rattle.cyc_tree.specs.Tree.{Expression}
 use Rattle.source_lowering.specs.Lowerable.{IsNoStruct, IsStructShape, Takes, TakesDropped, TakesPlace, TakesRun, TakesWhole}
 use Rattle.source_lowering.specs.Lowered.{Named, call_shape, named_shape, member_shape, static_shape, valued}
 use Rattle.source_meaning.specs.Shapes as shapes
-use Rattle.source_meaning.specs.Shapes.{ArrayShape, Layout, Shape, StructShape, has_tag, parts_of}
+use Rattle.source_meaning.specs.Shapes.{ArrayShape, Layout, Shape, StructShape, UnsignedShape, has_tag, parts_of}
 use Rattle.source_meaning.specs.Steps.{World}
 use Rattle.source_typing.specs.Extents.{size_of}
 use Rattle.source_typing.specs.Scope.{Env, InBlock, Seat, Value, is_place, meant}
@@ -88,7 +88,7 @@ pub record KnownTag (w : World) (x : List ℕ) (t : Tag) : Type 0 where
 abbrev pub KnownEntry : World → List Named → List ℕ → Entry → Type 0
 KnownEntry w names x (OfValue (Stored t r)) = (named_shape w names x ≡ shape_of t) × IsKnown w.structs (shape_of t)
 KnownEntry w names x (OfValue (Arrayed t r)) = (count : ℕ) × (named_shape w names x ≡ ArrayShape count (shape_of t)) × IsKnown w.structs (shape_of t)
-KnownEntry w names x (OfValue Counter) = ⊥
+KnownEntry w names x (OfValue Counter) = (named_shape w names x ≡ UnsignedShape)
 KnownEntry w names x (OfValue Unknown) = ⊥
 KnownEntry w names x (OfTag t) = KnownTag w x t
 KnownEntry w names x (OfFunction s) = KnownFunction w x s

@@ -17,7 +17,7 @@ use Rattle.source_typing.specs.Scope.{Env, at_item}
 use Rattle.source_typing.specs.Tables.{Tables}
 use Rattle.source_typing.specs.Tags.{settled_alone}
 use Rattle.source_typing.specs.Taken.{function_taken, item_forms, item_taken, takes_type}
-use Rattle.type_proof.specs.Judged.{safe_forms}
+use Rattle.accepted_programs.specs.Supported.{supported}
 use Rattle.source_typing.specs.Types.{Char, Fat, Handle, Int, Key, Null, StaticType, Struct, Thin, Union, Unique, Unsigned, Void, is_void, shape_of}
 use Rattle.source_typing.specs.Verdicts.{Faulty, Of, Unjudged, Verdict, after, faults_of, if_fits, known}
 use Rattle.source_typing.specs.Written.{RegionNamed, all_found, spots_of}
@@ -75,7 +75,7 @@ module _ (structs : List Layout) (g : Tables) (tags : TagsThere structs g) where
     pub words : AreWords ts
     pub known : AreKnown structs ts
 
-  parameters_lowered : (vs : Variables) (ms : List tree.Member) (ts : List StaticType) → AreMembersTaken safe_forms ms
+  parameters_lowered : (vs : Variables) (ms : List tree.Member) (ts : List StaticType) → AreMembersTaken supported ms
       → all_faults (read_parameters g vs ms).types ≡ [] → map known (read_parameters g vs ms).types ≡ map (λ (t : StaticType). Some t) ts
       → part_shapes (map part_of ms) ≡ map (λ (t : StaticType). shape_of t) ts → AreObjects ts → ParametersLowered ms ts
   parameters_lowered vs [] [] k p q s o = record { takes = tt; words = tt; known = tt }
@@ -112,6 +112,7 @@ module _ (structs : List Layout) (g : Tables) (tags : TagsThere structs g) where
   given_is (Thin n r t) e o k = (tt, k o)
   given_is (Fat r t) e o k = (tt, k o)
   given_is (Struct tag rs) e o k = absurd cc
+  given_is (Union tag rs) e o k = absurd cc
   given_is (Handle r) e o k = (tt, k o)
   given_is _ e o k = absurd o
 
@@ -119,7 +120,7 @@ module _ (structs : List Layout) (g : Tables) (tags : TagsThere structs g) where
     pub takes : TakesResult t
     pub given : IsGiven structs u
 
-  result_lowered : (names : List RegionNamed) (t : TypeName) (u : StaticType) → takes_type safe_forms t ≡ true → result_type g names t ≡ Of u → IsPlain u
+  result_lowered : (names : List RegionNamed) (t : TypeName) (u : StaticType) → takes_type supported t ≡ true → result_type g names t ≡ Of u → IsPlain u
       → settled (written t) ≡ shape_of u → ResultLowered t u
   result_lowered names t u e q o s =
       let there : BaseThere structs t.base =
@@ -137,12 +138,12 @@ module _ (structs : List Layout) (g : Tables) (tags : TagsThere structs g) where
     pub parameters : ParametersLowered f.parameters k.signature.types
     pub result : ResultLowered f.result k.signature.gives
 
-  pub head_lowered : (f : tree.Function) (k : HeadGood g f) → function_taken safe_forms f ≡ f → (head_of false g f).faults ≡ [] → HeadLowered f k
+  pub head_lowered : (f : tree.Function) (k : HeadGood g f) → function_taken supported f ≡ f → (head_of false g f).faults ≡ [] → HeadLowered f k
   head_lowered f k t p =
       let ps : Parameters = read_parameters g (variables [] 0) f.parameters in
       let r : Verdict StaticType = result_type g ps.variables_after.names f.result in
       let c : HeadClean g f ps r = head_clean g f p in
-      let h : HeadTaken safe_forms f = head_taken safe_forms g f t p in
+      let h : HeadTaken supported f = head_taken supported g f t p in
       record {
         parameters = parameters_lowered (variables [] 0) f.parameters k.signature.types h.parameters c.parameters k.signature.parameters k.shapes
             k.signature.objects;
@@ -153,14 +154,14 @@ module _ (structs : List Layout) (g : Tables) (tags : TagsThere structs g) where
 -- ---- functions
 
 pub function_lowered : (w : World) (g : Tables) (i : ℕ) (f : tree.Function) (k : FunctionGood g i f) → TagsThere w.structs g
-    → function_taken safe_forms f ≡ f
+    → function_taken supported f ≡ f
     → IsKnownScope w [] (function_scope false g i (head_of false g f)) → TakesFunction w f
 function_lowered w g i f k tags t scope =
     let h : HeadLowered w.structs g tags f k.head = head_lowered w.structs g tags f k.head t k.clean in
     let inside : Env = function_scope false g i (head_of false g f) in
     record {
       result = h.result.takes;
-      main = λ e. int_written f.result (head_taken safe_forms g f t k.clean).result
+      main = λ e. int_written f.result (head_taken supported g f t k.clean).result
           (k.head.result.shape ∙ ap (λ (u : StaticType). shape_of u) (k.head.main_gives e));
       parameters = h.parameters.takes;
       body = subst (λ (s : Shape). TakesItems w s (parameter_names (map part_of f.parameters) 0 []) (length (map part_of f.parameters)) f.body)
@@ -176,11 +177,11 @@ function_lowered w g i f k tags t scope =
 
 -- by the program's tables `g` it has no fault, and `h` are those by which its type was read
 module _ (w : World) (g h : Tables) (i : ℕ) (x : tree.Global) (k : GlobalGood h i x) (tags : TagsThere w.structs g)
-    (t : item_taken safe_forms (tree.GlobalItem x) ≡ tree.GlobalItem x) (f : item_forms safe_forms (tree.GlobalItem x) ≡ [])
+    (t : item_taken supported (tree.GlobalItem x) ≡ tree.GlobalItem x) (f : item_forms supported (tree.GlobalItem x) ≡ [])
     (p : global_faults (at_item false g i) x ≡ [])
   where
-    taken : GlobalTaken safe_forms x
-    taken = global_taken safe_forms (at_item false g i) x t f p
+    taken : GlobalTaken supported x
+    taken = global_taken supported (at_item false g i) x t f p
 
     there : BaseThere w.structs x.of.base
     there =

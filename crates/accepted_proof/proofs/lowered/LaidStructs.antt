@@ -16,8 +16,8 @@ use Rattle.source_typing.specs.Programs.{Judged, bare_entry, bare_from, builtins
 use Rattle.source_typing.specs.Scope.{Env}
 use Rattle.source_typing.specs.Tables.{Entry, Named, OfBuiltin, OfFunction, OfOther, OfTag, OfValue, Part, Tables, Tag, find}
 use Rattle.source_typing.specs.Tags.{member_faults, member_fitting, member_type, settled_alone, tag_parts, tag_scope}
-use Rattle.type_proof.specs.Judged.{safe_forms}
-use Rattle.source_typing.specs.Types.{Char, Fat, Handle, Int, StaticType, Struct, Thin, Unsigned, shape_of}
+use Rattle.accepted_programs.specs.Supported.{supported}
+use Rattle.source_typing.specs.Types.{Char, Fat, Handle, Int, StaticType, Struct, Thin, Union, Unsigned, shape_of}
 use Rattle.source_typing.specs.Verdicts.{after, faults_of}
 use Rattle.source_typing.specs.Written.{all_found, spots_of}
 use Rattle.source_typing.proofs.Entries.{entries_more}
@@ -39,7 +39,7 @@ abbrev pub AllReached : List Layout → List Layout → Type 0
 AllReached structs [] = Unit {0}
 AllReached structs (l ∷ ls) = PartsReached structs l.parts × AllReached structs ls
 
-members_reached : (structs : List Layout) (g : Env) (ms : List tree.Member) → TagsThere structs g.tables → AreMembersTaken safe_forms ms
+members_reached : (structs : List Layout) (g : Env) (ms : List tree.Member) → TagsThere structs g.tables → AreMembersTaken supported ms
     → member_faults g false ms ≡ [] → PartsReached structs (map part_of ms)
 members_reached structs g [] tags e p = tt
 members_reached structs g (m ∷ ms) tags e p =
@@ -83,6 +83,7 @@ member_object ds ls Char k h r = tt
 member_object ds ls (Thin n q t) k h r = r
 member_object ds ls (Fat q t) k h r = r
 member_object ds ls (Struct tag rs) k h r = k tag ∙ h
+member_object ds ls (Union tag rs) k h r = absurd r
 member_object ds ls (Handle q) k h r = tt
 member_object ds ls _ k h r = absurd h
 
@@ -167,7 +168,7 @@ struct_laid structs b h T i done is seen ds found s there once sorted alike name
 
     reached : PartsReached structs (map part_of s.members)
     reached =
-        members_reached structs (tag_scope g i s) s.members tags (members_are_taken safe_forms (tag_scope g i s) s.members sorted.0.members clean.members)
+        members_reached structs (tag_scope g i s) s.members tags (members_are_taken supported (tag_scope g i s) s.members sorted.0.members clean.members)
         clean.members
 
     measured : MeasuredAlike ds (layouts_of false g) found

@@ -1,21 +1,25 @@
--- Makings that lowering takes: of one value, in the heap or in the region of a handle.
-use Rattle.std.proofs.Common.{◌≡◌, ℕ, true, false, List, refl, sym, subst, ap, ◌∙◌}
-use Rattle.cyc_tree.specs.Tree.{Expression, One}
+-- Makings that lowering takes: of one value or of an array, in the heap or in the region of a handle.
+use Rattle.std.proofs.Common.{◌≡◌, ℕ, true, false, List, ◌∷◌, refl, sym, subst, ap, ◌∙◌}
+use Rattle.std.specs.Prelude.{◌&&◌}
+use Rattle.std.proofs.lemmas.Bool.{and_parts}
+use Rattle.cyc_tree.specs.Tree.{Array, Expression, Name, One}
 use Rattle.source_lowering.specs.Lowerable.{IsNoStruct, IsObject, Takes, TakesDropped, TakesMember, TakesNew, TakesRun, TakesWhole}
-use Rattle.source_lowering.specs.Lowered.{Named, static_shape}
+use Rattle.source_lowering.specs.Lowered.{Named, number_named, static_shape}
 use Rattle.source_meaning.specs.Shapes as shapes
-use Rattle.source_meaning.specs.Shapes.{Shape, ThinShape}
+use Rattle.source_meaning.specs.Shapes.{FatShape, Shape, ThinShape}
 use Rattle.source_meaning.specs.Steps.{World}
-use Rattle.source_typing.specs.Making.{To, made}
+use Rattle.source_typing.specs.Making.{To, array_made, elements, made}
 use Rattle.source_typing.specs.Regions.{Region}
 use Rattle.source_typing.specs.Scope.{Value}
-use Rattle.source_typing.specs.Types.{Char, Fat, Handle, Int, Key, Null, StaticType, Struct, Thin, Union, Unique, Unsigned, Void, is_makeable, shape_of}
+use Rattle.source_typing.specs.Types.{Char, Fat, Handle, Int, Key, Null, StaticType, Struct, Thin, Union, Unique, Unsigned, Void, is_integer, is_makeable}
+use Rattle.source_typing.specs.Types.{shape_of}
 use Rattle.source_typing.specs.Verdicts.{Of}
+use Rattle.source_typing.proofs.Inversion.{fits_is, of_is}
 use Rattle.type_proof.proofs.expressions.Makings.{made_there}
-use Rattle.type_proof.proofs.expressions.WordRules.{Valued}
-use Rattle.accepted_proof.proofs.Known.{IsKnown, IsKnownValue, IsWord, known_object, word_shape}
+use Rattle.type_proof.proofs.expressions.WordRules.{Valued, value_of}
+use Rattle.accepted_proof.proofs.Known.{IsKnown, IsKnownValue, IsWord, integer_word, known_object, word_shape}
 use Rattle.accepted_proof.proofs.lowered.Calls.{word_member}
-use Rattle.accepted_proof.proofs.lowered.Forms.{IsTaken, TakenAs, TakenStruct, TakenWord, taken_word}
+use Rattle.accepted_proof.proofs.lowered.Forms.{IsTaken, TakenAs, TakenStruct, TakenWord, taken_word, word_is}
 use Rattle.accepted_proof.proofs.lowered.Operators.{no_place}
 
 module _ (w : World) (names : List Named) where
@@ -75,3 +79,22 @@ module _ (w : World) (names : List Named) where
       let n : NewTaken e a.type = value_made e a.type d.0 h.known h.value in
       taken_word w names x v (Thin false r a.type) d.1.type (no_place v d.1.seat) tt (refl, n.known)
       (record { takes = takes n.takes; shape = shape ∙ ap (λ (s : Shape). ThinShape false shapes.Shared s) n.shape }) run
+
+module _ (w : World) (names : List Named) where
+  -- an array in a region: its element is taken whichever temporary has the index
+  pub array_taken : (x : Expression) (at : ℕ) (r : Region) (index : Name) (n e : Expression) (c a b v : Value) → IsTaken w names n c
+      → ((t : ℕ) → IsTaken w (number_named index.text t ∷ names) e a) → elements at c a ≡ Of b → array_made at (To r) b ≡ Of v
+      → (TakesNew w names (Array index n e) → Takes w names x)
+      → static_shape w names x ≡ FatShape (static_shape w (number_named index.text 0 ∷ names) e)
+      → (TakesDropped w names (static_shape w names x) x → TakesRun w names x) → IsTaken w names x v
+  array_taken x at r index n e c a b v h i p q takes shape run =
+      let z : (is_integer c.type && is_makeable a.type ≡ true) × (Of a ≡ Of b) = fits_is (is_integer c.type && is_makeable a.type) at a b p in
+      let fits : (is_integer c.type ≡ true) × (is_makeable a.type ≡ true) = and_parts (is_integer c.type) (is_makeable a.type) z.0 in
+      let d : Valued v (Fat r a.type) = value_of at (Fat r a.type) v (subst (λ (y : Value). array_made at (To r) y ≡ Of v) (sym (of_is a b z.1)) q) in
+      let count : TakenWord w names n c.type = word_is w names c.type n (integer_word c.type fits.0) h.value in
+      let one : NewTaken w (number_named index.text 0 ∷ names) e a.type = each fits.1 0 in
+      taken_word w names x v (Fat r a.type) d.type (no_place v d.seat) tt one.known
+      (record { takes = takes (count.takes, λ t. (each fits.1 t).takes); shape = shape ∙ ap (λ (s : Shape). FatShape s) one.shape }) run
+    where
+      each : is_makeable a.type ≡ true → (t : ℕ) → NewTaken w (number_named index.text t ∷ names) e a.type
+      each m t = let k : IsTaken w (number_named index.text t ∷ names) e a = i t in value_made w (number_named index.text t ∷ names) e a.type m k.known k.value

@@ -1,5 +1,5 @@
--- Lowering takes each program of integers, pointers, structs, arrays, the heap and lexical regions in which the rules find no fault.
-use Rattle.std.proofs.Common.{◌≡◌, ℕ, ◌≤◌, suc, false, List, [], ◌∷◌, refl, sym, subst, ap₂, ◌∙◌}
+-- Lowering takes each program of integers, pointers, structs, arrays, strings, the heap and lexical regions in which the rules find no fault.
+use Rattle.std.proofs.Common.{◌≡◌, ℕ, ◌≤◌, suc, false, List, [], ◌∷◌, sym, subst, ap₂, ◌∙◌}
 use Rattle.cyc_tree.specs.Tree as tree
 use Rattle.cyc_tree.specs.Tree.{Item, Program}
 use Rattle.source_lowering.specs.Lowerable.{AreStructs, IsLowerable, TakesProgram}
@@ -15,11 +15,9 @@ use Rattle.source_typing.specs.Programs.{Judged, builtins, entries, items_from, 
 use Rattle.source_typing.specs.Scope.{at_item}
 use Rattle.source_typing.specs.Tables.{Tables}
 use Rattle.source_typing.specs.Taken.{constant_forms, function_taken, item_forms, item_taken, only_taken}
-use Rattle.type_proof.specs.Judged.{safe_forms}
 use Rattle.source_typing.specs.Types.{shape_of}
 use Rattle.accepted_programs.specs.Supported.{supported}
 use Rattle.source_typing.proofs.Inversion.{none_of_both}
-use Rattle.source_typing.proofs.NoStrings.{program_silent}
 use Rattle.accepted_proof.specs.Good.{BodiesJudged}
 use Rattle.accepted_proof.specs.Laws.{AcceptedAreLowerable}
 use Rattle.accepted_proof.proofs.Found.{AllKnown}
@@ -33,39 +31,40 @@ use Rattle.accepted_proof.proofs.lowered.Types.{TagsThere}
 use Rattle.accepted_proof.proofs.lowered.ObjectSizes.{object_positive}
 use Rattle.accepted_proof.proofs.Programs as programs
 use Rattle.accepted_proof.proofs.lowered.SizedGlobals.{AreSized, globals_sized}
+use Rattle.accepted_proof.proofs.StringSizes.{strings_short}
 use Rattle.accepted_proof.proofs.StructsFound.{StructsFound}
 
 -- ---- items
 
 all_lowered : (w : World) (g h : Tables) (i : ℕ) (js : List Judged) (is : List Item) → TagsThere w.structs g → AreStructs w.unions w.structs
     → ((i : ℕ) (f : tree.Function) → IsKnownScope w [] (function_scope false g i (head_of false g f))) → AllKnown g h i js is
-    → AreSized w g i is → only_taken safe_forms is ≡ is → constant_forms safe_forms is ≡ [] → items_from false g i is ≡ [] → TakesProgram w is
+    → AreSized w g i is → only_taken supported is ≡ is → constant_forms supported is ≡ [] → items_from false g i is ≡ [] → TakesProgram w is
 all_lowered w g h i [] [] tags structs scope k z t f p = tt
 all_lowered w g h i [] (x ∷ is) tags structs scope k z t f p = absurd k
 all_lowered w g h i (j ∷ js) [] tags structs scope k z t f p = tt
 all_lowered w g h i (j ∷ js) (tree.StructItem s ∷ is) tags structs scope k z t f p =
-    let b : only_taken safe_forms is ≡ is = cc in (tt, all_lowered w g h (suc i) js is tags structs scope k.1 z.1 b f p)
+    let b : only_taken supported is ≡ is = cc in (tt, all_lowered w g h (suc i) js is tags structs scope k.1 z.1 b f p)
 all_lowered w g h i (j ∷ js) (tree.UnionItem s ∷ is) tags structs scope k z t f p = absurd k.0
 all_lowered w g h i (j ∷ js) (tree.GlobalItem x ∷ is) tags structs scope k z t f p =
-    let a : item_taken safe_forms (tree.GlobalItem x) ≡ tree.GlobalItem x = cc in
-    let b : only_taken safe_forms is ≡ is = cc in
-    let c = none_of_both (item_forms safe_forms (tree.GlobalItem x)) (constant_forms safe_forms is) f in
+    let a : item_taken supported (tree.GlobalItem x) ≡ tree.GlobalItem x = cc in
+    let b : only_taken supported is ≡ is = cc in
+    let c = none_of_both (item_forms supported (tree.GlobalItem x)) (constant_forms supported is) f in
     let d = none_of_both (global_faults (at_item false g i) x) (items_from false g (suc i) is) p in
     (global_lowered w g h i x k.0.1 tags a c.0 d.0 structs z.0, all_lowered w g h (suc i) js is tags structs scope k.1 z.1 b c.1 d.1)
 all_lowered w g h i (j ∷ js) (tree.FunctionItem x ∷ is) tags structs scope k z t f p =
-    let a : function_taken safe_forms x ≡ x = cc in
-    let b : only_taken safe_forms is ≡ is = cc in
+    let a : function_taken supported x ≡ x = cc in
+    let b : only_taken supported is ≡ is = cc in
     let d = none_of_both (function_faults false g i x) (items_from false g (suc i) is) p in
     (function_lowered w g i x k.0.good tags a (scope i x), all_lowered w g h (suc i) js is tags structs scope k.1 z.1 b f d.1)
 
 -- ---- a program
 
-module _ (bodies : BodiesJudged) (p : Program) (e : program_faults safe_forms p ≡ []) where
+module _ (bodies : BodiesJudged) (p : Program) (e : program_faults supported p ≡ []) where
   abbrev tables : Tables
   tables = tables_of false p
 
-  clean : IsClean safe_forms p
-  clean = is_clean_program safe_forms p e
+  clean : IsClean supported p
+  clean = is_clean_program supported p e
 
   found : StructsFound p
   found = programs.found bodies p e
@@ -108,7 +107,7 @@ module _ (bodies : BodiesJudged) (p : Program) (e : program_faults safe_forms p 
     items = all_lowered (world_of p) tables (builtins (entries (judged_tags p))) 0 (judged_tags p) p found.there structs scope known sized clean.taken
         clean.forms clean.items;
     structs = structs;
-    strings = program_silent safe_forms refl p clean.taken;
+    strings = strings_short tables p clean.names clean.sizes;
   }
 
 -- ---- the laws

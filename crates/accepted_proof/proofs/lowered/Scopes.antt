@@ -1,16 +1,17 @@
--- A scope in which all is known of each name stays one: after a local, where a block or a loop begins, and with a function's parameters.
+-- A scope in which all is known of each name stays one: after a local, where a block, a loop or an element begins, and with a function's parameters.
 use Rattle.std.proofs.Common.{◌≡◌, ℕ, suc, Bool, true, false, Option, Some, List, [], ◌∷◌, refl, subst, ap, ◌∙◌}
 use Rattle.std.specs.Prelude.{bytes_eq, if◌then◌else◌, map}
 use Rattle.cyc_tree.specs.Tree as tree
-use Rattle.source_lowering.specs.Lowered.{Named, local_named, named_shape, shape_by}
+use Rattle.source_lowering.specs.Lowered.{Named, local_named, named_shape, number_named, shape_by}
+use Rattle.source_lowering.specs.Naming.{Home, InBlock, InTemporary}
 use Rattle.source_lowering.specs.Programs.{named_here, one_out, outward, parameter_names}
 use Rattle.source_meaning.specs.Places.{bound_to}
-use Rattle.source_meaning.specs.Shapes.{ArrayShape, Part, Shape, part_shapes}
+use Rattle.source_meaning.specs.Shapes.{ArrayShape, Part, Shape, UnsignedShape, part_shapes}
 use Rattle.source_meaning.specs.Steps.{Entity, World}
 use Rattle.type_proof.specs.Judged.{arrayed, extended, named}
 use Rattle.type_proof.specs.Programs.{name_alone, with_all}
 use Rattle.source_typing.specs.Declarations.{with_region}
-use Rattle.source_typing.specs.Making.{Goal, inside}
+use Rattle.source_typing.specs.Making.{Goal, inside, with_counter}
 use Rattle.source_typing.specs.Regions.{with_scope}
 use Rattle.source_typing.specs.Scope.{Env, block_entered, in_scope, meant}
 use Rattle.source_typing.specs.Statements.{in_a_loop}
@@ -21,13 +22,17 @@ use Rattle.accepted_proof.proofs.Known.{IsKnown}
 use Rattle.accepted_proof.proofs.lowered.Forms.{AreKnown, IsKnownScope, KnownEntry}
 use Rattle.accepted_proof.proofs.lowered.Types.{TagsThere}
 
+-- a name of a shape, wherever it is
+abbrev named_at : List ℕ → Shape → Home → Named
+named_at x s home = record { name = x; shape = s; home = home }
+
 module _ (w : World) where
   -- a name keeps what is known of it while it has its shape
   entry_kept : (names others : List Named) (x : List ℕ) (e : Entry) → named_shape w others x ≡ named_shape w names x → KnownEntry w names x e
       → KnownEntry w others x e
   entry_kept names others x (OfValue (Stored t r)) q h = (q ∙ h.0, h.1)
   entry_kept names others x (OfValue (Arrayed t r)) q h = (h.0, q ∙ h.1, h.2)
-  entry_kept names others x (OfValue Counter) q h = h
+  entry_kept names others x (OfValue Counter) q h = q ∙ h
   entry_kept names others x (OfValue Unknown) q h = h
   entry_kept names others x (OfTag t) q h = h
   entry_kept names others x (OfFunction s) q h = h
@@ -41,33 +46,38 @@ module _ (w : World) where
   -- ---- one more local
 
   -- a name of a shape that is known, whatever else is in scope
-  scope_named : (names : List Named) (g : Env) (x : tree.Name) (what : What) (s : Shape) (index : ℕ)
+  scope_named : (names : List Named) (g : Env) (x : tree.Name) (what : What) (s : Shape) (home : Home)
       → ((others : List Named) (y : List ℕ) → named_shape w others y ≡ s → KnownEntry w others y (OfValue what)) → IsKnownScope w names g
-      → IsKnownScope w (named_here x.text s index ∷ names) (named g x what)
-  scope_named names g x what s index k scope = record { entries = λ y e p. by y e (bytes_eq x.text y) refl p; members = scope.members; sizes = scope.sizes }
+      → IsKnownScope w (named_at x.text s home ∷ names) (named g x what)
+  scope_named names g x what s home k scope = record { entries = λ y e p. by y e (bytes_eq x.text y) refl p; members = scope.members; sizes = scope.sizes }
     where
       by : (y : List ℕ) (e : Entry) (b : Bool) → bytes_eq x.text y ≡ b → (if b then Some (OfValue what) else meant g y) ≡ Some e
-          → KnownEntry w (named_here x.text s index ∷ names) y e
+          → KnownEntry w (named_at x.text s home ∷ names) y e
       by y e true r p =
           let z : OfValue what ≡ e = cc in
-          subst (λ (d : Entry). KnownEntry w (named_here x.text s index ∷ names) y d) z
-          (k (named_here x.text s index ∷ names) y
-          (ap (λ (b : Bool). shape_by (if b then Some (named_here x.text s index) else local_named names y) (bound_to w.globals y)) r))
+          subst (λ (d : Entry). KnownEntry w (named_at x.text s home ∷ names) y d) z
+          (k (named_at x.text s home ∷ names) y
+          (ap (λ (b : Bool). shape_by (if b then Some (named_at x.text s home) else local_named names y) (bound_to w.globals y)) r))
       by y e false r p =
-          entry_kept names (named_here x.text s index ∷ names) y e
-          (ap (λ (b : Bool). shape_by (if b then Some (named_here x.text s index) else local_named names y) (bound_to w.globals y)) r)
+          entry_kept names (named_at x.text s home ∷ names) y e
+          (ap (λ (b : Bool). shape_by (if b then Some (named_at x.text s home) else local_named names y) (bound_to w.globals y)) r)
           (scope.entries y e p)
 
   pub scope_local : (names : List Named) (g : Env) (x : tree.Name) (t : StaticType) (s : Shape) (index : ℕ) → s ≡ shape_of t → IsKnown w.structs (shape_of t)
       → IsKnownScope w names g → IsKnownScope w (named_here x.text s index ∷ names) (extended g x t)
-  scope_local names g x t s index q k scope = scope_named names g x (Stored t g.frame) s index (λ others y z. (z ∙ q, k)) scope
+  scope_local names g x t s index q k scope = scope_named names g x (Stored t g.frame) s (InBlock 0 index) (λ others y z. (z ∙ q, k)) scope
 
   pub scope_array : (names : List Named) (g : Env) (x : tree.Name) (t : StaticType) (s : Shape) (count index : ℕ) → s ≡ shape_of t
       → IsKnown w.structs (shape_of t) → IsKnownScope w names g
       → IsKnownScope w (named_here x.text (ArrayShape count s) index ∷ names) (arrayed g x t)
   scope_array names g x t s count index q k scope =
-      scope_named names g x (Arrayed t g.frame) (ArrayShape count s) index
+      scope_named names g x (Arrayed t g.frame) (ArrayShape count s) (InBlock 0 index)
       (λ others y z. (count, z ∙ ap (λ (u : Shape). ArrayShape count u) q, k)) scope
+
+  -- the index of an element, in any temporary
+  pub scope_counter : (names : List Named) (g : Env) (x : tree.Name) (t : ℕ) → IsKnownScope w names g
+      → IsKnownScope w (number_named x.text t ∷ names) (with_counter x g)
+  scope_counter names g x t scope = scope_named names g x Counter UnsignedShape (InTemporary t) (λ others y z. z) scope
 
   -- ---- blocks and loops
 

@@ -1,17 +1,18 @@
 -- The tables of a program in which the rules find no fault: lowering knows what each name in them means.
-use Rattle.std.proofs.Common.{◌≡◌, ℕ, suc, Bool, true, false, Option, Some, None, List, [], ◌∷◌, refl, sym, subst, ap, ◌∙◌}
+use Rattle.std.proofs.Common.{◌≡◌, ℕ, suc, Bool, true, false, inl, inr, Option, Some, None, List, [], ◌∷◌, refl, sym, subst, ap, ◌∙◌}
 use Rattle.std.specs.Prelude.{bytes_eq, codes, if◌then◌else◌, map}
 use Rattle.cyc_tree.specs.Tree as tree
 use Rattle.cyc_tree.specs.Tree.{Item, Program}
 use Rattle.source_lowering.specs.Lowered.{call_shape, entity_shape, result_shape}
 use Rattle.source_meaning.specs.Calls.{function_of}
 use Rattle.source_meaning.specs.Programs.{world_of}
+use Rattle.std.proofs.lemmas.Bool.{false≢true}
 use Rattle.source_meaning.specs.Shapes as shapes
 use Rattle.source_meaning.specs.Shapes.{Layout, Shape, has_tag, part_shape, parts_of}
 use Rattle.source_meaning.specs.Steps.{Entity, Routine, World}
 use Rattle.type_proof.proofs.invariant.Layouts.{member_object, member_types, members_at, members_typed}
 use Rattle.type_proof.proofs.expressions.Members.{Found, member_found}
-use Rattle.type_proof.specs.Entries.{Function, Structure}
+use Rattle.type_proof.specs.Entries.{Function, PlainEntry, Structure}
 use Rattle.type_proof.specs.Flat.{Declared}
 use Rattle.type_proof.specs.Programs.{ArrayFound, GlobalFound, ProgramJudged}
 use Rattle.type_proof.specs.Structs.{AreMemberTypes, AreMembers}
@@ -25,7 +26,7 @@ use Rattle.source_typing.specs.Tables.{Arrayed, Counter, Entry, Named, OfBuiltin
 use Rattle.source_typing.specs.Tables.{OfValue, Part, Signature, Stored, Tables, Tag, Unknown}
 use Rattle.source_typing.specs.Tables.{as_tag, find, part_in, parts_in, parts_of_tag}
 use Rattle.source_typing.specs.Taken.{constant_forms, function_taken, item_forms, item_taken, only_taken}
-use Rattle.type_proof.specs.Judged.{safe_forms}
+use Rattle.accepted_programs.specs.Supported.{supported}
 use Rattle.source_typing.specs.Types.{StaticType, shape_of}
 use Rattle.source_typing.specs.Verdicts.{Of}
 use Rattle.source_typing.proofs.Inversion.{none_of_both}
@@ -64,25 +65,25 @@ global_typed structs (Some n) t k = k
 
 -- `g` are the program's tables, and `h` those by which its heads and globals were read
 pub types_known : (w : World) (g h : Tables) (i : ℕ) (js : List Judged) (is : List Item) → TagsThere w.structs g → AllKnown g h i js is
-    → only_taken safe_forms is ≡ is → constant_forms safe_forms is ≡ [] → items_from false g i is ≡ []
+    → only_taken supported is ≡ is → constant_forms supported is ≡ [] → items_from false g i is ≡ []
     → AllTypesKnown w.structs (entries_with false h i js is)
 types_known w g h i [] is tags k t f p = tt
 types_known w g h i (j ∷ js) [] tags k t f p = tt
 types_known w g h i (j ∷ js) (tree.StructItem s ∷ is) tags k t f p =
-    let b : only_taken safe_forms is ≡ is = cc in
+    let b : only_taken supported is ≡ is = cc in
     (subst (λ (n : Named). TypesKnown w.structs n.entry) (sym k.0.is) tt, types_known w g h (suc i) js is tags k.1 b f p)
 types_known w g h i (j ∷ js) (tree.UnionItem s ∷ is) tags k t f p = absurd k.0
 types_known w g h i (j ∷ js) (tree.GlobalItem x ∷ is) tags k t f p =
-    let a : item_taken safe_forms (tree.GlobalItem x) ≡ tree.GlobalItem x = cc in
-    let b : only_taken safe_forms is ≡ is = cc in
-    let c = none_of_both (item_forms safe_forms (tree.GlobalItem x)) (constant_forms safe_forms is) f in
+    let a : item_taken supported (tree.GlobalItem x) ≡ tree.GlobalItem x = cc in
+    let b : only_taken supported is ≡ is = cc in
+    let c = none_of_both (item_forms supported (tree.GlobalItem x)) (constant_forms supported is) f in
     let d = none_of_both (global_faults (at_item false g i) x) (items_from false g (suc i) is) p in
     let a : TypesKnown w.structs (OfValue (what_of TheHeap (count_of x.initial) (Of k.0.1.type))) =
     global_typed w.structs (count_of x.initial) k.0.1.type (global_known w g h i x k.0.1 tags a c.0 d.0) in
     (subst (λ (e : Entry). TypesKnown w.structs e) (sym k.0.1.entry) a, types_known w g h (suc i) js is tags k.1 b c.1 d.1)
 types_known w g h i (j ∷ js) (tree.FunctionItem x ∷ is) tags k t f p =
-    let a : function_taken safe_forms x ≡ x = cc in
-    let b : only_taken safe_forms is ≡ is = cc in
+    let a : function_taken supported x ≡ x = cc in
+    let b : only_taken supported is ≡ is = cc in
     let d = none_of_both (function_faults false g i x) (items_from false g (suc i) is) p in
     let u : HeadLowered w.structs g tags x k.0.good.head = head_lowered w.structs g tags x k.0.good.head a k.0.good.clean in
     let s : SignatureKnown w.structs (head_of false g x).signature =
@@ -164,9 +165,14 @@ module _ (p : Program) (judged : ProgramJudged p (tables_of false p)) (found : S
         (ap (λ (o : Option Entry). parts_of_tag (as_tag o)) q)
         (members_at tables declared world.structs x found.structs.laid_out (found.there x t q))
 
+    -- there are no unions
+    structure_of : (x : List ℕ) (t : Tag) → PlainEntry world x (OfTag t) → Structure world x t
+    structure_of x t (inl s) = s
+    structure_of x t (inr u) = absurd (false≢true (sym (ap (λ (ls : List Layout). has_tag ls x) found.no_unions) ∙ u.there))
+
     tag_known : (x : List ℕ) (t : Tag) → find tables x ≡ Some (OfTag t) → KnownTag world x t
     tag_known x t q =
-        let s : Structure world x t = judged.plain x (OfTag t) q in
+        let s : Structure world x t = structure_of x t (judged.plain x (OfTag t) q) in
         let m : AreMembers t.parts (parts_of world.structs x) (member_types declared x) = tag_members x t q in
         record {
           not_read = s.not_read;

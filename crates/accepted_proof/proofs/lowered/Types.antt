@@ -35,8 +35,8 @@ use Rattle.type_proof.specs.Entries.{IsObjectType, IsPlain}
 use Rattle.source_typing.specs.Faults.{Fault}
 use Rattle.source_typing.specs.Tables.{Entry, OfBuiltin, OfFunction, OfOther, OfTag, OfValue, Tables, Tag, find, has_beginning}
 use Rattle.source_typing.specs.Taken.{takes_base, takes_pointers, takes_type}
-use Rattle.type_proof.specs.Judged.{safe_forms}
-use Rattle.source_typing.specs.Types.{Char, Fat, Handle, Int, PartialType, StaticType, Struct, Thin, Unsigned, Void, shape_of}
+use Rattle.accepted_programs.specs.Supported.{supported}
+use Rattle.source_typing.specs.Types.{Char, Fat, Handle, Int, PartialType, StaticType, Struct, Thin, Union, Unsigned, Void, shape_of}
 use Rattle.source_typing.specs.Verdicts.{Faulty, Verdict, after, faults_of}
 use Rattle.source_typing.specs.Written.{Found, tag_of, written_on, written_with}
 use Rattle.source_lowering.proofs.statements.WrittenTypes.{owner_shared}
@@ -130,6 +130,7 @@ reached_known structs Char o h = tt
 reached_known structs (Thin b r t) o h = (h.0, reached_known structs t o h.1)
 reached_known structs (Fat r t) o h = reached_known structs t o h
 reached_known structs (Struct tag rs) o h = h
+reached_known structs (Union tag rs) o h = absurd h
 reached_known structs (Handle r) o h = tt
 reached_known structs _ o h = absurd o
 
@@ -146,12 +147,12 @@ module _ (structs : List Layout) where
       all_reached ps (signed_shape p.sign (owner_of p.region) s) k.1 (signed_reached p.sign p.region s k.0 h)
 
   -- what is written of a type that is taken
-  pub type_reached : (t : TypeName) → takes_type safe_forms t ≡ true → BaseThere structs t.base → IsReached structs (settled (written t))
+  pub type_reached : (t : TypeName) → takes_type supported t ≡ true → BaseThere structs t.base → IsReached structs (settled (written t))
   type_reached t e h =
-      let a = and_parts (takes_base safe_forms t.base) (takes_pointers safe_forms t.pointers) e in
-      all_reached t.pointers (base_shape t.base) (pointers_shared safe_forms refl t.pointers a.1) (by t.base a.0 h)
+      let a = and_parts (takes_base supported t.base) (takes_pointers supported t.pointers) e in
+      all_reached t.pointers (base_shape t.base) (pointers_shared supported refl t.pointers a.1) (by t.base a.0 h)
     where
-      by : (b : tree.Base) → takes_base safe_forms b ≡ true → BaseThere structs b → IsReached structs (settled (base_shape b))
+      by : (b : tree.Base) → takes_base supported b ≡ true → BaseThere structs b → IsReached structs (settled (base_shape b))
       by tree.Int q h = tt
       by tree.Unsigned q h = tt
       by tree.Char q h = tt
@@ -162,7 +163,7 @@ module _ (structs : List Layout) where
       by (tree.Key r) q h = absurd cc
 
   -- and of an object's
-  pub written_known : (t : TypeName) (u : StaticType) → takes_type safe_forms t ≡ true → BaseThere structs t.base → IsObjectType u
+  pub written_known : (t : TypeName) (u : StaticType) → takes_type supported t ≡ true → BaseThere structs t.base → IsObjectType u
       → settled (written t) ≡ shape_of u → IsKnown structs (shape_of u)
   written_known t u e h o s = reached_known structs u o (subst (λ z. IsReached structs z) s (type_reached t e h))
 
@@ -178,7 +179,7 @@ module _ (structs : List Layout) where
   known_under [] s h = h
   known_under (p ∷ ps) s h = signed_under p.sign p.region s (known_under ps (signed_shape p.sign (owner_of p.region) s) h)
 
-  object_base : (b : tree.Base) → takes_base safe_forms b ≡ true → IsKnown structs (settled (base_shape b)) → IsObjectBase b
+  object_base : (b : tree.Base) → takes_base supported b ≡ true → IsKnown structs (settled (base_shape b)) → IsObjectBase b
   object_base tree.Int q h = tt
   object_base tree.Unsigned q h = tt
   object_base tree.Char q h = tt
@@ -189,19 +190,19 @@ module _ (structs : List Layout) where
   object_base (tree.Key r) q h = absurd h
 
   -- the type of a variable
-  pub object_type : (t : TypeName) (u : StaticType) → takes_type safe_forms t ≡ true → BaseThere structs t.base → IsObjectType u
+  pub object_type : (t : TypeName) (u : StaticType) → takes_type supported t ≡ true → BaseThere structs t.base → IsObjectType u
       → settled (written t) ≡ shape_of u → lowering.IsObjectType structs t
   object_type t u e h o s =
-      let a = and_parts (takes_base safe_forms t.base) (takes_pointers safe_forms t.pointers) e in
+      let a = and_parts (takes_base supported t.base) (takes_pointers supported t.pointers) e in
       let k : IsKnown structs (settled (written t)) = subst (λ z. IsKnown structs z) (sym s) (written_known t u e h o s) in
       record {
-        pointers = pointers_shared safe_forms refl t.pointers a.1;
+        pointers = pointers_shared supported refl t.pointers a.1;
         base = object_base t.base a.0 (known_under t.pointers (base_shape t.base) k);
         known = reached_in structs (settled (written t)) (type_reached t e h);
       }
 
   -- that of a parameter
-  pub word_type : (t : TypeName) (u : StaticType) → takes_type safe_forms t ≡ true → BaseThere structs t.base → IsObjectType u → IsWord u
+  pub word_type : (t : TypeName) (u : StaticType) → takes_type supported t ≡ true → BaseThere structs t.base → IsObjectType u → IsWord u
       → settled (written t) ≡ shape_of u → lowering.IsWordType t
   word_type t u e h o w s =
       let k : lowering.IsObjectType structs t = object_type t u e h o s in
@@ -224,11 +225,11 @@ no_int (ThinShape b o s) h e = cc
 no_int (FatShape s) h e = cc
 no_int _ h e = h
 
-void_written : (t : TypeName) → takes_type safe_forms t ≡ true → settled (written t) ≡ VoidShape → IsVoidType t
+void_written : (t : TypeName) → takes_type supported t ≡ true → settled (written t) ≡ VoidShape → IsVoidType t
 void_written t e s =
-    by t.base t.pointers (and_parts (takes_base safe_forms t.base) (takes_pointers safe_forms t.pointers) e).0 s
+    by t.base t.pointers (and_parts (takes_base supported t.base) (takes_pointers supported t.pointers) e).0 s
   where
-    by : (b : tree.Base) (ps : List Pointer) → takes_base safe_forms b ≡ true
+    by : (b : tree.Base) (ps : List Pointer) → takes_base supported b ≡ true
         → settled (written (record { at = t.at; base = b; pointers = ps })) ≡ VoidShape → IsVoidType (record { at = t.at; base = b; pointers = ps })
     by b (p ∷ ps) q s = absurd (no_void (pointed (p ∷ ps) (base_shape b)) (pointers_shape p ps b) s)
     by tree.Void [] q s = record { pointers = refl; base = tt }
@@ -240,11 +241,11 @@ void_written t e s =
     by (tree.Handle r) [] q s = absurd cc
     by (tree.Key r) [] q s = absurd cc
 
-pub int_written : (t : TypeName) → takes_type safe_forms t ≡ true → settled (written t) ≡ IntShape → IsIntType t
+pub int_written : (t : TypeName) → takes_type supported t ≡ true → settled (written t) ≡ IntShape → IsIntType t
 int_written t e s =
-    by t.base t.pointers (and_parts (takes_base safe_forms t.base) (takes_pointers safe_forms t.pointers) e).0 s
+    by t.base t.pointers (and_parts (takes_base supported t.base) (takes_pointers supported t.pointers) e).0 s
   where
-    by : (b : tree.Base) (ps : List Pointer) → takes_base safe_forms b ≡ true
+    by : (b : tree.Base) (ps : List Pointer) → takes_base supported b ≡ true
         → settled (written (record { at = t.at; base = b; pointers = ps })) ≡ IntShape → IsIntType (record { at = t.at; base = b; pointers = ps })
     by b (p ∷ ps) q s = absurd (no_int (pointed (p ∷ ps) (base_shape b)) (pointers_shape p ps b) s)
     by tree.Int [] q s = record { pointers = refl; base = refl }
@@ -257,7 +258,7 @@ int_written t e s =
     by (tree.Key r) [] q s = absurd cc
 
 -- the type of a result
-pub result_takes : (structs : List Layout) (t : TypeName) (u : StaticType) → takes_type safe_forms t ≡ true → BaseThere structs t.base → IsPlain u
+pub result_takes : (structs : List Layout) (t : TypeName) (u : StaticType) → takes_type supported t ≡ true → BaseThere structs t.base → IsPlain u
     → IsGiven structs u → settled (written t) ≡ shape_of u → TakesResult t
 result_takes structs t Void e h o w s = GivesNothing (void_written t e s)
 result_takes structs t Int e h o w s = GivesWord (word_type structs t Int e h o w.0 s)
@@ -266,6 +267,7 @@ result_takes structs t Char e h o w s = GivesWord (word_type structs t Char e h 
 result_takes structs t (Thin b r u) e h o w s = GivesWord (word_type structs t (Thin b r u) e h o w.0 s)
 result_takes structs t (Fat r u) e h o w s = GivesWord (word_type structs t (Fat r u) e h o w.0 s)
 result_takes structs t (Struct tag rs) e h o w s = absurd w.0
+result_takes structs t (Union tag rs) e h o w s = GivesWord (word_type structs t (Union tag rs) e h o w.0 s)
 result_takes structs t (Handle r) e h o w s = GivesWord (word_type structs t (Handle r) e h o w.0 s)
 result_takes structs t _ e h o w s = absurd o
 
@@ -279,20 +281,21 @@ begins_first g Char o e = tt
 begins_first g (Thin b r t) o e = subst (λ z. HasFirst (ThinShape z Shared (shape_of t))) (sym e) tt
 begins_first g (Fat r t) o e = tt
 begins_first g (Struct tag rs) o e = tt
+begins_first g (Union tag rs) o e = absurd cc
 begins_first g (Handle r) o e = absurd cc
 begins_first g _ o e = absurd o
 
 -- an owner that a type leaves open isn't unique
-pub type_open : (t : TypeName) → takes_type safe_forms t ≡ true → IsOpen (written t)
+pub type_open : (t : TypeName) → takes_type supported t ≡ true → IsOpen (written t)
 type_open t e =
-    let a = and_parts (takes_base safe_forms t.base) (takes_pointers safe_forms t.pointers) e in
-    all_open t.pointers (base_shape t.base) (pointers_shared safe_forms refl t.pointers a.1) (by t.base a.0)
+    let a = and_parts (takes_base supported t.base) (takes_pointers supported t.pointers) e in
+    all_open t.pointers (base_shape t.base) (pointers_shared supported refl t.pointers a.1) (by t.base a.0)
   where
     all_open : (ps : List Pointer) (s : Shape) → AreShared ps → IsOpen s → IsOpen (pointed ps s)
     all_open [] s k h = h
     all_open (p ∷ ps) s k h = all_open ps (signed_shape p.sign (owner_of p.region) s) k.1 (signed_open p.sign p.region s k.0 h)
 
-    by : (b : tree.Base) → takes_base safe_forms b ≡ true → IsOpen (base_shape b)
+    by : (b : tree.Base) → takes_base supported b ≡ true → IsOpen (base_shape b)
     by tree.Int q = tt
     by tree.Unsigned q = tt
     by tree.Char q = tt

@@ -3,6 +3,7 @@ use Rattle.std.specs.Prelude.{Err}
 use Rattle.core_lines.specs.declared.line.Line.{Line}
 use Rattle.core_lines.specs.Choosing.{far}
 use Rattle.core_lines.specs.Lines.{IsPlace, code_length}
+use Rattle.core_lines.specs.Running.{data_offsets}
 use Rattle.core_lines.specs.Selected as select
 use Rattle.core_lines.specs.Statics.{data_bytes}
 use Rattle.core_meaning.specs.Core as core
@@ -38,11 +39,11 @@ returns-in-Ok-data-clause-implemented c = λ parts is_code is_statics from_first
       placed = subst (λ (ls : List Line). ArePlaced ls bytes) lines placed.placed;
       has = subst (λ (ls : List Line). IsCodeOf ls bytes) lines (placed.has c.in_ok-labelled.ensures.once);
       places = subst (λ (ls : List Line). (label : ℕ) → IsPlace (place_of ls label)) lines placed.places;
-      statics_are = c.in-Ok-data.ensures.bytes ∙ ap (λ (p : core.Program). data_bytes 0 p.data_objects) c.in_ok-core.ensures.code;
+      statics_are = c.in-Ok-data.ensures.bytes ∙ ap (λ (p : core.Program). data_bytes (data_offsets p.data_objects) 0 p.data_objects) c.in_ok-core.ensures.code;
     } is_code is_statics from_first fits c.in_ok-core.ensures.accepted
 
 pub unreachable-requires : goal.unreachable-requires
 unreachable-requires c =
     let large = c.in-Err-TooLarge-data.ensures.too_large.0 (ap (λ (f : PlaceFault). Err f) c.in-Err-TooLarge-data.field-0-is) in
     data_fit c.args.checked.now c.in_ok-core.ensures.accepted
-    (subst (λ (p : core.Program). data_limit < length (data_bytes 0 p.data_objects)) c.in_ok-core.ensures.code large)
+    (subst (λ (p : core.Program). data_limit < length (data_bytes (data_offsets p.data_objects) 0 p.data_objects)) c.in_ok-core.ensures.code large)

@@ -1,46 +1,48 @@
-use Rattle.std.proofs.Common.{◌≡◌, ◌∙◌, ◌+◌, refl, sym, ap, [], ◌∷◌, ◌++◌, length, map}
+use Rattle.std.proofs.Common.{◌≡◌, ◌+◌, refl, subst, [], ◌∷◌, ◌++◌, length}
 use Rattle.core_meaning.specs.Core.{Copy, Do}
 use Rattle.cyc_tree.specs.View.{expression_tree}
-use Rattle.cyc_core.specs.Trees.{layout_tree, statement_tree}
-use Rattle.source_meaning.specs.Programs.{world_of}
 use Rattle.source_lowering.specs.Layouts.{layout_of}
-use Rattle.source_lowering.specs.Lowered.{place_code, static_shape}
+use Rattle.source_lowering.specs.Lowered.{expression_values, place_code, static_shape}
 use Rattle.source_lowering.specs.Whole.{whole_code, whole_values}
-use Rattle.lower_checks.specs.Views.{shape_tree}
-use Rattle.lower_checks.specs.Visible.{names_of}
-use Rattle.lower_checks.proofs.Lists.{on_ok, then_of}
-use Rattle.lower_checks.proofs.Wholes.{grown}
+use Rattle.lower_checks.specs.Scoped.{names_in, world_in}
+use Rattle.lower_checks.specs.Writing.{IsEmitted, IsWritten, next_of}
+use Rattle.lower_checks.proofs.Writing.{moved, next_is, write_emit, write_write}
 use Rattle.lower_checks.proofs.assigned.lower_assigned.Goals as goal
 
 -- the unnamed values of the place come behind those of the value
-pub returns-clause-code : goal.returns-clause-code
-returns-clause-code c =
-    let w = world_of c.args.program.now in
-    let names = names_of c.args.locals.now in
-    let d = c.args.to.0 in
-    let at = c.in_ok-after.field-0 in
-    let own = length c.args.own.now.items in
-    let n = length c.lower_whole.new.own.items in
-    let p = expression_tree c.args.place.now in
-    let v = expression_tree c.args.value.now in
-    let s = static_shape w names p in
-    let layout = layout_tree c.in_ok-struct_layout.field-0.value in
-    let values = whole_values w names v in
-    let number : n ≡ own + length values =
-    grown shape_tree c.lower_whole.new.own.items c.args.own.now.items values c.in_ok-lower_whole.ensures.values in
-    let layout_is : layout ≡ layout_of w s = c.in_ok-struct_layout.ensures.layout ∙ ap (layout_of w) c.in_ok-shape.ensures.shape in
-    let before = map statement_tree c.args.body.now.items in
-    let middle = map statement_tree c.lower_whole.new.body.items in
-    let placed = map statement_tree c.lower_place.new.body.items in
-    let after = map statement_tree c.emit_copy.new.body.items in
-    let first = whole_code w names v d own in
-    let place = place_code w names p at n in
-    let code = first ++ (place_code w names p (d + 1) (own + length values) ++ (Do (Copy (d + 1) d (layout_of w s)) ∷ [])) in
-    let code_is : code ≡ first ++ (place ++ (Do (Copy at d layout) ∷ [])) =
-    ap (λ x. first ++ (place_code w names p x (own + length values) ++ (Do (Copy x d (layout_of w s)) ∷ []))) (sym c.in_ok-after.ensures.next)
-    ∙ ap (λ x. first ++ (place_code w names p at x ++ (Do (Copy at d (layout_of w s)) ∷ []))) (sym number)
-    ∙ ap (λ x. first ++ (place ++ (Do (Copy at d x) ∷ []))) (sym layout_is) in
-    on_ok c.emit_copy.result c.emit_copy.ensures.code
-    (λ is.
-    then_of before first middle (place ++ (Do (Copy at d layout) ∷ [])) after code c.in_ok-lower_whole.ensures.code
-    (then_of middle place placed (Do (Copy at d layout) ∷ []) after (place ++ (Do (Copy at d layout) ∷ [])) c.in_ok-shape.ensures.code is refl) code_is)
+pub returns : goal.returns
+returns c = record {
+  writes = λ sound.
+      let w = world_in c.args.scope.now in
+      let names = names_in c.args.scope.now in
+      let d = c.args.to.0 in
+      let a = c.args.body.now in
+      let b = c.lower_whole.new.body in
+      let g = c.further-at.new.self in
+      let p = c.lower_place-shape.new.body in
+      let z = c.lower_copy.new.body in
+      let own = next_of a in
+      let at = c.further-at.result.0 in
+      let place = expression_tree c.args.place.now in
+      let value = expression_tree c.args.value.now in
+      let s = static_shape w names place in
+      let four = c.lower_copy.ensures sound in
+      let three = c.lower_place-shape.ensures.writes four.sound in
+      let two = c.further-at.ensures.stays three.sound in
+      let one = c.lower_whole.ensures.writes two.sound in
+      let first = whole_code w names value d own in
+      let values = whole_values w names value in
+      let more = expression_values w names place in
+      let at_is : at ≡ d + 1 = c.further-at.ensures.further three.sound in
+      let number = next_is a b first values one in
+      let begun =
+      subst (λ n. IsWritten b p (place_code w names place n (next_of b)) more) at_is (moved b g p (λ n. place_code w names place at n) more two three) in
+      let placed = subst (λ n. IsWritten b p (place_code w names place (d + 1) n) more) number begun in
+      let copy = Do (Copy (d + 1) d (layout_of w s)) ∷ [] in
+      let copied =
+      subst (λ n. IsEmitted p z (Do (Copy n d (layout_of w s)) ∷ [])) at_is
+      (subst (λ x. IsEmitted p z (Do (Copy at d (layout_of w x)) ∷ [])) (c.lower_place-shape.ensures.shape four.sound) four) in
+      let second = place_code w names place (d + 1) (own + length values) in
+      write_write a b z first (second ++ copy) (first ++ (second ++ copy)) values more (values ++ more) one
+      (write_emit b p z second copy (second ++ copy) more placed copied refl) refl refl;
+}

@@ -1,19 +1,17 @@
-use Rattle.std.proofs.Common.{◌≡◌, rules, false}
+use Rattle.std.proofs.Common.{◌≡◌, false}
 use Rattle.cyc_tree.specs.View.{expression_tree}
-use Rattle.source_meaning.specs.Programs.{world_of}
-use Rattle.source_lowering.specs.Lowerable.{TakesPlace}
 use Rattle.source_lowering.specs.Whole.{is_made}
 use Rattle.source_lowering.proofs.bounds.WholeObjects.{unmade_place}
-use Rattle.lower_checks.specs.Visible.{names_of}
+use Rattle.lower_checks.specs.Scoped.{names_in, world_in}
 use Rattle.lower_checks.proofs.declaration.lower_source.Goals as goal
 
 -- what isn't made is named
-pub returns-in_err-lower_place-clause-taken : goal.returns-in_err-lower_place-clause-taken
-returns-in_err-lower_place-clause-taken c =
-    λ takes.
-    let w = world_of c.args.program.now in
-    let names = names_of c.args.locals.now in
-    let e = expression_tree c.args.value.now in
-    let made : is_made w e ≡ false = cc in
-    let place : TakesPlace w names e = unmade_place w names e takes made in
-    search rules
+pub lower_place-requires : goal.lower_place-requires
+lower_place-requires c = record {
+  taken = λ sound.
+      let w = world_in c.args.scope.now in
+      let names = names_in c.args.scope.now in
+      let e = expression_tree c.args.value.now in
+      let made : is_made w e ≡ false = cc in
+      unmade_place w names e (c.requires.taken sound) made;
+}

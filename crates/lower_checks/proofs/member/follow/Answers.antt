@@ -1,55 +1,56 @@
-use Rattle.std.proofs.Common.{◌≡◌, ◌∙◌, ◌≤◌, ◌+◌, ◌-◌, ℕ, sym, ap, subst, arith, rules, List, [], ◌∷◌, ◌++◌, map, drop}
+use Rattle.std.proofs.Common.{◌≡◌, ◌∙◌, ◌+◌, ◌-◌, ℕ, sym, ap, subst, List, [], ◌∷◌, map, drop}
 use Rattle.core_meaning.specs.Core.{Statement}
-use Rattle.cyc_core.specs.Trees.{statement_tree}
 use Rattle.cyc_tree.specs.View.{suffix_tree, suffixes_of}
-use Rattle.source_meaning.specs.Programs.{world_of}
 use Rattle.source_lowering.specs.Lowerable.{TakesMembers}
 use Rattle.lower_checks.specs.Reaching.{Place, further_code, further_place, indices_in, reached_place}
-use Rattle.lower_checks.proofs.Remaining.{behind, left_suffixes}
-use Rattle.lower_checks.proofs.Suffixes.{further_one, indices_count, members_one, place_one}
+use Rattle.lower_checks.specs.Scoped.{names_in, world_in}
+use Rattle.lower_checks.specs.Writing.{IsEmitting}
+use Rattle.lower_checks.proofs.Remaining.{left_suffixes}
+use Rattle.lower_checks.proofs.Suffixes.{further_one, members_one, place_one}
+use Rattle.lower_checks.proofs.Writing.{emitting_more}
 use Rattle.lower_checks.proofs.member.follow.Goals as goal
 
+pub follow_one-reached-requires : goal.follow_one-reached-requires
+follow_one-reached-requires c = record {
+  taken = λ sound.
+      let w = world_in c.args.scope.now in
+      let names = names_in c.args.scope.now in
+      let k = c.each.suffix-index in
+      let one = suffix_tree c.suffix-item.result in
+      let rest = map suffix_tree (drop (k + 1) c.args.suffixes.now) in
+      let here = left_suffixes c.args.suffixes.now k c.suffix-item.result c.each-test.true c.suffix-item.is in
+      let p = reached_place c.each.reached in
+      (members_one w names one rest p (subst (λ x. TakesMembers w names x p.shape) here (c.each.invariant sound).taken)).0;
+}
+
 pub each-preserved : goal.each-preserved
-each-preserved c =
-    let w = world_of c.args.program.now in
+each-preserved c sound =
+    let w = world_in c.args.scope.now in
+    let names = names_in c.args.scope.now in
+    let a = c.args.body.now in
+    let b = c.each.body in
+    let z = c.follow_one-reached.new.body in
     let k = c.each.suffix-index in
     let one = suffix_tree c.suffix-item.result in
+    let single = suffixes_of (one ∷ []) in
     let rest = map suffix_tree (drop (k + 1) c.args.suffixes.now) in
     let here = left_suffixes c.args.suffixes.now k c.suffix-item.result c.each-test.true c.suffix-item.is in
     let p = reached_place c.each.reached in
-    let q = further_place w (suffixes_of (one ∷ [])) p in
+    let q = further_place w single p in
     let t = c.each.to.0 in
     let u = c.reached_in-to.result.0 in
-    let n = indices_in (suffixes_of (one ∷ [])) in
-    let to_is : u + n ≡ t = c.reached_in-to.ensures in
-    let u_is : u ≡ t - n = omega (arith, to_is) in
-    let next_is : reached_place c.in_ok-reached.reached ≡ q = c.in_ok-reached.ensures.place in
-    let before = map statement_tree c.each.body.items in
-    let after = map statement_tree c.follow_one.new.body.items in
+    let next_is : reached_place c.follow_one-reached.result ≡ q = c.follow_one-reached.ensures.place sound in
+    let u_is : u ≡ t - indices_in single = c.reached_in-to.ensures in
+    let done = c.follow_one-reached.ensures.code sound in
+    let invariant = c.each.invariant done.sound in
     let others : Place → ℕ → List Statement = further_code w (suffixes_of rest) in
-    let all = map statement_tree c.args.body.now.items ++
-    further_code w (suffixes_of (map suffix_tree c.args.suffixes.now)) (reached_place c.args.start) c.args.pointer.0 in
-    let within : indices_in (suffixes_of (one ∷ rest)) ≤ t = subst (λ x. indices_in x ≤ t) here c.each.invariant.behind in
+    let all = further_code w (suffixes_of (map suffix_tree c.args.suffixes.now)) (reached_place c.args.start) c.args.pointer.0 in
+    let left =
+    subst (λ ss. IsEmitting a b all ss) (further_one w one rest p t) (subst (λ ss. IsEmitting a b all (further_code w ss p t)) here invariant.code) in
+    let more = emitting_more a b z all (further_code w single p t) (others q (t - indices_in single)) left done in
     record {
-      behind = omega (arith, within, indices_count one rest, to_is);
-      code = ap (λ x. after ++ others x u) next_is ∙ ap (λ x. after ++ others q x) u_is
-          ∙ behind before (further_code w (suffixes_of (one ∷ [])) p t) (others q (t - n)) after all c.in_ok-reached.ensures.code
-          (ap (λ x. before ++ x) (sym (further_one w one rest p t)) ∙ ap (λ x. before ++ further_code w x p t) (sym here) ∙ c.each.invariant.code);
-      place = ap (further_place w (suffixes_of rest)) next_is ∙ sym (place_one w one rest p) ∙ ap (λ x. further_place w x p) (sym here)
-          ∙ c.each.invariant.place;
-      taken = λ names h.
-          subst (λ (x : Place). TakesMembers w names (suffixes_of rest) x.shape) (sym next_is)
-          (members_one w names one rest p (subst (λ x. TakesMembers w names x p.shape) here (c.each.invariant.taken names h))).1;
+      code = subst (λ x. IsEmitting a z all (others x u)) (sym next_is) (subst (λ x. IsEmitting a z all (others q x)) (sym u_is) more);
+      place = ap (further_place w (suffixes_of rest)) next_is ∙ sym (place_one w one rest p) ∙ ap (λ x. further_place w x p) (sym here) ∙ invariant.place;
+      taken = subst (λ (x : Place). TakesMembers w names (suffixes_of rest) x.shape) (sym next_is)
+          (members_one w names one rest p (subst (λ x. TakesMembers w names x p.shape) here invariant.taken)).1;
     }
-
-pub returns-in_err-reached-clause-taken : goal.returns-in_err-reached-clause-taken
-returns-in_err-reached-clause-taken c = λ names h.
-    let w = world_of c.args.program.now in
-    let k = c.each.suffix-index in
-    let one = suffix_tree c.suffix-item.result in
-    let rest = map suffix_tree (drop (k + 1) c.args.suffixes.now) in
-    let here = left_suffixes c.args.suffixes.now k c.suffix-item.result c.each-test.true c.suffix-item.is in
-    let p = reached_place c.each.reached in
-    let takes = subst (λ x. TakesMembers w names x p.shape) here (c.each.invariant.taken names h) in
-    let memory = c.in_err-reached.ensures.taken names (members_one w names one rest p takes).0 in
-    search (rules, memory)

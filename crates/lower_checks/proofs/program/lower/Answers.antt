@@ -6,6 +6,11 @@ use Rattle.lower_checks.proofs.Lowerable.{is_lowerable}
 use Rattle.lower_checks.proofs.Promised.{is_lowering}
 use Rattle.lower_checks.proofs.program.lower.Goals as goal
 
+pub lower_tree-requires : goal.lower_tree-requires
+lower_tree-requires c = record {
+  taken = subst IsLowerable (sym c.program.ensures.same) (is_lowerable c.args.checked.now c.program.ensures.accepted);
+}
+
 pub returns-in-Ok-clause-code : goal.returns-in-Ok-clause-code
 returns-in-Ok-clause-code c = c.in-Ok.ensures.code ∙ ap program_code c.program.ensures.same
 
@@ -16,6 +21,5 @@ returns-in-Ok-clause-promised c =
 
 pub unreachable-requires : goal.unreachable-requires
 unreachable-requires c =
-    let taken = c.in-Err-NotTaken.ensures.taken
-    (subst IsLowerable (sym c.program.ensures.same) (is_lowerable c.args.checked.now c.program.ensures.accepted)) in
+    let memory = c.in-Err-NotTaken.ensures.memory in
     absurd cc

@@ -1,0 +1,14 @@
+use Rattle.std.proofs.Common.{arith}
+use Rattle.std.proofs.lemmas.Grind.{common_steps}
+use Rattle.lower_checks.proofs.Bytes.{text_same}
+use Rattle.lower_checks.proofs.datum.literal_datum.Goals as goal
+
+pub each-preserved : goal.each-preserved
+each-preserved c = record {
+  all = grind (arith, common_steps, c.each.invariant.all, c.in_ok-add_byte.ensures.added);
+  low = c.in_ok-add_byte.ensures.low c.each.invariant.low;
+}
+
+pub returns-clause-datum : goal.returns-clause-datum
+returns-clause-datum c =
+    λ w. text_same w c.args.literal.at c.args.literal.bytes.now c.each.bytes.items (grind (arith, common_steps, c.each.invariant.all, c.each-test.false)) c.each.invariant.low

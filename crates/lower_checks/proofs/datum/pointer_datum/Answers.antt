@@ -1,0 +1,11 @@
+use Rattle.std.proofs.Common.{subst}
+use Rattle.cyc_tree.specs.View.{initial_tree}
+use Rattle.source_meaning.specs.Shapes.{ThinShape}
+use Rattle.source_lowering.specs.Lowerable.{TakesGlobal}
+use Rattle.lower_checks.proofs.datum.pointer_datum.Goals as goal
+
+pub returns-in-Constant-clause-taken : goal.returns-in-Constant-clause-taken
+returns-in-Constant-clause-taken c =
+    λ may_be_null owner to takes.
+    c.constant_pointer.ensures.taken may_be_null owner to
+    (subst (λ i. TakesGlobal (ThinShape may_be_null owner to) (initial_tree i)) c.in-Constant.is takes)

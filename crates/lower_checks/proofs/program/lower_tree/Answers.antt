@@ -1,0 +1,11 @@
+use Rattle.std.proofs.Common.{◌≡◌, ◌∙◌, IfOk, subst}
+use Rattle.cyc_core.specs.Trees.{program_tree}
+use Rattle.cyc_tree.specs.Tree as tree
+use Rattle.source_lowering.specs.Programs.{program_code}
+use Rattle.lower_checks.proofs.program.lower_tree.Goals as goal
+
+-- the tables are those of the program
+pub returns-clause-code : goal.returns-clause-code
+returns-clause-code c =
+    subst (λ (p : tree.Program). IfOk c.lower_known.result (λ core. program_tree core ≡ program_code p)) (c.in_ok-table.ensures.program ∙ c.items.ensures)
+    c.lower_known.ensures.code

@@ -1,0 +1,244 @@
+// What is written of a function's body, step after step; whether a step failed is known at the end.
+
+ghost use Rattle.std.specs.Prelude.{◌≡◌, ◌+◌, [], ◌∷◌, true, map, Ok};
+ghost use Rattle.core_meaning.specs.Core as core;
+ghost use Rattle.cyc_core.specs.Trees.{local_tree, operation_tree, statements_of, statement_tree};
+ghost use Rattle.source_lowering.specs.Lowered.{all_of};
+ghost use Rattle.source_lowering.specs.Pieces.{raised};
+ghost use Rattle.lower_checks.specs.Refusals.{NeverRefused};
+ghost use Rattle.lower_checks.specs.Views.{shape_tree};
+ghost use Rattle.lower_checks.specs.Writing.{Emits, IsBegun, IsEnded, IsSound, Stays, Writes, code_of, next_of};
+ghost use Rattle.lower_checks.specs.declared.fault.LowerFault.TheVariants.{Memory};
+
+use crate::fault::LowerFault;
+use crate::names::number;
+use crate::shape::Shape;
+use cyc_core::{Local, Operation, Statement, Temporary};
+use cyc_words::Kind;
+use std::alloc::Global;
+use std::mem;
+
+/// What is written: statements, the shapes of the unnamed values, and whether memory was wanting on the way.
+#[derive(Drop)]
+pub struct Body<'p> {
+    pub alloc: Global,
+    pub code: Vec<Statement>,
+    pub own: Vec<Shape<'p>>,
+    pub failed: bool,
+}
+
+impl<'p> Body<'p> {
+    /// Nothing is written.
+    pub fn new(alloc: Global) -> Body<'p>
+        ensures code { result.code.items ≡ [] }
+        ensures own { result.own.items ≡ [] }
+        ensures sound { IsSound result }
+    {
+        Body {
+            alloc,
+            code: Vec::new(alloc),
+            own: Vec::new(alloc),
+            failed: false,
+        }
+    }
+
+    /// Notes that memory was wanting.
+    pub fn fail(&mut self)
+        ensures { self.new.failed ≡ true }
+    {
+        self.failed = true;
+    }
+
+    /// Notes a fault, which is no refusal.
+    pub fn note(&mut self, fault: LowerFault)
+        requires { IsSound self.old → fault ≡ Memory }
+        ensures { self.new.failed ≡ true }
+    {
+        let _fault = fault;
+        self.failed = true;
+    }
+
+    /// Appends a statement.
+    pub fn emit(&mut self, statement: Statement)
+        ensures { Emits self.old self.new (statement_tree statement ∷ []) }
+    {
+        if let Err(_) = self.code.push(statement) {
+            self.failed = true;
+        }
+    }
+
+    /// Appends an operation.
+    pub fn operation(&mut self, operation: Operation)
+        ensures { Emits self.old self.new (core.Do (operation_tree operation) ∷ []) }
+    {
+        self.emit(Statement::Do(operation));
+    }
+
+    /// The temporary so many behind one.
+    pub fn further(&mut self, temporary: Temporary, by: u32) -> Temporary
+        ensures stays { Stays self.old self.new }
+        ensures further { IsSound self.new → result.0 ≡ temporary.0 + by }
+    {
+        match temporary.0.checked_add(by) {
+            Some(number) => Temporary(number),
+            None => {
+                self.failed = true;
+                temporary
+            }
+        }
+    }
+
+    /// Sets aside what is written, to begin a part.
+    pub fn begin(&mut self) -> Vec<Statement>
+        ensures begun { IsBegun self.old self.new }
+        ensures aside { map statement_tree result.items ≡ code_of self.old }
+    {
+        mem::replace(&mut self.code, Vec::new(self.alloc))
+    }
+
+    /// Ends a part, which it gives, and goes on with what was set aside.
+    pub fn end(&mut self, outer: Vec<Statement>) -> Vec<Statement>
+        ensures ended { IsEnded self.old self.new (map statement_tree outer.items) }
+        ensures part { map statement_tree result.items ≡ code_of self.old }
+    {
+        mem::replace(&mut self.code, outer)
+    }
+
+    /// What raises an exception.
+    pub fn raising(&mut self, kind: Kind) -> Vec<Statement>
+        ensures stays { Stays self.old self.new }
+        ensures raising { IsSound self.new → all_of (map statement_tree result.items) ≡ raised kind }
+    {
+        let mut raising = Vec::new(self.alloc);
+        if let Err(_) = raising.push(Statement::Raise(kind)) {
+            self.failed = true;
+        }
+        raising
+    }
+
+    // a choice, as the tree of its parts
+    fn choice(&mut self, condition: Temporary, these: Vec<Statement>, those: Vec<Statement>)
+        ensures { Emits self.old self.new
+            (core.If condition.0 (statements_of (map statement_tree these.items)) (statements_of (map statement_tree those.items)) ∷ []) }
+    {
+        self.emit(Statement::If(condition, these, those));
+    }
+
+    /// Appends a choice.
+    pub fn branch(&mut self, condition: Temporary, these: Vec<Statement>, those: Vec<Statement>)
+        ensures { Emits self.old self.new
+            (core.If condition.0 (all_of (map statement_tree these.items)) (all_of (map statement_tree those.items)) ∷ []) }
+    {
+        self.choice(condition, these, those);
+    }
+
+    // a loop, as the tree of its parts
+    fn turning(&mut self, test: Vec<Statement>, condition: Temporary, turn: Vec<Statement>)
+        ensures { Emits self.old self.new
+            (core.While (statements_of (map statement_tree test.items)) condition.0 (statements_of (map statement_tree turn.items)) ∷ []) }
+    {
+        self.emit(Statement::While(test, condition, turn));
+    }
+
+    /// Appends a loop.
+    pub fn turns(&mut self, test: Vec<Statement>, condition: Temporary, turn: Vec<Statement>)
+        ensures { Emits self.old self.new
+            (core.While (all_of (map statement_tree test.items)) condition.0 (all_of (map statement_tree turn.items)) ∷ []) }
+    {
+        self.turning(test, condition, turn);
+    }
+
+    // a block, as the tree of its parts
+    fn within(&mut self, locals: Vec<Local>, inside: Vec<Statement>)
+        ensures { Emits self.old self.new (core.Block (map local_tree locals.items) (statements_of (map statement_tree inside.items)) ∷ []) }
+    {
+        self.emit(Statement::Block(locals, inside));
+    }
+
+    /// Appends a block with these locals.
+    pub fn block(&mut self, locals: Vec<Local>, inside: Vec<Statement>)
+        ensures { Emits self.old self.new (core.Block (map local_tree locals.items) (all_of (map statement_tree inside.items)) ∷ []) }
+    {
+        self.within(locals, inside);
+    }
+
+    /// Appends the shape of a further unnamed value.
+    pub fn add(&mut self, shape: &Shape<'p>)
+        ensures { Writes self.old self.new [] (shape_tree shape.now ∷ []) }
+    {
+        if let Err(_) = self.own.push(*shape) {
+            self.failed = true;
+        }
+    }
+
+    /// Appends the shape of a further unnamed value, and gives the value's number.
+    pub fn value(&mut self, shape: &Shape<'p>) -> u32
+        ensures writes { Writes self.old self.new [] (shape_tree shape.now ∷ []) }
+        ensures number { IsSound self.new → result ≡ next_of self.old }
+    {
+        let length = self.own.len();
+        self.add(shape);
+        self.number(number(length))
+    }
+
+    /// Appends what raises an exception where a temporary has NULL, or 0.
+    pub fn raise_unless(&mut self, condition: Temporary, kind: Kind)
+        ensures { Emits self.old self.new (core.If condition.0 core.NoStatements (raised kind) ∷ []) }
+    {
+        let raising = self.raising(kind);
+        self.branch(condition, Vec::new(self.alloc), raising);
+    }
+
+    /// The shape that is found, or any other where that failed.
+    pub fn known(&mut self, found: Result<Shape<'p>, LowerFault>) -> Shape<'p>
+        requires { NeverRefused found }
+        ensures stays { Stays self.old self.new }
+        ensures known { IsSound self.new → found.entry ≡ Ok result }
+    {
+        match found {
+            Ok(shape) => shape,
+            Err(_) => {
+                self.failed = true;
+                Shape::Void
+            }
+        }
+    }
+
+    /// The number that is found, or any other where that failed.
+    pub fn number(&mut self, found: Result<u32, LowerFault>) -> u32
+        requires { NeverRefused found }
+        ensures stays { Stays self.old self.new }
+        ensures number { IsSound self.new → found ≡ Ok result }
+    {
+        match found {
+            Ok(number) => number,
+            Err(_) => {
+                self.failed = true;
+                0
+            }
+        }
+    }
+
+    /// The sum, or any other number where that is over the greatest u32.
+    pub fn sum(&mut self, a: u32, b: u32) -> u32
+        ensures stays { Stays self.old self.new }
+        ensures sum { IsSound self.new → result ≡ a + b }
+    {
+        match a.checked_add(b) {
+            Some(sum) => sum,
+            None => {
+                self.failed = true;
+                a
+            }
+        }
+    }
+
+    /// A form that never comes.
+    pub fn never(&self)
+        requires { IsSound self.now → ⊥ }
+    {
+        if !self.failed {
+            unreachable!()
+        }
+    }
+}

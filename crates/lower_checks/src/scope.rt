@@ -1,0 +1,16 @@
+// What an expression is lowered in.
+
+use crate::locals::Locals;
+use crate::numbers::Number;
+use crate::table::Table;
+use std::alloc::Global;
+
+/// A program, the locals that are visible, and the numbers of the elements that are being made, where there are some, the innermost one
+/// first.
+#[derive(Drop)]
+pub struct Scope<'s, 'p> {
+    pub alloc: Global,
+    pub program: &'s Table<'p>,
+    pub locals: &'s Locals<'p>,
+    pub numbers: Option<Vec<Number<'p>>>,
+}

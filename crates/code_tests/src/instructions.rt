@@ -3,7 +3,8 @@
 use rv32_isa::{
     BranchOffset, FenceBits, JumpOffset, Register, ShiftAmount, Signed12, Upper20, decode, encode,
 };
-use std::alloc::AllocError;
+use std::alloc::Global;
+use std::test::Fail;
 
 /// What GNU binutils makes of these texts: a word in hexadecimal, and its text.
 const ASSEMBLED: &str = "\
@@ -181,64 +182,128 @@ fe208ce3 beq x1, x2, -8
 02b54533 div x10, x10, x11
 ";
 
+// refuses a line whose word is decoded to another text, or is another than what is encoded
+fn expect_assembled(alloc: Global, line: &str) -> Result<(), Fail> {
+    let (digits, text) = line.split_once(' ').unwrap_or((line, ""));
+    let word = u32::from_str_radix(digits, 16)?;
+    let Some(instr) = decode(word) else {
+        return Err(Fail::new(format_args!("no instruction: {line}")));
+    };
+    let shown = format!(in alloc; "{instr}")?;
+    if shown.as_str() == text && encode(instr) == word {
+        Ok(())
+    } else {
+        Err(Fail::new(format_args!("{:08x} {shown} for {line}", encode(instr))))
+    }
+}
+
 #[test]
-fn assembled_words_are_read_shown_and_written(rt: HostRuntime) -> Result<(), AllocError> {
-    assert_eq!(rt; ASSEMBLED.lines().count(), 172);
+fn assembled_words_are_read_shown_and_written(rt: HostRuntime) -> Result<(), Fail> {
+    assert!(rt; ASSEMBLED.lines().count() == 172);
     for line in ASSEMBLED.lines() {
-        let (digits, text) = line.split_once(' ').expect(&rt, line);
-        let word = u32::from_str_radix(digits, 16).expect(&rt, line);
-        let instr = decode(word).expect(&rt, line);
-        let shown = format!(in rt.alloc(); "{instr}")?;
-        assert!(rt; shown.as_str() == text, "{shown} for {line}");
-        assert_eq!(rt; encode(instr), word, "{line}");
+        expect_assembled(rt.alloc(), line)?;
     }
     assert!(rt; decode(0).is_none());
     Ok(())
 }
 
-#[test]
-fn unsigned_operands_have_their_ranges(rt: HostRuntime) {
-    assert_eq!(rt; Register::try_new(31).map(|r| r.number()), Some(31));
-    assert!(rt; Register::try_new(32).is_none());
-    assert_eq!(rt; ShiftAmount::try_new(31).map(|s| s.count()), Some(31));
-    assert!(rt; ShiftAmount::try_new(32).is_none());
-    assert_eq!(rt;
-        Upper20::try_new(0xf_ffff).map(|u| u.bits()),
-        Some(0xf_ffff)
-    );
-    assert!(rt; Upper20::try_new(0x10_0000).is_none());
-    assert_eq!(rt; FenceBits::try_new(0xfff).map(|b| b.bits()), Some(0xfff));
-    assert!(rt; FenceBits::try_new(0x1000).is_none());
+// the number of an operand of a kind that was made of one; none where the number is refused
+fn operand_of(kind: &str, number: i64) -> Option<i64> {
+    match kind {
+        "register" => Some(i64::from(Register::try_new(u8::try_from(number).ok()?)?.number())),
+        "shift" => Some(i64::from(ShiftAmount::try_new(u8::try_from(number).ok()?)?.count())),
+        "upper" => Some(i64::from(Upper20::try_new(u32::try_from(number).ok()?)?.bits())),
+        "fence" => Some(i64::from(FenceBits::try_new(u32::try_from(number).ok()?)?.bits())),
+        "signed" => Some(i64::from(Signed12::try_new(i32::try_from(number).ok()?)?.value())),
+        "branch" => Some(i64::from(BranchOffset::try_new(i32::try_from(number).ok()?)?.value())),
+        "jump" => Some(i64::from(JumpOffset::try_new(i32::try_from(number).ok()?)?.value())),
+        _ => None,
+    }
+}
+
+// refuses a line of a kind and a number where that number is refused, or behind `no` where it is not
+fn expect_operand(line: &str) -> Result<(), Fail> {
+    let (kind, rest) = line.split_once(' ').unwrap_or((line, ""));
+    let found = match rest.strip_prefix("no ") {
+        Some(digits) => operand_of(kind, digits.parse::<i64>()?).is_none(),
+        None => {
+            let number = rest.parse::<i64>()?;
+            operand_of(kind, number) == Some(number)
+        }
+    };
+    if found {
+        Ok(())
+    } else {
+        Err(Fail::new(format_args!("not so: {line}")))
+    }
+}
+
+// refuses what a table says of operands, if it is not so
+fn expect_operands(table: &str) -> Result<(), Fail> {
+    for line in table.lines() {
+        expect_operand(line)?;
+    }
+    Ok(())
 }
 
 #[test]
-fn immediates_have_their_ranges(rt: HostRuntime) {
-    for value in [-2048, 0, 2047] {
-        assert_eq!(rt; Signed12::try_new(value).map(|a| a.value()), Some(value));
+fn unsigned_operands_have_their_ranges() -> Result<(), Fail> {
+    let table = "\
+register 31
+register no 32
+shift 31
+shift no 32
+upper 1048575
+upper no 1048576
+fence 4095
+fence no 4096";
+    expect_operands(table)
+}
+
+#[test]
+fn immediates_have_their_ranges() -> Result<(), Fail> {
+    let table = "\
+signed -2048
+signed 0
+signed 2047
+signed no -2049
+signed no 2048
+branch -4096
+branch 0
+branch 4094
+branch no -4098
+branch no -4097
+branch no -4095
+branch no -1
+branch no 1
+branch no 4095
+branch no 4096
+jump -1048576
+jump 0
+jump 1048574
+jump no -1048578
+jump no -1048577
+jump no -1048575
+jump no -1
+jump no 1
+jump no 1048575
+jump no 1048576";
+    expect_operands(table)
+}
+
+// refuses registers that have other numbers than these
+fn expect_numbers(registers: &[Register], numbers: &[u8]) -> Result<(), Fail> {
+    for (register, number) in registers.iter().zip(numbers.iter()) {
+        if register.number() != *number {
+            return Err(Fail::new(format_args!("{} is not {number}", register.number())));
+        }
     }
-    for value in [-2049, 2048] {
-        assert!(rt; Signed12::try_new(value).is_none(), "{value}");
-    }
-    for value in [-4096, 0, 4094] {
-        assert_eq!(rt;
-            BranchOffset::try_new(value).map(|a| a.value()),
-            Some(value)
-        );
-    }
-    for value in [-4098, -4097, -4095, -1, 1, 4095, 4096] {
-        assert!(rt; BranchOffset::try_new(value).is_none(), "{value}");
-    }
-    for value in [-1048576, 0, 1048574] {
-        assert_eq!(rt; JumpOffset::try_new(value).map(|a| a.value()), Some(value));
-    }
-    for value in [-1048578, -1048577, -1048575, -1, 1, 1048575, 1048576] {
-        assert!(rt; JumpOffset::try_new(value).is_none(), "{value}");
-    }
+    Ok(())
 }
 
 /// The constants in the order of their numbers; x3 and x4 have none.
 #[test]
-fn constants_have_the_numbers_of_the_abi(rt: HostRuntime) {
+fn constants_have_the_numbers_of_the_abi() -> Result<(), Fail> {
     let constants = [
         Register::ZERO,
         Register::RETURN_ADDRESS,
@@ -275,7 +340,5 @@ fn constants_have_the_numbers_of_the_abi(rt: HostRuntime) {
         0, 1, 2, 5, 6, 7, 8, 9, 10, 11, 12, 13, 14, 15, 16, 17, 18, 19, 20, 21, 22, 23, 24, 25, 26,
         27, 28, 29, 30, 31,
     ];
-    for (register, number) in constants.iter().zip(numbers.iter()) {
-        assert_eq!(rt; register.number(), *number);
-    }
+    expect_numbers(&constants, &numbers)
 }

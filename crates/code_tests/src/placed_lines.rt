@@ -186,6 +186,41 @@ fn elements_begin_with_zeros_one_behind_the_other(rt: HostRuntime) -> Result<(),
 }
 
 #[test]
+fn strings_end_with_a_zero_and_pointers_to_them_are_addresses(rt: HostRuntime) -> Result<(), Fail> {
+    let text = Datum::Text(b"ab".to_vec(rt.alloc())?);
+    let globals = vec![in rt.alloc();
+        Datum::Byte(7),
+        Datum::Address(3),
+        Datum::Bounds(3, 3),
+        text,
+    ]?;
+    let program = Program {
+        functions: Vec::new(rt.alloc()),
+        main: 0,
+        globals,
+    };
+    let bytes = data(rt.alloc(), &program);
+    let want: [u8; 23] = [
+        7, 0, 0, 0, 20, 0, 0x20, 0, 20, 0, 0x20, 0, 3, 0, 0, 0, 0, 0, 0, 0, b'a', b'b', 0,
+    ];
+    assert!(rt; bytes.is_ok_and(|bytes| bytes.as_slice() == want.as_slice()));
+    Ok(())
+}
+
+#[test]
+fn a_pointer_to_no_object_has_no_bytes(rt: HostRuntime) -> Result<(), Fail> {
+    let globals = vec![in rt.alloc(); Datum::Byte(7), Datum::Address(2)]?;
+    let program = Program {
+        functions: Vec::new(rt.alloc()),
+        main: 0,
+        globals,
+    };
+    let bytes = data(rt.alloc(), &program);
+    assert_eq!(rt; bytes.err(), Some(PlaceFault::Memory));
+    Ok(())
+}
+
+#[test]
 fn the_first_placing_counts_and_none_is_the_end(rt: HostRuntime) -> Result<(), Fail> {
     let lines = [
         Line::Plain(nothing()),

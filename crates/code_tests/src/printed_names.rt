@@ -2,38 +2,38 @@
 
 use cyc_image::ImageFault;
 use cyc_words::{Kind, MachineFault};
+use std::alloc::Global;
+use std::fmt::Display;
 use std::test::Fail;
+
+// refuses what is printed otherwise
+fn expect_text<T: Display + Drop>(alloc: Global, shown: T, wanted: &str) -> Result<(), Fail> {
+    let found = format!(in alloc; "{shown}")?;
+    if found.as_str() == wanted {
+        Ok(())
+    } else {
+        Err(Fail::new(format_args!("{found} is not {wanted}")))
+    }
+}
 
 #[test]
 fn kinds_and_machine_faults_are_printed(rt: HostRuntime) -> Result<(), Fail> {
-    let kinds = format!(in rt.alloc(); "{} {}", Kind::NullException, Kind::ArrayBounds)?;
-    assert_eq!(rt; kinds.as_str(), "Null_Exception Array_bounds");
-    let (illegal, access, misaligned) = (
-        MachineFault::Illegal,
-        MachineFault::Access,
-        MachineFault::Misaligned,
-    );
-    let first = format!(in rt.alloc(); "{illegal} {access} {misaligned}")?;
-    assert_eq!(rt; first.as_str(), "Illegal Access Misaligned");
-    let second = format!(in rt.alloc(); "{} {}", MachineFault::Break, MachineFault::BadCall)?;
-    assert_eq!(rt; second.as_str(), "Break BadCall");
-    Ok(())
+    expect_text(rt.alloc(), Kind::NullException, "Null_Exception")?;
+    expect_text(rt.alloc(), Kind::ArrayBounds, "Array_bounds")?;
+    expect_text(rt.alloc(), MachineFault::Illegal, "Illegal")?;
+    expect_text(rt.alloc(), MachineFault::Access, "Access")?;
+    expect_text(rt.alloc(), MachineFault::Misaligned, "Misaligned")?;
+    expect_text(rt.alloc(), MachineFault::Break, "Break")?;
+    expect_text(rt.alloc(), MachineFault::BadCall, "BadCall")
 }
 
 #[test]
 fn image_faults_are_printed(rt: HostRuntime) -> Result<(), Fail> {
-    let cases = [
-        (ImageFault::Short, "Short"),
-        (ImageFault::Magic, "Magic"),
-        (ImageFault::Version, "Version"),
-        (ImageFault::Limit, "Limit"),
-        (ImageFault::Entry, "Entry"),
-        (ImageFault::Trailing, "Trailing"),
-        (ImageFault::Memory, "Memory"),
-    ];
-    for (fault, want) in cases {
-        let text = format!(in rt.alloc(); "{fault}")?;
-        assert_eq!(rt; text.as_str(), want);
-    }
-    Ok(())
+    expect_text(rt.alloc(), ImageFault::Short, "Short")?;
+    expect_text(rt.alloc(), ImageFault::Magic, "Magic")?;
+    expect_text(rt.alloc(), ImageFault::Version, "Version")?;
+    expect_text(rt.alloc(), ImageFault::Limit, "Limit")?;
+    expect_text(rt.alloc(), ImageFault::Entry, "Entry")?;
+    expect_text(rt.alloc(), ImageFault::Trailing, "Trailing")?;
+    expect_text(rt.alloc(), ImageFault::Memory, "Memory")
 }

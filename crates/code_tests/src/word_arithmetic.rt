@@ -1,117 +1,160 @@
 // Arithmetic at edge values worked out by hand.
+//
+// A line of a table is a function, two words in hexadecimal, and the word that it gives of them: ffffffff is -1, fffffff9 is -7, 80000000 is the
+// least number and 7fffffff the greatest one. A comparison that holds gives 1.
 
 use cyc_words::{
     add32, div32, divu32, lt32, ltu32, mul32, mulh32, mulhsu32, mulhu32, rem32, remu32, sar32,
     shl32, shr32, sub32,
 };
+use std::test::Fail;
 
-// -1, -7 and -2^31 as words
-const ONES: u32 = 0xFFFF_FFFF;
-
-const MINUS_7: u32 = 0xFFFF_FFF9;
-
-const LEAST: u32 = 0x8000_0000;
-
-const MOST: u32 = 0x7FFF_FFFF;
-
-#[test]
-fn sums_and_differences_wrap(rt: HostRuntime) {
-    for (a, b, want) in [(ONES, 1, 0), (LEAST, LEAST, 0), (MOST, 1, LEAST)] {
-        assert_eq!(rt; add32(a, b), want, "{a} + {b}");
-    }
-    for (a, b, want) in [(0, 1, ONES), (LEAST, 1, MOST), (5, 5, 0)] {
-        assert_eq!(rt; sub32(a, b), want, "{a} - {b}");
+// what the function of a name gives
+fn result_of(name: &str, a: u32, b: u32) -> Option<u32> {
+    match name {
+        "add32" => Some(add32(a, b)),
+        "sub32" => Some(sub32(a, b)),
+        "mul32" => Some(mul32(a, b)),
+        "mulh32" => Some(mulh32(a, b)),
+        "mulhsu32" => Some(mulhsu32(a, b)),
+        "mulhu32" => Some(mulhu32(a, b)),
+        "div32" => Some(div32(a, b)),
+        "divu32" => Some(divu32(a, b)),
+        "rem32" => Some(rem32(a, b)),
+        "remu32" => Some(remu32(a, b)),
+        _ => bits_of(name, a, b),
     }
 }
 
-#[test]
-fn products_have_both_halves(rt: HostRuntime) {
-    for (a, b, want) in [(ONES, ONES, 1), (0x1_0000, 0x1_0000, 0), (LEAST, 3, LEAST)] {
-        assert_eq!(rt; mul32(a, b), want, "{a} * {b}");
-    }
-    for (a, b, want) in [
-        (ONES, ONES, 0),
-        (LEAST, LEAST, 0x4000_0000),
-        (ONES, 1, ONES),
-        (LEAST, ONES, 0),
-    ] {
-        assert_eq!(rt; mulh32(a, b), want, "{a} * {b}");
-    }
-    for (a, b, want) in [
-        (ONES, ONES, ONES),
-        (LEAST, LEAST, 0xC000_0000),
-        (1, ONES, 0),
-    ] {
-        assert_eq!(rt; mulhsu32(a, b), want, "{a} * {b}");
-    }
-    for (a, b, want) in [(ONES, ONES, 0xFFFF_FFFE), (LEAST, 2, 1), (1, ONES, 0)] {
-        assert_eq!(rt; mulhu32(a, b), want, "{a} * {b}");
+// the same of shifts and comparisons
+fn bits_of(name: &str, a: u32, b: u32) -> Option<u32> {
+    match name {
+        "shl32" => Some(shl32(a, b)),
+        "shr32" => Some(shr32(a, b)),
+        "sar32" => Some(sar32(a, b)),
+        "lt32" => Some(u32::from(lt32(a, b))),
+        "ltu32" => Some(u32::from(ltu32(a, b))),
+        _ => None,
     }
 }
 
-#[test]
-fn division_rounds_towards_zero(rt: HostRuntime) {
-    for (a, b, want) in [
-        (7, 0, ONES),
-        (LEAST, ONES, LEAST),
-        (MINUS_7, 2, 0xFFFF_FFFD),
-        (7, 0xFFFF_FFFE, 0xFFFF_FFFD),
-        (MINUS_7, 0xFFFF_FFFE, 3),
-    ] {
-        assert_eq!(rt; div32(a, b), want, "{a} / {b}");
+// three words in hexadecimal, one space apart
+fn three_of(text: &str) -> Option<[u32; 3]> {
+    let mut three = [0; 3];
+    let mut words = text.split(' ');
+    for number in three.iter_mut() {
+        *number = u32::from_str_radix(words.next()?, 16).ok()?;
     }
-    for (a, b, want) in [(7, 0, ONES), (MINUS_7, 2, 0x7FFF_FFFC), (LEAST, ONES, 0)] {
-        assert_eq!(rt; divu32(a, b), want, "{a} / {b}");
-    }
-    for (a, b, want) in [
-        (7, 0, 7),
-        (MINUS_7, 0, MINUS_7),
-        (LEAST, ONES, 0),
-        (MINUS_7, 2, ONES),
-        (7, 0xFFFF_FFFE, 1),
-        (MINUS_7, 0xFFFF_FFFE, ONES),
-    ] {
-        assert_eq!(rt; rem32(a, b), want, "{a} % {b}");
-    }
-    for (a, b, want) in [(7, 0, 7), (MINUS_7, 2, 1), (ONES, ONES, 0), (5, 7, 5)] {
-        assert_eq!(rt; remu32(a, b), want, "{a} % {b}");
+    Some(three)
+}
+
+// refuses a line that is none, or whose function gives another word
+fn expect_result(line: &str) -> Result<(), Fail> {
+    let (name, words) = line.split_once(' ').unwrap_or((line, ""));
+    let three = three_of(words);
+    let [a, b, wanted] = three.unwrap_or([0; 3]);
+    let found = result_of(name, a, b);
+    if three.is_some() && found == Some(wanted) {
+        Ok(())
+    } else {
+        Err(Fail::new(format_args!("found {found:?}: {line}")))
     }
 }
 
-#[test]
-fn shifts_take_the_count_modulo_32(rt: HostRuntime) {
-    for (a, b, want) in [(1, 31, LEAST), (1, 32, 1), (3, 33, 6), (ONES, 63, LEAST)] {
-        assert_eq!(rt; shl32(a, b), want, "{a} << {b}");
+// refuses a table with a line that is not so
+fn expect_results(table: &str) -> Result<(), Fail> {
+    for line in table.lines() {
+        expect_result(line)?;
     }
-    for (a, b, want) in [
-        (LEAST, 31, 1),
-        (LEAST, 32, LEAST),
-        (ONES, 36, 0x0FFF_FFFF),
-        (5, ONES, 0),
-    ] {
-        assert_eq!(rt; shr32(a, b), want, "{a} >> {b}");
-    }
-    for (a, b, want) in [
-        (LEAST, 31, ONES),
-        (LEAST, 32, LEAST),
-        (LEAST, 36, 0xF800_0000),
-        (MOST, 63, 0),
-        (MINUS_7, 1, 0xFFFF_FFFC),
-    ] {
-        assert_eq!(rt; sar32(a, b), want, "{a} >> {b}");
-    }
+    Ok(())
 }
 
 #[test]
-fn comparisons_cross_the_sign(rt: HostRuntime) {
-    for (a, b, signed, unsigned) in [
-        (ONES, 0, true, false),
-        (0, ONES, false, true),
-        (LEAST, MOST, true, false),
-        (MOST, LEAST, false, true),
-        (5, 5, false, false),
-    ] {
-        assert_eq!(rt; lt32(a, b), signed, "{a} < {b}");
-        assert_eq!(rt; ltu32(a, b), unsigned, "{a} < {b}");
-    }
+fn sums_and_differences_wrap() -> Result<(), Fail> {
+    let table = "\
+add32 ffffffff 1 0
+add32 80000000 80000000 0
+add32 7fffffff 1 80000000
+sub32 0 1 ffffffff
+sub32 80000000 1 7fffffff
+sub32 5 5 0";
+    expect_results(table)
+}
+
+#[test]
+fn products_have_both_halves() -> Result<(), Fail> {
+    let table = "\
+mul32 ffffffff ffffffff 1
+mul32 10000 10000 0
+mul32 80000000 3 80000000
+mulh32 ffffffff ffffffff 0
+mulh32 80000000 80000000 40000000
+mulh32 ffffffff 1 ffffffff
+mulh32 80000000 ffffffff 0
+mulhsu32 ffffffff ffffffff ffffffff
+mulhsu32 80000000 80000000 c0000000
+mulhsu32 1 ffffffff 0
+mulhu32 ffffffff ffffffff fffffffe
+mulhu32 80000000 2 1
+mulhu32 1 ffffffff 0";
+    expect_results(table)
+}
+
+#[test]
+fn division_rounds_towards_zero() -> Result<(), Fail> {
+    let table = "\
+div32 7 0 ffffffff
+div32 80000000 ffffffff 80000000
+div32 fffffff9 2 fffffffd
+div32 7 fffffffe fffffffd
+div32 fffffff9 fffffffe 3
+divu32 7 0 ffffffff
+divu32 fffffff9 2 7ffffffc
+divu32 80000000 ffffffff 0
+rem32 7 0 7
+rem32 fffffff9 0 fffffff9
+rem32 80000000 ffffffff 0
+rem32 fffffff9 2 ffffffff
+rem32 7 fffffffe 1
+rem32 fffffff9 fffffffe ffffffff
+remu32 7 0 7
+remu32 fffffff9 2 1
+remu32 ffffffff ffffffff 0
+remu32 5 7 5";
+    expect_results(table)
+}
+
+#[test]
+fn shifts_take_the_count_modulo_32() -> Result<(), Fail> {
+    let table = "\
+shl32 1 1f 80000000
+shl32 1 20 1
+shl32 3 21 6
+shl32 ffffffff 3f 80000000
+shr32 80000000 1f 1
+shr32 80000000 20 80000000
+shr32 ffffffff 24 fffffff
+shr32 5 ffffffff 0
+sar32 80000000 1f ffffffff
+sar32 80000000 20 80000000
+sar32 80000000 24 f8000000
+sar32 7fffffff 3f 0
+sar32 fffffff9 1 fffffffc";
+    expect_results(table)
+}
+
+#[test]
+fn comparisons_cross_the_sign() -> Result<(), Fail> {
+    let table = "\
+lt32 ffffffff 0 1
+ltu32 ffffffff 0 0
+lt32 0 ffffffff 0
+ltu32 0 ffffffff 1
+lt32 80000000 7fffffff 1
+ltu32 80000000 7fffffff 0
+lt32 7fffffff 80000000 0
+ltu32 7fffffff 80000000 1
+lt32 5 5 0
+ltu32 5 5 0";
+    expect_results(table)
 }

@@ -1,82 +1,71 @@
-// Evaluations of programs of Core.
+// Evaluations of programs of Core by their fuel, and what they read and write.
 
-use crate::programs::{deep, echo, letter};
-use core_eval::{EvalEnding, evaluate_core};
-use cyc_core::Program;
-use cyc_words::{Counted, Input, Output};
+use crate::endings::expect_outcome;
+use crate::programs::program_of;
 use std::alloc::Global;
 use std::test::Fail;
 
-// how a program's evaluation on an input ends, and what it wrote
-fn outcome_of(
+// refuses a program that ends otherwise on an input with so many units of fuel, or that writes something else
+fn expect_run(
     alloc: Global,
-    program: &Program,
+    program: &str,
     input: &[u8],
     fuel: u64,
-) -> Result<(EvalEnding, Vec<u8>), Fail> {
-    let mut reader = Counted::new(input);
-    let mut writer = Counted::new(Vec::new(alloc));
-    let ending = evaluate_core(alloc, program, &mut reader, &mut writer, fuel);
-    if reader.faults() != 0 || writer.faults() != 0 {
-        return Err("a failed call")?;
-    }
-    Ok((ending, writer.into_inner()))
-}
-
-// Refuses another ending, or that something else was written.
-fn expect_outcome(
-    found: (EvalEnding, Vec<u8>),
-    ending: EvalEnding,
+    ending: &str,
     written: &[u8],
 ) -> Result<(), Fail> {
-    if found.0 == ending && found.1.as_slice() == written {
-        Ok(())
-    } else {
-        let found = found.0;
-        Err(Fail::new(format_args!("found {found:?}, not {ending:?}")))
-    }
+    let whole = program_of(alloc, program, "")?;
+    expect_outcome(alloc, whole, input, fuel, ending, written)
 }
+
+// int main() { putchar(65); return 0; }
+const LETTER: &str = "\
+function 0
+constant 0 65; putchar 0 0; constant 0 0; return 0
+end";
 
 #[test]
 fn a_letter_is_written(rt: HostRuntime) -> Result<(), Fail> {
-    let program = letter(rt.alloc())?;
-    for (fuel, ending, written) in [(0, EvalEnding::Running, ""), (1, EvalEnding::Ended(0), "A")] {
-        expect_outcome(
-            outcome_of(rt.alloc(), &program, b"", fuel)?,
-            ending,
-            written.as_bytes(),
-        )?;
-    }
-    Ok(())
+    expect_run(rt.alloc(), LETTER, b"", 0, "Running", b"")?;
+    expect_run(rt.alloc(), LETTER, b"", 1, "Ended(0)", b"A")
 }
+
+// int deep(int n) { if (n) return deep(n - 1) + 1; return n; } int main() { return deep(100000); }
+const DEEP: &str = "\
+function 0
+constant 0 100000; pass 0; call 1 0; return 0
+end
+function 1
+if 0
+constant 1 1; subtract 2 0 1; pass 2; call 1 3; add 3 3 1; return 3
+else
+return 0
+end
+end";
 
 // the first call and each further one take a unit
 #[test]
 fn calls_nest_deeply(rt: HostRuntime) -> Result<(), Fail> {
-    let program = deep(rt.alloc(), 100_000)?;
-    for (fuel, ending) in [
-        (100_000, EvalEnding::Running),
-        (100_001, EvalEnding::Ended(100_000)),
-    ] {
-        expect_outcome(outcome_of(rt.alloc(), &program, b"", fuel)?, ending, b"")?;
-    }
-    Ok(())
+    expect_run(rt.alloc(), DEEP, b"", 100_000, "Running", b"")?;
+    expect_run(rt.alloc(), DEEP, b"", 100_001, "Ended(100000)", b"")
 }
+
+// char kept; int main() { int c; while ((c = getchar()) >= 0) { kept = c; putchar(kept); } return kept; }
+const ECHO: &str = "\
+global_byte
+function 0
+while 1
+getchar 0; constant 1 0; less_equal 1 1 0
+do
+data_address 2 0; store_byte 2 0; load_byte 3 2; putchar 3 3
+end
+return 3
+end";
 
 // a unit for each read, and two for each turn; the last byte is kept, as a word of no sign
 #[test]
 fn an_echo_writes_what_it_reads(rt: HostRuntime) -> Result<(), Fail> {
-    let program = echo(rt.alloc())?;
-    for (fuel, ending, written) in [
-        (10, EvalEnding::Ended(0xff), b"hi\xff".as_slice()),
-        (9, EvalEnding::Running, b"hi\xff".as_slice()),
-        (8, EvalEnding::Running, b"hi".as_slice()),
-    ] {
-        expect_outcome(
-            outcome_of(rt.alloc(), &program, b"hi\xff", fuel)?,
-            ending,
-            written,
-        )?;
-    }
-    Ok(())
+    expect_run(rt.alloc(), ECHO, b"hi\xff", 10, "Ended(255)", b"hi\xff")?;
+    expect_run(rt.alloc(), ECHO, b"hi\xff", 9, "Running", b"hi\xff")?;
+    expect_run(rt.alloc(), ECHO, b"hi\xff", 8, "Running", b"hi")
 }

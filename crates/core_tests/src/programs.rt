@@ -1,93 +1,177 @@
-// Programs of Core, made by hand.
+// Programs of Core, read from texts.
+//
+// `function PARAMETERS`, `block`, `if TEMPORARY` and `while TEMPORARY` go on up to their `end`. The statements of `if` before its `else` are done where the
+// temporary is not 0, and those of `while` before its `do` are its test. `with_word`, `with_fat`, `with_words COUNT` and `with_pairs COUNT` are locals of
+// a block, or right within a function its unnamed values. `pass` has the temporaries that the next `call FUNCTION RESULTS` passes.
 
-use cyc_core::{
-    Binary, Datum, Distance, Function, Operation, Program, Statement, Temporary, Width, Words,
-};
-use std::alloc::{AllocError, Global};
+use crate::parts::{datum_of, local_of, statement_of, words_of};
+use crate::rows::{Row, row_of};
+use cyc_core::{Function, Local, Program, Statement, Temporary};
+use std::alloc::Global;
+use std::mem;
+use std::test::Fail;
 
-/// A function with four temporaries and no unnamed values.
-pub fn function(alloc: Global, parameters: u32, body: Vec<Statement>) -> Function {
-    Function {
-        parameters,
-        temporaries: 4,
-        passed: 1,
-        own: Vec::new(alloc),
-        body,
+// what goes on up to an `end`
+#[derive(Clone, Copy)]
+enum Sort {
+    Function(u32),
+    Block,
+    If(Temporary),
+    While(Temporary),
+}
+
+// what goes on up to an `end`, as far as it is read: its locals, the statements before its `else` or `do`, and those that are read now
+#[derive(Drop)]
+struct Level {
+    sort: Sort,
+    locals: Vec<Local>,
+    first: Vec<Statement>,
+    body: Vec<Statement>,
+}
+
+// a program as far as it is read
+#[derive(Drop)]
+struct Reader {
+    alloc: Global,
+    program: Program,
+    levels: Vec<Level>,
+    passed: Vec<Temporary>,
+}
+
+// the statement of a level that is no function
+fn whole_statement(level: Level) -> Statement {
+    match level.sort {
+        Sort::Function(_) | Sort::Block => Statement::Block(level.locals, level.body),
+        Sort::If(of) => Statement::If(of, level.first, level.body),
+        Sort::While(of) => Statement::While(level.first, of, level.body),
     }
 }
 
-/// A program of `main`, and then other functions, without globals.
-pub fn program(alloc: Global, functions: Vec<Function>) -> Program {
-    Program {
-        functions,
-        main: 0,
-        globals: Vec::new(alloc),
+impl Reader {
+    fn new(alloc: Global) -> Self {
+        Reader {
+            alloc,
+            program: Program {
+                functions: Vec::new(alloc),
+                main: 0,
+                globals: Vec::new(alloc),
+            },
+            levels: Vec::new(alloc),
+            passed: Vec::new(alloc),
+        }
+    }
+
+    fn open(&mut self, sort: Sort) -> Option<()> {
+        let level = Level {
+            sort,
+            locals: Vec::new(self.alloc),
+            first: Vec::new(self.alloc),
+            body: Vec::new(self.alloc),
+        };
+        self.levels.push(level).ok()
+    }
+
+    fn turn(&mut self) -> Option<()> {
+        let level = self.levels.last_mut()?;
+        mem::swap(&mut level.first, &mut level.body);
+        Some(())
+    }
+
+    fn add(&mut self, statement: Statement) -> Option<()> {
+        self.levels.last_mut()?.body.push(statement).ok()
+    }
+
+    fn add_function(&mut self, parameters: u32, level: Level) -> Option<()> {
+        let function = Function {
+            parameters,
+            temporaries: 4,
+            passed: 1,
+            own: level.locals,
+            body: level.body,
+        };
+        self.program.functions.push(function).ok()
+    }
+
+    fn close(&mut self) -> Option<()> {
+        let level = self.levels.pop()?;
+        match level.sort {
+            Sort::Function(parameters) => self.add_function(parameters, level),
+            _ => self.add(whole_statement(level)),
+        }
+    }
+
+    fn pass(&mut self, row: Row<'_>) -> Option<()> {
+        for number in row.numbers.iter().take(row.count) {
+            self.passed.push(Temporary(*number)).ok()?;
+        }
+        Some(())
+    }
+
+    fn call(&mut self, row: Row<'_>) -> Option<()> {
+        let [function, first, second, third, _] = row.numbers;
+        let results = words_of([first, second, third], row.count.saturating_sub(1));
+        let passed = mem::replace(&mut self.passed, Vec::new(self.alloc));
+        self.add(Statement::Call(results, function, passed))
+    }
+
+    fn part(&mut self, row: Row<'_>) -> Option<()> {
+        if let Some(datum) = datum_of(self.alloc, row) {
+            return self.program.globals.push(datum).ok();
+        }
+        if let Some(local) = local_of(self.alloc, row) {
+            return self.levels.last_mut()?.locals.push(local).ok();
+        }
+        let statement = statement_of(self.alloc, row)?;
+        self.add(statement)
+    }
+
+    fn read(&mut self, text: &str) -> Option<()> {
+        let row = row_of(text)?;
+        let [number, _, _, _, _] = row.numbers;
+        match row.name {
+            "function" => self.open(Sort::Function(number)),
+            "block" => self.open(Sort::Block),
+            "if" => self.open(Sort::If(Temporary(number))),
+            "while" => self.open(Sort::While(Temporary(number))),
+            "else" | "do" => self.turn(),
+            "end" => self.close(),
+            "pass" => self.pass(row),
+            "call" => self.call(row),
+            _ => self.part(row),
+        }
+    }
+
+    fn read_line(&mut self, line: &str) -> Result<(), Fail> {
+        for text in line.split("; ") {
+            if self.read(text).is_none() {
+                return Err(Fail::new(format_args!("no row, or no memory for it: {text}")));
+            }
+        }
+        Ok(())
+    }
+
+    // reads the lines of a text, where the given ones stand for its lines `?`
+    fn read_text(&mut self, text: &str, given: &str) -> Result<(), Fail> {
+        let mut lines = given.split(" | ");
+        for line in text.lines() {
+            let rows = if line == "?" {
+                lines.next().unwrap_or(line)
+            } else {
+                line
+            };
+            self.read_line(rows)?;
+        }
+        if self.levels.is_empty() && lines.next().unwrap_or("").is_empty() {
+            Ok(())
+        } else {
+            Err("an end is missing, or a line was not asked for")?
+        }
     }
 }
 
-/// A word for a temporary.
-pub fn constant(to: u32, word: u32) -> Statement {
-    Statement::Do(Operation::Constant(Temporary(to), word))
-}
-
-/// A return of what a temporary holds.
-pub fn give(from: u32) -> Statement {
-    Statement::Return(Some(Words::One(Temporary(from))))
-}
-
-/// `int main() { putchar(65); return 0; }`
-pub fn letter(alloc: Global) -> Result<Program, AllocError> {
-    let body = vec![in alloc;
-        constant(0, 65),
-        Statement::Do(Operation::Putchar(Temporary(0), Temporary(0))),
-        constant(0, 0),
-        give(0),
-    ]?;
-    Ok(program(alloc, vec![in alloc; function(alloc, 0, body)]?))
-}
-
-/// `int deep(int n) { if (n) return deep(n - 1) + 1; return n; } int main() { return deep(COUNT); }`
-pub fn deep(alloc: Global, count: u32) -> Result<Program, AllocError> {
-    let arguments = vec![in alloc; Temporary(0)]?;
-    let main = vec![in alloc;
-        constant(0, count),
-        Statement::Call(Some(Words::One(Temporary(0))), 1, arguments),
-        give(0),
-    ]?;
-    let passed = vec![in alloc; Temporary(2)]?;
-    let these = vec![in alloc;
-        constant(1, 1),
-        Statement::Do(Operation::Apply(Binary::Subtract, Temporary(2), Temporary(0), Temporary(1))),
-        Statement::Call(Some(Words::One(Temporary(3))), 1, passed),
-        Statement::Do(Operation::Apply(Binary::Add, Temporary(3), Temporary(3), Temporary(1))),
-        give(3),
-    ]?;
-    let those = vec![in alloc; give(0)]?;
-    let deep = vec![in alloc; Statement::If(Temporary(0), these, those)]?;
-    let functions = vec![in alloc; function(alloc, 0, main), function(alloc, 1, deep)]?;
-    Ok(program(alloc, functions))
-}
-
-/// `char kept; int main() { int c; while ((c = getchar()) >= 0) { kept = c; putchar(kept); } return kept; }`
-pub fn echo(alloc: Global) -> Result<Program, AllocError> {
-    let test = vec![in alloc;
-        Statement::Do(Operation::Getchar(Temporary(0))),
-        constant(1, 0),
-        Statement::Do(Operation::Apply(
-            Binary::LessEqual,
-            Temporary(1),
-            Temporary(1),
-            Temporary(0)
-        )),
-    ]?;
-    let body = vec![in alloc;
-        Statement::Do(Operation::DataAddress(Temporary(2), 0)),
-        Statement::Do(Operation::Store(Temporary(2), Distance::at_once(Width::Byte), Temporary(0))),
-        Statement::Do(Operation::Load(Temporary(3), Temporary(2), Distance::at_once(Width::Byte))),
-        Statement::Do(Operation::Putchar(Temporary(3), Temporary(3))),
-    ]?;
-    let main = vec![in alloc; Statement::While(test, Temporary(1), body), give(3)]?;
-    let mut program = program(alloc, vec![in alloc; function(alloc, 0, main)]?);
-    program.globals.push(Datum::Byte(0))?;
-    Ok(program)
+/// The program of a text, where the lines `?` stand for the given ones, which have ` | ` between them.
+pub fn program_of(alloc: Global, text: &str, given: &str) -> Result<Program, Fail> {
+    let mut reader = Reader::new(alloc);
+    reader.read_text(text, given)?;
+    Ok(reader.program)
 }

@@ -11,6 +11,8 @@ mod image_bytes;
 #[cfg(test)]
 mod instructions;
 #[cfg(test)]
+mod left_lines;
+#[cfg(test)]
 mod placed_lines;
 #[cfg(test)]
 mod printed_names;

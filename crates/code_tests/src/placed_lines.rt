@@ -1,6 +1,6 @@
 // The code of lines with labels, and the bytes of globals, by words worked out by hand.
 
-use crate::selected_lines::fat;
+use crate::selected_lines::{fat, tagged};
 use core_lines::Line;
 use cyc_core::{Cell, CellLayout, Datum, Layout, Program};
 use rv32_isa::{Instr, Register, Signed12};
@@ -171,16 +171,24 @@ fn elements_begin_with_zeros_one_behind_the_other(rt: HostRuntime) -> Result<(),
     let structs = Datum::Whole(three_members(rt.alloc())?, 3);
     let pointers = Datum::Whole(fat(rt.alloc())?, 2);
     let none = Datum::Whole(fat(rt.alloc())?, 0);
-    let globals = vec![in rt.alloc(); Datum::Byte(7), structs, pointers, none, Datum::Byte(9)]?;
+    let unions = Datum::Whole(tagged(rt.alloc())?, 2);
+    let globals = vec![in rt.alloc();
+        Datum::Byte(7),
+        structs,
+        pointers,
+        none,
+        unions,
+        Datum::Byte(9),
+    ]?;
     let program = Program {
         functions: Vec::new(rt.alloc()),
         main: 0,
         globals,
     };
     let bytes = data(rt.alloc(), &program);
-    let mut want = [0; 65];
+    let mut want = [0; 113];
     want[0] = 7;
-    want[64] = 9;
+    want[112] = 9;
     assert!(rt; bytes.is_ok_and(|bytes| bytes.as_slice() == want.as_slice()));
     Ok(())
 }

@@ -37,6 +37,11 @@ pub fn fat(alloc: Global) -> Result<Rc<Layout>, AllocError> {
     object(alloc, &[(0, Cell::Fat, 0)], 12)
 }
 
+/// struct { @tagged union { int a; char *b; } first; @tagged union { char c; int *@fat d; } second; }
+pub fn tagged(alloc: Global) -> Result<Rc<Layout>, AllocError> {
+    object(alloc, &[(0, Cell::Tagged, 0), (8, Cell::TaggedFat, 0)], 24)
+}
+
 // struct { char first; int second; }
 fn pair(alloc: Global) -> Result<Rc<Layout>, AllocError> {
     object(alloc, &[(0, Cell::Byte, 3), (4, Cell::Word, 0)], 8)
@@ -53,8 +58,12 @@ fn function(alloc: Global, temporaries: u32, body: Vec<Statement>) -> Function {
     }
 }
 
-// a program of `main` alone
-fn main_of(alloc: Global, temporaries: u32, body: Vec<Statement>) -> Result<Program, AllocError> {
+/// A program of `main` alone.
+pub fn main_of(
+    alloc: Global,
+    temporaries: u32,
+    body: Vec<Statement>,
+) -> Result<Program, AllocError> {
     let functions = vec![in alloc; function(alloc, temporaries, body)]?;
     Ok(Program {
         functions,
@@ -130,8 +139,13 @@ fn expect_rows(lines: &[Line], count: usize, table: &str) -> Result<(), Fail> {
     Ok(())
 }
 
-// the same of a program's lines
-fn expect_lines(alloc: Global, program: Program, count: usize, table: &str) -> Result<(), Fail> {
+/// The same of a program's lines.
+pub fn expect_lines(
+    alloc: Global,
+    program: Program,
+    count: usize,
+    table: &str,
+) -> Result<(), Fail> {
     let labelled = lines_of(alloc, program)?;
     expect_rows(labelled.lines(), count, table)
 }
@@ -207,8 +221,8 @@ fn a_fat_pointer_returns_in_three_registers(rt: HostRuntime) -> Result<(), Fail>
     expect_lines(rt.alloc(), fat_pointers(rt.alloc())?, 49, FAT_POINTERS)
 }
 
-// the address of a local of the innermost block
-fn address(index: u32) -> Statement {
+/// The address of a local of the innermost block, into the first temporary.
+pub fn address(index: u32) -> Statement {
     let variable = Variable { out: 0, index };
     Statement::Do(Operation::LocalAddress(Temporary(0), variable))
 }

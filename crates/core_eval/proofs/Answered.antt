@@ -44,9 +44,9 @@ use Rattle.core_eval.specs.declared.frame.Frame.{Frame}
 use Rattle.core_eval.specs.declared.pending.Due.{Due}
 use Rattle.core_eval.specs.declared.memory.Memory.{Memory}
 use Rattle.core_eval.specs.declared.value.Slot.{Slot}
-use Rattle.core_eval.specs.Values.{content_of, temp_of, cells_of, is_kept, keeps, value_of}
+use Rattle.core_eval.specs.Values.{content_of, temp_of, cells_of, is_kept, value_of}
 use Rattle.core_eval.specs.Regions.{held_objects}
-use Rattle.core_eval.specs.Blocks.{Activation, AreOrdered, activation_of, slot_in, put_local, stored_of, put_to}
+use Rattle.core_eval.specs.Blocks.{Activation, Stored, Descends, AreOrdered, activation_of, slot_in, local_slot, put_local, stored_of, put_to}
 use Rattle.core_eval.specs.Pendings.{Task, Execute, Leave, Wait, Next, Go, Wrong, next_of}
 use Rattle.core_eval.specs.Standing.{Known, Gives, known_of}
 use Rattle.core_eval.specs.Costs.{IsMove}
@@ -173,15 +173,16 @@ module _ (f : Frame) (m m' : Memory) (x : ℕ) (v : Value) (is_there : Bool) (re
         refl (blocks_known f m m' entered owns called globals regions)
         (put_moves (known_of f m) ws x v read out i w (blocks_of m') (put ∙ ap (λ b. stored_if b (blocks_of m')) stored))
 
-    pub unput_answer : is_there ≡ false → blocks_of m' ≡ blocks_of m
-        → IsMove (Execute (core.Do (core.Put out i (bytes_of w) x))) ws (known_of f m) Wrong ws (known_of f m')
-    unput_answer missing same =
-        move_as _ ws (known_of f m) Wrong _ ws (known_of f m) (known_of f m') refl
-        (blocks_known f m m' entered owns called globals regions ∙ ap (λ bs. record (known_of f m) { blocks = bs }) same)
-        (put_wrong (known_of f m) ws x v read out i w (put ∙ ap (λ b. stored_if b (blocks_of m')) missing))
+  pub unput_answer : m'.owns ≡ m.owns → m'.globals ≡ m.globals → m'.regions ≡ m.regions → (out i : ℕ) (w : Width) → blocks_of m' ≡ blocks_of m
+      → value_of 0 0 w (local_slot f.base (blocks_of m') out i) ≡ None
+      → IsMove (Execute (core.Do (core.Put out i (bytes_of w) x))) ws (known_of f m) Wrong ws (known_of f m')
+  unput_answer owns globals regions out i w same missing =
+      move_as _ ws (known_of f m) Wrong _ ws (known_of f m) (known_of f m') refl
+      (blocks_known f m m' entered owns called globals regions ∙ ap (λ bs. record (known_of f m) { blocks = bs }) same)
+      (put_wrong (known_of f m) ws x v read out i w (ap (λ bs. value_of 0 0 w (local_slot f.base bs out i)) (sym same) ∙ missing))
 
   module _ (y : ℕ) (u : Value) (place : content_of u ≡ temp_of f.temps.items y) (p : Place) (is_place : u ≡ value.Pointer p) (d : Distance) (cell byte : ℕ)
-      (kept : is_kept d.part d.width ≡ true) (keep : keeps d.part v ≡ true) (further : cell ≡ p.cell + d.cells) (later : byte ≡ p.byte + d.bytes)
+      (kept : is_kept d.part d.width ≡ true) (further : cell ≡ p.cell + d.cells) (later : byte ≡ p.byte + d.bytes)
       (put : AreOrdered m → put_to (stored_of m) p.area p.object cell byte d.part d.width v ≡ stored_if is_there (stored_of m')) where
     at_distance : AreOrdered m
         → put_to (stored_of m) p.area p.object (p.cell + d.cells) (p.byte + d.bytes) d.part d.width v ≡ stored_if is_there (stored_of m')
@@ -194,10 +195,22 @@ module _ (f : Frame) (m m' : Memory) (x : ℕ) (v : Value) (is_there : Bool) (re
     store_answer stored =
         move_as _ ws (known_of f m) (Go (Leave steps.Falls)) _ ws (with_stored (known_of f m) (stored_of m')) (known_of f m')
         refl (stored_known f m m' entered called)
-        (store_moves (known_of f m) ws x v read y u place p is_place d kept keep (stored_of m') (λ h. at_distance h ∙ ap (λ b. stored_if b (stored_of m')) stored))
+        (store_moves (known_of f m) ws x v read y u place p is_place d kept (stored_of m') (λ h. at_distance h ∙ ap (λ b. stored_if b (stored_of m')) stored))
 
-    pub unstore_answer : is_there ≡ false → stored_of m' ≡ stored_of m
-        → IsMove (Execute (core.Do (core.Store y (distance_tree d) x))) ws (known_of f m) Wrong ws (known_of f m')
-    unstore_answer missing same =
-        move_as _ ws (known_of f m) Wrong _ ws (known_of f m) (known_of f m') refl (unstored_known f m m' same entered called)
-        (store_wrong (known_of f m) ws x v read y u place p is_place d kept keep (λ h. at_distance h ∙ ap (λ b. stored_if b (stored_of m')) missing))
+-- the order of what stays stored
+still_ordered : (m m' : Memory) → stored_of m' ≡ stored_of m → m'.entered ≡ m.entered → m'.called ≡ m.called → AreOrdered m → AreOrdered m'
+still_ordered m m' same entered called (blocks, owns) = (
+  subst (λ (s : Stored). Descends m'.entered s.blocks) (sym same) (subst (λ (n : ℕ). Descends n (stored_of m).blocks) (sym entered) blocks),
+  subst (λ (s : Stored). Descends m'.called s.owns) (sym same) (subst (λ (n : ℕ). Descends n (stored_of m).owns) (sym called) owns),
+)
+
+pub unstore_answer : (f : Frame) (m m' : Memory) (x : ℕ) (v : Value) (read : content_of v ≡ temp_of f.temps.items x) (ws : List Wait) (y : ℕ) (u : Value)
+    (place : content_of u ≡ temp_of f.temps.items y) (p : Place) (is_place : u ≡ value.Pointer p) (d : Distance) (kept : is_kept d.part d.width ≡ true)
+    (entered : m'.entered ≡ m.entered) (called : m'.called ≡ m.called) (same : stored_of m' ≡ stored_of m)
+    → (AreOrdered m' → value_of (p.byte + d.bytes) d.part d.width (slot_in (stored_of m') p.area p.object (p.cell + d.cells)) ≡ None)
+    → IsMove (Execute (core.Do (core.Store y (distance_tree d) x))) ws (known_of f m) Wrong ws (known_of f m')
+unstore_answer f m m' x v read ws y u place p is_place d kept entered called same missing =
+    move_as _ ws (known_of f m) Wrong _ ws (known_of f m) (known_of f m') refl (unstored_known f m m' same entered called)
+    (store_wrong (known_of f m) ws x v read y u place p is_place d kept
+    (λ h. ap (λ (s : Stored). value_of (p.byte + d.bytes) d.part d.width (slot_in s p.area p.object (p.cell + d.cells))) (sym same)
+    ∙ missing (still_ordered m m' same entered called h)))

@@ -12,7 +12,25 @@ use Rattle.core_meaning.specs.Meaning.{branch, values_of}
 use Rattle.core_eval.specs.declared.value.Value.{Value}
 use Rattle.core_eval.specs.declared.value.Value.TheVariants as value
 use Rattle.core_eval.specs.Values.{content_of, temp_of, truth_of, AreRead}
-use Rattle.core_eval.specs.Pendings.{Task, Follow, Execute, Leave, Wait, Then, Test, Next, Go, CallDue, Raised, Wrong, Mark, rest_of, coming, returned_to}
+use Rattle.core_eval.specs.Pendings.{
+  Task,
+  Follow,
+  Execute,
+  Leave,
+  Wait,
+  Then,
+  Test,
+  Breakable,
+  Next,
+  Go,
+  CallDue,
+  Raised,
+  Wrong,
+  Mark,
+  rest_of,
+  coming,
+  returned_to,
+}
 use Rattle.core_eval.specs.Standing.{Known, Agrees}
 use Rattle.core_eval.specs.Costs.{next_cost, task_cost, waits_cost, IsMove}
 use Rattle.core_eval.proofs.Moves.{all_stand, goes_here}
@@ -74,6 +92,25 @@ module _ (known : Known) (ws : List Wait) where
       same_state (Execute (core.While test flag body)) ws (Go (Follow test)) (Test test flag body ∷ ws) known
       (λ main marks c h. (
         record { temps = h.temps; fresh = h.fresh; globals = h.globals; nested = h.nested; entered = h.entered; live = h.live; owned = h.owned; called = h.called; values_live = h.values_live; born = h.born },
+        refl,
+      )) (omega arith)
+
+  pub breakable_enters : (body : Statements) → IsMove (Execute (core.Leave body)) ws known (Go (Follow body)) (Breakable ∷ ws) known
+  breakable_enters body =
+      same_state (Execute (core.Leave body)) ws (Go (Follow body)) (Breakable ∷ ws) known
+      (λ main marks c h. (
+        record {
+          temps = h.temps;
+          fresh = h.fresh;
+          globals = h.globals;
+          nested = h.nested;
+          entered = h.entered;
+          live = h.live;
+          owned = h.owned;
+          called = h.called;
+          values_live = h.values_live;
+          born = h.born;
+        },
         refl,
       )) (omega arith)
 

@@ -1,4 +1,4 @@
--- From what the entry of a block answers to a move.
+-- From what the entry of a block, and of a body that a break ends, answers to a move.
 use Rattle.std.proofs.Common.{◌≡◌, ◌+◌, List, ◌∷◌, map, Result, Ok, Err, IfOk, OnOk, refl, ap, ◌∙◌, sym, subst}
 use Rattle.std.specs.declared.vec.Vec.{Vec}
 use Rattle.std.specs.declared.alloc.Global.{Global}
@@ -18,11 +18,12 @@ use Rattle.core_eval.specs.Elements.{blank_object}
 use Rattle.core_eval.specs.Regions.{held_objects}
 use Rattle.core_eval.specs.Blocks.{activation_of}
 use Rattle.core_eval.specs.Pendings as specs
-use Rattle.core_eval.specs.Pendings.{Execute, Follow, Wait, Block, Go, next_of}
+use Rattle.core_eval.specs.Pendings.{Execute, Follow, Wait, Block, Breakable, Go, next_of}
 use Rattle.core_eval.specs.Standing as standing
 use Rattle.core_eval.specs.Standing.{known_of}
 use Rattle.core_eval.specs.Costs.{IsMove}
 use Rattle.core_eval.proofs.Known.{known_same}
+use Rattle.core_eval.proofs.EnterMoves.{breakable_enters}
 use Rattle.core_eval.proofs.BlockMoves.{inside, block_enters}
 
 pub block_tree : (locals : Vec Local Global) (body : Vec code.Statement Global)
@@ -53,3 +54,17 @@ block_answer (Ok due) f m m' s locals locals' body body' ws ws' is same_locals s
     (sym known)
     (block_enters (known_of f m) ws locals body))))
 block_answer (Err e) f m m' s locals locals' body body' ws ws' is same_locals same_body next waits blocks entered owns called globals regions = tt
+
+-- ---- a body that a break ends
+
+pub breakable_tree : (body : Vec code.Statement Global) → statement_tree (form.Leave body) ≡ core.Leave (body_tree body.items)
+breakable_tree body = ap statement_tree (sym (form.rolls-Leave body)) ∙ fold-roll-Statement core.Statement statement_step (Statement-F.Leave body)
+
+pub breakable_answer : {E : Type 0} (r : Result Due E) (known : standing.Known) (s : core.Statement) (body body' : Statements) (ws ws' : List Wait)
+    → s ≡ core.Leave body → body' ≡ body → IfOk r (λ due. next_of due ≡ Go (Follow body')) → OnOk r (ws' ≡ Breakable ∷ ws)
+    → IfOk r (λ due. IsMove (Execute s) ws known (next_of due) ws' known)
+breakable_answer (Ok due) known s body body' ws ws' is same_body next waits =
+    subst (λ (t : core.Statement). IsMove (Execute t) ws known (next_of due) ws' known) (sym is)
+    (subst (λ (n : specs.Next). IsMove (Execute (core.Leave body)) ws known n ws' known) (sym (next ∙ ap (λ b. Go (Follow b)) same_body))
+    (subst (λ (l : List Wait). IsMove (Execute (core.Leave body)) ws known (Go (Follow body)) l known) (sym waits) (breakable_enters known ws body)))
+breakable_answer (Err e) known s body body' ws ws' is same_body next waits = tt

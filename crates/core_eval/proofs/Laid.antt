@@ -34,7 +34,9 @@ use Rattle.core_meaning.specs.Operations.{is_part, are_parts, is_there}
 use Rattle.core_meaning.specs.Operations as operations
 use Rattle.cyc_core.specs.declared.layout.CellLayout.{CellLayout}
 use Rattle.cyc_core.specs.declared.layout.Layout.{Layout}
-use Rattle.cyc_core.specs.Trees.{cell_parts, padding_parts, layout_tree}
+use Rattle.cyc_core.specs.declared.operation.Width.{Width}
+use Rattle.cyc_core.specs.declared.operation.Width.TheVariants as width
+use Rattle.cyc_core.specs.Trees.{bytes_of, cell_parts, padding_parts, layout_tree}
 use Rattle.core_eval.specs.declared.value.Area.{Area}
 use Rattle.core_eval.specs.declared.value.Area.TheVariants as area
 use Rattle.core_eval.specs.declared.value.Place.{Place}
@@ -42,13 +44,13 @@ use Rattle.core_eval.specs.declared.value.Value.{Value}
 use Rattle.core_eval.specs.declared.value.Slot.{Slot}
 use Rattle.core_eval.specs.declared.held.Held.{Held}
 use Rattle.core_eval.specs.declared.held.Held.TheVariants as held
-use Rattle.core_eval.specs.Values.{region_of, spot_of, place_spot, content_of, bound_value, first_held, parts_from, part_in}
+use Rattle.core_eval.specs.Values.{region_of, spot_of, place_spot, content_of, width_of, first_of, further_of, first_held, same_width, parts_from, part_in}
 use Rattle.core_eval.specs.Blocks.{Activation, position_of, slot_in}
 use Rattle.core_eval.specs.Regions.{region_at}
-use Rattle.core_eval.specs.Whole.{has_parts, is_cell, are_cells, are_elements, slots_of, is_found, is_still, is_held, are_laid, has_elements}
+use Rattle.core_eval.specs.Whole.{has_behind, has_parts, is_cell, are_cells, are_elements, slots_of, is_found, is_still, is_held, are_laid, has_elements}
 use Rattle.core_eval.specs.Pendings.{Wait, Mark}
 use Rattle.core_eval.specs.Standing.{Known, Agrees, ShowsBlocks}
-use Rattle.core_eval.proofs.Parts.{nothing_at, shape_of, shapes_by, cell_shapes, parts_as}
+use Rattle.core_eval.proofs.Parts.{nothing_at, shape_of, shapes_from, shapes_by, cell_shapes, parts_as}
 use Rattle.core_eval.proofs.Nested.{position_there}
 use Rattle.core_eval.proofs.Changes.{stored_in}
 use Rattle.core_eval.proofs.MemoryMoves.{shown, shown_values, area_part}
@@ -121,45 +123,56 @@ module _ (m : Memory) (t : Spot) (b : ℕ) where
       ∙ ap (λ w. (nat_eq offset (b + at) && w) && are_parts m t b 1 rest) differ
       ∙ heads_differ (nat_eq offset (b + at)) (are_parts m t b 1 rest)
 
+  -- words, and the bytes behind them
+  words_are : (up : ℕ → ℕ) → ((j : ℕ) → up (suc j) ≡ suc (up j)) → (us vs : List Value) (from n at k : ℕ)
+      → ((q : ℕ) → m.parts t (up q) ≡ parts_from from 4 n us q) → b + at ≡ from
+      → are_parts m t b (up 0) (shapes_from at 4 k vs) ≡ has_behind us n vs k
+  words_are up next [] [] from n at k there starts = paddings_all up next from n there k at starts
+  words_are up next [] (v ∷ vs) from n at k there starts =
+      let rest = are_parts m t b (suc (up 0)) (shapes_from (at + 4) 4 k vs) in
+      ap (λ o. is_part o b (shape_of at 4 v) && rest) (there 0) ∙ nothing_wide (nat_lt 0 n) (from + 0) at v rest
+  words_are up next (u ∷ us) [] from n at zero there starts = refl
+  words_are up next (u ∷ us) [] from n at (suc k) there starts =
+      let rest = are_parts m t b (suc (up 0)) (padding_parts (at + 1) k) in
+      let narrow : PartShape = record { offset = at; width = 1; first = memory.Blank } in
+      ap (λ o. is_part o b narrow && rest) (there 0) ∙ ap (λ x. x && rest) (and-false (nat_eq from (b + at))) ∙ sym (eqb-suc-zero k)
+  words_are up next (u ∷ us) (v ∷ vs) from n at k there starts =
+      ap (λ o. is_part o b (shape_of at 4 v) && are_parts m t b (suc (up 0)) (shapes_from (at + 4) 4 k vs)) (there 0)
+      ∙ ap (λ e. (e && true) && are_parts m t b (suc (up 0)) (shapes_from (at + 4) 4 k vs)) (word_there from at (sym starts))
+      ∙ ap (λ x. are_parts m t b x (shapes_from (at + 4) 4 k vs)) (sym (next 0))
+      ∙ words_are (λ j. up (suc j)) (λ j. next (suc j)) us vs (from + 4) n (at + 4) k (λ q. there (suc q)) (omega (arith, starts))
+
+  -- parts of one width each
+  parts_are : (w x : Width) (u v : Value) (us vs : List Value) (offset n at k : ℕ) → (w ≡ width.Byte → us ≡ []) → (x ≡ width.Byte → vs ≡ [])
+      → ((j : ℕ) → m.parts t j ≡ parts_from offset (bytes_of w) n (u ∷ us) j)
+      → are_parts m t b 0 (shapes_from at (bytes_of x) k (v ∷ vs)) ≡ (nat_eq offset (b + at) && (same_width w x && has_behind us n vs k))
+  parts_are width.Byte width.Byte u v [] [] offset n at k alone alone_too there = one_is 1 offset n at k u v refl there
+  parts_are width.Byte width.Byte u v [] (y ∷ vs) offset n at k alone alone_too there = absurd (let no : y ∷ vs ≡ [] = alone_too refl in cc)
+  parts_are width.Byte width.Byte u v (y ∷ us) vs offset n at k alone alone_too there = absurd (let no : y ∷ us ≡ [] = alone refl in cc)
+  parts_are width.Byte width.Word u v us vs offset n at k alone alone_too there = other_width 4 1 offset at u v (shapes_from (at + 4) 4 k vs) refl (there 0)
+  parts_are width.Word width.Byte u v us vs offset n at k alone alone_too there = other_width 1 4 offset at u v (shapes_from (at + 1) 1 k vs) refl (there 0)
+  parts_are width.Word width.Word u v us vs offset n at k alone alone_too there =
+      ap (λ o. is_part o b (shape_of at 4 v) && are_parts m t b 1 (shapes_from (at + 4) 4 k vs)) (there 0)
+      ∙ heads_same (are_parts m t b 1 (shapes_from (at + 4) 4 k vs)) (has_behind us n vs k) offset at
+      (λ starts. words_are suc (λ j. refl) us vs (offset + 4) n (at + 4) k (λ q. there (suc q)) (omega (arith, starts)))
+
+  -- a byte has one part
+  byte_alone : (h : Held) → width_of h ≡ width.Byte → further_of h ≡ []
+  byte_alone (held.Byte v) e = refl
+  byte_alone (held.Word v) e = cc
+  byte_alone (held.Fat u v w) e = cc
+  byte_alone (held.Tagged s v) e = cc
+  byte_alone (held.TaggedFat s u v w) e = cc
+
   cell_is : (h g : Held) (offset n at k : ℕ) → ((j : ℕ) → m.parts t j ≡ parts_as h offset n j)
       → are_parts m t b 0 (shapes_by at g k) ≡ (nat_eq offset (b + at) && has_parts h n g k)
-  cell_is (held.Byte v) (held.Byte u) offset n at k there = one_is 1 offset n at k v u refl there
-  cell_is (held.Byte v) (held.Word u) offset n at k there = other_width 4 1 offset at v u (padding_parts (at + 4) k) refl (there 0)
-  cell_is (held.Byte v) (held.Fat u x y) offset n at k there =
-      other_width 4 1 offset at v u (shape_of (at + 4) 4 (bound_value x) ∷ shape_of (at + 4 + 4) 4 (bound_value y) ∷ padding_parts (at + 12) k) refl (there 0)
-  cell_is (held.Word v) (held.Byte u) offset n at k there = other_width 1 4 offset at v u (padding_parts (at + 1) k) refl (there 0)
-  cell_is (held.Word v) (held.Word u) offset n at k there = one_is 4 offset n at k v u refl there
-  cell_is (held.Word v) (held.Fat u x y) offset n at k there =
-      let rest = are_parts m t b 2 (shape_of (at + 4 + 4) 4 (bound_value y) ∷ padding_parts (at + 12) k) in
-      ap (λ o. is_part o b (shape_of at 4 u) && (is_part (m.parts t 1) b (shape_of (at + 4) 4 (bound_value x)) && rest)) (there 0)
-      ∙ heads_same (is_part (m.parts t 1) b (shape_of (at + 4) 4 (bound_value x)) && rest) false offset at
-      (λ starts. ap (λ o. is_part o b (shape_of (at + 4) 4 (bound_value x)) && rest) (there 1) ∙ nothing_wide (nat_lt 0 n) (offset + 4 + 0) (at + 4) (bound_value x) rest)
-  cell_is (held.Fat v c d) (held.Byte u) offset n at k there = other_width 1 4 offset at v u (padding_parts (at + 1) k) refl (there 0)
-  cell_is (held.Fat v c d) (held.Word u) offset n at zero there =
-      ap (λ o. is_part o b (shape_of at 4 u) && true) (there 0) ∙ heads_same true true offset at (λ starts. refl)
-  cell_is (held.Fat v c d) (held.Word u) offset n at (suc k) there =
-      let rest = are_parts m t b 2 (padding_parts (at + 4 + 1) k) in
-      let narrow : PartShape = record { offset = at + 4; width = 1; first = memory.Blank } in
-      ap (λ o. is_part o b (shape_of at 4 u) && (is_part (m.parts t 1) b narrow && rest)) (there 0)
-      ∙ heads_same (is_part (m.parts t 1) b narrow && rest) (nat_eq (suc k) 0) offset at
-      (λ starts. ap (λ o. is_part o b narrow && rest) (there 1) ∙ ap (λ x. x && rest) (and-false (nat_eq (offset + 4) (b + (at + 4)))) ∙ sym (eqb-suc-zero k))
-  cell_is (held.Fat v c d) (held.Fat u x y) offset n at k there =
-      let paddings = are_parts m t b 3 (padding_parts (at + 12) k) in
-      ap (λ o. is_part o b (shape_of at 4 u)
-      && (is_part (m.parts t 1) b (shape_of (at + 4) 4 (bound_value x)) && (is_part (m.parts t 2) b (shape_of (at + 4 + 4) 4 (bound_value y)) && paddings))) (there 0)
-      ∙ heads_same (is_part (m.parts t 1) b (shape_of (at + 4) 4 (bound_value x)) && (is_part (m.parts t 2) b (shape_of (at + 4 + 4) 4 (bound_value y)) && paddings)) (nat_le k n) offset at
-      (λ starts.
-      ap (λ o. is_part o b (shape_of (at + 4) 4 (bound_value x)) && (is_part (m.parts t 2) b (shape_of (at + 4 + 4) 4 (bound_value y)) && paddings)) (there 1)
-      ∙ ap (λ e. (e && true) && (is_part (m.parts t 2) b (shape_of (at + 4 + 4) 4 (bound_value y)) && paddings)) (word_there (offset + 4) (at + 4) (omega (arith, starts)))
-      ∙ ap (λ o. is_part o b (shape_of (at + 4 + 4) 4 (bound_value y)) && paddings) (there 2)
-      ∙ ap (λ e. (e && true) && paddings) (word_there (offset + 4 + 4) (at + 4 + 4) (omega (arith, starts)))
-      ∙ paddings_all (λ j. suc (suc (suc j))) (λ j. refl) (offset + 4 + 4 + 4) n (λ q. there (suc (suc (suc q)))) k (at + 12) (omega (arith, starts)))
+  cell_is h g offset n at k there =
+      parts_are (width_of h) (width_of g) (first_of h) (first_of g) (further_of h) (further_of g) offset n at k (byte_alone h) (byte_alone g) there
 
   no_cell : (g : Held) (at k : ℕ) → m.parts t 0 ≡ None → are_parts m t b 0 (shapes_by at g k) ≡ false
-  no_cell (held.Byte u) at k none = ap (λ o. is_part o b (shape_of at 1 u) && are_parts m t b 1 (padding_parts (at + 1) k)) none
-  no_cell (held.Word u) at k none = ap (λ o. is_part o b (shape_of at 4 u) && are_parts m t b 1 (padding_parts (at + 4) k)) none
-  no_cell (held.Fat u x y) at k none =
-      ap (λ o. is_part o b (shape_of at 4 u) && are_parts m t b 1 (shape_of (at + 4) 4 (bound_value x) ∷ shape_of (at + 4 + 4) 4 (bound_value y) ∷ padding_parts (at + 12) k)) none
+  no_cell g at k none =
+      let wide = bytes_of (width_of g) in
+      ap (λ o. is_part o b (shape_of at wide (first_of g)) && are_parts m t b 1 (shapes_from (at + wide) wide k (further_of g))) none
 
   one_cell : (o : Option Slot) (c : CellLayout) → ((j : ℕ) → m.parts t j ≡ part_in o j) → are_parts m t b 0 (cell_parts c) ≡ is_cell o b c
   one_cell None c there = ap (are_parts m t b 0) (cell_shapes c) ∙ no_cell (first_held c.cell) c.offset c.padding (there 0)

@@ -8,7 +8,7 @@ use Rattle.core_meaning.specs.Memory.{Own, Born, Dead, Content, Memory, is_live,
 use Rattle.core_meaning.specs.Core.{Statements}
 use Rattle.core_meaning.specs.Steps as steps
 use Rattle.core_meaning.specs.Steps.{Config, set_temp, with_temp, with_memory, Exit, Step, stuck}
-use Rattle.core_meaning.specs.Meaning.{with_results, status_of}
+use Rattle.core_meaning.specs.Meaning.{with_results, left_by, status_of}
 use Rattle.core_eval.specs.declared.value.Value.{Value}
 use Rattle.core_eval.specs.declared.value.Value.TheVariants as value
 use Rattle.core_eval.specs.declared.pending.Returned.{Returned}
@@ -22,6 +22,7 @@ use Rattle.core_eval.specs.Pendings.{
   Then,
   Test,
   Body,
+  Breakable,
   Caller,
   Saved,
   Next,
@@ -169,6 +170,26 @@ module _ (known : Known) (ws : List Wait) where
     turn_returns vs =
         same_state (Leave (steps.Returns vs)) (Body test flag body ∷ ws) (Go (Leave (steps.Returns vs))) ws known
         (λ main marks c h. (behind (Body test flag body) known ws marks c h (λ n. n) (λ n. n), refl)) (omega arith)
+
+  -- ---- a body that a break ends
+
+  body_ends : (exit exit' : Exit) → ((next : Exit → Config → Step) (c : Config) → left_by exit next c ≡ next exit' c)
+      → IsMove (Leave exit) (Breakable ∷ ws) known (Go (Leave exit')) ws known
+  body_ends exit exit' is =
+      same_state (Leave exit) (Breakable ∷ ws) (Go (Leave exit')) ws known
+      (λ main marks c h. (behind Breakable known ws marks c h (λ n. n) (λ n. n), is (rest_of main ws marks) c)) (omega arith)
+
+  pub body_falls : IsMove (Leave steps.Falls) (Breakable ∷ ws) known (Go (Leave steps.Falls)) ws known
+  body_falls = body_ends steps.Falls steps.Falls (λ next c. refl)
+
+  pub body_breaks : IsMove (Leave steps.Breaks) (Breakable ∷ ws) known (Go (Leave steps.Falls)) ws known
+  body_breaks = body_ends steps.Breaks steps.Falls (λ next c. refl)
+
+  pub body_continues : IsMove (Leave steps.Continues) (Breakable ∷ ws) known (Go (Leave steps.Continues)) ws known
+  body_continues = body_ends steps.Continues steps.Continues (λ next c. refl)
+
+  pub body_returns : (vs : List Content) → IsMove (Leave (steps.Returns vs)) (Breakable ∷ ws) known (Go (Leave (steps.Returns vs))) ws known
+  body_returns vs = body_ends (steps.Returns vs) (steps.Returns vs) (λ next c. refl)
 
   -- ---- the caller goes on
 

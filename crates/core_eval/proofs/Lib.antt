@@ -18,6 +18,7 @@ mod Laid
 mod Leading
 mod AllocateMoves
 mod Filled
+mod CopiedParts
 mod WholeParts
 mod WholeMoves
 mod Answered

@@ -59,7 +59,6 @@ use Rattle.core_eval.specs.Values.{
   content_of,
   width_of,
   bound_value,
-  keeps,
   first_of,
   values_in,
   put_part,
@@ -71,13 +70,14 @@ use Rattle.core_eval.specs.Values.{
   fitted,
   is_fit,
   is_kept,
+  value_of,
   with_held,
   put_slot,
   put_object,
   put_in,
 }
 use Rattle.core_eval.proofs.Lists.{get_set, get_grown}
-use Rattle.core_eval.proofs.Parts.{nothing_at, valued_part, part_set, part_missing}
+use Rattle.core_eval.proofs.Parts.{nothing_at, valued_part, part_set}
 use Rattle.core_meaning.proofs.Spots.{region_self}
 
 -- ---- reading
@@ -147,6 +147,24 @@ found_part (Some s) byte (suc j) width.Word next kept = by s.offset s.padding s.
     by offset padding (held.Fat u v w) (suc (suc j)) =
         let s : Slot = record { offset = offset; padding = padding; held = held.Fat u v w } in
         found_nothing byte (offset + 4 + 4 + 4 + j) (nat_lt j padding) (is_fit byte (suc (suc (suc j))) width.Word s) next
+    by offset padding (held.Tagged t v) zero =
+        let s : Slot = record { offset = offset; padding = padding; held = held.Tagged t v } in
+        found_there s byte 1 (offset + 4) width.Word v next (omega arith)
+    by offset padding (held.Tagged t v) (suc j) =
+        let s : Slot = record { offset = offset; padding = padding; held = held.Tagged t v } in
+        found_nothing byte (offset + 4 + 4 + j) (nat_lt j padding) (is_fit byte (suc (suc j)) width.Word s) next
+    by offset padding (held.TaggedFat t u v w) zero =
+        let s : Slot = record { offset = offset; padding = padding; held = held.TaggedFat t u v w } in
+        found_there s byte 1 (offset + 4) width.Word u next (omega arith)
+    by offset padding (held.TaggedFat t u v w) (suc zero) =
+        let s : Slot = record { offset = offset; padding = padding; held = held.TaggedFat t u v w } in
+        found_there s byte 2 (offset + 4 + 4) width.Word (bound_value v) next (omega arith)
+    by offset padding (held.TaggedFat t u v w) (suc (suc zero)) =
+        let s : Slot = record { offset = offset; padding = padding; held = held.TaggedFat t u v w } in
+        found_there s byte 3 (offset + 4 + 4 + 4) width.Word (bound_value w) next (omega arith)
+    by offset padding (held.TaggedFat t u v w) (suc (suc (suc j))) =
+        let s : Slot = record { offset = offset; padding = padding; held = held.TaggedFat t u v w } in
+        found_nothing byte (offset + 4 + 4 + 4 + 4 + j) (nat_lt j padding) (is_fit byte (suc (suc (suc (suc j)))) width.Word s) next
 
 -- a part that is a cell's
 pub reached_at : (m : Memory) (r : Region) (i k b cells bytes j : ℕ) (o : Option Slot) (w : Width) (next : Spot → Part → Step) → is_kept j w ≡ true
@@ -160,6 +178,16 @@ reached_at m r i k b cells bytes j o w next kept there =
 module _ {m : Memory} {r : Region} {objects : List (List Slot)} (shows : Shows m r objects) where
   pub shown_part : (i k j : ℕ) → part_at m (spot_of r i k) j ≡ part_in (slot_at objects i k) j
   shown_part i k j = ap (λ now. if is_live now then m.parts (spot_of r i k) j else None) shows.live ∙ shows.holds i k j
+
+-- no part that has a value
+pub found_missing : (byte j : ℕ) (w : Width) (next : Part → Step) (o : Option Slot) → value_of byte j w o ≡ None → found byte j w next o ≡ stuck
+found_missing byte j w next None e = refl
+found_missing byte j w next (Some s) e = by (is_fit byte j w s) (slice_get (values_in s.held) j) e
+  where
+    by : (fit : Bool) (v : Option Value) → (if fit then v else None) ≡ None → (if fit then found_step s j next v else stuck) ≡ stuck
+    by true None e = refl
+    by true (Some v) e = cc
+    by false v e = refl
 
 -- ---- storing
 
@@ -200,26 +228,6 @@ module _ (objects : List (List Slot)) (i k byte j : ℕ) (w : Width) (v : Value)
 
   pub put_is : (objects' : List (List Slot)) → put_in objects i k byte j w v ≡ Some objects' → IsPut objects i k byte j w v objects'
   put_is objects' e = put_found objects' (slice_get objects i) refl e
-
-  missing_where : (cells : List Slot) (next : Part → Step) (s : Slot) (fits : Bool) (h : Option Held) → put_part s.held j (fitted w v) ≡ h
-      → option_map (slice_set objects i) (if fits then put_to_cell cells s h else None) ≡ None
-      → (if fits then found_step s j next (slice_get (values_in s.held) j) else stuck) ≡ stuck
-  missing_where cells next s true (Some h) set e = cc
-  missing_where cells next s true None set e = ap (found_step s j next) (part_missing (fitted w v) s.held j set)
-  missing_where cells next s false h set e = refl
-
-  missing_case : (cells : List Slot) (next : Part → Step) (o : Option Slot) → option_map (slice_set objects i) (put_slot cells k byte j w v o) ≡ None
-      → found byte j w next o ≡ stuck
-  missing_case cells next None e = refl
-  missing_case cells next (Some s) e = missing_where cells next s (is_fit byte j w s) (put_part s.held j (fitted w v)) refl e
-
-  missing_object : (next : Part → Step) (o : Option (List Slot)) → put_object objects i k byte j w v o ≡ None → found byte j w next (cell_in o k) ≡ stuck
-  missing_object next None e = refl
-  missing_object next (Some cells) e = missing_case cells next (slice_get cells k) e
-
-  -- no store, and no read
-  pub unput_is : (next : Part → Step) → put_in objects i k byte j w v ≡ None → found byte j w next (slot_at objects i k) ≡ stuck
-  unput_is next e = missing_object next (slice_get objects i) e
 
 -- ---- regions
 
@@ -273,10 +281,10 @@ slot_put objects i k cells old s x y object there =
 
 module _ {m : Memory} {r : Region} {objects : List (List Slot)} (shows : Shows m r objects) where
   pub parts_put : (i k j : ℕ) (cells : List Slot) (old : Slot) (v : Value) (h : Held) → slice_get objects i ≡ Some cells → slice_get cells k ≡ Some old
-      → keeps j v ≡ true → put_part old.held j v ≡ Some h → (x y z : ℕ)
+      → put_part old.held j v ≡ Some h → (x y z : ℕ)
       → (with_part m (spot_of r i k) j (valued_part old j v)).parts (spot_of r x y) z
       ≡ part_in (slot_at (slice_set objects i (slice_set cells k (with_held old h))) x y) z
-  parts_put i k j cells old v h object there kept set x y z =
+  parts_put i k j cells old v h object there set x y z =
       ap (λ b. if (b && (nat_eq x i && nat_eq y k)) && nat_eq z j then Some (valued_part old j v) else m.parts (spot_of r x y) z) (region_self r)
       ∙ by (nat_eq x i && nat_eq y k) refl
       ∙ ap (λ o. part_in o z) (sym (slot_put objects i k cells old (with_held old h) x y object there))
@@ -292,7 +300,7 @@ module _ {m : Memory} {r : Region} {objects : List (List Slot)} (shows : Shows m
           ≡ part_in (if b then Some (with_held old h) else slot_at objects x y) z
       by true e =
           ap (λ p. if nat_eq z j then Some (valued_part old j v) else p) (shows.holds x y z ∙ ap (λ o. part_in o z) (here e))
-          ∙ sym (part_set v old j h kept set z)
+          ∙ sym (part_set v old j h set z)
       by false e = shows.holds x y z
 
   -- one more object

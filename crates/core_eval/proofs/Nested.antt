@@ -31,7 +31,7 @@ use Rattle.core_meaning.specs.Memory.{Frame, Memory}
 use Rattle.core_eval.specs.declared.value.Slot.{Slot}
 use Rattle.core_eval.specs.Values.{Shows}
 use Rattle.core_eval.specs.Blocks.{Activation, Descends, own_position, position_of, number_through}
-use Rattle.core_eval.specs.Pendings.{Wait, Then, Test, Body, Block, Caller, Mark}
+use Rattle.core_eval.specs.Pendings.{Wait, Then, Test, Body, Block, Breakable, Caller, Mark}
 use Rattle.core_eval.specs.Standing.{AreNested}
 use Rattle.core_eval.proofs.Lists.{get_past}
 
@@ -58,6 +58,7 @@ module _ (m m' : Memory) where
   nested_still low high numbers base blocks (Then ss ∷ ws) marks le still n = nested_still low high numbers base blocks ws marks le still n
   nested_still low high numbers base blocks (Test test flag body ∷ ws) marks le still n = nested_still low high numbers base blocks ws marks le still n
   nested_still low high numbers base blocks (Body test flag body ∷ ws) marks le still n = nested_still low high numbers base blocks ws marks le still n
+  nested_still low high numbers base blocks (Breakable ∷ ws) marks le still n = nested_still low high numbers base blocks ws marks le still n
 
 module _ (m : Memory) where
   -- the numbers fall
@@ -81,6 +82,7 @@ module _ (m : Memory) where
   nested_descends bound numbers base blocks (Then ss ∷ ws) marks n = nested_descends bound numbers base blocks ws marks n
   nested_descends bound numbers base blocks (Test test flag body ∷ ws) marks n = nested_descends bound numbers base blocks ws marks n
   nested_descends bound numbers base blocks (Body test flag body ∷ ws) marks n = nested_descends bound numbers base blocks ws marks n
+  nested_descends bound numbers base blocks (Breakable ∷ ws) marks n = nested_descends bound numbers base blocks ws marks n
 
   -- each block shows its locals
   pub nested_shows : (bound : ℕ) (numbers : List ℕ) (base : ℕ) (blocks : List Activation) (ws : List Wait) (marks : List Mark) (p : ℕ) (b : Activation)
@@ -101,6 +103,7 @@ module _ (m : Memory) where
   nested_shows bound numbers base blocks (Then ss ∷ ws) marks p b n at = nested_shows bound numbers base blocks ws marks p b n at
   nested_shows bound numbers base blocks (Test test flag body ∷ ws) marks p b n at = nested_shows bound numbers base blocks ws marks p b n at
   nested_shows bound numbers base blocks (Body test flag body ∷ ws) marks p b n at = nested_shows bound numbers base blocks ws marks p b n at
+  nested_shows bound numbers base blocks (Breakable ∷ ws) marks p b n at = nested_shows bound numbers base blocks ws marks p b n at
 
   -- how many blocks are the function's own
   nested_length : (bound : ℕ) (numbers : List ℕ) (base : ℕ) (blocks : List Activation) (ws : List Wait) (marks : List Mark)
@@ -117,6 +120,7 @@ module _ (m : Memory) where
   nested_length bound numbers base blocks (Then ss ∷ ws) marks n = nested_length bound numbers base blocks ws marks n
   nested_length bound numbers base blocks (Test test flag body ∷ ws) marks n = nested_length bound numbers base blocks ws marks n
   nested_length bound numbers base blocks (Body test flag body ∷ ws) marks n = nested_length bound numbers base blocks ws marks n
+  nested_length bound numbers base blocks (Breakable ∷ ws) marks n = nested_length bound numbers base blocks ws marks n
 
   nested_number : (bound : ℕ) (numbers : List ℕ) (base : ℕ) (blocks : List Activation) (ws : List Wait) (marks : List Mark) (out : ℕ)
       → AreNested m bound numbers base blocks ws marks → out < length numbers → slice_get numbers out ≡ option_map (λ b. b.number) (slice_get blocks out)
@@ -134,6 +138,7 @@ module _ (m : Memory) where
   nested_number bound numbers base blocks (Then ss ∷ ws) marks out n lt = nested_number bound numbers base blocks ws marks out n lt
   nested_number bound numbers base blocks (Test test flag body ∷ ws) marks out n lt = nested_number bound numbers base blocks ws marks out n lt
   nested_number bound numbers base blocks (Body test flag body ∷ ws) marks out n lt = nested_number bound numbers base blocks ws marks out n lt
+  nested_number bound numbers base blocks (Breakable ∷ ws) marks out n lt = nested_number bound numbers base blocks ws marks out n lt
 
   -- the number of the block so many out
   pub nested_own : (bound : ℕ) (numbers : List ℕ) (base : ℕ) (blocks : List Activation) (ws : List Wait) (marks : List Mark) (out : ℕ)
@@ -220,6 +225,7 @@ module _ (m m' : Memory) (k : ℕ) (objects' : List (List Slot)) (shows' : Shows
   nested_put bound numbers base blocks (Then ss ∷ ws) marks p b at is n = nested_put bound numbers base blocks ws marks p b at is n
   nested_put bound numbers base blocks (Test test flag body ∷ ws) marks p b at is n = nested_put bound numbers base blocks ws marks p b at is n
   nested_put bound numbers base blocks (Body test flag body ∷ ws) marks p b at is n = nested_put bound numbers base blocks ws marks p b at is n
+  nested_put bound numbers base blocks (Breakable ∷ ws) marks p b at is n = nested_put bound numbers base blocks ws marks p b at is n
 
 -- the same blocks by number
 pub position_put : (blocks : List Activation) (p j : ℕ) (b c : Activation) → slice_get blocks p ≡ Some b → c.number ≡ b.number

@@ -5,7 +5,7 @@ use Rattle.core_meaning.specs.Memory.{Own, Memory}
 use Rattle.core_eval.specs.declared.value.Slot.{Slot}
 use Rattle.core_eval.specs.Values.{Shows}
 use Rattle.core_eval.specs.Blocks.{Activation, Descends}
-use Rattle.core_eval.specs.Pendings.{Wait, Then, Test, Body, Block, Caller, Mark}
+use Rattle.core_eval.specs.Pendings.{Wait, Then, Test, Body, Block, Breakable, Caller, Mark}
 use Rattle.core_eval.specs.Standing.{AreOwned}
 
 -- what is shown of functions below a bound in one memory is shown in another
@@ -31,6 +31,7 @@ module _ (m m' : Memory) where
   owned_still low high own owns (Then ss ∷ ws) marks le still n = owned_still low high own owns ws marks le still n
   owned_still low high own owns (Test test flag body ∷ ws) marks le still n = owned_still low high own owns ws marks le still n
   owned_still low high own owns (Body test flag body ∷ ws) marks le still n = owned_still low high own owns ws marks le still n
+  owned_still low high own owns (Breakable ∷ ws) marks le still n = owned_still low high own owns ws marks le still n
 
 -- the innermost function
 pub record HasFirst (own : ℕ) (owns : List Activation) : Type 0 where
@@ -51,6 +52,7 @@ module _ (m : Memory) where
   owned_first bound own owns (Then ss ∷ ws) marks n = owned_first bound own owns ws marks n
   owned_first bound own owns (Test test flag body ∷ ws) marks n = owned_first bound own owns ws marks n
   owned_first bound own owns (Body test flag body ∷ ws) marks n = owned_first bound own owns ws marks n
+  owned_first bound own owns (Breakable ∷ ws) marks n = owned_first bound own owns ws marks n
 
   -- the numbers fall
   descends_at : (bound own : ℕ) (o : Activation) (owns : List Activation) → own ≡ o.number → own < bound → Descends own owns → Descends bound (o ∷ owns)
@@ -68,6 +70,7 @@ module _ (m : Memory) where
   owned_descends bound own owns (Then ss ∷ ws) marks n = owned_descends bound own owns ws marks n
   owned_descends bound own owns (Test test flag body ∷ ws) marks n = owned_descends bound own owns ws marks n
   owned_descends bound own owns (Body test flag body ∷ ws) marks n = owned_descends bound own owns ws marks n
+  owned_descends bound own owns (Breakable ∷ ws) marks n = owned_descends bound own owns ws marks n
 
   -- each shows its unnamed values
   here_shows : (bound own : ℕ) (o b : Activation) → own ≡ o.number → own < bound → Shows m (Own own) o.objects → o ≡ b
@@ -94,6 +97,7 @@ module _ (m : Memory) where
   owned_shows bound own owns (Then ss ∷ ws) marks p b n at = owned_shows bound own owns ws marks p b n at
   owned_shows bound own owns (Test test flag body ∷ ws) marks p b n at = owned_shows bound own owns ws marks p b n at
   owned_shows bound own owns (Body test flag body ∷ ws) marks p b n at = owned_shows bound own owns ws marks p b n at
+  owned_shows bound own owns (Breakable ∷ ws) marks p b n at = owned_shows bound own owns ws marks p b n at
 
 -- ---- a change of the unnamed values of one function
 
@@ -141,3 +145,4 @@ module _ (m m' : Memory) (k : ℕ) (objects' : List (List Slot)) (shows' : Shows
   owned_put bound own owns (Then ss ∷ ws) marks p b at is n = owned_put bound own owns ws marks p b at is n
   owned_put bound own owns (Test test flag body ∷ ws) marks p b at is n = owned_put bound own owns ws marks p b at is n
   owned_put bound own owns (Body test flag body ∷ ws) marks p b at is n = owned_put bound own owns ws marks p b at is n
+  owned_put bound own owns (Breakable ∷ ws) marks p b at is n = owned_put bound own owns ws marks p b at is n

@@ -1,6 +1,6 @@
 -- The parts of cells, as layouts and as the evaluator have them.
-use Rattle.std.specs.Prelude.{if◌then◌else◌, slice_get, slice_set, nat_eq, nat_lt}
-use Rattle.std.proofs.Common.{◌≡◌, ℕ, zero, suc, ◌+◌, ◌*◌, Bool, true, false, Option, Some, None, List, [], ◌∷◌, ◌++◌, refl, ap, ◌∙◌, sym, suc-mul, arith}
+use Rattle.std.specs.Prelude.{if◌then◌else◌, slice_get, slice_set, nat_eq, nat_lt, option_map}
+use Rattle.std.proofs.Common.{◌≡◌, ℕ, zero, suc, ◌+◌, ◌*◌, Bool, true, false, Option, Some, None, List, [], ◌∷◌, ◌++◌, map, refl, ap, ◌∙◌, sym, suc-mul, arith}
 use Rattle.std.proofs.Math.Dec.{eqb-suc-suc, eqb-zero-suc, eqb-suc-zero}
 use Rattle.std.proofs.lemmas.Bool.Decides.{nat_tests}
 use Rattle.core_meaning.specs.Memory as memory
@@ -13,9 +13,10 @@ use Rattle.core_eval.specs.declared.value.Value.{Value}
 use Rattle.core_eval.specs.declared.value.Value.TheVariants as value
 use Rattle.core_eval.specs.declared.value.Slot.{Slot}
 use Rattle.core_eval.specs.declared.held.Bound.{Bound}
+use Rattle.core_eval.specs.declared.held.Bound.TheVariants as bound
 use Rattle.core_eval.specs.declared.held.Held.{Held}
 use Rattle.core_eval.specs.declared.held.Held.TheVariants as held
-use Rattle.core_eval.specs.Values.{content_of, width_of, bound_value, bound_of, is_bound, keeps, values_in, put_part, first_held, blanked, parts_from, part_of, with_held}
+use Rattle.core_eval.specs.Values.{content_of, width_of, bound_value, kept_of, values_in, put_part, first_held, blanked, parts_from, part_of, with_held}
 use Rattle.core_eval.specs.Elements.{held_first, slot_from}
 
 -- ---- the parts of a layout's cell
@@ -24,21 +25,29 @@ use Rattle.core_eval.specs.Elements.{held_first, slot_from}
 abbrev pub shape_of : (offset width : ℕ) → Value → PartShape
 shape_of offset width v = record { offset = offset; width = width; first = content_of v }
 
+-- parts from a byte on that are so wide and begin as these values, and so many bytes behind them
+abbrev pub shapes_from : (at wide m : ℕ) → List Value → List PartShape
+shapes_from at wide m [] = padding_parts at m
+shapes_from at wide m (v ∷ vs) = shape_of at wide v ∷ shapes_from (at + wide) wide m vs
+
 -- the parts of a cell from a byte on that begins as this, and so many bytes behind them
 abbrev pub shapes_by : ℕ → Held → ℕ → List PartShape
-shapes_by at (held.Byte v) m = shape_of at 1 v ∷ padding_parts (at + 1) m
-shapes_by at (held.Word v) m = shape_of at 4 v ∷ padding_parts (at + 4) m
-shapes_by at (held.Fat u v w) m = shape_of at 4 u ∷ shape_of (at + 4) 4 (bound_value v) ∷ shape_of (at + 4 + 4) 4 (bound_value w) ∷ padding_parts (at + 12) m
+shapes_by at h m = shapes_from at (bytes_of (width_of h)) m (values_in h)
 
 pub cell_shapes : (c : CellLayout) → cell_parts c ≡ shapes_by c.offset (first_held c.cell) c.padding
 cell_shapes c = by c.cell
   where
+    from : (k : Cell) (x y : ℕ) → x ≡ y → made_parts k c.offset ++ padding_parts x c.padding ≡ made_parts k c.offset ++ padding_parts y c.padding
+    from k x y e = ap (λ at. made_parts k c.offset ++ padding_parts at c.padding) e
+
     by : (k : Cell) → made_parts k c.offset ++ padding_parts (c.offset + cell_bytes k) c.padding ≡ shapes_by c.offset (first_held k) c.padding
     by cell.Byte = refl
     by cell.Word = refl
     by cell.Pointer = refl
-    by cell.Fat = refl
+    by cell.Fat = from cell.Fat (c.offset + 12) (c.offset + 4 + 4 + 4) (omega arith)
     by cell.Handle = refl
+    by cell.Tagged = from cell.Tagged (c.offset + 8) (c.offset + 4 + 4) (omega arith)
+    by cell.TaggedFat = from cell.TaggedFat (c.offset + 16) (c.offset + 4 + 4 + 4 + 4) (omega arith)
 
 -- a cell alone
 pub made_shapes : (k : Cell) → made_parts k 0 ≡ shapes_by 0 (first_held k) 0
@@ -47,6 +56,8 @@ made_shapes cell.Word = refl
 made_shapes cell.Pointer = refl
 made_shapes cell.Fat = refl
 made_shapes cell.Handle = refl
+made_shapes cell.Tagged = refl
+made_shapes cell.TaggedFat = refl
 
 -- a byte that holds nothing, if there is one
 abbrev pub padding_shape : Bool → ℕ → Option PartShape
@@ -97,24 +108,43 @@ begun_as begun h = (if begun then h else blanked h)
 abbrev pub parts_as : (h : Held) → (at m j : ℕ) → Option Part
 parts_as h at m j = parts_from at (bytes_of (width_of h)) m (values_in h) j
 
+-- a value that a part begins with, or nothing as yet
+abbrev begun_value : Bool → Value → Value
+begun_value begun v = (if begun then v else value.Blank)
+
+parts_begun : (begun : Bool) (vs : List Value) (at wide m from before j : ℕ) → before + at ≡ from
+    → shape_part begun before (slice_get (shapes_from at wide m vs) j) ≡ parts_from from wide m (map (begun_value begun) vs) j
+parts_begun begun [] at wide m from before j e = behind begun before at from m j e
+parts_begun true (v ∷ vs) at wide m from before zero e = part_from (before + at) from wide v e
+parts_begun false (v ∷ vs) at wide m from before zero e = part_from (before + at) from wide value.Blank e
+parts_begun begun (v ∷ vs) at wide m from before (suc j) e = parts_begun begun vs (at + wide) wide m (from + wide) before j (omega (arith, e))
+
+begun_values : (begun : Bool) (h : Held) → map (begun_value begun) (values_in h) ≡ values_in (begun_as begun h)
+begun_values true (held.Byte v) = refl
+begun_values true (held.Word v) = refl
+begun_values true (held.Fat u v w) = refl
+begun_values true (held.Tagged t v) = refl
+begun_values true (held.TaggedFat t u v w) = refl
+begun_values false (held.Byte v) = refl
+begun_values false (held.Word v) = refl
+begun_values false (held.Fat u v w) = refl
+begun_values false (held.Tagged t v) = refl
+begun_values false (held.TaggedFat t u v w) = refl
+
+begun_width : (begun : Bool) (h : Held) → width_of h ≡ width_of (begun_as begun h)
+begun_width true h = refl
+begun_width false (held.Byte v) = refl
+begun_width false (held.Word v) = refl
+begun_width false (held.Fat u v w) = refl
+begun_width false (held.Tagged t v) = refl
+begun_width false (held.TaggedFat t u v w) = refl
+
 held_part_is : (begun : Bool) (h : Held) (at m before j : ℕ)
     → shape_part begun before (slice_get (shapes_by at h m) j) ≡ parts_as (begun_as begun h) (before + at) m j
-held_part_is true (held.Byte v) at m before zero = refl
-held_part_is true (held.Byte v) at m before (suc j) = behind true before (at + 1) (before + at + 1) m j (omega arith)
-held_part_is true (held.Word v) at m before zero = refl
-held_part_is true (held.Word v) at m before (suc j) = behind true before (at + 4) (before + at + 4) m j (omega arith)
-held_part_is true (held.Fat u v w) at m before zero = refl
-held_part_is true (held.Fat u v w) at m before (suc zero) = part_from (before + (at + 4)) (before + at + 4) 4 (bound_value v) (omega arith)
-held_part_is true (held.Fat u v w) at m before (suc (suc zero)) = part_from (before + (at + 4 + 4)) (before + at + 4 + 4) 4 (bound_value w) (omega arith)
-held_part_is true (held.Fat u v w) at m before (suc (suc (suc j))) = behind true before (at + 12) (before + at + 4 + 4 + 4) m j (omega arith)
-held_part_is false (held.Byte v) at m before zero = refl
-held_part_is false (held.Byte v) at m before (suc j) = behind false before (at + 1) (before + at + 1) m j (omega arith)
-held_part_is false (held.Word v) at m before zero = refl
-held_part_is false (held.Word v) at m before (suc j) = behind false before (at + 4) (before + at + 4) m j (omega arith)
-held_part_is false (held.Fat u v w) at m before zero = refl
-held_part_is false (held.Fat u v w) at m before (suc zero) = part_from (before + (at + 4)) (before + at + 4) 4 value.Blank (omega arith)
-held_part_is false (held.Fat u v w) at m before (suc (suc zero)) = part_from (before + (at + 4 + 4)) (before + at + 4 + 4) 4 value.Blank (omega arith)
-held_part_is false (held.Fat u v w) at m before (suc (suc (suc j))) = behind false before (at + 12) (before + at + 4 + 4 + 4) m j (omega arith)
+held_part_is begun h at m before j =
+    parts_begun begun (values_in h) at (bytes_of (width_of h)) m (before + at) before j refl
+    ∙ ap (λ vs. parts_from (before + at) (bytes_of (width_of h)) m vs j) (begun_values begun h)
+    ∙ ap (λ w. parts_from (before + at) (bytes_of w) m (values_in (begun_as begun h)) j) (begun_width begun h)
 
 pub cell_part : (begun : Bool) (c : CellLayout) (before j : ℕ) → shape_part begun before (slice_get (cell_parts c) j) ≡ part_of (slot_from begun before c) j
 cell_part begun c before j =
@@ -155,35 +185,33 @@ record IsSet (h : Held) (j : ℕ) (v : Value) (h' : Held) : Type 0 where
   pub values : values_in h' ≡ slice_set (values_in h) j v
   pub width : width_of h' ≡ width_of h
 
-module _ (v : Value) where
-  bound_same : is_bound v ≡ true → bound_value (bound_of v) ≡ v
-  bound_same is = by v is
-    where
-      by : (v : Value) → is_bound v ≡ true → bound_value (bound_of v) ≡ v
-      by value.Blank is = refl
-      by (value.Word n) is = refl
-      by value.Null is = cc
-      by (value.Pointer p) is = cc
-      by (value.Birth d) is = cc
+-- a count, an index or a tag is kept as it is
+kept_as : (v : Value) (f : Bound → Held) (h' : Held) → option_map f (kept_of v) ≡ Some h' → (k : Bound) × (bound_value k ≡ v) × (f k ≡ h')
+kept_as value.Blank f h' e = (bound.Blank, refl, cc)
+kept_as (value.Word n) f h' e = (bound.Word n, refl, cc)
+kept_as value.Null f h' e = absurd (cc)
+kept_as (value.Pointer p) f h' e = absurd (cc)
+kept_as (value.Birth d) f h' e = absurd (cc)
 
-  set_is : (h : Held) (j : ℕ) (h' : Held) → keeps j v ≡ true → put_part h j v ≡ Some h' → IsSet h j v h'
-  set_is (held.Byte u) zero h' kept e =
+module _ (v : Value) where
+  set_is : (h : Held) (j : ℕ) (h' : Held) → put_part h j v ≡ Some h' → IsSet h j v h'
+  set_is (held.Byte u) zero h' e =
       let is : held.Byte v ≡ h' = cc in record { old = u; there = refl; values = sym (ap values_in is); width = sym (ap width_of is) }
-  set_is (held.Byte u) (suc j) h' kept e =
+  set_is (held.Byte u) (suc j) h' e =
       absurd (let none : None ≡ Some h' = ap (λ b. if b then Some (held.Byte v) else None) (sym (eqb-suc-zero j)) ∙ e in cc)
-  set_is (held.Word u) zero h' kept e =
+  set_is (held.Word u) zero h' e =
       let is : held.Word v ≡ h' = cc in record { old = u; there = refl; values = sym (ap values_in is); width = sym (ap width_of is) }
-  set_is (held.Word u) (suc j) h' kept e =
+  set_is (held.Word u) (suc j) h' e =
       absurd (let none : None ≡ Some h' = ap (λ b. if b then Some (held.Word v) else None) (sym (eqb-suc-zero j)) ∙ e in cc)
-  set_is (held.Fat a b c) zero h' kept e =
+  set_is (held.Fat a b c) zero h' e =
       let is : held.Fat v b c ≡ h' = cc in record { old = a; there = refl; values = sym (ap values_in is); width = sym (ap width_of is) }
-  set_is (held.Fat a b c) (suc zero) h' kept e =
-      let is : held.Fat a (bound_of v) c ≡ h' = cc in
-      record { old = bound_value b; there = refl; values = sym (ap values_in is) ∙ ap (λ x. a ∷ x ∷ bound_value c ∷ []) (bound_same kept); width = sym (ap width_of is) }
-  set_is (held.Fat a b c) (suc (suc zero)) h' kept e =
-      let is : held.Fat a b (bound_of v) ≡ h' = cc in
-      record { old = bound_value c; there = refl; values = sym (ap values_in is) ∙ ap (λ x. a ∷ bound_value b ∷ x ∷ []) (bound_same kept); width = sym (ap width_of is) }
-  set_is (held.Fat a b c) (suc (suc (suc j))) h' kept e = absurd (let none = fat_past a b c j in let no : None ≡ Some h' = sym none ∙ e in cc)
+  set_is (held.Fat a b c) (suc zero) h' e =
+      let (k, same, is) = kept_as v (λ k. held.Fat a k c) h' e in
+      record { old = bound_value b; there = refl; values = sym (ap values_in is) ∙ ap (λ x. a ∷ x ∷ bound_value c ∷ []) same; width = sym (ap width_of is) }
+  set_is (held.Fat a b c) (suc (suc zero)) h' e =
+      let (k, same, is) = kept_as v (held.Fat a b) h' e in
+      record { old = bound_value c; there = refl; values = sym (ap values_in is) ∙ ap (λ x. a ∷ bound_value b ∷ x ∷ []) same; width = sym (ap width_of is) }
+  set_is (held.Fat a b c) (suc (suc (suc j))) h' e = absurd (let none = fat_past a b c j in let no : None ≡ Some h' = sym none ∙ e in cc)
     where
       fat_past : (a : Value) (b c : Bound) (j : ℕ) → put_part (held.Fat a b c) (suc (suc (suc j))) v ≡ None
       fat_past a b c j =
@@ -191,26 +219,63 @@ module _ (v : Value) where
           let second : nat_eq (suc (suc (suc j))) 1 ≡ false = grind (arith, nat_tests) in
           let third : nat_eq (suc (suc (suc j))) 2 ≡ false = grind (arith, nat_tests) in
           rw (first, second, third) refl
+  set_is (held.Tagged t u) zero h' e =
+      let (k, same, is) = kept_as v (λ k. held.Tagged k u) h' e in
+      record { old = bound_value t; there = refl; values = sym (ap values_in is) ∙ ap (λ x. x ∷ u ∷ []) same; width = sym (ap width_of is) }
+  set_is (held.Tagged t u) (suc zero) h' e =
+      let is : held.Tagged t v ≡ h' = cc in record { old = u; there = refl; values = sym (ap values_in is); width = sym (ap width_of is) }
+  set_is (held.Tagged t u) (suc (suc j)) h' e = absurd (let none = tagged_past t u j in let no : None ≡ Some h' = sym none ∙ e in cc)
+    where
+      tagged_past : (t : Bound) (u : Value) (j : ℕ) → put_part (held.Tagged t u) (suc (suc j)) v ≡ None
+      tagged_past t u j =
+          let first : nat_eq (suc (suc j)) 0 ≡ false = grind (arith, nat_tests) in
+          let second : nat_eq (suc (suc j)) 1 ≡ false = grind (arith, nat_tests) in
+          rw (first, second) refl
+  set_is (held.TaggedFat t a b c) zero h' e =
+      let (k, same, is) = kept_as v (λ k. held.TaggedFat k a b c) h' e in
+      record {
+        old = bound_value t;
+        there = refl;
+        values = sym (ap values_in is) ∙ ap (λ x. x ∷ a ∷ bound_value b ∷ bound_value c ∷ []) same;
+        width = sym (ap width_of is);
+      }
+  set_is (held.TaggedFat t a b c) (suc zero) h' e =
+      let is : held.TaggedFat t v b c ≡ h' = cc in record { old = a; there = refl; values = sym (ap values_in is); width = sym (ap width_of is) }
+  set_is (held.TaggedFat t a b c) (suc (suc zero)) h' e =
+      let (k, same, is) = kept_as v (λ k. held.TaggedFat t a k c) h' e in
+      record {
+        old = bound_value b;
+        there = refl;
+        values = sym (ap values_in is) ∙ ap (λ x. bound_value t ∷ a ∷ x ∷ bound_value c ∷ []) same;
+        width = sym (ap width_of is);
+      }
+  set_is (held.TaggedFat t a b c) (suc (suc (suc zero))) h' e =
+      let (k, same, is) = kept_as v (held.TaggedFat t a b) h' e in
+      record {
+        old = bound_value c;
+        there = refl;
+        values = sym (ap values_in is) ∙ ap (λ x. bound_value t ∷ a ∷ bound_value b ∷ x ∷ []) same;
+        width = sym (ap width_of is);
+      }
+  set_is (held.TaggedFat t a b c) (suc (suc (suc (suc j)))) h' e =
+      absurd (let none = past t a b c j in let no : None ≡ Some h' = sym none ∙ e in cc)
+    where
+      past : (t : Bound) (a : Value) (b c : Bound) (j : ℕ) → put_part (held.TaggedFat t a b c) (suc (suc (suc (suc j)))) v ≡ None
+      past t a b c j =
+          let first : nat_eq (suc (suc (suc (suc j)))) 0 ≡ false = grind (arith, nat_tests) in
+          let second : nat_eq (suc (suc (suc (suc j)))) 1 ≡ false = grind (arith, nat_tests) in
+          let third : nat_eq (suc (suc (suc (suc j)))) 2 ≡ false = grind (arith, nat_tests) in
+          let fourth : nat_eq (suc (suc (suc (suc j)))) 3 ≡ false = grind (arith, nat_tests) in
+          rw (first, second, third, fourth) refl
 
   -- the parts then
-  pub part_set : (s : Slot) (j : ℕ) (h' : Held) → keeps j v ≡ true → put_part s.held j v ≡ Some h' → (z : ℕ)
+  pub part_set : (s : Slot) (j : ℕ) (h' : Held) → put_part s.held j v ≡ Some h' → (z : ℕ)
       → part_of (with_held s h') z ≡ (if nat_eq z j then Some (valued_part s j v) else part_of s z)
-  part_set s j h' kept e z =
-      let is = set_is s.held j h' kept e in
+  part_set s j h' e z =
+      let is = set_is s.held j h' e in
       ap (λ w. parts_from s.offset (bytes_of w) s.padding (values_in h') z) is.width
       ∙ ap (λ vs. parts_from s.offset (bytes_of (width_of s.held)) s.padding vs z) is.values
       ∙ parts_set (values_in s.held) s.offset (bytes_of (width_of s.held)) s.padding j z is.old v is.there
 
-  pub part_there : (h : Held) (j : ℕ) (h' : Held) → keeps j v ≡ true → put_part h j v ≡ Some h' → (u : Value) × (slice_get (values_in h) j ≡ Some u)
-  part_there h j h' kept e = let is = set_is h j h' kept e in (is.old, is.there)
-
-  -- there is no such part
-  pub part_missing : (h : Held) (j : ℕ) → put_part h j v ≡ None → slice_get (values_in h) j ≡ None
-  part_missing (held.Byte u) zero e = cc
-  part_missing (held.Byte u) (suc j) e = refl
-  part_missing (held.Word u) zero e = cc
-  part_missing (held.Word u) (suc j) e = refl
-  part_missing (held.Fat a b c) zero e = cc
-  part_missing (held.Fat a b c) (suc zero) e = cc
-  part_missing (held.Fat a b c) (suc (suc zero)) e = cc
-  part_missing (held.Fat a b c) (suc (suc (suc j))) e = refl
+  pub part_there : (h : Held) (j : ℕ) (h' : Held) → put_part h j v ≡ Some h' → (u : Value) × (slice_get (values_in h) j ≡ Some u)
+  part_there h j h' e = let is = set_is h j h' e in (is.old, is.there)

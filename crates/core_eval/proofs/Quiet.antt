@@ -55,6 +55,7 @@ use Rattle.core_eval.specs.Pendings.{
   Test,
   Body,
   Block,
+  Breakable,
   Caller,
   Next,
   Go,
@@ -277,6 +278,7 @@ rest_quiet main (Test test flag body ∷ ws) marks exit c =
 rest_quiet main (Body test flag body ∷ ws) marks exit c = turn_quiet test flag body (rest_of main ws marks) (rest_quiet main ws marks) exit c
 rest_quiet main (Block ∷ ws) [] exit c = tt
 rest_quiet main (Block ∷ ws) (mark ∷ marks) exit c = rest_quiet main ws marks exit _
+rest_quiet main (Breakable ∷ ws) marks exit c = ended_quiet exit (rest_of main ws marks) c (rest_quiet main ws marks)
 rest_quiet main (Caller results f saved ∷ ws) [] exit c = tt
 rest_quiet main (Caller results f saved ∷ ws) (mark ∷ marks) exit c =
     left_quiet f mark.number (returned_to results mark.outside (rest_of main ws marks))

@@ -30,7 +30,7 @@ use Rattle.core_eval.specs.Values.{
   Shows,
   is_fit,
   is_kept,
-  keeps,
+  value_of,
   fitted,
   with_held,
   put_in,
@@ -56,7 +56,7 @@ use Rattle.core_eval.specs.Pendings.{Execute, Leave, Wait, Go, Wrong, Mark, rest
 use Rattle.core_eval.specs.Standing.{Known, Agrees}
 use Rattle.core_eval.specs.Costs.{IsMove}
 use Rattle.core_eval.proofs.Parts.{valued_part, part_there}
-use Rattle.core_eval.proofs.Memories.{found_step, found, reached_at, shown_part, IsPut, put_is, unput_is, parts_put}
+use Rattle.core_eval.proofs.Memories.{found_step, found, reached_at, shown_part, IsPut, put_is, found_missing, parts_put}
 use Rattle.core_eval.proofs.Nested.{position_is}
 use Rattle.core_eval.proofs.Born.{held_there}
 use Rattle.core_eval.proofs.Changes.{stored_in, with_stored, Replaces, replaced_shows, replaced_agrees, part_elsewhere}
@@ -89,13 +89,13 @@ stored m r i k j s v = with_part m (spot_of r i k) j (valued_part s j v)
 
 -- what a store does where the region shows the cell
 store_is : {m : Memory} {r : Region} {objects objects' : List (List Slot)} (shows : Shows m r objects) (i k b cells bytes j : ℕ) (w : Width) (v : Value)
-    → is_kept j w ≡ true → keeps j (fitted w v) ≡ true → (put : IsPut objects i (k + cells) (b + bytes) j w v objects')
+    → is_kept j w ≡ true → (put : IsPut objects i (k + cells) (b + bytes) j w v objects')
     → (u : Content) → u ≡ content_of v → (next : Memory → Step)
     → reached m (record { cells = cells; bytes = bytes; part = j; width = bytes_of w }) (spot_of r i k) b
     (λ there p. next (with_part m there j (record p { content = fitting (bytes_of w) u })))
     ≡ next (stored m r i (k + cells) j put.old (fitted w v))
-store_is {m} {r} {objects} {objects'} shows i k b cells bytes j w v kept keep put u is next =
-    let (was, old) = part_there (fitted w v) put.old.held j put.holds keep put.set in
+store_is {m} {r} {objects} {objects'} shows i k b cells bytes j w v kept put u is next =
+    let (was, old) = part_there (fitted w v) put.old.held j put.holds put.set in
     reached_at m r i k b cells bytes j (slot_at objects i (k + cells)) w (λ there p. next (with_part m there j (record p { content = fitting (bytes_of w) u })))
     kept (shown_part shows i (k + cells) j)
     ∙ ap (found (b + bytes) j w (λ p. next (with_part m (spot_of r i (k + cells)) j (record p { content = fitting (bytes_of w) u }))))
@@ -127,19 +127,6 @@ module _ (blocks : List Activation) (i k byte j : ℕ) (w : Width) (v : Value) w
 
   block_put_is : (p : ℕ) (blocks' : List Activation) → put_through blocks (Some p) i k byte j w v ≡ Some blocks' → IsBlockPut blocks p i k byte j w v blocks'
   block_put_is p blocks' e = put_case p blocks' (slice_get blocks p) refl e
-
-  no_put_block : (p : ℕ) (b : Activation) (o : Option (List (List Slot))) → option_map (put_block blocks p b) o ≡ None → o ≡ None
-  no_put_block p b None e = refl
-  no_put_block p b (Some objects) e = cc
-
-  unput_among : (p : ℕ) (o : Option Activation) (next : Part → Step) → put_among blocks p i k byte j w v o ≡ None → found byte j w next (slot_among o i k) ≡ stuck
-  unput_among p None next e = refl
-  unput_among p (Some b) next e = unput_is b.objects i k byte j w v next (no_put_block p b (put_in b.objects i k byte j w v) e)
-
-  -- where nothing is stored nothing is found
-  unput_found : (o : Option ℕ) (next : Part → Step) → put_through blocks o i k byte j w v ≡ None → found byte j w next (slot_through blocks o i k) ≡ stuck
-  unput_found None next e = refl
-  unput_found (Some p) next e = unput_among p (slice_get blocks p) next e
 
 -- ---- a store to an object of an area
 
@@ -236,28 +223,6 @@ module _ (known : Known) (i k byte j : ℕ) (w : Width) (v : Value) where
   put_stored (area.Own n) after e =
       values_stored n after (position_of known.owns n) (put_through known.owns (position_of known.owns n) i k byte j w v) refl refl e
 
-  none_mapped : {A B : Type 0} (f : A → B) (o : Option A) → option_map f o ≡ None → o ≡ None
-  none_mapped f None e = refl
-  none_mapped f (Some x) e = cc
-
-  unput_held : (next : Part → Step) (held : Option (List (List Slot))) → put_held i k byte j w v held ≡ None → found byte j w next (slot_within held i k) ≡ stuck
-  unput_held next None e = refl
-  unput_held next (Some objects) e = unput_is objects i k byte j w v next (none_mapped Some (put_in objects i k byte j w v) e)
-
-  pub unput_stored : (a : Area) (next : Part → Step) → put_to (stored_in known) a i k byte j w v ≡ None
-      → found byte j w next (slot_in (stored_in known) a i k) ≡ stuck
-  unput_stored area.Globals next e =
-      unput_is known.globals i k byte j w v next (none_mapped (λ globals. record (stored_in known) { globals = globals }) (put_in known.globals i k byte j w v) e)
-  unput_stored (area.Region n) next e =
-      unput_held next (region_at known.regions n) (none_mapped (slice_set known.regions n) (put_held i k byte j w v (region_at known.regions n))
-      (none_mapped (λ regions. record (stored_in known) { regions = regions }) (put_region known.regions n i k byte j w v) e))
-  unput_stored (area.Block n) next e =
-      unput_found known.blocks i k byte j w v (position_of known.blocks n) next
-      (none_mapped (λ blocks. record (stored_in known) { blocks = blocks }) (put_through known.blocks (position_of known.blocks n) i k byte j w v) e)
-  unput_stored (area.Own n) next e =
-      unput_found known.owns i k byte j w v (position_of known.owns n) next
-      (none_mapped (λ owns. record (stored_in known) { owns = owns }) (put_through known.owns (position_of known.owns n) i k byte j w v) e)
-
 -- ---- moves
 
 module _ (known : Known) (ws : List Wait) (x : ℕ) (v : Value) (read : content_of v ≡ temp_of known.temps x) where
@@ -266,25 +231,25 @@ module _ (known : Known) (ws : List Wait) (x : ℕ) (v : Value) (read : content_
   after_put c r i k j s v = with_memory (stored c.memory r i k j s v) c
 
   stored_agrees : (a : Area) (i k byte j : ℕ) (w : Width) (after : Stored) (is : IsStored known a i k byte j w v after) (marks : List Mark) (c : Config)
-      → Agrees known ws marks c → keeps j (fitted w v) ≡ true
+      → Agrees known ws marks c
       → Agrees (with_stored known after) ws marks (after_put c (region_of a) i k j is.put.old (fitted w v))
-  stored_agrees a i k byte j w after is marks c h keep =
+  stored_agrees a i k byte j w after is marks c h =
       replaced_agrees known ws marks c h (stored c.memory (region_of a) i k j is.put.old (fitted w v)).parts a is.objects is.objects' after is.replaces
       (ap length is.put.after ∙ length-set is.objects i (slice_set is.put.cells k (with_held is.put.old is.put.holds)))
       (λ t x other. part_elsewhere c.memory (region_of a) i k j (valued_part is.put.old j (fitted w v)) t x other)
       (λ y z x.
       parts_put (replaced_shows known ws marks c h a is.objects is.objects' after is.replaces) i k j is.put.cells is.put.old (fitted w v) is.put.holds
-      is.put.object is.put.there keep is.put.set y z x
+      is.put.object is.put.there is.put.set y z x
       ∙ ap (λ os. part_in (slot_at os y z) x) (sym is.put.after))
 
   stored_step : (a : Area) (i k b cells bytes j : ℕ) (w : Width) (after : Stored) (is : IsStored known a i (k + cells) (b + bytes) j w v after)
       (marks : List Mark) (c : Config)
-      → Agrees known ws marks c → is_kept j w ≡ true → keeps j (fitted w v) ≡ true → (next : Memory → Step)
+      → Agrees known ws marks c → is_kept j w ≡ true → (next : Memory → Step)
       → reached c.memory (record { cells = cells; bytes = bytes; part = j; width = bytes_of w }) (spot_of (region_of a) i k) b
       (λ at q. next (with_part c.memory at j (record q { content = fitting (bytes_of w) (c.temps x) })))
       ≡ next (stored c.memory (region_of a) i (k + cells) j is.put.old (fitted w v))
-  stored_step a i k b cells bytes j w after is marks c h kept keep next =
-      store_is (replaced_shows known ws marks c h a is.objects is.objects' after is.replaces) i k b cells bytes j w v kept keep is.put (c.temps x)
+  stored_step a i k b cells bytes j w after is marks c h kept next =
+      store_is (replaced_shows known ws marks c h a is.objects is.objects' after is.replaces) i k b cells bytes j w v kept is.put (c.temps x)
       (h.temps x ∙ sym read) next
 
   -- a store to a local, as a store to an object of its block
@@ -306,11 +271,11 @@ module _ (known : Known) (ws : List Wait) (x : ℕ) (v : Value) (read : content_
             let at = position_is known.entered known.blocks p is.block (ordered known ws marks c h).0 is.there in
             let s = own_stored p i w blocks is.block is.there at e in
             goes_here main marks (after_put c (Frame is.block.number) i 0 0 s.put.old (fitted w v)) _ _ ws (record known { blocks = blocks })
-            (stored_agrees (area.Block is.block.number) i 0 0 0 w (record (stored_in known) { blocks = blocks }) s marks c h refl)
+            (stored_agrees (area.Block is.block.number) i 0 0 0 w (record (stored_in known) { blocks = blocks }) s marks c h)
             (ap (λ n. needed n (λ k. reached c.memory (at_once (bytes_of w)) (local_spot k i) 0 (λ at q.
             rest_of main ws marks steps.Falls (with_memory (with_part c.memory at 0 (record q { content = fitting (bytes_of w) (c.temps x) })) c))))
             (own_number known ws marks c h out ∙ ap (number_through known.blocks) own ∙ ap (option_map (λ b. b.number)) is.there)
-            ∙ stored_step (area.Block is.block.number) i 0 0 0 0 0 w (record (stored_in known) { blocks = blocks }) s marks c h refl refl
+            ∙ stored_step (area.Block is.block.number) i 0 0 0 0 0 w (record (stored_in known) { blocks = blocks }) s marks c h refl
             (λ m. rest_of main ws marks steps.Falls (with_memory m c))));
         fewer = omega arith;
       }
@@ -323,7 +288,7 @@ module _ (known : Known) (ws : List Wait) (x : ℕ) (v : Value) (read : content_
   stuck_found None step h = refl
   stuck_found (Some k) step h = h k
 
-  pub put_wrong : (out i : ℕ) (w : Width) → put_local known.base known.blocks out i w v ≡ None
+  pub put_wrong : (out i : ℕ) (w : Width) → value_of 0 0 w (local_slot known.base known.blocks out i) ≡ None
       → IsMove (Execute (core.Do (core.Put out i (bytes_of w) x))) ws known Wrong ws known
   put_wrong out i w e =
       goes_wrong (core.Put out i (bytes_of w) x) ws known (λ marks c h next.
@@ -331,23 +296,13 @@ module _ (known : Known) (ws : List Wait) (x : ℕ) (v : Value) (read : content_
       ∙ stuck_found (number_through known.blocks (own_position known.base known.blocks out))
       (λ k. found 0 0 w (λ q. next (with_memory (with_part c.memory (local_spot k i) 0 (record q { content = fitting (bytes_of w) (c.temps x) })) c))
       (local_slot known.base known.blocks out i))
-      (λ k. unput_found known.blocks i 0 0 0 w v (own_position known.base known.blocks out)
-      (λ q. next (with_memory (with_part c.memory (local_spot k i) 0 (record q { content = fitting (bytes_of w) (c.temps x) })) c)) e))
+      (λ k. found_missing 0 0 w (λ q. next (with_memory (with_part c.memory (local_spot k i) 0 (record q { content = fitting (bytes_of w) (c.temps x) })) c))
+      (local_slot known.base known.blocks out i) e))
 
   -- ---- through a pointer
 
   module _ (y : ℕ) (u : Value) (read_place : content_of u ≡ temp_of known.temps y) (p : Place) (is_place : u ≡ value.Pointer p) (d : Distance)
-      (kept : is_kept d.part d.width ≡ true) (keep : keeps d.part v ≡ true) where
-    -- what is kept of it
-    keep_fitted : keeps d.part (fitted d.width v) ≡ true
-    keep_fitted = by d.part d.width kept keep
-      where
-        by : (j : ℕ) (w : Width) → is_kept j w ≡ true → keeps j v ≡ true → keeps j (fitted w v) ≡ true
-        by zero w kept keep = refl
-        by (suc j) width.Word kept keep = keep
-        by (suc j) width.Byte kept keep =
-            absurd (let none : is_kept (suc j) width.Byte ≡ false = ap (λ b. b || false) (eqb-suc-zero j) in let no : false ≡ true = sym none ∙ kept in cc)
-
+      (kept : is_kept d.part d.width ≡ true) where
     -- what a store does to each state
     abbrev stores : (c : Config) → (Config → Step) → Content → Step
     stores c next z = pointer_of z (λ s b. reached c.memory (distance_tree d) s b (λ at q.
@@ -361,20 +316,22 @@ module _ (known : Known) (ws : List Wait) (x : ℕ) (v : Value) (read : content_
           let is = put_stored known p.object (p.cell + d.cells) (p.byte + d.bytes) d.part d.width v p.area after (e (ordered known ws marks c h)) in
           goes_here main marks (after_put c (region_of p.area) p.object (p.cell + d.cells) d.part is.put.old (fitted d.width v)) _ _ ws
           (with_stored known after)
-          (stored_agrees p.area p.object (p.cell + d.cells) (p.byte + d.bytes) d.part d.width after is marks c h keep_fitted)
+          (stored_agrees p.area p.object (p.cell + d.cells) (p.byte + d.bytes) d.part d.width after is marks c h)
           (ap (stores c (rest_of main ws marks steps.Falls)) (h.temps y ∙ sym read_place ∙ ap content_of is_place)
-          ∙ stored_step p.area p.object p.cell p.byte d.cells d.bytes d.part d.width after is marks c h kept keep_fitted (λ m. rest_of main ws marks steps.Falls (with_memory m c))));
+          ∙ stored_step p.area p.object p.cell p.byte d.cells d.bytes d.part d.width after is marks c h kept
+          (λ m. rest_of main ws marks steps.Falls (with_memory m c))));
       fewer = omega arith;
     }
 
-    pub store_wrong : (AreInOrder known → put_to (stored_in known) p.area p.object (p.cell + d.cells) (p.byte + d.bytes) d.part d.width v ≡ None)
+    pub store_wrong : (AreInOrder known
+        → value_of (p.byte + d.bytes) d.part d.width (slot_in (stored_in known) p.area p.object (p.cell + d.cells)) ≡ None)
         → IsMove (Execute (core.Do (core.Store y (distance_tree d) x))) ws known Wrong ws known
     store_wrong e =
         goes_wrong (core.Store y (distance_tree d) x) ws known (λ marks c h next.
         ap (stores c next) (h.temps y ∙ sym read_place ∙ ap content_of is_place)
         ∙ placed known ws marks c h p d
         (λ at q. next (with_memory (with_part c.memory at d.part (record q { content = fitting (bytes_of d.width) (c.temps x) })) c)) kept
-        ∙ unput_stored known p.object (p.cell + d.cells) (p.byte + d.bytes) d.part d.width v p.area
+        ∙ found_missing (p.byte + d.bytes) d.part d.width
         (λ q. next (with_memory (with_part c.memory (spot_of (region_of p.area) p.object (p.cell + d.cells)) d.part
         (record q { content = fitting (bytes_of d.width) (c.temps x) })) c))
-        (e (ordered known ws marks c h)))
+        (slot_in (stored_in known) p.area p.object (p.cell + d.cells)) (e (ordered known ws marks c h)))

@@ -58,11 +58,14 @@ use Rattle.core_eval.specs.Regions.{region_at, still_held, slot_within}
 use Rattle.core_eval.specs.Whole as whole
 use Rattle.core_eval.specs.Whole.{
   are_cells,
+  are_alike,
+  elements_alike,
   slots_of,
   is_found,
   is_still,
   is_held,
   is_cell,
+  is_alike,
   are_laid,
   has_elements,
   same_object,
@@ -83,18 +86,19 @@ use Rattle.core_eval.proofs.Changes.{stored_in, with_stored, Replaces, replaced_
 use Rattle.core_eval.proofs.MemoryMoves.{AreInOrder, ordered, same_regions}
 use Rattle.core_eval.proofs.Laid.{held_part, laid_is, elements_is}
 use Rattle.core_eval.proofs.Filled.{filled_slot, fill_length, object_changed}
+use Rattle.core_eval.proofs.CopiedParts.{copied_by, cleared_by}
 use Rattle.core_eval.proofs.WholeParts.{
-  copied_by,
-  cleared_by,
   copied_part,
   cleared_part,
   values_at,
   values_long,
   cell_there,
+  alike_there,
   cell_at,
   cell_copied,
   cell_cleared,
   element_laid,
+  element_alike,
   first_at,
   first_long,
 }
@@ -240,10 +244,11 @@ module _ (known : Known) (ws : List Wait) (x : ℕ) (u : Value) (read : content_
     copied_values = values_from (slots_of (stored_in known) q) q.cell cs
 
     copied_agrees : (marks : List Mark) (c : Config) → Agrees known ws marks c → are_laid (stored_in known) p cs ≡ true
-        → are_laid (stored_in known) q cs ≡ true
+        → are_laid (stored_in known) q cs ≡ true → are_alike (slots_of (stored_in known) p) p.cell cs ≡ true
+        → are_alike (slots_of (stored_in known) q) q.cell cs ≡ true
         → Agrees (with_stored known (fill_to (stored_in known) p.area p.object p.cell copied_values)) ws marks
         (with_memory (copied tree (place_spot p) (place_spot q) c.memory) c)
-    copied_agrees marks c h laid laid_from =
+    copied_agrees marks c h laid laid_from alike alike_from =
         change_agrees known ws marks c h p copied_values (and_parts _ _ laid).0
         (λ k j o. copied_by o (part_of tree k j) (c.memory.parts (on_from (place_spot q) k) j))
         (length tree.cells) (values_long (slots_of (stored_in known) q) cs q.cell)
@@ -271,14 +276,18 @@ module _ (known : Known) (ws : List Wait) (x : ℕ) (u : Value) (read : content_
             (ap (λ z. shape_in z j) (cell_at cs n d at))
             ∙ ap (copied_by (part_in o j) (slice_get (cell_parts d) j)) (held_part known ws marks c h q.area q.object (q.cell + n) j held)
             ∙ cell_copied o d (slots_of (stored_in known) q (q.cell + n)) p.byte q.byte j
+            (alike_there (slots_of (stored_in known) p) cs p.cell n d alike at)
+            (alike_there (slots_of (stored_in known) q) cs q.cell n d alike_from at)
             (cell_there (slots_of (stored_in known) p) p.byte cs p.cell n d cells_to at)
             (cell_there (slots_of (stored_in known) q) q.byte cs q.cell n d cells at)
             ∙ ap (λ z. part_in (filled_slot (Some z) o) j) (sym same)
 
     pub copy_moves : (after : Stored) → (AreInOrder known → can_copy ≡ true)
+        → (AreInOrder known → are_alike (slots_of (stored_in known) p) p.cell cs ≡ true)
+        → (AreInOrder known → are_alike (slots_of (stored_in known) q) q.cell cs ≡ true)
         → (AreInOrder known → after ≡ fill_to (stored_in known) p.area p.object p.cell copied_values)
         → IsMove (Execute (core.Do (core.Copy x y tree))) ws known (Go (Leave steps.Falls)) ws (with_stored known after)
-    copy_moves after can gives = record {
+    copy_moves after can alike alike_from gives = record {
       still = all_stand _ ws known _ ws (with_stored known after) (λ main marks c h.
           let ok = can (ordered known ws marks c h) in
           let (laid, others) = and_parts _ _ ok in
@@ -286,7 +295,8 @@ module _ (known : Known) (ws : List Wait) (x : ℕ) (u : Value) (read : content_
           goes_here main marks (with_memory (copied tree (place_spot p) (place_spot q) c.memory) c) _ _ ws (with_stored known after)
           (subst
           (λ (s : Stored). Agrees (with_stored known s) ws marks (with_memory (copied tree (place_spot p) (place_spot q) c.memory) c))
-          (sym (gives (ordered known ws marks c h))) (copied_agrees marks c h laid laid_from))
+          (sym (gives (ordered known ws marks c h))) (copied_agrees marks c h laid laid_from
+          (alike (ordered known ws marks c h)) (alike_from (ordered known ws marks c h))))
           (copies_is marks c h (rest_of main ws marks steps.Falls)
           ∙ ap (λ b. checked b (rest_of main ws marks steps.Falls (with_memory (copied tree (place_spot p) (place_spot q) c.memory) c))) ok));
       fewer = omega arith;
@@ -313,9 +323,10 @@ module _ (known : Known) (ws : List Wait) (x : ℕ) (u : Value) (read : content_
         ∙ ap (λ b. checked b (next (with_memory (cleared tree count (place_spot p) c.memory) c))) (elements_is known ws marks c h p l count)
 
     cleared_agrees : (marks : List Mark) (c : Config) → Agrees known ws marks c → has_elements (stored_in known) p l count ≡ true
+        → elements_alike (slots_of (stored_in known) p) p.cell cs count ≡ true
         → Agrees (with_stored known (fill_to (stored_in known) p.area p.object p.cell (first_elements cs count))) ws marks
         (with_memory (cleared tree count (place_spot p) c.memory) c)
-    cleared_agrees marks c h laid =
+    cleared_agrees marks c h laid alike =
         change_agrees known ws marks c h p (first_elements cs count) (and_parts _ _ laid).0
         (λ k j o. cleared_by o (part_of tree (in_element tree k) j))
         (count * length tree.cells)
@@ -344,18 +355,23 @@ module _ (known : Known) (ws : List Wait) (x : ℕ) (u : Value) (read : content_
             sym (ap (λ k. is_cell (slots_of (stored_in known) p k) (p.byte + element * l.bytes) f.cell) at)
             ∙ cell_there (slots_of (stored_in known) p) (p.byte + element * l.bytes) cs (p.cell + element * length cs) (n % length cs) f.cell
             (element_laid (slots_of (stored_in known) p) cs l.bytes count element p.cell p.byte f.within elements) f.there in
+            let alike_here : is_alike o f.cell ≡ true =
+            sym (ap (λ k. is_alike (slots_of (stored_in known) p k) f.cell) at)
+            ∙ alike_there (slots_of (stored_in known) p) cs (p.cell + element * length cs) (n % length cs) f.cell
+            (element_alike (slots_of (stored_in known) p) cs count element p.cell f.within alike) f.there in
             ap (λ k. cleared_by (part_in o j) (shape_in (slice_get tree.cells (n % k)) j)) (length-map cs cell_parts)
             ∙ ap (λ (z : Option (List PartShape)). cleared_by (part_in o j) (shape_in z j)) (cell_at cs (n % length cs) f.cell f.there)
-            ∙ cell_cleared o f.cell (p.byte + element * l.bytes) j laid_there ∙ ap (λ z. part_in (filled_slot (Some z) o) j) (sym f.value)
+            ∙ cell_cleared o f.cell (p.byte + element * l.bytes) j alike_here laid_there ∙ ap (λ z. part_in (filled_slot (Some z) o) j) (sym f.value)
 
     pub clear_moves : (after : Stored) → (AreInOrder known → has_elements (stored_in known) p l count ≡ true)
+        → (AreInOrder known → elements_alike (slots_of (stored_in known) p) p.cell cs count ≡ true)
         → (AreInOrder known → after ≡ fill_to (stored_in known) p.area p.object p.cell (first_elements cs count))
         → IsMove (Execute (core.Do (core.Clear x tree count))) ws known (Go (Leave steps.Falls)) ws (with_stored known after)
-    clear_moves after laid gives = record {
+    clear_moves after laid alike gives = record {
       still = all_stand _ ws known _ ws (with_stored known after) (λ main marks c h.
           goes_here main marks (with_memory (cleared tree count (place_spot p) c.memory) c) _ _ ws (with_stored known after)
           (subst (λ (s : Stored). Agrees (with_stored known s) ws marks (with_memory (cleared tree count (place_spot p) c.memory) c))
-          (sym (gives (ordered known ws marks c h))) (cleared_agrees marks c h (laid (ordered known ws marks c h))))
+          (sym (gives (ordered known ws marks c h))) (cleared_agrees marks c h (laid (ordered known ws marks c h)) (alike (ordered known ws marks c h))))
           (clears_is marks c h (rest_of main ws marks steps.Falls)
           ∙ ap (λ b. checked b (rest_of main ws marks steps.Falls (with_memory (cleared tree count (place_spot p) c.memory) c)))
           (laid (ordered known ws marks c h))));

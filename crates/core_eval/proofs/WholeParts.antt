@@ -28,36 +28,38 @@ use Rattle.std.proofs.Common.{
   suc-mul,
   arith,
 }
-use Rattle.std.proofs.Math.Dec.{eqb-suc-zero}
 use Rattle.std.proofs.lemmas.Bool.{and_parts}
 use Rattle.std.proofs.lemmas.Bool.Decides.{nat_tests}
 use Rattle.std.proofs.lemmas.List.{length-map, length-append}
 use Rattle.core_meaning.specs.Memory.{Spot, Part, PartShape, Layout, Memory}
-use Rattle.core_meaning.specs.Operations.{cells_on, part_of, content_from, on_from, copied, in_element, begun, cleared}
+use Rattle.core_meaning.specs.Operations.{cells_on, part_of, on_from, copied, in_element, cleared}
 use Rattle.cyc_core.specs.declared.layout.CellLayout.{CellLayout}
-use Rattle.cyc_core.specs.Trees.{cell_parts, padding_parts}
+use Rattle.cyc_core.specs.Trees.{cell_parts}
 use Rattle.core_eval.specs.declared.value.Place.{Place}
 use Rattle.core_eval.specs.declared.value.Slot.{Slot}
 use Rattle.core_eval.specs.declared.held.Held.{Held}
-use Rattle.core_eval.specs.declared.held.Held.TheVariants as held
-use Rattle.core_eval.specs.Values.{part_in, first_held, refilled}
+use Rattle.core_eval.specs.Values.{part_in, first_held}
 use Rattle.core_eval.specs.Elements.{each_element}
 use Rattle.core_eval.specs.Blocks.{Stored, slot_in}
-use Rattle.core_eval.specs.Whole.{has_parts, is_cell, are_cells, are_elements, slots_of, held_as, held_by, values_from, begins_as, first_elements}
-use Rattle.core_eval.proofs.Parts.{nothing_at, padding_shape, padding_part, shapes_by, cell_shapes, parts_as}
+use Rattle.core_eval.specs.Whole.{
+  is_cell,
+  is_alike,
+  are_cells,
+  are_alike,
+  are_elements,
+  elements_alike,
+  slots_of,
+  held_by,
+  values_from,
+  begins_as,
+  first_elements,
+}
+use Rattle.core_eval.proofs.Parts.{cell_shapes}
 use Rattle.core_eval.proofs.Elements.{element_at, no_element}
 use Rattle.core_eval.proofs.Filled.{filled_slot}
+use Rattle.core_eval.proofs.CopiedParts.{copied_by, cleared_by, held_copied, held_cleared}
 
 -- ---- what a copy and what a clearing change
-
-abbrev pub copied_by : Option Part → Option PartShape → Option Part → Option Part
-copied_by None s q = None
-copied_by (Some p) None q = Some p
-copied_by (Some p) (Some s) q = content_from p q
-
-abbrev pub cleared_by : Option Part → Option PartShape → Option Part
-cleared_by None s = None
-cleared_by (Some p) s = Some (begun p s)
 
 module _ (l : Layout) (m : Memory) (to : Spot) where
   pub copied_part : (from : Spot) (t : Spot) (j : ℕ) (o : Option Part) (s : Option PartShape) → m.parts t j ≡ o
@@ -107,6 +109,18 @@ cell_there slots byte (d ∷ cs) k (suc q) c laid at =
     second true e = e
     second false e = cc
 
+-- and may have a pointer where that may
+pub alike_there : (slots : ℕ → Option Slot) (cs : List CellLayout) (k q : ℕ) (c : CellLayout) → are_alike slots k cs ≡ true → slice_get cs q ≡ Some c
+    → is_alike (slots (k + q)) c ≡ true
+alike_there slots [] k q c alike at = absurd (cc)
+alike_there slots (d ∷ cs) k zero c alike at =
+    let same : d ≡ c = cc in
+    ap (λ n. is_alike (slots n) c) (let z : k + 0 ≡ k = omega arith in z) ∙ ap (is_alike (slots k)) (sym same)
+    ∙ (and_parts (is_alike (slots k) d) (are_alike slots (k + 1) cs) alike).0
+alike_there slots (d ∷ cs) k (suc q) c alike at =
+    ap (λ n. is_alike (slots n) c) (let z : k + suc q ≡ k + 1 + q = omega arith in z)
+    ∙ alike_there slots cs (k + 1) q c (and_parts (is_alike (slots k) d) (are_alike slots (k + 1) cs) alike).1 at
+
 pub cell_at : (cs : List CellLayout) (q : ℕ) (c : CellLayout) → slice_get cs q ≡ Some c → slice_get (map cell_parts cs) q ≡ Some (cell_parts c)
 cell_at [] q c e = cc
 cell_at (d ∷ cs) zero c e = let same : d ≡ c = cc in ap (λ x. Some (cell_parts x)) same
@@ -129,13 +143,36 @@ element_laid slots cs bytes (suc n) (suc e) k byte less laid =
     ∙ ap (λ (x : ℕ). are_cells slots (k + length cs + e * length cs) x cs) more
     ∙ element_laid slots cs bytes n e (k + length cs) (byte + bytes) (omega (arith, less)) (and_parts _ _ laid).1
 
+-- and may have pointers as those have
+pub element_alike : (slots : ℕ → Option Slot) (cs : List CellLayout) (n e k : ℕ) → e < n → elements_alike slots k cs n ≡ true
+    → are_alike slots (k + e * length cs) cs ≡ true
+element_alike slots cs zero e k less alike = absurd (omega (arith, less))
+element_alike slots cs (suc n) zero k less alike =
+    ap (λ (x : ℕ). are_alike slots x cs) (let z : k + 0 * length cs ≡ k = omega arith in z) ∙ (and_parts _ _ alike).0
+element_alike slots cs (suc n) (suc e) k less alike =
+    let cells : k + suc e * length cs ≡ k + length cs + e * length cs = (let times = suc-mul e (length cs) in omega (arith, times)) in
+    ap (λ (x : ℕ). are_alike slots x cs) cells ∙ element_alike slots cs n e (k + length cs) (omega (arith, less)) (and_parts _ _ alike).1
+
 -- two places of one object
 pub cells_at : (stored : Stored) (p q : Place) (cs : List CellLayout) (k byte : ℕ) → q.area ≡ p.area → q.object ≡ p.object
     → are_cells (slots_of stored p) k byte cs ≡ are_cells (slots_of stored q) k byte cs
 cells_at stored p q cs k byte area object =
     ap (λ a. are_cells (λ x. slot_in stored a p.object x) k byte cs) (sym area) ∙ ap (λ o. are_cells (λ x. slot_in stored q.area o x) k byte cs) (sym object)
 
+pub alike_at : (stored : Stored) (p q : Place) (cs : List CellLayout) (k : ℕ) → q.area ≡ p.area → q.object ≡ p.object
+    → are_alike (slots_of stored p) k cs ≡ are_alike (slots_of stored q) k cs
+alike_at stored p q cs k area object =
+    ap (λ a. are_alike (λ x. slot_in stored a p.object x) k cs) (sym area) ∙ ap (λ o. are_alike (λ x. slot_in stored q.area o x) k cs) (sym object)
+
 -- elements that are tested one after the other
+pub alike_passed : (slots : ℕ → Option Slot) (cs : List CellLayout) (k n count : ℕ) (whole : Bool) → n < count → elements_alike slots k cs (count - n) ≡ whole
+    → (k' : ℕ) → are_alike slots k cs ≡ true → k' ≡ k + length cs → elements_alike slots k' cs (count - (n + 1)) ≡ whole
+alike_passed slots cs k n count whole less so_far k' alike cells =
+    let left : count - n ≡ suc (count - (n + 1)) = omega (arith, less) in
+    ap (λ x. elements_alike slots x cs (count - (n + 1))) cells
+    ∙ sym (ap (λ b. b && elements_alike slots (k + length cs) cs (count - (n + 1))) alike)
+    ∙ sym (ap (elements_alike slots k cs) left) ∙ so_far
+
 module _ (slots : ℕ → Option Slot) (cs : List CellLayout) (bytes k byte n count : ℕ) (whole : Bool) (less : n < count)
     (so_far : are_elements slots k byte cs bytes (count - n) ≡ whole) where
   one_more : (are_cells slots k byte cs && are_elements slots (k + length cs) (byte + bytes) cs bytes (count - (n + 1))) ≡ whole
@@ -193,106 +230,21 @@ first_long cs e (suc count) =
 
 -- ---- what a cell gets
 
--- bytes that hold nothing stay so
-padding_copied : (a b : Bool) (x y : ℕ) (shape : Option PartShape) → copied_by (nothing_at a x) shape (nothing_at b y) ≡ nothing_at a x
-padding_copied false b x y shape = refl
-padding_copied true b x y None = refl
-padding_copied true false x y (Some s) = refl
-padding_copied true true x y (Some s) = refl
-
-padding_cleared : (a : Bool) (x at m j : ℕ) → cleared_by (nothing_at a x) (slice_get (padding_parts at m) j) ≡ nothing_at a x
-padding_cleared a x at m j = ap (cleared_by (nothing_at a x)) (padding_part at m j) ∙ by a (nat_lt j m)
-  where
-    by : (a b : Bool) → cleared_by (nothing_at a x) (padding_shape b (at + j)) ≡ nothing_at a x
-    by false b = refl
-    by true false = refl
-    by true true = refl
-
--- where a layout has no part nothing changes
-uncopied : (o p : Option Part) → copied_by o None p ≡ o
-uncopied None p = refl
-uncopied (Some q) p = refl
-
-uncleared : (o : Option Part) → cleared_by o None ≡ o
-uncleared None = refl
-uncleared (Some q) = refl
-
--- a layout without bytes behind
-no_padding : (m at j : ℕ) → nat_eq m 0 ≡ true → slice_get (padding_parts at m) j ≡ None
-no_padding zero at j none = refl
-no_padding (suc m) at j none = absurd (let no : false ≡ true = sym (eqb-suc-zero m) ∙ none in cc)
-
-held_copied : (h g f : Held) (offset n at m from l j : ℕ) → has_parts h n g m ≡ true → has_parts f l g m ≡ true
-    → copied_by (parts_as h offset n j) (slice_get (shapes_by at g m) j) (parts_as f from l j) ≡ parts_as (refilled h (held_as g f)) offset n j
-held_copied (held.Byte u) (held.Byte v) (held.Byte w) offset n at m from l zero has has_from = refl
-held_copied (held.Byte u) (held.Byte v) (held.Byte w) offset n at m from l (suc j) has has_from =
-    padding_copied (nat_lt j n) (nat_lt j l) (offset + 1 + j) (from + 1 + j) (slice_get (padding_parts (at + 1) m) j)
-held_copied (held.Byte u) (held.Byte v) (held.Word w) offset n at m from l j has has_from = cc
-held_copied (held.Byte u) (held.Byte v) (held.Fat w x y) offset n at m from l j has has_from = cc
-held_copied (held.Byte u) (held.Word v) f offset n at m from l j has has_from = cc
-held_copied (held.Byte u) (held.Fat v c d) f offset n at m from l j has has_from = cc
-held_copied (held.Word u) (held.Byte v) f offset n at m from l j has has_from = cc
-held_copied (held.Word u) (held.Word v) (held.Byte w) offset n at m from l j has has_from = cc
-held_copied (held.Word u) (held.Word v) (held.Word w) offset n at m from l zero has has_from = refl
-held_copied (held.Word u) (held.Word v) (held.Word w) offset n at m from l (suc j) has has_from =
-    padding_copied (nat_lt j n) (nat_lt j l) (offset + 4 + j) (from + 4 + j) (slice_get (padding_parts (at + 4) m) j)
-held_copied (held.Word u) (held.Word v) (held.Fat w x y) offset n at m from l zero has has_from = refl
-held_copied (held.Word u) (held.Word v) (held.Fat w x y) offset n at m from l (suc j) has has_from =
-    ap (λ s. copied_by (nothing_at (nat_lt j n) (offset + 4 + j)) s (parts_as (held.Fat w x y) from l (suc j))) (no_padding m (at + 4) j has_from)
-    ∙ uncopied (nothing_at (nat_lt j n) (offset + 4 + j)) (parts_as (held.Fat w x y) from l (suc j))
-held_copied (held.Word u) (held.Fat v c d) f offset n at m from l j has has_from = cc
-held_copied (held.Fat u a b) (held.Byte v) f offset n at m from l j has has_from = cc
-held_copied (held.Fat u a b) (held.Word v) (held.Byte w) offset n at m from l j has has_from = cc
-held_copied (held.Fat u a b) (held.Word v) (held.Word w) offset n at m from l zero has has_from = refl
-held_copied (held.Fat u a b) (held.Word v) (held.Word w) offset n at m from l (suc j) has has_from =
-    ap (λ s. copied_by (parts_as (held.Fat u a b) offset n (suc j)) s (parts_as (held.Word w) from l (suc j))) (no_padding m (at + 4) j has)
-    ∙ uncopied (parts_as (held.Fat u a b) offset n (suc j)) (parts_as (held.Word w) from l (suc j))
-held_copied (held.Fat u a b) (held.Word v) (held.Fat w x y) offset n at m from l zero has has_from = refl
-held_copied (held.Fat u a b) (held.Word v) (held.Fat w x y) offset n at m from l (suc j) has has_from =
-    ap (λ s. copied_by (parts_as (held.Fat u a b) offset n (suc j)) s (parts_as (held.Fat w x y) from l (suc j))) (no_padding m (at + 4) j has)
-    ∙ uncopied (parts_as (held.Fat u a b) offset n (suc j)) (parts_as (held.Fat w x y) from l (suc j))
-held_copied (held.Fat u a b) (held.Fat v c d) (held.Byte w) offset n at m from l j has has_from = cc
-held_copied (held.Fat u a b) (held.Fat v c d) (held.Word w) offset n at m from l j has has_from = cc
-held_copied (held.Fat u a b) (held.Fat v c d) (held.Fat w x y) offset n at m from l zero has has_from = refl
-held_copied (held.Fat u a b) (held.Fat v c d) (held.Fat w x y) offset n at m from l (suc zero) has has_from = refl
-held_copied (held.Fat u a b) (held.Fat v c d) (held.Fat w x y) offset n at m from l (suc (suc zero)) has has_from = refl
-held_copied (held.Fat u a b) (held.Fat v c d) (held.Fat w x y) offset n at m from l (suc (suc (suc j))) has has_from =
-    padding_copied (nat_lt j n) (nat_lt j l) (offset + 4 + 4 + 4 + j) (from + 4 + 4 + 4 + j) (slice_get (padding_parts (at + 12) m) j)
-
-held_cleared : (h g : Held) (offset n at m j : ℕ) → has_parts h n g m ≡ true
-    → cleared_by (parts_as h offset n j) (slice_get (shapes_by at g m) j) ≡ parts_as (refilled h g) offset n j
-held_cleared (held.Byte u) (held.Byte v) offset n at m zero has = refl
-held_cleared (held.Byte u) (held.Byte v) offset n at m (suc j) has = padding_cleared (nat_lt j n) (offset + 1 + j) (at + 1) m j
-held_cleared (held.Byte u) (held.Word v) offset n at m j has = cc
-held_cleared (held.Byte u) (held.Fat v c d) offset n at m j has = cc
-held_cleared (held.Word u) (held.Byte v) offset n at m j has = cc
-held_cleared (held.Word u) (held.Word v) offset n at m zero has = refl
-held_cleared (held.Word u) (held.Word v) offset n at m (suc j) has = padding_cleared (nat_lt j n) (offset + 4 + j) (at + 4) m j
-held_cleared (held.Word u) (held.Fat v c d) offset n at m j has = cc
-held_cleared (held.Fat u a b) (held.Byte v) offset n at m j has = cc
-held_cleared (held.Fat u a b) (held.Word v) offset n at m zero has = refl
-held_cleared (held.Fat u a b) (held.Word v) offset n at m (suc j) has =
-    ap (cleared_by (parts_as (held.Fat u a b) offset n (suc j))) (no_padding m (at + 4) j has) ∙ uncleared (parts_as (held.Fat u a b) offset n (suc j))
-held_cleared (held.Fat u a b) (held.Fat v c d) offset n at m zero has = refl
-held_cleared (held.Fat u a b) (held.Fat v c d) offset n at m (suc zero) has = refl
-held_cleared (held.Fat u a b) (held.Fat v c d) offset n at m (suc (suc zero)) has = refl
-held_cleared (held.Fat u a b) (held.Fat v c d) offset n at m (suc (suc (suc j))) has =
-    padding_cleared (nat_lt j n) (offset + 4 + 4 + 4 + j) (at + 12) m j
-
 -- what a cell gets from another one
-pub cell_copied : (o : Option Slot) (c : CellLayout) (from : Option Slot) (byte more j : ℕ) → is_cell o byte c ≡ true → is_cell from more c ≡ true
+pub cell_copied : (o : Option Slot) (c : CellLayout) (from : Option Slot) (byte more j : ℕ) → is_alike o c ≡ true → is_alike from c ≡ true
+    → is_cell o byte c ≡ true → is_cell from more c ≡ true
     → copied_by (part_in o j) (slice_get (cell_parts c) j) (part_in from j) ≡ part_in (filled_slot (Some (held_by c from)) o) j
-cell_copied None c from byte more j laid laid_from = refl
-cell_copied (Some s) c None byte more j laid laid_from = absurd (cc)
-cell_copied (Some s) c (Some from) byte more j laid laid_from =
+cell_copied None c from byte more j alike alike_from laid laid_from = refl
+cell_copied (Some s) c None byte more j alike alike_from laid laid_from = absurd (cc)
+cell_copied (Some s) c (Some from) byte more j alike alike_from laid laid_from =
     ap (λ shapes. copied_by (part_in (Some s) j) (slice_get shapes j) (part_in (Some from) j)) (cell_shapes c)
     ∙ held_copied s.held (first_held c.cell) from.held s.offset s.padding c.offset c.padding from.offset from.padding j
-    (and_parts _ _ laid).1 (and_parts _ _ laid_from).1
+    alike alike_from (and_parts _ _ laid).1 (and_parts _ _ laid_from).1
 
 -- what a cell begins with
-pub cell_cleared : (o : Option Slot) (c : CellLayout) (byte j : ℕ) → is_cell o byte c ≡ true
+pub cell_cleared : (o : Option Slot) (c : CellLayout) (byte j : ℕ) → is_alike o c ≡ true → is_cell o byte c ≡ true
     → cleared_by (part_in o j) (slice_get (cell_parts c) j) ≡ part_in (filled_slot (Some (first_held c.cell)) o) j
-cell_cleared None c byte j laid = refl
-cell_cleared (Some s) c byte j laid =
+cell_cleared None c byte j alike laid = refl
+cell_cleared (Some s) c byte j alike laid =
     ap (λ shapes. cleared_by (part_in (Some s) j) (slice_get shapes j)) (cell_shapes c)
-    ∙ held_cleared s.held (first_held c.cell) s.offset s.padding c.offset c.padding j (and_parts _ _ laid).1
+    ∙ held_cleared s.held (first_held c.cell) s.offset s.padding c.offset c.padding j alike (and_parts _ _ laid).1

@@ -1,6 +1,6 @@
 -- How many moves there are at most before a unit is due or the run is over: each move has fewer after it.
 use Rattle.std.specs.Prelude.{ℕ, ◌+◌, ◌≤◌, List, [], ◌∷◌}
-use Rattle.core_meaning.specs.Core.{Statement, If, While, Block, Statements, NoStatements, MoreStatements}
+use Rattle.core_meaning.specs.Core.{Statement, If, While, Block, Leave as LeaveOf, Statements, NoStatements, MoreStatements}
 use Rattle.core_eval.specs.Pendings.{Task, Follow, Execute, Leave, Wait, Then, Body, Next, Go}
 use Rattle.core_eval.specs.Standing.{Known, StandsStill}
 
@@ -9,6 +9,7 @@ abbrev mutual
   statement_cost (If t these those) = statements_cost these + statements_cost those + 1
   statement_cost (While test t body) = statements_cost test + 2
   statement_cost (Block locals body) = statements_cost body + 2
+  statement_cost (LeaveOf body) = statements_cost body + 2
   statement_cost _ = 1
 
   pub statements_cost : Statements → ℕ

@@ -11,7 +11,7 @@ use Rattle.core_meaning.specs.Core.{Statements}
 use Rattle.core_meaning.specs.Steps as steps
 use Rattle.core_meaning.specs.Steps.{Config, with_temp, with_memory, Exit, Step, stuck}
 use Rattle.core_meaning.specs.Operations.{byte_word, says}
-use Rattle.core_meaning.specs.Meaning.{falls_to, branch, with_results, out_of_block, after_turn, statement, statements, left, status_of}
+use Rattle.core_meaning.specs.Meaning.{falls_to, branch, with_results, out_of_block, left_by, after_turn, statement, statements, left, status_of}
 use Rattle.cyc_core.specs.Trees.{optional_tree, statement_tree, body_tree}
 use Rattle.core_eval.specs.declared.value.Value.{Value}
 use Rattle.core_eval.specs.declared.value.Value.TheVariants as value
@@ -41,12 +41,14 @@ pub record Saved : Type 0 where
   pub temps : List Value
   pub base : ℕ
 
--- what waits for the end of a statement: the statements after it; a loop whose test it is, or whose body; a block; the caller of the function with this number
+-- what waits for the end of a statement: the statements after it; a loop whose test it is, or whose body; a block; a statement that a break in its body ends;
+-- the caller of the function with this number
 pub data Wait : Type 0 where
   Then : Statements → Wait
   Test : (test : Statements) (flag : ℕ) (body : Statements) → Wait
   Body : (test : Statements) (flag : ℕ) (body : Statements) → Wait
   Block : Wait
+  Breakable : Wait
   Caller : (results : List ℕ) (function : ℕ) → Saved → Wait
 
 -- what is due
@@ -102,6 +104,7 @@ wait_of (pending.Then ss) = Then (body_tree ss.now)
 wait_of (pending.Test test flag body) = Test (body_tree test.now) flag.0 (body_tree body.now)
 wait_of (pending.Body test flag body) = Body (body_tree test.now) flag.0 (body_tree body.now)
 wait_of pending.Block = Block
+wait_of pending.Breakable = Breakable
 wait_of (pending.Caller result f saved) = Caller (optional_tree result) f (saved_of saved)
 
 abbrev pub next_of : code_due.Due → Next
@@ -145,6 +148,7 @@ rest_of main (Test test flag body ∷ ws) marks = tested test flag body (rest_of
 rest_of main (Body test flag body ∷ ws) marks = turned_once test flag body (rest_of main ws marks)
 rest_of main (Block ∷ ws) [] = λ exit c. stuck
 rest_of main (Block ∷ ws) (mark ∷ marks) = λ exit c. rest_of main ws marks exit (out_of_block mark.number mark.outside.blocks c)
+rest_of main (Breakable ∷ ws) marks = λ exit. left_by exit (rest_of main ws marks)
 rest_of main (Caller results f saved ∷ ws) [] = λ exit c. stuck
 rest_of main (Caller results f saved ∷ ws) (mark ∷ marks) = left f mark.number (returned_to results mark.outside (rest_of main ws marks))
 

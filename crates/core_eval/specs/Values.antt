@@ -24,9 +24,7 @@ use Rattle.std.specs.Prelude.{
   nat_eq,
   nat_lt,
   not,
-  is_some,
   option_map,
-  unwrap_or,
   if◌then◌else◌,
 }
 use Rattle.core_meaning.specs.Memory as memory
@@ -84,13 +82,15 @@ abbrev pub width_of : Held → Width
 width_of (held.Byte v) = width.Byte
 width_of (held.Word v) = width.Word
 width_of (held.Fat u v w) = width.Word
+width_of (held.Tagged t v) = width.Word
+width_of (held.TaggedFat t u v w) = width.Word
 
--- A count or an index is a word, or nothing as yet.
+-- A count, an index or a tag is a word, or nothing as yet.
 abbrev pub bound_value : Bound → Value
 bound_value bound.Blank = value.Blank
 bound_value (bound.Word n) = value.Word n
 
--- the same as a count or an index, if it is one
+-- the same as one of these, if it is one
 abbrev pub kept_of : Value → Option Bound
 kept_of value.Blank = Some bound.Blank
 kept_of (value.Word n) = Some (bound.Word n)
@@ -98,47 +98,68 @@ kept_of value.Null = None
 kept_of (value.Pointer p) = None
 kept_of (value.Birth d) = None
 
--- what is left of it as one: nothing, where it is none
-abbrev pub bound_of : Value → Bound
-bound_of v = unwrap_or (kept_of v) bound.Blank
-
-abbrev pub is_bound : Value → Bool
-is_bound v = is_some (kept_of v)
-
--- whether a value is kept of the part j
-abbrev pub keeps : ℕ → Value → Bool
-keeps j v = nat_eq j 0 || is_bound v
+-- the part that may be a pointer or a handle: the first, or of a tagged union the one behind its tag
+abbrev pub pointer_part : Held → ℕ
+pointer_part (held.Byte v) = 0
+pointer_part (held.Word v) = 0
+pointer_part (held.Fat u v w) = 0
+pointer_part (held.Tagged t v) = 1
+pointer_part (held.TaggedFat t u v w) = 1
 
 -- what its first part holds, and what those behind that do
 abbrev pub first_of : Held → Value
 first_of (held.Byte v) = v
 first_of (held.Word v) = v
 first_of (held.Fat u v w) = u
+first_of (held.Tagged t v) = bound_value t
+first_of (held.TaggedFat t u v w) = bound_value t
 
 abbrev pub further_of : Held → List Value
 further_of (held.Byte v) = []
 further_of (held.Word v) = []
 further_of (held.Fat u v w) = bound_value v ∷ bound_value w ∷ []
+further_of (held.Tagged t v) = v ∷ []
+further_of (held.TaggedFat t u v w) = u ∷ bound_value v ∷ bound_value w ∷ []
 
 abbrev pub values_in : Held → List Value
 values_in h = first_of h ∷ further_of h
 
--- with another value in one of its parts, or what is kept of it there, if it has so many
+-- with another value in one of its parts, if it has so many, and the value is kept there
 abbrev pub put_part : Held → ℕ → Value → Option Held
 put_part (held.Byte u) j v = (if nat_eq j 0 then Some (held.Byte v) else None)
 put_part (held.Word u) j v = (if nat_eq j 0 then Some (held.Word v) else None)
 put_part (held.Fat a b c) j v =
     (if nat_eq j 0 then Some (held.Fat v b c)
-    else (if nat_eq j 1 then Some (held.Fat a (bound_of v) c)
-    else (if nat_eq j 2 then Some (held.Fat a b (bound_of v)) else None)))
+    else (if nat_eq j 1 then option_map (λ k. held.Fat a k c) (kept_of v)
+    else (if nat_eq j 2 then option_map (held.Fat a b) (kept_of v) else None)))
+put_part (held.Tagged t u) j v =
+    (if nat_eq j 0 then option_map (λ k. held.Tagged k u) (kept_of v)
+    else (if nat_eq j 1 then Some (held.Tagged t v) else None))
+put_part (held.TaggedFat t a b c) j v =
+    (if nat_eq j 0 then option_map (λ k. held.TaggedFat k a b c) (kept_of v)
+    else (if nat_eq j 1 then Some (held.TaggedFat t v b c)
+    else (if nat_eq j 2 then option_map (λ k. held.TaggedFat t a k c) (kept_of v)
+    else (if nat_eq j 3 then option_map (held.TaggedFat t a b) (kept_of v) else None))))
 
--- with other values in as many of its parts as these are
+-- with other values in as many of its parts as these are, where pointers are in the same part of both
 abbrev pub refilled : Held → Held → Held
 refilled (held.Byte u) h = held.Byte (first_of h)
 refilled (held.Word u) h = held.Word (first_of h)
 refilled (held.Fat a b c) (held.Byte v) = held.Fat v b c
 refilled (held.Fat a b c) (held.Word v) = held.Fat v b c
 refilled (held.Fat a b c) (held.Fat u v w) = held.Fat u v w
+refilled (held.Fat a b c) (held.Tagged t v) = held.Fat (bound_value t) b c
+refilled (held.Fat a b c) (held.TaggedFat t u v w) = held.Fat (bound_value t) b c
+refilled (held.Tagged t a) (held.Byte v) = held.Tagged t a
+refilled (held.Tagged t a) (held.Word v) = held.Tagged t a
+refilled (held.Tagged t a) (held.Fat u v w) = held.Tagged t a
+refilled (held.Tagged t a) (held.Tagged s v) = held.Tagged s v
+refilled (held.Tagged t a) (held.TaggedFat s u v w) = held.Tagged t a
+refilled (held.TaggedFat t a b c) (held.Byte v) = held.TaggedFat t a b c
+refilled (held.TaggedFat t a b c) (held.Word v) = held.TaggedFat t a b c
+refilled (held.TaggedFat t a b c) (held.Fat u v w) = held.TaggedFat t a b c
+refilled (held.TaggedFat t a b c) (held.Tagged s v) = held.TaggedFat s v b c
+refilled (held.TaggedFat t a b c) (held.TaggedFat s u v w) = held.TaggedFat s u v w
 
 -- what a cell begins as
 abbrev pub first_held : Cell → Held
@@ -147,12 +168,16 @@ first_held cell.Word = held.Word (value.Word 0)
 first_held cell.Pointer = held.Word value.Null
 first_held cell.Fat = held.Fat value.Null (bound.Word 0) (bound.Word 0)
 first_held cell.Handle = held.Word value.Blank
+first_held cell.Tagged = held.Tagged bound.Blank value.Blank
+first_held cell.TaggedFat = held.TaggedFat bound.Blank value.Blank bound.Blank bound.Blank
 
 -- a cell of the same parts, which hold nothing
 abbrev pub blanked : Held → Held
 blanked (held.Byte v) = held.Byte value.Blank
 blanked (held.Word v) = held.Word value.Blank
 blanked (held.Fat u v w) = held.Fat value.Blank bound.Blank bound.Blank
+blanked (held.Tagged t v) = held.Tagged bound.Blank value.Blank
+blanked (held.TaggedFat t u v w) = held.TaggedFat bound.Blank value.Blank bound.Blank bound.Blank
 
 -- ---- objects: the cells of each
 

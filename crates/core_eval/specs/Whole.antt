@@ -8,25 +8,25 @@ use Rattle.core_eval.specs.declared.value.Place.{Place}
 use Rattle.core_eval.specs.declared.held.Held.{Held}
 use Rattle.core_eval.specs.declared.held.Held.TheVariants as held
 use Rattle.core_eval.specs.declared.value.Slot.{Slot}
-use Rattle.core_eval.specs.Values.{first_of, first_held, blanked, refilled, with_held, same_area}
+use Rattle.core_eval.specs.declared.value.Value.{Value}
+use Rattle.core_eval.specs.Values.{width_of, first_of, further_of, pointer_part, first_held, blanked, refilled, with_held, same_width, same_area}
 use Rattle.core_eval.specs.Elements.{each_element}
 use Rattle.core_eval.specs.Regions.{Regions, region_at}
 use Rattle.core_eval.specs.Blocks.{Activation, Stored, position_of, slot_in, put_block}
 
 -- ---- cells that lie as a layout's
 
--- Whether what a cell holds has the parts that another has, where so many bytes lie behind the one, and so many behind the other, that hold nothing. A fat
--- pointer begins with the one part of a word.
+-- whether there are as many words as others, and as many bytes behind them that hold nothing; more words have no such bytes in their midst
+abbrev pub has_behind : List Value → (padding : ℕ) → List Value → ℕ → Bool
+has_behind [] n [] m = nat_le m n
+has_behind [] n (v ∷ vs) m = false
+has_behind (u ∷ us) n [] m = nat_eq m 0
+has_behind (u ∷ us) n (v ∷ vs) m = has_behind us n vs m
+
+-- Whether what a cell holds has the parts that another has, where so many bytes lie behind the one, and so many behind the other, that hold nothing. What has
+-- more words begins with the parts of what has fewer.
 abbrev pub has_parts : Held → (padding : ℕ) → Held → ℕ → Bool
-has_parts (held.Byte u) n (held.Byte v) m = nat_le m n
-has_parts (held.Byte u) n (held.Word v) m = false
-has_parts (held.Byte u) n (held.Fat a b c) m = false
-has_parts (held.Word u) n (held.Byte v) m = false
-has_parts (held.Word u) n (held.Word v) m = nat_le m n
-has_parts (held.Word u) n (held.Fat a b c) m = false
-has_parts (held.Fat u v w) n (held.Byte a) m = false
-has_parts (held.Fat u v w) n (held.Word a) m = nat_eq m 0
-has_parts (held.Fat u v w) n (held.Fat a b c) m = nat_le m n
+has_parts h n g m = same_width (width_of h) (width_of g) && has_behind (further_of h) n (further_of g) m
 
 -- a cell lies where a layout has it, from a byte on, has its parts, and as many bytes behind them that hold nothing
 abbrev pub is_cell : Option Slot → ℕ → CellLayout → Bool
@@ -37,6 +37,16 @@ is_cell (Some s) byte c = nat_eq s.offset (byte + c.offset) && has_parts s.held 
 abbrev pub are_cells : (ℕ → Option Slot) → (k byte : ℕ) → List CellLayout → Bool
 are_cells slots k byte [] = true
 are_cells slots k byte (c ∷ cs) = is_cell (slots k) byte c && are_cells slots (k + 1) byte cs
+
+-- a cell may have a pointer in the same part as a layout's
+abbrev pub is_alike : Option Slot → CellLayout → Bool
+is_alike None c = false
+is_alike (Some s) c = nat_eq (pointer_part s.held) (pointer_part (first_held c.cell))
+
+-- so may the cells from the k-th on
+abbrev pub are_alike : (ℕ → Option Slot) → (k : ℕ) → List CellLayout → Bool
+are_alike slots k [] = true
+are_alike slots k (c ∷ cs) = is_alike (slots k) c && are_alike slots (k + 1) cs
 
 -- the cells of the object that a place leads to
 abbrev pub slots_of : Stored → Place → ℕ → Option Slot
@@ -67,6 +77,11 @@ are_elements slots k byte cells bytes zero = true
 are_elements slots k byte cells bytes (suc n) =
     are_cells slots k byte cells && are_elements slots (k + length cells) (byte + bytes) cells bytes n
 
+-- and may have pointers as those have
+abbrev pub elements_alike : (ℕ → Option Slot) → (k : ℕ) → List CellLayout → (count : ℕ) → Bool
+elements_alike slots k cells zero = true
+elements_alike slots k cells (suc n) = are_alike slots k cells && elements_alike slots (k + length cells) cells n
+
 -- whether a place leads to so many elements of a layout
 abbrev pub has_elements : Stored → Place → Layout → ℕ → Bool
 has_elements stored p l count = is_held stored p.area && are_elements (slots_of stored p) p.cell p.byte l.cells.items l.bytes count
@@ -76,11 +91,17 @@ same_object p q = same_area p.area q.area && nat_eq p.object q.object
 
 -- ---- what cells hold
 
--- as much of what a cell holds as another has parts: all of a fat pointer, or its first part
+-- as much of what a cell holds as another has parts, where pointers are in the same part of both
 abbrev pub held_as : Held → Held → Held
 held_as (held.Byte v) h = held.Byte (first_of h)
 held_as (held.Word v) h = held.Word (first_of h)
 held_as (held.Fat u v w) h = h
+held_as (held.Tagged t v) (held.Byte a) = held.Byte a
+held_as (held.Tagged t v) (held.Word a) = held.Word a
+held_as (held.Tagged t v) (held.Fat a b c) = held.Fat a b c
+held_as (held.Tagged t v) (held.Tagged s a) = held.Tagged s a
+held_as (held.Tagged t v) (held.TaggedFat s a b c) = held.Tagged s a
+held_as (held.TaggedFat t u v w) h = h
 
 abbrev pub held_by : CellLayout → Option Slot → Held
 held_by c None = blanked (first_held c.cell)

@@ -6,7 +6,7 @@ ghost use Rattle.cyc_core.specs.Trees.{body_tree, optional_tree, statement_tree,
 ghost use Rattle.core_eval.specs.Values.{AreRead, bound_value, content_of, temp_of, truth_of};
 ghost use Rattle.core_eval.specs.Elements.{blank_object};
 ghost use Rattle.core_eval.specs.Blocks.{activation_of};
-ghost use Rattle.core_eval.specs.Pendings.{Block, Execute, Follow, Go, Test, next_of, optional_value, wait_of, waits_of};
+ghost use Rattle.core_eval.specs.Pendings.{Block, Breakable, Execute, Follow, Go, Test, next_of, optional_value, wait_of, waits_of};
 ghost use Rattle.core_eval.specs.Standing.{Known, known_of};
 ghost use Rattle.core_eval.specs.Costs.{IsMove};
 
@@ -122,9 +122,21 @@ fn enter_block<'p>(
     Ok(Due::Go(Now::Follow(body)))
 }
 
+/// The first move of a statement that a `Break` in its body ends: that body is next.
+fn enter_breakable<'p>(
+    body: &'p [Statement],
+    stack: &mut Vec<Pending<'p>>,
+) -> Result<Due<'p>, AllocError>
+    ensures next { IfOk result (λ due. next_of due ≡ Go (Follow (body_tree body.entry.now))) }
+    ensures waits { OnOk result (waits_of stack.new.items ≡ Breakable ∷ waits_of stack.old.items) }
+{
+    wait(stack, Pending::Breakable)?;
+    Ok(Due::Go(Now::Follow(body)))
+}
+
 /// The first move of a statement. Fails only where an operation does, no host memory is left, 2^64 - 1 blocks were entered, there would be a
-/// cell with a number over 2^64 - 1, an object would have a cell behind 2^32 - 1 bytes, a region 2^32 blocks and one more, or a pointer or a
-/// handle would be a count or an index.
+/// cell with a number over 2^64 - 1, an object would have a cell behind 2^32 - 1 bytes, a region 2^32 blocks and one more, a pointer or a
+/// handle would be a count or an index, or a cell would be copied or cleared that may have a pointer in another part.
 pub fn enter_statement<'p>(
     alloc: Global,
     statement: &'p Statement,
@@ -158,6 +170,7 @@ pub fn enter_statement<'p>(
         },
         Statement::While(test, flag, body) => enter_loop(test, *flag, body, stack),
         Statement::Block(locals, body) => enter_block(alloc, locals, body, stack, memory),
+        Statement::Leave(body) => enter_breakable(body, stack),
         Statement::Break => Ok(Due::Go(Now::Leave(Flow::Breaks))),
         Statement::Continue => Ok(Due::Go(Now::Leave(Flow::Continues))),
         Statement::Call(result, function, arguments) => {

@@ -1,12 +1,23 @@
 // What cells hold.
 
 ghost use Rattle.std.specs.Prelude.{◌≡◌, IfSome, slice_get};
-ghost use Rattle.core_eval.specs.Values.{blanked, bound_of, bound_value, first_held, first_of, kept_of, keeps, put_part, refilled, values_in, width_of};
+ghost use Rattle.core_eval.specs.Values.{
+  blanked,
+  bound_value,
+  first_held,
+  first_of,
+  kept_of,
+  pointer_part,
+  put_part,
+  refilled,
+  values_in,
+  width_of,
+};
 
 use crate::value::Value;
 use cyc_core::{Cell, Width};
 
-/// A count or an index: a word, or nothing as yet.
+/// A count, an index or a tag: a word, or nothing as yet.
 #[derive(Clone, Copy)]
 pub enum Bound {
     /// Nothing as yet.
@@ -16,13 +27,6 @@ pub enum Bound {
 }
 
 impl Bound {
-    /// What it is of a value: the word, if it is one.
-    fn of(value: Value) -> Self
-        ensures { result ≡ bound_of value }
-    {
-        Bound::kept(value).unwrap_or(Bound::Blank)
-    }
-
     /// The same as a value, if it is nothing or a word.
     pub fn kept(value: Value) -> Option<Self>
         ensures kept { result ≡ kept_of value }
@@ -46,13 +50,6 @@ impl Bound {
     }
 }
 
-/// Whether a value is kept of a part with this number: behind the first one there are counts and indices alone.
-pub fn keeps(part: u32, value: Value) -> bool
-    ensures { result ≡ keeps part value }
-{
-    part == 0 || Bound::kept(value).is_some()
-}
-
 /// What a cell holds, part by part.
 #[derive(Clone, Copy)]
 pub enum Held {
@@ -62,6 +59,10 @@ pub enum Held {
     Word(Value),
     /// A fat pointer: its first element, how many it has, and its index.
     Fat(Value, Bound, Bound),
+    /// A tagged union: the number of the member that it holds, and that member.
+    Tagged(Bound, Value),
+    /// A tagged union that may hold a fat pointer: the number of the member that it holds, and the member's parts.
+    TaggedFat(Bound, Value, Bound, Bound),
 }
 
 impl Held {
@@ -75,6 +76,10 @@ impl Held {
             Cell::Pointer => Held::Word(Value::Null),
             Cell::Fat => Held::Fat(Value::Null, Bound::Word(0), Bound::Word(0)),
             Cell::Handle => Held::Word(Value::Blank),
+            Cell::Tagged => Held::Tagged(Bound::Blank, Value::Blank),
+            Cell::TaggedFat => {
+                Held::TaggedFat(Bound::Blank, Value::Blank, Bound::Blank, Bound::Blank)
+            }
         }
     }
 
@@ -86,6 +91,10 @@ impl Held {
             Held::Byte(_) => Held::Byte(Value::Blank),
             Held::Word(_) => Held::Word(Value::Blank),
             Held::Fat(_, _, _) => Held::Fat(Value::Blank, Bound::Blank, Bound::Blank),
+            Held::Tagged(_, _) => Held::Tagged(Bound::Blank, Value::Blank),
+            Held::TaggedFat(_, _, _, _) => {
+                Held::TaggedFat(Bound::Blank, Value::Blank, Bound::Blank, Bound::Blank)
+            }
         }
     }
 
@@ -95,7 +104,19 @@ impl Held {
     {
         match self {
             Held::Byte(_) => Width::Byte,
-            Held::Word(_) | Held::Fat(_, _, _) => Width::Word,
+            Held::Word(_) | Held::Fat(_, _, _) | Held::Tagged(_, _) | Held::TaggedFat(_, _, _, _) =>
+                Width::Word,
+        }
+    }
+
+    /// The number of the part that may be a pointer or a handle: the first, or of a tagged union the one behind its tag. Each other part
+    /// is a word, or nothing as yet.
+    pub fn pointer_part(self) -> u32
+        ensures { result ≡ pointer_part self }
+    {
+        match self {
+            Held::Byte(_) | Held::Word(_) | Held::Fat(_, _, _) => 0,
+            Held::Tagged(_, _) | Held::TaggedFat(_, _, _, _) => 1,
         }
     }
 
@@ -107,6 +128,8 @@ impl Held {
             Held::Byte(value) => value,
             Held::Word(value) => value,
             Held::Fat(first, _, _) => first,
+            Held::Tagged(tag, _) => tag.value(),
+            Held::TaggedFat(tag, _, _, _) => tag.value(),
         }
     }
 
@@ -123,10 +146,22 @@ impl Held {
                 2 => Some(index.value()),
                 _ => None,
             },
+            Held::Tagged(tag, member) => match part {
+                0 => Some(tag.value()),
+                1 => Some(member),
+                _ => None,
+            },
+            Held::TaggedFat(tag, first, count, index) => match part {
+                0 => Some(tag.value()),
+                1 => Some(first),
+                2 => Some(count.value()),
+                3 => Some(index.value()),
+                _ => None,
+            },
         }
     }
 
-    /// The same with another value in the part with this number, or with what is kept of it there, if there is one.
+    /// The same with another value in the part with this number, if there is one, and the value is kept there.
     pub fn with_part(self, part: u32, value: Value) -> Option<Self>
         ensures { result ≡ put_part self part value }
     {
@@ -147,14 +182,26 @@ impl Held {
             }
             Held::Fat(first, count, index) => match part {
                 0 => Some(Held::Fat(value, count, index)),
-                1 => Some(Held::Fat(first, Bound::of(value), index)),
-                2 => Some(Held::Fat(first, count, Bound::of(value))),
+                1 => Some(Held::Fat(first, Bound::kept(value)?, index)),
+                2 => Some(Held::Fat(first, count, Bound::kept(value)?)),
+                _ => None,
+            },
+            Held::Tagged(tag, member) => match part {
+                0 => Some(Held::Tagged(Bound::kept(value)?, member)),
+                1 => Some(Held::Tagged(tag, value)),
+                _ => None,
+            },
+            Held::TaggedFat(tag, first, count, index) => match part {
+                0 => Some(Held::TaggedFat(Bound::kept(value)?, first, count, index)),
+                1 => Some(Held::TaggedFat(tag, value, count, index)),
+                2 => Some(Held::TaggedFat(tag, first, Bound::kept(value)?, index)),
+                3 => Some(Held::TaggedFat(tag, first, count, Bound::kept(value)?)),
                 _ => None,
             },
         }
     }
 
-    /// The same with other values in as many of its parts as these are.
+    /// The same with other values in as many of its parts as these are, where pointers are in the same part of both.
     pub fn refilled(self, held: Held) -> Self
         ensures { result ≡ refilled self held }
     {
@@ -163,6 +210,12 @@ impl Held {
             (Held::Word(_), _) => Held::Word(held.value()),
             (Held::Fat(_, _, _), Held::Fat(_, _, _)) => held,
             (Held::Fat(_, count, index), _) => Held::Fat(held.value(), count, index),
+            (Held::Tagged(_, _), Held::Tagged(_, _)) => held,
+            (Held::TaggedFat(_, _, _, _), Held::TaggedFat(_, _, _, _)) => held,
+            (Held::TaggedFat(_, _, count, index), Held::Tagged(tag, member)) => {
+                Held::TaggedFat(tag, member, count, index)
+            }
+            (Held::Tagged(_, _), _) | (Held::TaggedFat(_, _, _, _), _) => self,
         }
     }
 }

@@ -15,7 +15,6 @@ ghost use Rattle.core_eval.specs.Costs.{IsMove};
 
 use crate::arithmetic::{apply, truth};
 use crate::frame::Frame;
-use crate::held::keeps;
 use crate::memory::Memory;
 use crate::pending::{Due, Flow, Now};
 use crate::pointer::{is_null, same_place};
@@ -134,23 +133,25 @@ fn get<'p>(
     }
 }
 
-/// Stores what a temporary holds to a local.
+/// Stores what a temporary holds to a local. Fails only where that is a pointer or a handle, and would be a tag.
 fn put<'p>(
     frame: &Frame,
     memory: &mut Memory,
     to: Variable,
     width: Width,
     from: Temporary,
-) -> Due<'p>
-    ensures { (ws : List Wait) →
-        IsMove (Execute (core.Do (core.Put to.out to.index (bytes_of width) from.0))) ws (known_of frame.now memory.old) (next_of result) ws
-        (known_of frame.now memory.new) }
+) -> Result<Due<'p>, AllocError>
+    ensures { IfOk result (λ due. (ws : List Wait) →
+        IsMove (Execute (core.Do (core.Put to.out to.index (bytes_of width) from.0))) ws (known_of frame.now memory.old) (next_of due) ws
+        (known_of frame.now memory.new)) }
 {
     let value = frame.temp(from);
     if memory.set_local(frame.base, to, width, value) {
-        Due::Go(Now::Leave(Flow::Falls))
-    } else {
-        Due::Wrong
+        return Ok(Due::Go(Now::Leave(Flow::Falls)));
+    }
+    match memory.local(frame.base, to, width) {
+        Some(_) => Err(AllocError),
+        None => Ok(Due::Wrong),
     }
 }
 
@@ -273,8 +274,8 @@ fn load<'p>(
 }
 
 /// Stores what a temporary holds to the part at a distance from where another one points. Fails only where there would be a cell with a
-/// number over 2^64 - 1, the part is a byte behind the first part of its cell, of which nothing is kept, or it is a count or an index and
-/// would get a pointer or a handle.
+/// number over 2^64 - 1, the part is a byte behind the first part of its cell, of which nothing is kept, or it is a count, an index or a tag
+/// and would get a pointer or a handle.
 fn store<'p>(
     frame: &Frame,
     memory: &mut Memory,
@@ -293,15 +294,19 @@ fn store<'p>(
     if !is_kept(distance.part, distance.width) {
         return Err(AllocError);
     }
-    if !keeps(distance.part, value) {
-        return Err(AllocError);
-    }
     let cell = further(place.cell, distance.cells)?;
     let byte = u64::from(place.byte) + u64::from(distance.bytes);
     if memory.put_to(place, cell, byte, distance.part, distance.width, value) {
-        Ok(Due::Go(Now::Leave(Flow::Falls)))
-    } else {
-        Ok(Due::Wrong)
+        return Ok(Due::Go(Now::Leave(Flow::Falls)));
+    }
+    match value_of(
+        memory.slot(place.area, place.object, cell),
+        byte,
+        distance.part,
+        distance.width,
+    ) {
+        Some(_) => Err(AllocError),
+        None => Ok(Due::Wrong),
     }
 }
 
@@ -377,7 +382,7 @@ pub fn operate<'p>(
             element(frame, memory, to, from, index, cells, bytes)
         }
         Operation::Get(to, from, width) => get(frame, memory, to, from, width),
-        Operation::Put(to, width, from) => Ok(put(frame, memory, to, width, from)),
+        Operation::Put(to, width, from) => put(frame, memory, to, width, from),
         Operation::Load(to, place, distance) => load(frame, memory, to, place, distance),
         Operation::Store(place, distance, from) => store(frame, memory, place, distance, from),
         Operation::IsNull(to, from) => test_null(frame, to, from),

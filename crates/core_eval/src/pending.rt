@@ -44,6 +44,8 @@ pub enum Pending<'p> {
     Body(&'p [Statement], Temporary, &'p [Statement]),
     /// The end of a block.
     Block,
+    /// A statement that a `Break` in its body ends, for the end of that body.
+    Breakable,
     /// The caller of the function with this number: the temporaries that get the result, and what the caller had.
     Caller(Option<Words>, u32, Frame),
 }

@@ -7,6 +7,7 @@ ghost use Rattle.core_eval.specs.declared.memory.Memory.{Memory as TheMemory};
 ghost use Rattle.core_eval.specs.Pendings.{
   Block,
   Body,
+  Breakable,
   Caller,
   Leave,
   Test,
@@ -87,6 +88,16 @@ fn take_block<'p>(flow: Flow, memory: &mut Memory) -> Due<'p>
 {
     memory.leave_block();
     Due::Go(Now::Leave(flow))
+}
+
+/// A statement that a `Break` in its body ends, at the end of that body.
+fn take_breakable<'p>(flow: Flow) -> Due<'p>
+    ensures { (ws : List Wait) (known : Known) → IsMove (Leave (exit_of flow)) (Breakable ∷ ws) known (next_of result) ws known }
+{
+    match flow {
+        Flow::Falls | Flow::Breaks => Due::Go(Now::Leave(Flow::Falls)),
+        Flow::Continues | Flow::Returns(_) => Due::Go(Now::Leave(flow)),
+    }
 }
 
 /// The temporaries of a result get what was returned, if that is as many words, and the answer is whether it is. Fails only where no host
@@ -187,6 +198,7 @@ pub fn take_flow<'p>(
         (Pending::Test(test, flag, body), _) => Ok(take_test(flow, test, flag, body, frame)),
         (Pending::Body(test, flag, body), _) => take_body(flow, test, flag, body, stack),
         (Pending::Block, _) => Ok(take_block(flow, memory)),
+        (Pending::Breakable, _) => Ok(take_breakable(flow)),
         (Pending::Caller(result, _, saved), _) => {
             memory.leave_call();
             take_caller(flow, result, saved, frame)

@@ -1,6 +1,6 @@
 // Copies of whole objects, and objects that begin anew.
 
-ghost use Rattle.std.specs.Prelude.{◌≡◌, ◌+◌, ◌++◌, List, IfOk, OnOk, map};
+ghost use Rattle.std.specs.Prelude.{◌≡◌, ◌+◌, ◌++◌, true, List, IfOk, OnOk, map};
 ghost use Rattle.core_meaning.specs.Core as core;
 ghost use Rattle.cyc_core.specs.Trees.{layout_tree};
 ghost use Rattle.core_eval.specs.Blocks.{AreOrdered, stored_of};
@@ -8,14 +8,17 @@ ghost use Rattle.core_eval.specs.Pendings.{Execute, Wait, next_of};
 ghost use Rattle.core_eval.specs.Standing.{known_of};
 ghost use Rattle.core_eval.specs.Costs.{IsMove};
 ghost use Rattle.core_eval.specs.Whole.{
+  are_alike,
   are_cells,
   are_laid,
   begins_as,
+  elements_alike,
   first_elements,
   has_elements,
   has_parts,
   held_as,
   held_by,
+  is_alike,
   is_cell,
   same_object,
   slots_of,
@@ -32,7 +35,7 @@ use cyc_core::{CellLayout, Layout, Temporary};
 use std::alloc::{AllocError, Global};
 
 /// Whether what a cell holds has the parts that another has, where so many bytes lie behind the one, and so many behind the other, that
-/// hold nothing. A fat pointer begins with the one part of a word.
+/// hold nothing. What has more words begins with the parts of what has fewer.
 fn has_parts(own: Held, padding: u32, held: Held, behind: u32) -> bool
     ensures { result ≡ has_parts own padding held behind }
 {
@@ -40,7 +43,14 @@ fn has_parts(own: Held, padding: u32, held: Held, behind: u32) -> bool
         (Held::Byte(_), Held::Byte(_)) => behind <= padding,
         (Held::Word(_), Held::Word(_)) => behind <= padding,
         (Held::Fat(_, _, _), Held::Fat(_, _, _)) => behind <= padding,
+        (Held::Tagged(_, _), Held::Tagged(_, _)) => behind <= padding,
+        (Held::TaggedFat(_, _, _, _), Held::TaggedFat(_, _, _, _)) => behind <= padding,
         (Held::Fat(_, _, _), Held::Word(_)) => behind == 0,
+        (Held::Fat(_, _, _), Held::Tagged(_, _)) => behind == 0,
+        (Held::Tagged(_, _), Held::Word(_)) => behind == 0,
+        (Held::TaggedFat(_, _, _, _), Held::Word(_)) => behind == 0,
+        (Held::TaggedFat(_, _, _, _), Held::Tagged(_, _)) => behind == 0,
+        (Held::TaggedFat(_, _, _, _), Held::Fat(_, _, _)) => behind == 0,
         _ => false,
     }
 }
@@ -63,25 +73,45 @@ fn is_cell(slot: Option<Slot>, byte: u32, cell: CellLayout) -> bool
     }
 }
 
-/// Whether the cells from a place on lie as a layout's. Fails only where there would be a cell with a number over 2^64 - 1.
+/// Whether there is a cell that may have a pointer in the same part as a layout's.
+fn is_alike(slot: Option<Slot>, cell: CellLayout) -> bool
+    ensures { result ≡ is_alike slot cell }
+{
+    match slot {
+        Some(slot) => slot.held.pointer_part() == Held::first(cell.cell).pointer_part(),
+        None => false,
+    }
+}
+
+/// Whether the cells from a place on lie as a layout's. Fails only where there would be a cell with a number over 2^64 - 1, or one lies so
+/// and may have a pointer in another part.
 fn are_cells(memory: &Memory, place: Place, cells: &[CellLayout]) -> Result<bool, AllocError>
-    ensures { IfOk result (λ laid. AreOrdered memory.now
+    ensures laid { IfOk result (λ laid. AreOrdered memory.now
         → laid ≡ are_cells (slots_of (stored_of memory.now) place) place.cell place.byte cells.now) }
+    ensures alike { IfOk result (λ laid. laid ≡ true → AreOrdered memory.now
+        → are_alike (slots_of (stored_of memory.now) place) place.cell cells.now ≡ true) }
 {
     let mut at = place.cell;
     'each: for cell in cells {
-        if !is_cell(memory.slot(place.area, place.object, at), place.byte, *cell) {
+        let slot = memory.slot(place.area, place.object, at);
+        if !is_cell(slot, place.byte, *cell) {
             return Ok(false);
+        }
+        if !is_alike(slot, *cell) {
+            return Err(AllocError);
         }
         at = further(at, 1)?;
     }
     Ok(true)
 }
 
-/// Whether a place leads to cells that lie as a layout's. Fails only where there would be a cell with a number over 2^64 - 1.
+/// Whether a place leads to cells that lie as a layout's. Fails only where there would be a cell with a number over 2^64 - 1, or one lies so
+/// and may have a pointer in another part.
 fn are_laid(memory: &Memory, place: Place, cells: &[CellLayout]) -> Result<bool, AllocError>
-    ensures { IfOk result (λ laid. AreOrdered memory.now
+    ensures laid { IfOk result (λ laid. AreOrdered memory.now
         → laid ≡ are_laid (stored_of memory.now) place cells.now) }
+    ensures alike { IfOk result (λ laid. laid ≡ true → AreOrdered memory.now
+        → are_alike (slots_of (stored_of memory.now) place) place.cell cells.now ≡ true) }
 {
     if memory.is_held(place.area) {
         are_cells(memory, place, cells)
@@ -109,15 +139,17 @@ fn next_element(place: Place, cells: usize, bytes: u32) -> Result<Place, AllocEr
 }
 
 /// Whether a place leads to so many elements of a layout. Fails only where a place behind one of them has over 2^64 - 1 cells or
-/// 2^32 - 1 bytes before it.
+/// 2^32 - 1 bytes before it, or a cell lies as one of theirs and may have a pointer in another part.
 fn has_elements(
     memory: &Memory,
     place: Place,
     layout: &Layout,
     count: u32,
 ) -> Result<bool, AllocError>
-    ensures { IfOk result (λ laid. AreOrdered memory.now
+    ensures laid { IfOk result (λ laid. AreOrdered memory.now
         → laid ≡ has_elements (stored_of memory.now) place layout.now count) }
+    ensures alike { IfOk result (λ laid. laid ≡ true → AreOrdered memory.now
+        → elements_alike (slots_of (stored_of memory.now) place) place.cell layout.now.cells.items count ≡ true) }
 {
     if !memory.is_held(place.area) {
         return Ok(false);
@@ -133,7 +165,7 @@ fn has_elements(
     Ok(true)
 }
 
-/// As much of what a cell holds as another has parts: all of a fat pointer, or its first part.
+/// As much of what a cell holds as another has parts, where pointers are in the same part of both.
 fn held_as(form: Held, held: Held) -> Held
     ensures { result ≡ held_as form held }
 {
@@ -141,6 +173,11 @@ fn held_as(form: Held, held: Held) -> Held
         Held::Byte(_) => Held::Byte(held.value()),
         Held::Word(_) => Held::Word(held.value()),
         Held::Fat(_, _, _) => held,
+        Held::Tagged(_, _) => match held {
+            Held::TaggedFat(tag, member, _, _) => Held::Tagged(tag, member),
+            _ => held,
+        },
+        Held::TaggedFat(_, _, _, _) => held,
     }
 }
 

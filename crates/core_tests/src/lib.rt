@@ -13,6 +13,8 @@ mod endings;
 #[cfg(test)]
 mod evaluations;
 #[cfg(test)]
+mod leaves;
+#[cfg(test)]
 mod objects;
 #[cfg(test)]
 mod parts;
@@ -26,5 +28,7 @@ mod regions;
 mod rows;
 #[cfg(test)]
 mod strings;
+#[cfg(test)]
+mod unions;
 #[cfg(test)]
 mod unnamed;

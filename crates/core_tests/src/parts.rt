@@ -31,6 +31,16 @@ fn pair(alloc: Global) -> Option<Rc<Layout>> {
     object(alloc, &[cell(0, Cell::Byte, 3), cell(4, Cell::Word, 0)], 8)
 }
 
+// a tagged union none of whose members is a fat pointer
+fn union(alloc: Global) -> Option<Rc<Layout>> {
+    object(alloc, &[cell(0, Cell::Tagged, 0)], 8)
+}
+
+// one with a fat pointer among its members
+fn fat_union(alloc: Global) -> Option<Rc<Layout>> {
+    object(alloc, &[cell(0, Cell::TaggedFat, 0)], 16)
+}
+
 /// The global that a row says, where it says one.
 pub fn datum_of(alloc: Global, row: Row<'_>) -> Option<Datum> {
     let [first, second, _, _, _] = row.numbers;
@@ -53,6 +63,9 @@ pub fn local_of(alloc: Global, row: Row<'_>) -> Option<Local> {
         "with_fat" => Some(Local::Scalar(Cell::Fat)),
         "with_words" => Some(Local::Whole(word(alloc)?, count)),
         "with_pairs" => Some(Local::Whole(pair(alloc)?, count)),
+        "with_union" => Some(Local::Scalar(Cell::Tagged)),
+        "with_fat_union" => Some(Local::Scalar(Cell::TaggedFat)),
+        "with_unions" => Some(Local::Whole(union(alloc)?, count)),
         _ => None,
     }
 }
@@ -72,8 +85,14 @@ pub fn statement_of(alloc: Global, row: Row<'_>) -> Option<Statement> {
     let [first, second, third, _, _] = row.numbers;
     let (to, from, count) = (Temporary(first), Temporary(second), Temporary(third));
     match row.name {
+        "copy_word" => Some(Statement::Copy(to, from, word(alloc)?)),
         "copy_pair" => Some(Statement::Copy(to, from, pair(alloc)?)),
+        "copy_union" => Some(Statement::Copy(to, from, union(alloc)?)),
+        "copy_fat_union" => Some(Statement::Copy(to, from, fat_union(alloc)?)),
         "clear_pairs" => Some(Statement::Clear(to, pair(alloc)?, second)),
+        "clear_unions" => Some(Statement::Clear(to, union(alloc)?, second)),
+        "break" => Some(Statement::Break),
+        "continue" => Some(Statement::Continue),
         "region_alloc" => Some(Statement::RegionAlloc(to, from, count, word(alloc)?)),
         "return" => Some(Statement::Return(words_of([first, second, third], row.count))),
         "raise_null" => Some(Statement::Raise(Kind::NullException)),

@@ -1,8 +1,9 @@
 // Programs of Core, read from texts.
 //
-// `function PARAMETERS`, `block`, `if TEMPORARY` and `while TEMPORARY` go on up to their `end`. The statements of `if` before its `else` are done where the
-// temporary is not 0, and those of `while` before its `do` are its test. `with_word`, `with_fat`, `with_words COUNT` and `with_pairs COUNT` are locals of
-// a block, or right within a function its unnamed values. `pass` has the temporaries that the next `call FUNCTION RESULTS` passes.
+// `function PARAMETERS`, `block`, `leave`, `if TEMPORARY` and `while TEMPORARY` go on up to their `end`. The statements of `if` before its `else` are done
+// where the temporary is not 0, and those of `while` before its `do` are its test. `with_word`, `with_fat`, `with_words COUNT`, `with_pairs COUNT`,
+// `with_union`, `with_fat_union` and `with_unions COUNT` are locals of a block, or right within a function its unnamed values. `pass` has the temporaries
+// that the next `call FUNCTION RESULTS` passes.
 
 use crate::parts::{datum_of, local_of, statement_of, words_of};
 use crate::rows::{Row, row_of};
@@ -16,6 +17,7 @@ use std::test::Fail;
 enum Sort {
     Function(u32),
     Block,
+    Leave,
     If(Temporary),
     While(Temporary),
 }
@@ -42,6 +44,7 @@ struct Reader {
 fn whole_statement(level: Level) -> Statement {
     match level.sort {
         Sort::Function(_) | Sort::Block => Statement::Block(level.locals, level.body),
+        Sort::Leave => Statement::Leave(level.body),
         Sort::If(of) => Statement::If(of, level.first, level.body),
         Sort::While(of) => Statement::While(level.first, of, level.body),
     }
@@ -131,6 +134,7 @@ impl Reader {
         match row.name {
             "function" => self.open(Sort::Function(number)),
             "block" => self.open(Sort::Block),
+            "leave" => self.open(Sort::Leave),
             "if" => self.open(Sort::If(Temporary(number))),
             "while" => self.open(Sort::While(Temporary(number))),
             "else" | "do" => self.turn(),

@@ -32,21 +32,25 @@ abbrev pub bytes_of : Width → ℕ
 bytes_of width.Byte = 1
 bytes_of width.Word = 4
 
--- how wide each part of a cell is: a pointer is a word, each part of a fat one is, and so is a handle
+-- how wide each part of a cell is: a pointer is a word, each part of a fat one and of a tagged union is, and so is a handle
 abbrev pub cell_width : Cell → Width
 cell_width cell.Byte = width.Byte
 cell_width cell.Word = width.Word
 cell_width cell.Pointer = width.Word
 cell_width cell.Fat = width.Word
 cell_width cell.Handle = width.Word
+cell_width cell.Tagged = width.Word
+cell_width cell.TaggedFat = width.Word
 
--- what its first part begins as: a pointer is NULL, a number is 0, and a handle has no beginning
+-- what its first part begins as: a pointer is NULL, a number is 0, and a handle and a tagged union have no beginning
 abbrev pub cell_first : Cell → Content
 cell_first cell.Byte = memory.Word 0
 cell_first cell.Word = memory.Word 0
 cell_first cell.Pointer = memory.Null
 cell_first cell.Fat = memory.Null
 cell_first cell.Handle = memory.Blank
+cell_first cell.Tagged = memory.Blank
+cell_first cell.TaggedFat = memory.Blank
 
 -- how many bytes it takes
 abbrev pub cell_bytes : Cell → ℕ
@@ -55,14 +59,23 @@ cell_bytes cell.Word = 4
 cell_bytes cell.Pointer = 4
 cell_bytes cell.Fat = 12
 cell_bytes cell.Handle = 4
+cell_bytes cell.Tagged = 8
+cell_bytes cell.TaggedFat = 16
 
--- the parts behind its first, from a byte on: a fat pointer has its count and its index, which begin as 0
+-- so many words from a byte on that hold nothing
+abbrev pub blank_words : ℕ → ℕ → List PartShape
+blank_words at zero = []
+blank_words at (suc n) = record { offset = at; width = 4; first = memory.Blank } ∷ blank_words (at + 4) n
+
+-- the parts behind its first, from a byte on: a fat pointer has its count and its index, which begin as 0, and a tagged union the words of a member
 abbrev pub further_parts : Cell → ℕ → List PartShape
 further_parts cell.Byte at = []
 further_parts cell.Word at = []
 further_parts cell.Pointer at = []
 further_parts cell.Fat at = record { offset = at; width = 4; first = memory.Word 0 } ∷ record { offset = at + 4; width = 4; first = memory.Word 0 } ∷ []
 further_parts cell.Handle at = []
+further_parts cell.Tagged at = blank_words at 1
+further_parts cell.TaggedFat at = blank_words at 3
 
 -- the parts of what it is made for, from a byte on
 abbrev pub made_parts : Cell → ℕ → List PartShape
@@ -168,6 +181,7 @@ statement_step (Statement-F.RegionAlloc t h n l) = core.Do (core.RegionAlloc t.0
 statement_step (Statement-F.If t these those) = core.If t.0 (statements_of these.items) (statements_of those.items)
 statement_step (Statement-F.While test t body) = core.While (statements_of test.items) t.0 (statements_of body.items)
 statement_step (Statement-F.Block locals body) = core.Block (map local_tree locals.items) (statements_of body.items)
+statement_step (Statement-F.Leave body) = core.Leave (statements_of body.items)
 statement_step Statement-F.Break = core.Break
 statement_step Statement-F.Continue = core.Continue
 statement_step (Statement-F.Call result f arguments) = core.Call (optional_tree result) f (map temporary_tree arguments.items)

@@ -38,6 +38,10 @@ pub enum Cell {
     Fat,
     /// The handle of a region, of four bytes.
     Handle,
+    /// A tagged union none of whose members is a fat pointer: a word for the number of the member that it holds, and one for that member.
+    Tagged,
+    /// A tagged union with a fat pointer among its members: a word for the number of the member that it holds, and three for that member.
+    TaggedFat,
 }
 
 impl Cell {
@@ -47,7 +51,12 @@ impl Cell {
     {
         match self {
             Cell::Byte => Width::Byte,
-            Cell::Word | Cell::Pointer | Cell::Fat | Cell::Handle => Width::Word,
+            Cell::Word
+            | Cell::Pointer
+            | Cell::Fat
+            | Cell::Handle
+            | Cell::Tagged
+            | Cell::TaggedFat => Width::Word,
         }
     }
 
@@ -58,7 +67,9 @@ impl Cell {
         match self {
             Cell::Byte => 1,
             Cell::Word | Cell::Pointer | Cell::Handle => 4,
+            Cell::Tagged => 8,
             Cell::Fat => 12,
+            Cell::TaggedFat => 16,
         }
     }
 }
@@ -70,7 +81,7 @@ pub struct Distance {
     pub cells: u32,
     /// How many bytes of its object lie between.
     pub bytes: u32,
-    /// The number of the part in its cell: 0, and of a fat pointer up to 2.
+    /// The number of the part in its cell: 0, of a fat pointer up to 2, and of a tagged union up to 3.
     pub part: u32,
     /// How wide the part is.
     pub width: Width,

@@ -24,7 +24,9 @@ pub enum Statement {
     While(Vec<Statement>, Temporary, Vec<Statement>),
     /// The statements are done with these locals, which hold nothing at first.
     Block(Vec<Local>, Vec<Statement>),
-    /// The innermost loop is left.
+    /// The statements are done, and a `Break` among them ends them; a `Continue` is one of the loop around.
+    Leave(Vec<Statement>),
+    /// The innermost loop, or `Leave`, is left.
     Break,
     /// The innermost loop goes on with its test.
     Continue,

@@ -1,11 +1,11 @@
 -- The bytes of objects of many cells, which begin as their layouts do: zeros.
 use Rattle.std.specs.Prelude.{slice_get}
-use Rattle.std.proofs.Common.{◌≡◌, ℕ, zero, suc, ◌+◌, inl, inr, List, [], ◌∷◌, ◌++◌, map, refl, sym, ap, ◌∙◌, subst, arith}
+use Rattle.std.proofs.Common.{◌≡◌, ℕ, zero, suc, ◌+◌, ◌*◌, inl, inr, List, [], ◌∷◌, ◌++◌, map, refl, sym, ap, ◌∙◌, subst, arith}
 use Rattle.core_meaning.specs.Memory.{Content, Blank, Word, Null, Pointer, Birth, PartShape, shape_in}
 use Rattle.cyc_core.specs.declared.operation.Cell.{Cell}
 use Rattle.cyc_core.specs.declared.operation.Cell.TheVariants as cell
 use Rattle.cyc_core.specs.declared.layout.CellLayout.{CellLayout}
-use Rattle.cyc_core.specs.Trees.{cell_bytes, made_parts, cell_parts, padding_parts, part_first}
+use Rattle.cyc_core.specs.Trees.{cell_bytes, blank_words, made_parts, cell_parts, padding_parts, part_first}
 use Rattle.core_lines.specs.Layouts.{IsNothing}
 use Rattle.core_lines.specs.Statics.{number_bytes, number_in, parts_bytes, cells_bytes, zeros, AreJoined, parts_end, AreCellsJoined, cells_end}
 use Rattle.rv32_layout.specs.Sizes.{cell_size, cells_size}
@@ -20,6 +20,13 @@ padding_end : (at at' n : ℕ) → parts_end at (padding_parts at' n) ≡ at + n
 padding_end at at' zero = omega arith
 padding_end at at' (suc n) = let rest = padding_end (at + 1) (at' + 1) n in omega (arith, rest)
 
+-- words that hold nothing, and the parts behind them
+words_joined : (at at' n : ℕ) (others : List PartShape) → at' ≡ at → AreJoined (at + n * 4) others → AreJoined at (blank_words at' n ++ others)
+words_joined at at' zero others e joined = let end : at + 0 ≡ at = omega arith in subst (λ k. AreJoined k others) end joined
+words_joined at at' (suc n) others e joined =
+    let end : at + suc n * 4 ≡ at + 4 + n * 4 = omega arith in
+    (e, inr refl, words_joined (at + 4) (at' + 4) n others (ap (λ k. k + 4) e) (subst (λ k. AreJoined k others) end joined))
+
 -- the parts of what a cell is made for, and those behind them
 made_joined : (c : Cell) (at at' : ℕ) (others : List PartShape) → at' ≡ at → AreJoined (at + cell_bytes c) others → AreJoined at (made_parts c at' ++ others)
 made_joined cell.Byte at at' others e joined = (e, inl refl, joined)
@@ -29,6 +36,12 @@ made_joined cell.Fat at at' others e joined =
     let end : at + 12 ≡ at + 4 + 4 + 4 = omega arith in
     (e, inr refl, (ap (λ k. k + 4) e, inr refl, (ap (λ k. k + 4 + 4) e, inr refl, subst (λ k. AreJoined k others) end joined)))
 made_joined cell.Handle at at' others e joined = (e, inr refl, joined)
+made_joined cell.Tagged at at' others e joined =
+    let end : at + 8 ≡ at + 4 + 4 = omega arith in
+    (e, inr refl, words_joined (at + 4) (at' + 4) 1 others (ap (λ k. k + 4) e) (subst (λ k. AreJoined k others) end joined))
+made_joined cell.TaggedFat at at' others e joined =
+    let end : at + 16 ≡ at + 4 + 12 = omega arith in
+    (e, inr refl, words_joined (at + 4) (at' + 4) 3 others (ap (λ k. k + 4) e) (subst (λ k. AreJoined k others) end joined))
 
 made_end : (c : Cell) (at at' : ℕ) (others : List PartShape) → parts_end at (made_parts c at' ++ others) ≡ parts_end (at + cell_bytes c) others
 made_end cell.Byte at at' others = refl
@@ -36,6 +49,8 @@ made_end cell.Word at at' others = refl
 made_end cell.Pointer at at' others = refl
 made_end cell.Fat at at' others = let end : at + 4 + 4 + 4 ≡ at + 12 = omega arith in ap (λ k. parts_end k others) end
 made_end cell.Handle at at' others = refl
+made_end cell.Tagged at at' others = let end : at + 4 + 4 ≡ at + 8 = omega arith in ap (λ k. parts_end k others) end
+made_end cell.TaggedFat at at' others = let end : at + 4 + 4 + 4 + 4 ≡ at + 16 = omega arith in ap (λ k. parts_end k others) end
 
 cell_joined : (c : CellLayout) (at : ℕ) → c.offset ≡ at → AreJoined at (cell_parts c)
 cell_joined c at e =
@@ -85,6 +100,14 @@ made_nothing cell.Fat at others nothing (suc (suc zero)) = refl
 made_nothing cell.Fat at others nothing (suc (suc (suc j))) = nothing j
 made_nothing cell.Handle at others nothing zero = tt
 made_nothing cell.Handle at others nothing (suc j) = nothing j
+made_nothing cell.Tagged at others nothing zero = tt
+made_nothing cell.Tagged at others nothing (suc zero) = tt
+made_nothing cell.Tagged at others nothing (suc (suc j)) = nothing j
+made_nothing cell.TaggedFat at others nothing zero = tt
+made_nothing cell.TaggedFat at others nothing (suc zero) = tt
+made_nothing cell.TaggedFat at others nothing (suc (suc zero)) = tt
+made_nothing cell.TaggedFat at others nothing (suc (suc (suc zero))) = tt
+made_nothing cell.TaggedFat at others nothing (suc (suc (suc (suc j)))) = nothing j
 
 part_nothing : (c : CellLayout) (j : ℕ) → IsNothing (part_first (slice_get (cell_parts c) j))
 part_nothing c j =
@@ -131,6 +154,8 @@ module _ (os : List ℕ) (first : ℕ → Content) (nothing : (j : ℕ) → IsNo
   made_zeros cell.Pointer at behind n = zero_word 0 _ _ (padding_bytes behind 1 n)
   made_zeros cell.Fat at behind n = zero_word 0 _ _ (zero_word 1 _ _ (zero_word 2 _ _ (padding_bytes behind 3 n)))
   made_zeros cell.Handle at behind n = zero_word 0 _ _ (padding_bytes behind 1 n)
+  made_zeros cell.Tagged at behind n = zero_word 0 _ _ (zero_word 1 _ _ (padding_bytes behind 2 n))
+  made_zeros cell.TaggedFat at behind n = zero_word 0 _ _ (zero_word 1 _ _ (zero_word 2 _ _ (zero_word 3 _ _ (padding_bytes behind 4 n))))
 
   cell_zeros : (c : CellLayout) → parts_bytes os first 0 (cell_parts c) ≡ zeros (cell_size c)
   cell_zeros c =

@@ -118,6 +118,7 @@ fn highest(low: u64, statement: &Statement) -> Result<u64, AllocError>
             Ok(greater(first, second))
         }
         Statement::Block(locals, body) => highest_of(end_from(low, locals)?, body),
+        Statement::Leave(body) => highest_of(low, body),
         _ => Ok(low),
     }
 }

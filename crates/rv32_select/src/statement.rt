@@ -24,9 +24,9 @@ use std::alloc::{AllocError, Global};
 /// How a statement can be left.
 #[derive(Clone, Copy)]
 pub struct Ways {
-    /// The label behind the innermost loop.
+    /// The label behind the innermost loop, or behind the statements within it that a `Break` leaves.
     pub out: usize,
-    /// The label at its start, before its test.
+    /// The label at the innermost loop's start, before its test.
     pub again: usize,
 }
 
@@ -190,6 +190,7 @@ fn put_statement(
         Statement::Block(locals, body) => {
             return put_block(lines, place, next, ways, locals, body);
         }
+        Statement::Leave(body) => return put_leavable(lines, place, next, ways, body),
         Statement::Break => put_lines(lines, &[Line::Jump(ways.out)])?,
         Statement::Continue => put_lines(lines, &[Line::Jump(ways.again)])?,
         Statement::Call(result, function, arguments) => {
@@ -297,5 +298,29 @@ fn put_block(
     let low = place.enter(locals)?;
     let free = put_statements(lines, place, next, ways, body)?;
     place.leave(low);
+    Ok(free)
+}
+
+/// Appends the instructions of statements that a `Break` among them leaves, and a label behind them. A `Continue` is that of the loop around. Answers
+/// the next free label.
+#[cycle(statement)]
+fn put_leavable(
+    lines: &mut Vec<Line>,
+    place: &mut Place,
+    next: usize,
+    ways: Ways,
+    body: &[Statement],
+) -> Result<usize, AllocError>
+    ensures code { OnOk result (lines.new.items ≡ lines.old.items ++ plain_code (surroundings place.old) next ways.out ways.again (core.Leave (body_tree body.now))) }
+    ensures free { IfOk result (λ n. n ≡ next + labels_in (core.Leave (body_tree body.now))) }
+    ensures same { OnOk result (surroundings place.new ≡ holding None (surroundings place.old)) }
+{
+    let inside = Ways {
+        out: next,
+        again: ways.again,
+    };
+    let free = put_statements(lines, place, following(next)?, inside, body)?;
+    put_lines(lines, &[Line::Label(next)])?;
+    place.hold(None);
     Ok(free)
 }

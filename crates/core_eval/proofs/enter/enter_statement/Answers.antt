@@ -1,7 +1,8 @@
 use Rattle.std.proofs.Common.{ap, ◌∙◌}
 use Rattle.cyc_core.specs.Trees.{body_tree, statement_tree}
 use Rattle.core_eval.specs.Pendings.{waits_of}
-use Rattle.core_eval.proofs.Entered.{block_tree, block_answer}
+use Rattle.core_eval.specs.Standing.{known_of}
+use Rattle.core_eval.proofs.Entered.{block_tree, block_answer, breakable_tree, breakable_answer}
 use Rattle.core_eval.proofs.enter.enter_statement.Goals as goal
 
 pub returns-in-Block : goal.returns-in-Block
@@ -12,3 +13,9 @@ returns-in-Block c =
     c.deref-in-Block.ensures.value (ap body_tree c.deref-in-Block-2.ensures.value)
     c.enter_block.ensures.next c.enter_block.ensures.waits c.enter_block.ensures.blocks c.enter_block.ensures.entered c.enter_block.ensures.owns c.enter_block.ensures.called
     c.enter_block.ensures.globals c.enter_block.ensures.regions
+
+pub returns-in-Leave : goal.returns-in-Leave
+returns-in-Leave c =
+    breakable_answer c.enter_breakable.result (known_of c.args.frame.now c.args.memory.now) (statement_tree c.args.statement.now)
+    (body_tree c.in-Leave.body.items) (body_tree c.deref-in-Leave.result.now) (waits_of c.args.stack.now.items) _ (ap statement_tree c.in-Leave.is ∙ breakable_tree c.in-Leave.body)
+    (ap body_tree c.deref-in-Leave.ensures.value) c.enter_breakable.ensures.next c.enter_breakable.ensures.waits

@@ -131,7 +131,7 @@ returns-in-NullPointer c =
 pub returns-in-Put : goal.returns-in-Put
 returns-in-Put c =
     let f = c.args.frame.now in
-    for_operation_ok c.put.result c.args.operation (operation.Put c.in-Put.to c.in-Put.width c.in-Put.from) (known_of f c.args.memory.now)
+    for_operation c.put.result c.args.operation (operation.Put c.in-Put.to c.in-Put.width c.in-Put.from) (known_of f c.args.memory.now)
     (known_of f c.put.new.memory) c.in-Put.is c.put.ensures
 
 pub returns-in-Store : goal.returns-in-Store

@@ -1,7 +1,7 @@
 use Rattle.std.proofs.Common.{◌∷◌, refl, ap, ◌∙◌}
 use Rattle.cyc_core.specs.Trees.{optional_tree}
 use Rattle.core_eval.specs.declared.pending.Pending.TheVariants as pending
-use Rattle.core_eval.specs.Pendings.{Block, exit_of, next_of, wait_of, waits_of}
+use Rattle.core_eval.specs.Pendings.{Block, Breakable, exit_of, next_of, wait_of, waits_of}
 use Rattle.core_eval.specs.Standing.{LeavesCall, known_of}
 use Rattle.core_eval.proofs.Taken.{left_as, left_ok, for_caller, known_here, main_left}
 use Rattle.core_eval.proofs.take.take_flow.Goals as goal
@@ -37,6 +37,14 @@ returns-in-Block-default c =
     (waits_of c.args.stack.now.items) (known_of c.args.frame.now c.args.memory.now) _ ws _ refl
     (c.in-Some.ensures.some ∙ ap (λ p. wait_of p ∷ ws) c.in-Block-default.is-0)
     (c.take_block.ensures ws c.args.frame.now)
+
+pub returns-in-Breakable-default : goal.returns-in-Breakable-default
+returns-in-Breakable-default c =
+    let ws = waits_of c.next.new.stack.items in
+    let known = known_of c.args.frame.now c.args.memory.now in
+    left_as (exit_of c.args.flow) (exit_of c.args.flow) (Breakable ∷ ws) (waits_of c.args.stack.now.items) known _ ws known refl
+    (c.in-Some.ensures.some ∙ ap (λ p. wait_of p ∷ ws) c.in-Breakable-default.is-0)
+    (c.take_breakable.ensures ws known)
 
 pub returns-in-Caller-default : goal.returns-in-Caller-default
 returns-in-Caller-default c =

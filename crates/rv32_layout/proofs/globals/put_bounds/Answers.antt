@@ -1,4 +1,4 @@
-use Rattle.std.proofs.Common.{◌≡◌, ◌++◌, List, ℕ, ap, ◌∙◌, arith}
+use Rattle.std.proofs.Common.{◌++◌, List, ℕ, ap, ◌∙◌, arith}
 use Rattle.rv32_layout.proofs.Strings.{bounds_joined}
 use Rattle.rv32_layout.proofs.globals.put_bounds.Goals as goal
 

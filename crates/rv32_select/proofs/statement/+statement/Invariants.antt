@@ -22,6 +22,9 @@ decreases-put_while l = statements_size (body_tree l.test.now) + statements_size
 abbrev pub decreases-put_block : goal.decreases-put_block
 decreases-put_block l = statements_size (body_tree l.body.now) + 1
 
+abbrev pub decreases-put_leavable : goal.decreases-put_leavable
+decreases-put_leavable l = statements_size (body_tree l.body.now) + 1
+
 -- what is appended, and the code of the statements that are left, is the code of all; so with the labels; and the place is the same
 abbrev pub invariant-put_statements-each : goal.invariant-put_statements-each
 invariant-put_statements-each l = record {

@@ -25,7 +25,7 @@ use Rattle.type_proof.specs.Flat.{Tables, flat}
 use Rattle.source_typing.specs.Named.{TypesBelow}
 use Rattle.type_proof.proofs.invariant.Facts.{at_region, same_here}
 use Rattle.type_proof.proofs.invariant.Invariant as invariant
-use Rattle.type_proof.proofs.invariant.Invariant.{RunType, heap, Owner, Nobody, Flying, Reached, Ghost, HaveTypes, Inv, Grows}
+use Rattle.type_proof.proofs.invariant.Invariant.{RunType, heap, Owner, Nobody, Flying, Ghost, HaveTypes, Inv, Grows}
 use Rattle.type_proof.proofs.invariant.Values.{Carries, values_kept}
 use Rattle.type_proof.proofs.invariant.Moves.{passing}
 use Rattle.type_proof.proofs.invariant.Growth.{grows_trans}
@@ -34,6 +34,7 @@ use Rattle.type_proof.proofs.invariant.After.{After, flying, grows_base}
 use Rattle.type_proof.proofs.invariant.Scopes.{above_scope, block_ghost, block_memory, runs_block}
 use Rattle.type_proof.proofs.invariant.Arguments.{Flown, bound_all, runs_arguments}
 use Rattle.type_proof.proofs.invariant.Layouts.{agrees}
+use Rattle.type_proof.proofs.invariant.Received.{erased, kept_type}
 use Rattle.type_proof.proofs.invariant.Names.{NameOf}
 use Rattle.type_proof.proofs.Strings.{found_parts}
 use Rattle.type_proof.proofs.invariant.Scenes.{Alike, Globals, Scene, scene_later}
@@ -49,7 +50,7 @@ use Rattle.flow_summaries.specs.Statements.{exits_of}
 use Rattle.flow_summaries.proofs.Statements.{exits_told}
 use Rattle.type_proof.proofs.statements.Blocks.{items_leave, statement_leaves}
 use Rattle.type_proof.proofs.statements.Parameters.{landing, inv_landed, grows_landed, flown_moved, with_all, beginning, all_shaped, types_alike, types_up}
-use Rattle.type_proof.proofs.statements.Parameters.{AllBound, all_bound}
+use Rattle.type_proof.proofs.statements.Parameters.{AllBound, all_bound, kept_parameter, with_all_tables}
 use Rattle.type_proof.proofs.statements.Functions.{FunctionJudged, Sources, entry_scope, entry_names, count_is, variables_alike, surrounds_entry, scene_entry}
 
 module _ (n : ℕ) (d : Tables) (world : World) (tables : typing.Tables) (sources : Sources d world tables) (invokes : Invokes n d world tables)
@@ -133,21 +134,24 @@ module _ (n : ℕ) (d : Tables) (world : World) (tables : typing.Tables) (source
         no_locals e w2 m2 = subst (λ (ls : List Local). standing.AllStand judged.outside.tables d f0 ls [] (beginning inner ls) w2 m2) (sym e) tt
 
         inside : Inv d w1 m1 → Runs n (body_at a0) m1 (λ flow. After d k a0 w1 m1 (λ w' m'. Left flow w'))
-        inside i1 = runs_arguments n d world (λ t u. Reached u) k a0 a0 F.routine.parameters (map (renamed f0) F.types) vss w1 m1 start
+        inside i1 = runs_arguments n d world (kept_parameter tables) k a0 a0 F.routine.parameters (map (renamed f0) F.types) vss w1 m1 start
             (block_items F.routine.body)
-            (λ flow. After d k a0 w1 m1 (λ w' m'. Left flow w')) (agrees d world tables sources.structs) (λ t u. refl) refl refl
+            (λ flow. After d k a0 w1 m1 (λ w' m'. Left flow w')) (agrees d world tables sources.structs)
+            (λ t u. kept_type tables (erased t) u) refl refl
             (all_shaped f0 F.routine.parameters F.types F.shapes) i1
             (same_here (Frame a0) Live (m.state (Frame a0))) (flown_moved d k w w1 vss (map (renamed f0) F.types) carry
             (subst (λ (ts : List RunType). Flown d w k vss ts) (sym (types_alike s.regions h f0 F.types alike judged.takes_below)) flown))
             (λ ss w2 m2 i2 g2 st cells landed.
-            let all : AllBound d world tables f0 (renamed h F.gives) a0 inner g0 (with_all F.routine.parameters F.types g0) start
+            let all : AllBound d world tables f0 (renamed h F.gives) a0 inner (with_all_tables F.routine.parameters F.types g0 ∙ judged.tables_are) g0
+            (with_all F.routine.parameters F.types g0) start
             (bound_all start F.routine.parameters ss) w2 m2 =
-            all_bound d world tables f0 (renamed h F.gives) a0 inner (m1.objects (Frame a0)) F.routine.parameters F.types ss vss g0 start w2 m2
+            all_bound d world tables f0 (renamed h F.gives) a0 inner (with_all_tables F.routine.parameters F.types g0 ∙ judged.tables_are)
+            (m1.objects (Frame a0)) F.routine.parameters F.types ss vss g0 start w2 m2
             (surrounds_entry d world tables sources x s F judged h enters.heap_is a0) refl F.objects takes_below F.shapes tt landed in
-            let first : Scene d g0 start f0 a0 (beginning inner judged.outside.locals) k w1 m1 =
+            let first : Scene d g0 start f0 a0 a0 (beginning inner judged.outside.locals) k w1 m1 =
             scene_entry d world tables sources x s F judged h k w m i globals enters inner in
-            let scene : Scene d g0 start f0 a0 (beginning inner judged.outside.locals) k w2 m2 =
-            scene_later d g0 start f0 a0 (beginning inner judged.outside.locals) (beginning inner judged.outside.locals) k w1 m1 w2 m2 i2 g2
+            let scene : Scene d g0 start f0 a0 a0 (beginning inner judged.outside.locals) k w2 m2 =
+            scene_later d g0 start f0 a0 a0 (beginning inner judged.outside.locals) (beginning inner judged.outside.locals) k w1 m1 w2 m2 i2 g2
             (no_locals judged.locals w2 m2) first in
             record {
               by = λ next q.

@@ -39,7 +39,7 @@ object_plain Void e = absurd e
 object_plain Null e = absurd e
 object_plain (Thin n r t) e = e
 object_plain (Fat r t) e = e
-object_plain (Unique n t) e = absurd e
+object_plain (Unique n t) e = e
 object_plain (Handle r) e = tt
 object_plain (Key r) e = absurd e
 object_plain (Struct tag rs) e = e
@@ -125,21 +125,21 @@ module _ (d : Tables) (g : Env) (f : NameOf → Region) (k : ℕ) (w : Ghost) (m
       bounds = bounds_hold s.bounds ordered;
     }
 
-module _ (n : ℕ) (d : Tables) (g : Env) (scope : Scope) (f : NameOf → Region) (b : ℕ) where
+module _ (n : ℕ) (d : Tables) (g : Env) (scope : Scope) (f : NameOf → Region) (b : ℕ) (low : ℕ) where
   -- a call of one of the program's functions, whose region variables stand for these
   pub gives_called : (x : List ℕ) (s : Signature) (F : Function scope.world x s) (us : List Use) (es : List Sense) (rs : List NameOf)
       → Invokes n d scope.world g.tables
       → find g.tables x ≡ Some (OfFunction s) → g.lenient ≡ false → AllBelow g.regions.count rs → all_live g rs s.effect ≡ true
       → all_ordered g rs s.bounds ≡ true
-      → AllPass n d g scope f b (part_shapes F.routine.parameters) (map (renamed (argument rs)) F.types) us es
-      → GivesBy n d g scope f b (all_values us) (renamed (argument rs) F.gives)
+      → AllPass n d g scope f b low (part_shapes F.routine.parameters) (map (renamed (argument rs)) F.types) us es
+      → GivesBy n d g scope f b low (all_values us) (renamed (argument rs) F.gives)
       (converted_all scope.world (part_shapes F.routine.parameters) es >>= λ vss. invoke F.routine scope.world vss)
   gives_called x s F us es rs invokes there strict below live ordered h = λ st e k w m i z. record {
-    by = λ next q. (all_passed n d g scope f b (part_shapes F.routine.parameters) (map (renamed (argument rs)) F.types) us es h st e k w m i z).by
+    by = λ next q. (all_passed n d g scope f b low (part_shapes F.routine.parameters) (map (renamed (argument rs)) F.types) us es h st e k w m i z).by
         (λ vss. invoke F.routine scope.world vss next)
         (λ vss m1 y.
         let s2 : States = (all_values us st).states in
-        let z1 : Scene d g scope f b s2 k y.ghost m1 = scene_later d g scope f b st s2 k w m y.ghost m1 y.inv y.grows y.holds.1 z in
+        let z1 : Scene d g scope f b low s2 k y.ghost m1 = scene_later d g scope f b low st s2 k w m y.ghost m1 y.inv y.grows y.holds.1 z in
         let flown : Flown d y.ghost k vss (map (renamed (λ a. f (argument rs a))) F.types) =
         subst (λ (ts : List RunType). Flown d y.ghost k vss ts) (objects_twice f (argument rs) F.types F.objects) y.holds.0 in
         (invokes x s F there (λ a. f (argument rs a)) k m1.activations y.ghost m1 vss (omega arith) y.inv z1.globals
@@ -149,7 +149,7 @@ module _ (n : ℕ) (d : Tables) (g : Env) (scope : Scope) (f : NameOf → Region
           grows = grows_trans y.grows (grows_base z1.base u.grows);
           holds = (
             subst (λ (t : RunType). HaveTypes d u.ghost (flying k 0) vs (flat heap d t)) (sym (plain_twice f (argument rs) F.gives F.plain)) u.holds,
-            stands_kept d g scope f b s2 k y.ghost m1 u.ghost m2 z1 u.grows,
+            stands_kept d g scope f b low s2 k y.ghost m1 u.ghost m2 z1 u.grows,
           );
         })));
   }

@@ -38,6 +38,7 @@ first_inv d os = record {
   top = λ q e. upper_is q heap e;
   heap_lives = refl;
   heap_is_free = refl;
+  frames = λ j. refl;
   unborn = λ r n. at_region (λ x. Dead) heap Live r (λ x. x ≡ Dead) (λ e. absurd (n (subst (λ (x : Region). Known (heap_alone os) x) (sym e) (omega arith))))
       (λ e. refl);
   unowned = λ r n. refl;

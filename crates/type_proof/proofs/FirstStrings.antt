@@ -1,6 +1,6 @@
 -- The strings have their chars at the start, behind the globals: so they are there before any constant is stored.
 use Rattle.std.proofs.Common.{◌≡◌, ℕ, zero, suc, ◌+◌, ◌<◌, ◌≤◌, Bool, true, false, Some, None, List, [], ◌∷◌, ◌++◌, refl, sym, ◌∙◌, ap, subst, arith}
-use Rattle.std.specs.Prelude.{◌*◌, ◌%◌, map, length, nat_eq, slice_get, option_and_then, if◌then◌else◌}
+use Rattle.std.specs.Prelude.{◌%◌, map, length, nat_eq, slice_get, option_and_then, if◌then◌else◌}
 use Rattle.std.proofs.lemmas.List.{length-append}
 use Rattle.std.proofs.lemmas.Option.{slice_get_within, same_Some}
 use Rattle.cyc_tree.specs.Tree as tree
@@ -16,7 +16,7 @@ use Rattle.type_proof.proofs.invariant.Facts.{further, not_further}
 use Rattle.type_proof.proofs.invariant.Invariant.{RunType, Kept, Reached, Ghost, Laid, Inv}
 use Rattle.type_proof.proofs.invariant.Values.{laid_kept}
 use Rattle.type_proof.proofs.Strings.{StringLaid, StringsLaid}
-use Rattle.type_proof.proofs.statements.Begun.{HeldAt, Typed, held_typed}
+use Rattle.type_proof.proofs.statements.Begun.{HeldAt, Typed, held_typed, typed_laid}
 use Rattle.type_proof.proofs.Started.{Ready}
 
 -- ---- the chars of a string
@@ -74,8 +74,8 @@ strings_typed d w os (s ∷ ss) k i none h =
     let m : Memory = heap_alone os in
     let o : Object = string_object s in
     let here : slice_get os k ≡ Some o = ap (slice_get os) (omega arith) ∙ h 0 in
-    let z : Typed d 0 0 w m (heap_spot k) (chars (s.1 ++ 0 ∷ [])) =
-    held_typed d 0 0 w m (heap_spot k) (chars (s.1 ++ 0 ∷ [])) i (slice_get_within os k o here)
+    let z : Typed d 0 0 (λ u. Reached u) w m (heap_spot k) (chars (s.1 ++ 0 ∷ [])) =
+    held_typed d 0 0 (λ u. Reached u) w m (heap_spot k) (chars (s.1 ++ 0 ∷ [])) (λ u. refl) i (slice_get_within os k o here)
     (chars_held w m (heap_spot k) (s.1 ++ 0 ∷ []) (λ j. none (beyond (heap_spot k) j) (omega arith))
     (λ j. ap (option_and_then (λ (y : Object). y (0 + j))) here ∙ ap (λ (c : ℕ). o c) (omega arith))) in
     let r : StringsTyped d z.ghost m ss (suc k) =
@@ -86,7 +86,7 @@ strings_typed d w os (s ∷ ss) k i none h =
       inv = r.inv;
       keeps = λ y q e. r.keeps y q (z.keeps y q e);
       before = λ y l. r.before y (omega (arith, l)) ∙ z.others y (λ e. omega (arith, l, e));
-      laid = λ at v e. by r z.laid at v (nat_eq s.0 at) e;
+      laid = λ at v e. by r (typed_laid d 0 0 w m (heap_spot k) (chars (s.1 ++ 0 ∷ [])) z) at v (nat_eq s.0 at) e;
     }
   where
     kept_chars : (w0 w1 : Ghost) (at : Spot) (bs : List ℕ) → ((y : Spot) (q : Kept) → w0.types y ≡ Some q → w1.types y ≡ Some q) → Laid w0 at (chars bs)

@@ -5,7 +5,7 @@ use Rattle.std.proofs.lemmas.Bool.{cases_Bool, false≢true}
 use Rattle.std.proofs.lemmas.Slice.Eq.{bytes_eq-Decides}
 use Rattle.cyc_tree.specs.Tree as tree
 use Rattle.cyc_tree.specs.Tree.{Constant, Initial, Item}
-use Rattle.source_meaning.specs.Shapes.{Shared, Shape, IntShape, UnsignedShape, CharShape, ThinShape, FatShape, StructShape, UnionShape}
+use Rattle.source_meaning.specs.Shapes.{Shared, Alone, Shape, IntShape, UnsignedShape, CharShape, ThinShape, FatShape, StructShape, UnionShape}
 use Rattle.source_meaning.specs.Steps.{World}
 use Rattle.source_typing.specs.Regions.{Region}
 use Rattle.source_typing.specs.Tables as typing
@@ -13,7 +13,7 @@ use Rattle.source_typing.specs.Tables.{What, Entry, OfValue, OfTag, OfFunction, 
 use Rattle.source_typing.specs.Tables.{parts_in, begins}
 use Rattle.source_typing.specs.Types.{StaticType, Int, Unsigned, Char, Void, Null, Thin, Fat, Unique, Handle, Key, Struct, Union, shape_of}
 use Rattle.type_proof.specs.Entries.{IsObjectType, PlainTables}
-use Rattle.type_proof.specs.Programs.{IsNumber, IsPointerConstant, IsFirst, InitialJudged, GlobalJudged, GlobalsJudged}
+use Rattle.type_proof.specs.Programs.{IsNullConstant, IsNumber, IsPointerConstant, IsFirst, InitialJudged, GlobalJudged, GlobalsJudged}
 use Rattle.type_proof.proofs.invariant.Layouts.{same_text}
 
 -- ---- whether two types have one shape
@@ -27,6 +27,13 @@ thins_shaped false false r q t u (inl e) = inl (ap (ThinShape false Shared) e)
 thins_shaped true false r q t u h = inr (λ z. cc)
 thins_shaped false true r q t u h = inr (λ z. cc)
 thins_shaped n m r q t u (inr k) = inr (λ z. k (let y : shape_of t ≡ shape_of u = cc in y))
+
+uniques_shaped : (n m : Bool) (t u : StaticType) → SameShape t u → SameShape (Unique n t) (Unique m u)
+uniques_shaped true true t u (inl e) = inl (ap (ThinShape true Alone) e)
+uniques_shaped false false t u (inl e) = inl (ap (ThinShape false Alone) e)
+uniques_shaped true false t u h = inr (λ z. cc)
+uniques_shaped false true t u h = inr (λ z. cc)
+uniques_shaped n m t u (inr k) = inr (λ z. k (let y : shape_of t ≡ shape_of u = cc in y))
 
 fats_shaped : (r q : Region) (t u : StaticType) → SameShape t u → SameShape (Fat r t) (Fat q u)
 fats_shaped r q t u (inl e) = inl (ap FatShape e)
@@ -42,7 +49,6 @@ objects_shaped Char u e h = inr (λ z. cc)
 objects_shaped (Handle r) (Handle q) e h = inl refl
 objects_shaped (Handle r) u e h = inr (λ z. cc)
 objects_shaped (Thin n r t) (Thin m q u) e h = thins_shaped n m r q t u (objects_shaped t u e h)
-objects_shaped (Thin n r t) (Unique m u) e h = absurd h
 objects_shaped (Thin n r t) Null e h = absurd h
 objects_shaped (Thin n r t) u e h = inr (λ z. cc)
 objects_shaped (Struct x rs) (Struct y qs) e h = elim (cases_Bool (bytes_eq x y)) [
@@ -54,7 +60,9 @@ objects_shaped Void u e h = absurd e
 objects_shaped Null u e h = absurd e
 objects_shaped (Fat r t) (Fat q u) e h = fats_shaped r q t u (objects_shaped t u e h)
 objects_shaped (Fat r t) u e h = inr (λ z. cc)
-objects_shaped (Unique n t) u e h = absurd e
+objects_shaped (Unique n t) (Unique m u) e h = uniques_shaped n m t u (objects_shaped t u e h)
+objects_shaped (Unique n t) Null e h = absurd h
+objects_shaped (Unique n t) u e h = inr (λ z. cc)
 objects_shaped (Key r) u e h = absurd e
 objects_shaped (Union x rs) (Union y qs) e h = elim (cases_Bool (bytes_eq x y)) [
   | inl z ↦ inl (ap UnionShape ((bytes_eq-Decides x y).0 z))
@@ -82,7 +90,7 @@ begins_shaped n g Void e = absurd e
 begins_shaped n g Null e = absurd e
 begins_shaped n g (Thin b r t) e = refl
 begins_shaped n g (Fat r t) e = refl
-begins_shaped n g (Unique b t) e = absurd e
+begins_shaped n g (Unique b t) e = refl
 begins_shaped n g (Handle r) e = refl
 begins_shaped n g (Key r) e = absurd e
 begins_shaped zero g (Struct tag rs) e = refl
@@ -93,7 +101,8 @@ abbrev FirstBy : Shape → Constant → Type 0
 FirstBy IntShape c = IsNumber c
 FirstBy UnsignedShape c = IsNumber c
 FirstBy CharShape c = IsNumber c
-FirstBy (ThinShape b owner to) c = IsPointerConstant to c
+FirstBy (ThinShape b Alone to) c = IsNullConstant c
+FirstBy (ThinShape b Shared to) c = IsPointerConstant to c
 FirstBy (FatShape to) c = IsPointerConstant to c
 FirstBy s c = ⊥
 
@@ -105,7 +114,7 @@ to_shape Void c e h = absurd e
 to_shape Null c e h = absurd e
 to_shape (Thin b r t) c e h = h
 to_shape (Fat r t) c e h = h
-to_shape (Unique b t) c e h = absurd e
+to_shape (Unique b t) c e h = h
 to_shape (Handle r) c e h = h
 to_shape (Key r) c e h = absurd e
 to_shape (Struct tag rs) c e h = h
@@ -119,7 +128,7 @@ from_shape Void c e h = absurd e
 from_shape Null c e h = absurd e
 from_shape (Thin b r t) c e h = h
 from_shape (Fat r t) c e h = h
-from_shape (Unique b t) c e h = absurd e
+from_shape (Unique b t) c e h = h
 from_shape (Handle r) c e h = h
 from_shape (Key r) c e h = absurd e
 from_shape (Struct tag rs) c e h = h

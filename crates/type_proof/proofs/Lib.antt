@@ -15,3 +15,5 @@ pub mod ArraySample
 pub mod StringSample
 pub mod FilledSample
 pub mod SwitchSample
+pub mod UniqueSample
+pub mod UniqueMemberSample

@@ -31,7 +31,7 @@ use Rattle.source_meaning.specs.Strings.{constant_strings, initial_strings, item
 use Rattle.source_meaning.specs.Programs.{heap_spot, globals_from, global_shape, constant_value, constant_shape, global_object, global_stored, globals_stored}
 use Rattle.source_typing.specs.Types.{StaticType, Int, Unsigned, Char, Void, Null, Thin, Fat, Unique, Handle, Key, Struct, Union, integer_type, shape_of}
 use Rattle.type_proof.specs.Flat.{Tables, flat}
-pub use Rattle.type_proof.specs.Programs.{IsNumber, IsPointerConstant, IsFirst, InitialJudged, GlobalJudged}
+pub use Rattle.type_proof.specs.Programs.{IsNullConstant, IsNumber, IsPointerConstant, IsFirst, InitialJudged, GlobalJudged}
 use Rattle.source_typing.specs.Tables as typing
 use Rattle.source_typing.specs.Tables.{What, OfValue, find, has_beginning}
 use Rattle.type_proof.specs.Entries.{IsObjectType, IsWordType}
@@ -49,7 +49,7 @@ use Rattle.type_proof.proofs.invariant.Names.{NameOf}
 use Rattle.type_proof.proofs.invariant.Sound.{shape_renamed}
 use Rattle.type_proof.proofs.Entries.{run_type}
 use Rattle.type_proof.proofs.GlobalTypes.{held_type, GlobalsTyped}
-use Rattle.type_proof.proofs.statements.Begun.{Typed, cells_typed, begun_slice}
+use Rattle.type_proof.proofs.statements.Begun.{Typed, cells_typed, typed_laid, begun_slice}
 
 -- ---- the memory before a global is stored, and after
 
@@ -137,7 +137,7 @@ begins_blank world c Void e = absurd e
 begins_blank world c Null e = absurd e
 begins_blank world c (Thin n r t) e = ap (λ (s : Shape). Some (record { shape = s; content = Blank })) (sym (shape_renamed (λ (a : NameOf). heap) (Thin n r t)))
 begins_blank world c (Fat r t) e = ap (λ (s : Shape). Some (record { shape = s; content = Blank })) (sym (shape_renamed (λ (a : NameOf). heap) (Fat r t)))
-begins_blank world c (Unique n t) e = absurd e
+begins_blank world c (Unique n t) e = ap (λ (s : Shape). Some (record { shape = s; content = Blank })) (sym (shape_renamed (λ (a : NameOf). heap) (Unique n t)))
 begins_blank world c (Handle r) e = absurd e
 begins_blank world c (Key r) e = absurd e
 begins_blank world c (Struct tag rs) e = absurd e
@@ -152,7 +152,7 @@ laid_one d w Void at word e = absurd word
 laid_one d w Null at word e = absurd word
 laid_one d w (Thin n r t) at word e = (e, tt)
 laid_one d w (Fat r t) at word e = (e, tt)
-laid_one d w (Unique n t) at word e = absurd word
+laid_one d w (Unique n t) at word e = (e, tt)
 laid_one d w (Handle r) at word e = absurd word
 laid_one d w (Key r) at word e = absurd word
 laid_one d w (Struct tag rs) at word e = absurd word
@@ -167,7 +167,7 @@ char_shaped Void e z = absurd e
 char_shaped Null e z = absurd e
 char_shaped (Thin n r t) e z = absurd cc
 char_shaped (Fat r t) e z = absurd cc
-char_shaped (Unique n t) e z = absurd e
+char_shaped (Unique n t) e z = absurd cc
 char_shaped (Handle r) e z = absurd cc
 char_shaped (Key r) e z = absurd e
 char_shaped (Struct tag rs) e z = absurd cc
@@ -188,22 +188,23 @@ module _ {B : Type 0} (d : Tables) (n : ℕ) (world : World) (tables : typing.Ta
       → Runs n rest m' Q)
       → Runs n (global_stored world i (shape_of u) (heap_spot k) >> rest) m Q
   runs_one (Initial.Elements c) u items k w m rest e b j f laid i none there l ready go = record {
-    by = λ next q. (go z.ghost m z.inv z.keeps (laid_all z.ghost (heap_spot k) c (flat heap d (run_type u)) z.laid)
+    by = λ next q. (go z.ghost m z.inv z.keeps (laid_all z.ghost (heap_spot k) c (flat heap d (run_type u))
+        (typed_laid d 0 0 w m (heap_spot k) (repeated c (flat heap d (run_type u))) z))
         (ready_later world items k (suc k) w m z.ghost m (omega arith) z.others (λ y p. refl) refl ready)).by next q;
   }
     where
-      z : Typed d 0 0 w m (heap_spot k) (repeated c (flat heap d (run_type u)))
-      z = cells_typed d 0 0 w m (heap_spot k) (repeated c (flat heap d (run_type u))) i l
+      z : Typed d 0 0 (λ u. Reached u) w m (heap_spot k) (repeated c (flat heap d (run_type u)))
+      z = cells_typed d 0 0 (λ u. Reached u) w m (heap_spot k) (repeated c (flat heap d (run_type u))) (λ u. refl) i l
           (all_begin c (flat heap d (run_type u)) (cells_begin d world tables (λ a. heap) u structs e b))
           (begun_slice w m (heap_spot k) (repeated c (flat heap d (run_type u))) none
           (λ j. there j ∙ (ap (λ (ss : List Shape). array_of c (map first_cell ss) j) (global_cells u) ∙ array_row first_cell c (flat heap d (run_type u)) j)))
   runs_one Initial.Unset u items k w m rest e b j f laid i none there l ready go = record {
-    by = λ next q. (go z.ghost m z.inv z.keeps z.laid
+    by = λ next q. (go z.ghost m z.inv z.keeps (typed_laid d 0 0 w m (heap_spot k) (flat heap d (run_type u)) z)
         (ready_later world items k (suc k) w m z.ghost m (omega arith) z.others (λ y p. refl) refl ready)).by next q;
   }
     where
-      z : Typed d 0 0 w m (heap_spot k) (flat heap d (run_type u))
-      z = cells_typed d 0 0 w m (heap_spot k) (flat heap d (run_type u)) i l (cells_begin d world tables (λ a. heap) u structs e b)
+      z : Typed d 0 0 (λ u. Reached u) w m (heap_spot k) (flat heap d (run_type u))
+      z = cells_typed d 0 0 (λ u. Reached u) w m (heap_spot k) (flat heap d (run_type u)) (λ u. refl) i l (cells_begin d world tables (λ a. heap) u structs e b)
           (begun_slice w m (heap_spot k) (flat heap d (run_type u)) none
           (λ c. there c ∙ ap (λ (ss : List Shape). slice_get (map first_cell ss) c) (global_cells u)))
   runs_one (Initial.Given c) u items k w m rest e b j f strings i none there l ready go = by u e j (there 0) go b
@@ -297,6 +298,18 @@ module _ {B : Type 0} (d : Tables) (n : ℕ) (world : World) (tables : typing.Ta
       null r t e (Constant.Character at byte) x h there go = absurd x
       null r t e (Constant.Text at bytes) x h there go = text_thin r t at (char_shaped t e x) (h.0, tt) there go
 
+      alone : (z : Bool) (t : StaticType) → IsObjectType t → z ≡ true → (y : Constant) → IsNullConstant y
+          → m.cells (heap_spot k) ≡ global_object world (Initial.Given c) (shape_of {R = NameOf} (Unique z t)) 0 → Going (Unique z t)
+          → Runs n ((constant_value world.strings y >>= λ v. converted world (shape_of {R = NameOf} (Unique z t)) (constant_shape y) (v ∷ []) >>= λ vs.
+          write_cells (heap_spot k) vs) >> rest) m Q
+      alone false t e z y x there go = absurd cc
+      alone true t e z (Constant.Null at) x there go =
+          record { by = λ next q. (store (Unique true t) (memory.Thin None) e (inl (record { allowed = refl; is = refl })) there go).by next q }
+      alone true t e z (Constant.Number at y suffix) x there go = absurd x
+      alone true t e z (Constant.Negative at y suffix) x there go = absurd x
+      alone true t e z (Constant.Character at byte) x there go = absurd x
+      alone true t e z (Constant.Text at bytes) x there go = absurd x
+
       fat : (r : NameOf) (t : StaticType) → IsObjectType t → (y : Constant) → IsPointerConstant (shape_of t) y → AreFound world.strings (constant_strings y)
           → m.cells (heap_spot k) ≡ global_object world (Initial.Given c) (shape_of (Fat r t)) 0 → Going (Fat r t)
           → Runs n ((constant_value world.strings y >>= λ v. converted world (shape_of (Fat r t)) (constant_shape y) (v ∷ []) >>= λ vs.
@@ -325,7 +338,7 @@ module _ {B : Type 0} (d : Tables) (n : ℕ) (world : World) (tables : typing.Ta
       by Null e x there go b = absurd e
       by (Thin z r t) e x there go b = pointer z r t e b x there go
       by (Fat r t) e x there go b = fat r t e c x f there go
-      by (Unique z t) e x there go b = absurd e
+      by (Unique z t) e x there go b = alone z t e b c x there go
       by (Handle r) e x there go b = absurd x
       by (Key r) e x there go b = absurd e
       by (Struct tag rs) e x there go b = absurd x

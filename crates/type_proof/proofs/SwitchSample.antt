@@ -6,7 +6,7 @@ use Rattle.cyc_tree.specs.Tree.{Expression, Initializer, Statement, BlockItems, 
 use Rattle.source_typing.specs.Converts.{Integers, Same}
 use Rattle.source_typing.specs.Regions.{Level, entry_regions}
 use Rattle.source_typing.specs.Scope.{Env, In, Nowhere, at_item, block_entered}
-use Rattle.source_typing.specs.Tables.{OfTag, Part, Tables, Tag}
+use Rattle.source_typing.specs.Tables.{OfTag, Tables, Tag}
 use Rattle.source_typing.specs.Types.{Char, Int, Union}
 use Rattle.type_proof.specs.Judged.{ItemsJudged}
 use Rattle.type_proof.proofs.ArraySample.{name_at, variable_at, number}

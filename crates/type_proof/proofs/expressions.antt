@@ -8,6 +8,7 @@ pub mod Operands
 pub mod Spans
 pub mod Storing
 pub mod Calling
+pub mod Gathered
 pub mod Members
 pub mod Fixed
 pub mod WordRules
@@ -19,12 +20,15 @@ pub mod BlockPlaces
 pub mod Testing
 pub mod Forms
 pub mod Applied
+pub mod Contents
 pub mod FatForms
 pub mod StructForms
 pub mod Makings
+pub mod Single
 pub mod Counters
 pub mod Filled
 pub mod CallForms
 pub mod UnionForms
 pub mod Settings
+pub mod MakingForms
 pub mod Expressions

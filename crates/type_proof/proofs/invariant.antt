@@ -17,6 +17,8 @@ pub mod Alikes
 pub mod Rights
 pub mod LocalCells
 pub mod Standing
+pub mod InRooms
+pub mod Received
 pub mod Moving
 pub mod Scenes
 pub mod Heads
@@ -24,3 +26,6 @@ pub mod Sound
 pub mod Layouts
 pub mod Unions
 pub mod Copyable
+pub mod NamesMore
+pub mod Aliases
+pub mod Exchanges

@@ -4,6 +4,7 @@ pub mod Lexical
 pub mod Begun
 pub mod Flows
 pub mod Ways
+pub mod Returning
 pub mod Statements
 pub mod Unreached
 pub mod Dropped
@@ -11,6 +12,11 @@ pub mod Declared
 pub mod Cases
 pub mod Switched
 pub mod Clauses
+pub mod Freed
+pub mod Exchanged
+pub mod Lending
+pub mod AliasScope
+pub mod Aliased
 pub mod Blocks
 pub mod Parameters
 pub mod Functions

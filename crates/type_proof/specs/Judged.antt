@@ -1,6 +1,6 @@
--- Which statements of integers, pointers, structs, arrays, strings and lexical regions are in order: the judgement of each of their expressions, where it
--- stands.
-use Rattle.std.specs.Prelude.{◌≡◌, ℕ, Bool, true, false, ◌||◌, ◌&&◌, Some, None, List, ◌∷◌}
+-- Which statements of integers, pointers, unique ones too, structs, unions, arrays, strings and lexical regions are in order: the judgement of each of their
+-- expressions, where it stands.
+use Rattle.std.specs.Prelude.{◌≡◌, ℕ, Bool, true, false, ◌||◌, ◌&&◌, Some, None, List, [], ◌∷◌}
 use Rattle.cyc_tree.specs.Operands.{ExpressionHasOperands}
 use Rattle.cyc_tree.specs.Tree as tree
 use Rattle.cyc_tree.specs.Tree.{Expression, Initializer, Statement, BlockItems, NoItems, Declare, Execute, TypeName, Clauses, NoClauses, MoreClauses, Case}
@@ -8,13 +8,15 @@ use Rattle.cyc_tree.specs.Tree.{Default}
 use Rattle.source_meaning.specs.Shapes.{written, settled, settled_by}
 use Rattle.source_typing.specs.Converts.{Converts}
 use Rattle.source_typing.specs.Declarations.{declare, with_region}
+use Rattle.source_typing.specs.Exchanges.{acts, exchangeable}
 use Rattle.source_typing.specs.Expressions.{judge}
-use Rattle.source_typing.specs.Regions.{Region, with_scope}
-use Rattle.source_typing.specs.Scope.{Env, Value, block_entered, next_region}
+use Rattle.source_typing.specs.Regions.{Region, with_name, with_scope}
+use Rattle.source_typing.specs.Places.{variable}
+use Rattle.source_typing.specs.Scope.{Env, Value, block_entered, meant, next_region}
 use Rattle.source_typing.specs.Statements.{Chosen, chosen, clauses_fit, clause_scope, in_a_loop, in_a_switch}
 use Rattle.source_typing.specs.Tables.{What, Stored, Arrayed, Part, argument, has_beginning, part_in, parts_in}
 use Rattle.source_typing.specs.Taken.{Taken, taken, with_filled}
-use Rattle.source_typing.specs.Types.{StaticType, Void, Handle, Union, is_testable, renamed, shape_of}
+use Rattle.source_typing.specs.Types.{StaticType, Void, Handle, Thin, Union, Unique, is_testable, renamed, shape_of}
 use Rattle.source_typing.specs.Ways.{ways_of, ways_of_items}
 use Rattle.source_typing.specs.Verdicts.{Of}
 use Rattle.type_proof.specs.Entries.{IsObjectType}
@@ -23,7 +25,7 @@ use Rattle.source_typing.specs.Named.{TypeBelow}
 
 -- the forms that safety is proved of so far, which may be more than a program is accepted with
 abbrev pub safe_forms : Taken
-safe_forms = record with_filled { unions = true }
+safe_forms = record with_filled { unions = true; unique = true }
 
 -- an expression of these forms that is in order, and what it is
 pub record Accepted (g : Env) (e : Expression) : Type 0 where
@@ -86,11 +88,26 @@ pub record LocalSet (g : Env) (of : TypeName) (x : tree.Name) (e : Expression) :
 abbrev pub RegionOpened : Env → ℕ → tree.RegionName → tree.Name → Type 0
 RegionOpened g at r x = ((declare g (tree.Region at r x)).scope ≡ extended (with_region r with_scope g) x (Handle (next_region g)))
 
+-- a name that is of a unique pointer
+pub record UniqueOperand (g : Env) (x : tree.Name) : Type 0 where
+  pub value : Value
+  pub judged : variable x.at (meant g x.text) ≡ Of value
+  pub nullable : Bool
+  pub to : StaticType
+  pub is : value.type ≡ Unique nullable to
+
+-- a unique pointer's alias: its type is the pointer's, with the new region for the unique one
+pub record AliasOpened (g : Env) (at : ℕ) (r : tree.RegionName) (of : TypeName) (x p : tree.Name) : Type 0 where
+  pub operand : UniqueOperand g p
+  pub shape : settled_by (written of) (shape_of (Unique operand.nullable operand.to)) ≡ shape_of (Thin operand.nullable (next_region g) operand.to)
+  pub scope : (declare g (tree.Alias at r of x p)).scope ≡ extended (with_region r (with_name true) g) x (Thin operand.nullable (next_region g) operand.to)
+
 abbrev pub DeclarationJudged : Env → tree.Declaration → Type 0
 DeclarationJudged g (tree.Local of x Initializer.Unset) = LocalUnset g of x
 DeclarationJudged g (tree.Local of x (Initializer.Elements count)) = LocalArray g of x count
 DeclarationJudged g (tree.Local of x (Initializer.Value e)) = LocalSet g of x e
 DeclarationJudged g (tree.Region at r x) = RegionOpened g at r x
+DeclarationJudged g (tree.Alias at r of x p) = AliasOpened g at r of x p
 DeclarationJudged g _ = ⊥
 
 -- a result that converts to the type that the function gives
@@ -99,6 +116,13 @@ pub record Returned (g : Env) (e : Expression) : Type 0 where
   pub result : g.result ≡ Some gives
   pub object : IsObjectType gives
   pub fitting : Fitting g e gives
+
+-- two places of one type of one cell, in the second of which nothing is called, made or assigned
+pub record Exchanging (g : Env) (a b : Expression) : Type 0 where
+  pub left : Accepted g a
+  pub right : Accepted g b
+  pub fits : exchangeable left.value right.value ≡ true
+  pub still : acts b ≡ []
 
 -- ---- `switch`
 
@@ -144,6 +168,8 @@ abbrev mutual
   StatementJudged g reached (Statement.Continue at) = (g.in_loop ≡ true)
   StatementJudged g reached (Statement.Return at None) = (g.result ≡ Some Void)
   StatementJudged g reached (Statement.Return at (Some e)) = Returned g e
+  StatementJudged g reached (Statement.Exchange a b) = Exchanging g a b
+  StatementJudged g reached (Statement.FreeUnique at p) = UniqueOperand g p
   StatementJudged g reached _ = ⊥
 
   pub ItemsJudged : Env → Bool → BlockItems → Type 0

@@ -8,7 +8,7 @@ use Rattle.source_typing.specs.Making.{goal_of, inside, with_counter}
 use Rattle.source_typing.specs.Places.{arrow, indexed, member}
 use Rattle.source_typing.specs.Scope.{Env, Value}
 use Rattle.source_typing.specs.Tables.{Tables, Tag, tag_in}
-use Rattle.source_typing.specs.Types.{StaticType, Struct, Thin, Fat}
+use Rattle.source_typing.specs.Types.{StaticType, Struct, Thin, Fat, Unique}
 use Rattle.source_typing.specs.Verdicts.{Of, Verdict, after, both}
 
 -- a tag that is a union's
@@ -25,6 +25,7 @@ IsNoUnion tables t = Unit {0}
 abbrev pub LeadsToNoUnion : Tables → StaticType → Type 0
 LeadsToNoUnion tables (Thin n r t) = IsNoUnion tables t
 LeadsToNoUnion tables (Fat r t) = IsNoUnion tables t
+LeadsToNoUnion tables (Unique n t) = IsNoUnion tables t
 LeadsToNoUnion tables t = Unit {0}
 
 abbrev pub OfNoUnion : Env → Verdict Value → Type 0

@@ -41,16 +41,16 @@ abbrev pub all_values : List Use → States → Passed
 all_values [] s = passed [] s
 all_values (u ∷ us) s = then_passed (u.value s) (all_values us)
 
-module _ (n : ℕ) (d : Tables) (g : Env) (scope : Scope) (f : NameOf → Region) (b : ℕ) where
+module _ (n : ℕ) (d : Tables) (g : Env) (scope : Scope) (f : NameOf → Region) (b : ℕ) (low : ℕ) where
   -- each argument gives a value of its parameter's type, once it is converted
   abbrev pub AllPass : List Shape → List StaticType → List Use → List Sense → Type 0
   AllPass [] [] [] [] = Unit {0}
-  AllPass (s ∷ ss) (t ∷ ts) (u ∷ us) (e ∷ es) = GivesBy n d g scope f b u.value t (e.value >>= converted scope.world s e.shape) × AllPass ss ts us es
+  AllPass (s ∷ ss) (t ∷ ts) (u ∷ us) (e ∷ es) = GivesBy n d g scope f b low u.value t (e.value >>= converted scope.world s e.shape) × AllPass ss ts us es
   AllPass _ _ _ _ = ⊥
 
   -- what they give is on its way together, the first of them with the number k
   abbrev pub Passes : States → States → List StaticType → Act (List (List Scalar)) → Type 0
-  Passes s s2 ts act = (k : ℕ) (w : Ghost) (m : Memory) → Inv d w m → Scene d g scope f b s k w m
+  Passes s s2 ts act = (k : ℕ) (w : Ghost) (m : Memory) → Inv d w m → Scene d g scope f b low s k w m
       → Runs n act m (λ vss. After d k b w m (λ w' m'. Flown d w' k vss (map (renamed f) ts) × Standing d g scope f s2 w' m'))
 
   -- what one of them moved the next ones don't find
@@ -65,8 +65,8 @@ module _ (n : ℕ) (d : Tables) (g : Env) (scope : Scope) (f : NameOf → Region
       record {
         by = λ next q. (h.0 s (none_first p.faults (all_values us p.states).faults z) k w m i x).by
             (λ vs. (converted_all scope.world ss es >>= λ vss. give (vs ∷ vss)) next) (λ vs m1 y.
-            let x1 : Scene d g scope f b p.states (suc k) y.ghost m1 =
-            scene_more d g scope f b p.states k y.ghost m1 (scene_later d g scope f b s p.states k w m y.ghost m1 y.inv y.grows y.holds.1 x) in
+            let x1 : Scene d g scope f b low p.states (suc k) y.ghost m1 =
+            scene_more d g scope f b low p.states k y.ghost m1 (scene_later d g scope f b low s p.states k w m y.ghost m1 y.inv y.grows y.holds.1 x) in
             (all_passed ss ts us es h.1 p.states (none_second p.faults (all_values us p.states).faults z) (suc k) y.ghost m1 y.inv x1).by
             (λ vss. next (vs ∷ vss)) (λ vss m2 a. q (vs ∷ vss) m2 (record {
               ghost = a.ghost;
@@ -84,7 +84,7 @@ module _ (n : ℕ) (d : Tables) (g : Env) (scope : Scope) (f : NameOf → Region
 
   -- ---- the two functions that every program has
 
-  pub gives_byte : GivesBy n d g scope f b nothing Int (read_byte [])
+  pub gives_byte : GivesBy n d g scope f b low nothing Int (read_byte [])
   gives_byte = λ s e k w m i x. record {
     by = λ next q.
         safe_pays n (λ m'. Reads (λ c. next (Integer AsInt (byte_value c) ∷ []) m')) m
@@ -105,7 +105,7 @@ module _ (n : ℕ) (d : Tables) (g : Env) (scope : Scope) (f : NameOf → Region
   one_word w k ((v ∷ []) ∷ []) h = (h.0.0.word, ap (λ (x : Scalar). (x ∷ []) ∷ []) h.0.0.is)
 
   pub gives_written : (us : List Use) (es : List Sense) → AllPass (IntShape ∷ []) (Int ∷ []) us es
-      → GivesBy n d g scope f b (all_values us) Int (write_byte scope.world es)
+      → GivesBy n d g scope f b low (all_values us) Int (write_byte scope.world es)
   gives_written us es h = λ s e k w m i x. record {
     by = λ next q. (all_passed (IntShape ∷ []) (Int ∷ []) us es h s e k w m i x).by (λ vss. put vss next) (λ vss m1 y.
         let z : (p : ℕ) × (vss ≡ (Integer AsInt p ∷ []) ∷ []) = one_word y.ghost k vss y.holds.0 in

@@ -3,7 +3,7 @@
 use Rattle.std.proofs.Common.{◌≡◌, ◌<◌, ℕ, Bool, true, false, inl, inr, Some, None, List, [], ◌∷◌, refl, sym, ◌∙◌, ap, subst}
 use Rattle.std.specs.Prelude.{◌*◌, length}
 use Rattle.cyc_words.specs.declared.faults.Kind.TheVariants.{NullException}
-use Rattle.source_meaning.specs.Shapes.{Shared, Shape, ThinShape, FatShape, HandleShape, StructShape, UnionShape}
+use Rattle.source_meaning.specs.Shapes.{Shared, Alone, Shape, ThinShape, FatShape, HandleShape, StructShape, UnionShape}
 use Rattle.source_meaning.specs.Memory as memory
 use Rattle.source_meaning.specs.Memory.{Region, Spot, Span, Scalar, Memory, beyond}
 use Rattle.source_meaning.specs.Steps.{World, Act, ◌>>=◌, ◌>>◌, give, check}
@@ -220,6 +220,47 @@ module _ {B : Type 0} (n : ℕ) (d : Tables) (world : World) (f : NameOf → Reg
   }
   union_goes tag rs (v ∷ u ∷ us) x go = absurd x.1
 
+  -- ---- unique pointers
+
+  unique_null_goes : (c : Bool) (t : StaticType) (from : Shape) → Going (Unique c t)
+      → Runs n (converted world (ThinShape c Alone (shape_of t)) from (memory.Thin None ∷ []) >>= h) m Q
+  unique_null_goes true t from go = record { by = λ next p. (go (memory.Thin None ∷ []) (inl (record { allowed = refl; is = refl }), tt)).by next p }
+  unique_null_goes false t from go = record { by = λ next p. safe_raised n NullException }
+
+  -- one that isn't `NULL` keeps its block and its right
+  unique_goes : (a c : Bool) (t : StaticType) (vs : List Scalar) → IsObjectType t → HaveTypes d w holder vs (cells_type d f (Unique a t))
+      → Going (Unique c t)
+      → Runs n (converted world (ThinShape c Alone (shape_of t)) (ThinShape a Alone (shape_of t)) vs >>= h) m Q
+  unique_goes a c t [] e x go = absurd x
+  unique_goes a c t (v ∷ u ∷ us) e x go = absurd x.1
+  unique_goes a c t (v ∷ []) e x go = goes x.0
+    where
+      goes : HasType d w (holder 0) v (renamed f (Unique a t))
+          → Runs n (converted world (ThinShape c Alone (shape_of t)) (ThinShape a Alone (shape_of t)) (v ∷ []) >>= h) m Q
+      goes (inl z) = subst (λ (y : Scalar). Runs n (converted world (ThinShape c Alone (shape_of t)) (ThinShape a Alone (shape_of t)) (y ∷ []) >>= h) m Q)
+          (sym z.is)
+          (unique_null_goes c t (ThinShape a Alone (shape_of t)) go)
+      goes (inr z) = subst (λ (y : Scalar). Runs n (converted world (ThinShape c Alone (shape_of t)) (ThinShape a Alone (shape_of t)) (y ∷ []) >>= h) m Q)
+          (sym z.is)
+          (record {
+            by = λ next p.
+                subst (λ (b : Bool). Safe n ((check b >> (Rattle.source_meaning.specs.Conversions.thin_to_thin c (Some at) >>= λ v. give (v ∷ [])
+                >>= h)) next m))
+                (sym (shape_itself t e))
+                (by c next p);
+          })
+        where
+          at : Spot
+          at = record { region = memory.Born z.block; object = 0; cell = 0 }
+
+          typed : HaveTypes d w holder (memory.Thin (Some at) ∷ []) (cells_type d f (Unique c t))
+          typed = (inr (record { block = z.block; is = refl; reaches = z.reaches; owner = z.owner; unkeyed = z.unkeyed }), tt)
+
+          by : (b : Bool) (next : B → Memory → _) → ((v : B) (m' : Memory) → Q v m' → Safe n (next v m'))
+              → Safe n ((Rattle.source_meaning.specs.Conversions.thin_to_thin b (Some at) >>= λ v. give (v ∷ []) >>= h) next m)
+          by true next p = (go (memory.Thin (Some at) ∷ []) typed).by next p
+          by false next p = (go (memory.Thin (Some at) ∷ []) typed).by next p
+
   -- a handle stays as it is
   handle_goes : (r : NameOf) (vs : List Scalar) → HaveTypes d w holder vs (cells_type d f (Handle r)) → Going (Handle r)
       → Runs n (converted world HandleShape HandleShape vs >>= h) m Q
@@ -240,7 +281,7 @@ module _ {B : Type 0} (n : ℕ) (d : Tables) (world : World) (f : NameOf → Reg
   same_goes Null vs e x go = absurd e
   same_goes (Thin a r t) vs e x go = thin_goes a a r r t vs e (λ at z. z) x go
   same_goes (Fat r t) vs e x go = fat_goes r r t vs e (λ at z. z) x go
-  same_goes (Unique a t) vs e x go = absurd e
+  same_goes (Unique a t) vs e x go = unique_goes a a t vs e x go
   same_goes (Handle r) vs e x go = handle_goes r vs x go
   same_goes (Key r) vs e x go = absurd e
   same_goes (Struct tag rs) vs e x go = struct_goes tag rs vs x go
@@ -262,7 +303,11 @@ module _ {B : Type 0} (n : ℕ) (d : Tables) (world : World) (f : NameOf → Reg
       subst (λ (us : List Scalar). Runs n (converted world (FatShape (shape_of s)) (shape_of {R = NameOf} Null) us >>= h) m Q)
       (sym (v.is ∙ ap (λ (y : Scalar). y ∷ []) v.typed))
       (fat_null_goes q s (shape_of {R = NameOf} Null) go)
-  converts_goes g k t u vs agrees names p e NullToUnique x go = absurd e
+  converts_goes g k t u vs agrees names p e (NullToUnique {t = s}) x go =
+      let v : OneValue d w (holder 0) vs Null = one_value d w holder vs Null x in
+      subst (λ (us : List Scalar). Runs n (converted world (ThinShape true Alone (shape_of s)) (shape_of {R = NameOf} Null) us >>= h) m Q)
+      (sym (v.is ∙ ap (λ (y : Scalar). y ∷ []) v.typed))
+      (unique_null_goes true s (shape_of {R = NameOf} Null) go)
   converts_goes g k t u vs agrees names p e (Thins {n = n1} {m = n2} {a = a} {b = b} {t = s} o) x go =
       thin_goes n1 n2 a b s vs e (λ at z. reach_along d w m at (f a) (f b) (renamed f s) i (names.order a b o) z) x go
   converts_goes g k t u vs agrees names p e (Fats {a = a} {b = b} {t = s} o) x go =
@@ -271,4 +316,4 @@ module _ {B : Type 0} (n : ℕ) (d : Tables) (world : World) (f : NameOf → Reg
       thin_fat_goes n1 a b s vs e (λ at z. reach_along d w m at (f a) (f b) (renamed f s) i (names.order a b o) z) x go
   converts_goes g k t u vs agrees names p e (FatToThin {n = n1} {a = a} {b = b} {t = s} o) x go =
       fat_thin_goes n1 a b s vs e agrees (λ at z. reach_along d w m at (f a) (f b) (renamed f s) i (names.order a b o) z) x go
-  converts_goes g k t u vs agrees names p e Uniques x go = absurd e
+  converts_goes g k t u vs agrees names p e (Uniques {n = n1} {m = n2} {t = s}) x go = unique_goes n1 n2 s vs e x go

@@ -61,15 +61,15 @@ module _ (g : Env) (scope : Scope) (f : NameOf → Region) (x : tree.Name) (k : 
       by true e = absurd cc
       by false e = functions y s e
 
-  module _ (d : Tables) (b : ℕ) (s : States) (i : ℕ) (w : Ghost) (m : Memory) where
-    laid : Scene d g scope f b s i w m → (y : List ℕ) (u : What) (c : Bool) → (if c then Some (OfValue Counter) else meant g y) ≡ Some (OfValue u)
+  module _ (d : Tables) (b : ℕ) (low : ℕ) (s : States) (i : ℕ) (w : Ghost) (m : Memory) where
+    laid : Scene d g scope f b low s i w m → (y : List ℕ) (u : What) (c : Bool) → (if c then Some (OfValue Counter) else meant g y) ≡ Some (OfValue u)
         → is_own g.tables (if c then Some (record { name = x.text; what = Counter; block = g.block }) else find_local g.locals y) ≡ false
         → LaidAs d f w (or_else (if c then Some numbered else bound_to scope.locals y) (bound_to scope.world.globals y)) u
     laid h y u true z o = let a : Counter ≡ u = cc in subst (λ (q : What). LaidAs d f w (Some numbered) q) a tt
     laid h y u false z o = h.variables y u z o
 
     -- it comes into scope, and no other local changes
-    pub scene_counter : Scene d g scope f b s i w m → Scene d (with_counter x g) counted_scope f b (Plain ∷ s) i w m
+    pub scene_counter : Scene d g scope f b low s i w m → Scene d (with_counter x g) counted_scope f b low (Plain ∷ s) i w m
     scene_counter h = record {
       names = h.names;
       base = h.base;

@@ -1,5 +1,5 @@
 -- What strings, `numelts` and subscripts denote, from what their parts do.
-use Rattle.std.proofs.Common.{◌≡◌, ℕ, Bool, true, false, inr, Option, Some, None, [], ◌∷◌, refl, sym, ◌∙◌, ap, subst}
+use Rattle.std.proofs.Common.{◌≡◌, ℕ, Bool, true, false, ◌⊎◌, inl, inr, Option, Some, None, [], ◌∷◌, refl, sym, ◌∙◌, ap, subst}
 use Rattle.std.specs.Prelude.{length, is_some}
 use Rattle.source_meaning.specs.Shapes.{Shape, UnsignedShape, CharShape, FatShape, pointee}
 use Rattle.source_meaning.specs.Memory.{Region, Scalar}
@@ -11,33 +11,33 @@ use Rattle.source_typing.specs.Converts.{IsInteger}
 use Rattle.source_typing.specs.Operators as rules
 use Rattle.source_typing.specs.Operators.{is_fat}
 use Rattle.source_typing.specs.Places as places
-use Rattle.source_typing.specs.Moves.{nothing}
+use Rattle.source_typing.specs.Moves.{nothing, Use, value_use, indexed_use}
 use Rattle.source_typing.specs.Regions.{TheHeap}
 use Rattle.source_typing.specs.Scope.{Env, Enclosing, Value, Seat, In, is_live}
 use Rattle.source_typing.specs.Types.{StaticType, Int, Unsigned, Char, Void, Null, Thin, Fat, Unique, Handle, Key, Struct, Union, shape_of}
 use Rattle.source_typing.specs.Verdicts.{Of}
 use Rattle.source_typing.proofs.PlacesFit.{Spans, indexed_is}
 use Rattle.type_proof.specs.Entries.{IsObjectType}
-use Rattle.source_typing.specs.Moves.{Use, value_use, indexed_use}
-use Rattle.source_typing.specs.States.{then_passed}
+use Rattle.source_typing.specs.States.{States, Passed, then_passed}
+use Rattle.source_typing.specs.Tables.{is_copyable}
 use Rattle.type_proof.specs.Flat.{Tables}
 use Rattle.source_typing.specs.Named.{Below, TypeBelow}
-use Rattle.type_proof.specs.Structs.{AreInOrder}
 use Rattle.type_proof.proofs.invariant.Invariant as invariant
 use Rattle.type_proof.proofs.invariant.Growth.{grows_refl}
 use Rattle.type_proof.proofs.Strings.{string_spans}
 use Rattle.type_proof.proofs.invariant.Arguments.{Agrees}
 use Rattle.type_proof.proofs.invariant.Names.{NameOf}
-use Rattle.type_proof.proofs.invariant.Sound.{cells_type, GivesBy, ShowsBy, FindsBy, FindsAny, passed_first, passed_second}
+use Rattle.type_proof.proofs.invariant.Sound.{GivesBy, ShowsBy, FindsBy, FindsAny, Sound, passed_first, passed_second}
 use Rattle.type_proof.proofs.expressions.Places.{sound_placed}
-use Rattle.type_proof.proofs.invariant.Cells.{Copied}
+use Rattle.type_proof.proofs.invariant.Copyable.{copyable_copied}
+use Rattle.type_proof.proofs.invariant.Layouts.{Structs, agrees}
 use Rattle.type_proof.proofs.expressions.Elements.{cells_counted}
 use Rattle.type_proof.proofs.Entries.{strictly}
 use Rattle.type_proof.proofs.expressions.Fixed.{within}
-use Rattle.type_proof.proofs.expressions.Forms.{Denotes, denotes_value}
+use Rattle.type_proof.proofs.expressions.Forms.{Denotes, Refuses, denotes_refused, denotes_value, refuses_place}
 use Rattle.type_proof.proofs.expressions.Spans.{gives_counted, finds_indexed}
-use Rattle.type_proof.proofs.expressions.WordRules.{Valued, value_of, fitted}
-use Rattle.type_proof.proofs.expressions.Words.{IsSimple, object_simple, object_copied}
+use Rattle.type_proof.proofs.expressions.WordRules.{SeatKnown, Valued, value_of, fitted}
+use Rattle.type_proof.proofs.expressions.Words.{IsSimple, object_simple}
 
 -- a fat pointer's type
 record FatTo (t : StaticType) : Type 0 where
@@ -87,15 +87,16 @@ pub text_valued : (at : ℕ) (v : Value) (c : Bool) → rules.string_sized c at 
 text_valued at v true j = value_of at (Fat TheHeap Char) v j
 text_valued at v false j = absurd cc
 
-module _ (n : ℕ) (d : Tables) (g : Env) (scope : Scope) (f : NameOf → Region) (b : ℕ) where
+module _ (n : ℕ) (d : Tables) (g : Env) (scope : Scope) (f : NameOf → Region) (b : ℕ) (low : ℕ) where
   -- a literal whose place is known
   pub denotes_text : (at : ℕ) (v : Value) → is_some (string_at scope.world.strings at) ≡ true → Valued v (Fat TheHeap Char)
-      → Denotes n d g scope f b v (value_use nothing) (value_sense (FatShape CharShape) (need (string_at scope.world.strings at) >>= λ x. give (x ∷ [])))
+      → Denotes n d g scope f b low v (value_use nothing) (value_sense (FatShape CharShape) (need (string_at scope.world.strings at) >>= λ x. give (x ∷ [])))
   denotes_text at v found h =
-      denotes_value n d g scope f b v nothing (Fat TheHeap Char) (FatShape CharShape) _ tt (tt, tt) h refl (by (string_at scope.world.strings at) refl found)
+      denotes_value n d g scope f b low v nothing (Fat TheHeap Char) (FatShape CharShape) _ tt (tt, tt) h refl
+      (by (string_at scope.world.strings at) refl found)
     where
       by : (o : Option Scalar) → string_at scope.world.strings at ≡ o → is_some o ≡ true
-          → GivesBy n d g scope f b nothing (Fat TheHeap Char) (need o >>= λ x. give (x ∷ []))
+          → GivesBy n d g scope f b low nothing (Fat TheHeap Char) (need o >>= λ x. give (x ∷ []))
       by None e y = absurd cc
       by (Some x) e y = λ s none k w m i z. record {
         by = λ next q. q (x ∷ []) m (record {
@@ -109,52 +110,77 @@ module _ (n : ℕ) (d : Tables) (g : Env) (scope : Scope) (f : NameOf → Region
         });
       }
 
-  pub denotes_counted : (at : ℕ) (a v : Value) (u : Use) (e : Sense) → Denotes n d g scope f b a u e → rules.counted at a ≡ Of v
-      → Denotes n d g scope f b v (value_use u.look) (calls.counted e)
-  denotes_counted at a v u e h j =
-      let r : (is_fat a.type ≡ true) × Valued v Unsigned = fitted (is_fat a.type) at at Unsigned v j in
-      let z : FatTo a.type = fat_to a.type r.0 in
-      let it : IsObjectType z.to = subst (λ (y : StaticType). IsSimple y) z.is h.simple in
-      let shows : ShowsBy n d g scope f b u.look (Fat z.region z.to) e.look =
-      subst (λ (y : StaticType). ShowsBy n d g scope f b u.look y e.look) z.is h.sound.look in
-      denotes_value n d g scope f b v u.look Unsigned UnsignedShape _ tt tt r.1 refl
-      (λ s q. gives_counted n d g scope f b s (u.look s).states z.region z.to e.look it (shows s q))
-
-  pub denotes_indexed : (i : Enclosing) → g.lenient ≡ false → Agrees scope.world d → AreInOrder d.structs
-      → (place : ℕ) (moves : Bool) (a c v : Value) (ua uc : Use) (e index : Sense)
-      → Denotes n d g scope f b a ua e → Denotes n d g scope f b c uc index → places.indexed (within i g) a c ≡ Of v
-      → Denotes n d g scope f b v (indexed_use place moves ua uc) (indexed scope.world e index)
-  denotes_indexed i strict agrees order place moves a c v ua uc e index h hc j =
-      let k : IsInteger c.type × Spans (within i g) a.type v = indexed_is (within i g) a c v j in
-      let z : Indexes (within i g) a.type v = indexes (within i g) a.type v k.1 in
-      let below : Below g.regions.count z.region × TypeBelow g.regions.count z.to = subst (λ (y : StaticType). TypeBelow g.regions.count y) z.is h.below in
-      let it : IsObjectType z.to = subst (λ (y : StaticType). IsSimple y) z.is h.simple in
-      let shows : ShowsBy n d g scope f b ua.look (Fat z.region z.to) e.look =
-      subst (λ (y : StaticType). ShowsBy n d g scope f b ua.look y e.look) z.is h.sound.look in
-      let leads : pointee e.shape ≡ shape_of z.to = ap pointee (h.sound.shape (some z) ∙ ap shape_of z.is) in
-      record {
-        simple = subst (λ (y : StaticType). IsSimple y) (sym z.type) (object_simple z.to it);
-        below = subst (λ (y : StaticType). TypeBelow g.regions.count y) (sym z.type) below.1;
-        outside = λ q. let y : v.seat ≡ In z.region = z.seat in cc;
-        place = λ q y. (subst IsObjectType (sym z.type) it, subst (λ (p : NameOf). Below g.regions.count p) (same z.region q (sym z.seat ∙ y)) below.0);
-        own = false;
-        sound = sound_placed n d g scope f b agrees v place moves ua.own (λ s. then_passed (uc.look s) ua.look) (pointee e.shape) _
-            (leads ∙ ap shape_of (sym z.type))
-            (λ q. subst (λ (y : StaticType). Copied (cells_type d f y)) (sym z.type) (object_copied d f z.to order it))
-            (subst (λ (q : Seat). FindsAny n d g scope f b (λ s. then_passed (uc.look s) ua.look) false q v.type
-            (index.look >>= one >>= integer >>= λ k. e.look >>= one >>= indexed_span k >>= λ p. accessed (length (cells_of scope.world (pointee e.shape))) p))
-            (sym z.seat)
-            (subst (λ (y : StaticType). FindsBy n d g scope f b (λ s. then_passed (uc.look s) ua.look) y z.region
-            (index.look >>= one >>= integer >>= λ k. e.look >>= one >>= indexed_span k >>= λ p. accessed (length (cells_of scope.world (pointee e.shape))) p))
-            (sym z.type)
-            (λ s q. finds_indexed n d g scope f b s (uc.look s).states (ua.look (uc.look s).states).states z.region z.to c.type
-            (length (cells_of scope.world (pointee e.shape))) index.look e.look it k.0
-            (ap (λ (s : Shape). length (cells_of scope.world s)) leads ∙ cells_counted d scope.world f z.to agrees) (strictly g z.region strict z.live)
-            (hc.sound.look s (passed_first uc.look ua.look s q)) (shows (uc.look s).states (passed_second uc.look ua.look s q)))));
-      }
+  pub denotes_counted : (at : ℕ) (a v : Value) (u : Use) (e : Sense) → Denotes n d g scope f b low a u e → rules.counted at a ≡ Of v
+      → Denotes n d g scope f b low v (value_use u.look) (calls.counted e)
+  denotes_counted at a v u e h j = by h.sound
     where
-      same : (r q : NameOf) → In r ≡ In q → r ≡ q
-      same r q e = cc
+      r : (is_fat a.type ≡ true) × Valued v Unsigned
+      r = fitted (is_fat a.type) at at Unsigned v j
 
-      some : (z : Indexes (within i g) a.type v) → a.type ≡ Void → ⊥
-      some z q = let y : Fat z.region z.to ≡ Void = sym z.is ∙ q in cc
+      by : Sound n d g scope f b low a u h.own e ⊎ Refuses n d g scope f b low u → Denotes n d g scope f b low v (value_use u.look) (calls.counted e)
+      by (inr y) = denotes_refused n d g scope f b low v u.look Unsigned (calls.counted e) tt tt r.1 y.look
+      by (inl y) =
+          let z : FatTo a.type = fat_to a.type r.0 in
+          let it : IsObjectType z.to = subst (λ (q : StaticType). IsSimple q) z.is h.simple in
+          let shows : ShowsBy n d g scope f b low u.look (Fat z.region z.to) e.look =
+          subst (λ (q : StaticType). ShowsBy n d g scope f b low u.look q e.look) z.is y.look in
+          denotes_value n d g scope f b low v u.look Unsigned UnsignedShape _ tt tt r.1 refl
+          (λ s q. gives_counted n d g scope f b low s (u.look s).states z.region z.to e.look it (shows s q))
+
+  pub denotes_indexed : (i : Enclosing) → g.lenient ≡ false → Structs d scope.world g.tables
+      → (place : ℕ) (moves : Bool) (a c v : Value) (ua uc : Use) (e index : Sense) → (moves ≡ false → is_copyable g.tables v.type ≡ true)
+      → Denotes n d g scope f b low a ua e → Denotes n d g scope f b low c uc index → places.indexed (within i g) a c ≡ Of v
+      → Denotes n d g scope f b low v (indexed_use place moves ua uc) (indexed scope.world e index)
+  denotes_indexed i strict structs place moves a c v ua uc e index copied h hc j = record {
+    simple = subst (λ (y : StaticType). IsSimple y) (sym z.type) (object_simple z.to it);
+    below = subst (λ (y : StaticType). TypeBelow g.regions.count y) (sym z.type) below.1;
+    seated = subst (λ (y : Seat). SeatKnown g.regions y) (sym z.seat) (below.0, strictly g z.region strict z.live);
+    place = λ q. subst IsObjectType (sym z.type) it;
+    own = false;
+    sound = by h.sound hc.sound;
+  }
+    where
+      k : IsInteger c.type × Spans (within i g) a.type v
+      k = indexed_is (within i g) a c v j
+
+      z : Indexes (within i g) a.type v
+      z = indexes (within i g) a.type v k.1
+
+      agreed : Agrees scope.world d
+      agreed = agrees d scope.world g.tables structs
+
+      below : Below g.regions.count z.region × TypeBelow g.regions.count z.to
+      below = subst (λ (y : StaticType). TypeBelow g.regions.count y) z.is h.below
+
+      it : IsObjectType z.to
+      it = subst (λ (y : StaticType). IsSimple y) z.is h.simple
+
+      some : a.type ≡ Void → ⊥
+      some q = let y : Fat z.region z.to ≡ Void = sym z.is ∙ q in cc
+
+      act : States → Passed
+      act s = then_passed (uc.look s) ua.look
+
+      by : Sound n d g scope f b low a ua h.own e ⊎ Refuses n d g scope f b low ua
+          → Sound n d g scope f b low c uc hc.own index ⊎ Refuses n d g scope f b low uc
+          → Sound n d g scope f b low v (indexed_use place moves ua uc) false (indexed scope.world e index)
+          ⊎ Refuses n d g scope f b low (indexed_use place moves ua uc)
+      by p (inr r) = inr (refuses_place n d g scope f b low place moves ua.own act (λ s q. r.look s (passed_first uc.look ua.look s q)))
+      by (inr r) (inl q) = inr (refuses_place n d g scope f b low place moves ua.own act (λ s q. r.look (uc.look s).states (passed_second uc.look ua.look s q)))
+      by (inl p) (inl y) =
+          let shows : ShowsBy n d g scope f b low ua.look (Fat z.region z.to) e.look =
+          subst (λ (y : StaticType). ShowsBy n d g scope f b low ua.look y e.look) z.is p.look in
+          let leads : pointee e.shape ≡ shape_of z.to = ap pointee (p.shape some ∙ ap shape_of z.is) in
+          inl (sound_placed n d g scope f b low agreed v place moves ua.own act (pointee e.shape) _
+          (leads ∙ ap shape_of (sym z.type))
+          (λ q. copyable_copied d scope.world g.tables f v.type structs (copied q))
+          (subst (λ (q : Seat). FindsAny n d g scope f b low act false q v.type
+          (index.look >>= one >>= integer >>= λ k. e.look >>= one >>= indexed_span k >>= λ p. accessed (length (cells_of scope.world (pointee e.shape))) p))
+          (sym z.seat)
+          (subst (λ (y : StaticType). FindsBy n d g scope f b low act y z.region
+          (index.look >>= one >>= integer >>= λ k. e.look >>= one >>= indexed_span k >>= λ p. accessed (length (cells_of scope.world (pointee e.shape))) p))
+          (sym z.type)
+          (λ s q. finds_indexed n d g scope f b low s (uc.look s).states (ua.look (uc.look s).states).states z.region z.to c.type
+          (length (cells_of scope.world (pointee e.shape))) index.look e.look it k.0
+          (ap (λ (s : Shape). length (cells_of scope.world s)) leads ∙ cells_counted d scope.world f z.to agreed) (strictly g z.region strict z.live)
+          (y.look s (passed_first uc.look ua.look s q)) (shows (uc.look s).states (passed_second uc.look ua.look s q))))))

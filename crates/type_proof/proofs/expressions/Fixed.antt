@@ -37,7 +37,7 @@ object_below n rs Void e h = tt
 object_below n rs Null e h = tt
 object_below n rs (Thin c r t) e h = (argument_below n rs r h, object_below n rs t e h)
 object_below n rs (Fat r t) e h = (argument_below n rs r h, object_below n rs t e h)
-object_below n rs (Unique c t) e h = absurd e
+object_below n rs (Unique c t) e h = object_below n rs t e h
 object_below n rs (Handle r) e h = argument_below n rs r h
 object_below n rs (Key r) e h = absurd e
 object_below n rs (Struct tag qs) e h = arguments_below n rs qs h
@@ -51,7 +51,7 @@ plain_below n rs Void e h = tt
 plain_below n rs Null e h = tt
 plain_below n rs (Thin c r t) e h = object_below n rs (Thin c r t) e h
 plain_below n rs (Fat r t) e h = object_below n rs (Fat r t) e h
-plain_below n rs (Unique c t) e h = absurd e
+plain_below n rs (Unique c t) e h = object_below n rs (Unique c t) e h
 plain_below n rs (Handle r) e h = object_below n rs (Handle r) e h
 plain_below n rs (Key r) e h = absurd e
 plain_below n rs (Struct tag qs) e h = object_below n rs (Struct tag qs) e h
@@ -183,7 +183,7 @@ fits_below n at (Thin c r t) u e h =
 fits_below n at (Fat r t) u e h =
     both_below n (fits_of at t (pointee_of u)) (fit at r (outer_region u) ∷ []) (fits_below n at t (pointee_of u) e (pointee_below n u h))
     (outer_below n u h, tt)
-fits_below n at (Unique c t) u e h = absurd e
+fits_below n at (Unique c t) u e h = fits_below n at t (pointee_of u) e (pointee_below n u h)
 fits_below n at (Handle r) u e h = handle_below n at r u h
 fits_below n at (Key r) u e h = absurd e
 fits_below n at (Struct tag rs) u e h = fit_below n at rs (arguments_of false tag u) (same_below n tag u h)

@@ -1,5 +1,5 @@
 -- Values are made in the heap and in the regions of handles.
-use Rattle.std.proofs.Common.{◌≡◌, ℕ, Bool, true, false, Some, List, [], ◌∷◌, inr, refl, sym, ◌∙◌, ap, subst}
+use Rattle.std.proofs.Common.{◌≡◌, ℕ, Bool, true, false, Some, List, [], ◌∷◌, inl, ◌⊎◌, inr, refl, sym, ◌∙◌, ap, subst, ◌≤◌}
 use Rattle.std.specs.Prelude.{map}
 use Rattle.cyc_words.specs.Events.{RegionAlloc}
 use Rattle.source_meaning.specs.Shapes.{Shared, Shape, ThinShape, HandleShape}
@@ -32,10 +32,10 @@ use Rattle.type_proof.proofs.invariant.Arguments.{Agrees}
 use Rattle.type_proof.proofs.invariant.Names.{NameOf}
 use Rattle.type_proof.proofs.invariant.Scenes.{Scene, scene_later, stands_kept}
 use Rattle.type_proof.proofs.invariant.Standing.{Standing}
-use Rattle.type_proof.proofs.invariant.Sound.{shape_renamed, cells_type, Gives, Shows, passed_first, passed_second}
+use Rattle.type_proof.proofs.invariant.Sound.{shape_renamed, cells_type, Gives, Shows, Sound, passed_first, passed_second}
 use Rattle.type_proof.proofs.expressions.Words.{IsObjectType, IsSimple, OneValue, one_value, object_some}
 use Rattle.type_proof.proofs.expressions.WordRules.{Valued, value_of}
-use Rattle.type_proof.proofs.expressions.Forms.{Denotes, denotes_value}
+use Rattle.type_proof.proofs.expressions.Forms.{Denotes, Refuses, denotes_refused, denotes_value}
 
 -- ---- what the rules say
 
@@ -48,7 +48,7 @@ makeable_object Void p e = absurd cc
 makeable_object Null p e = absurd cc
 makeable_object (Thin n r t) p e = p
 makeable_object (Fat r t) p e = p
-makeable_object (Unique n t) p e = absurd p
+makeable_object (Unique n t) p e = p
 makeable_object (Handle r) p e = tt
 makeable_object (Key r) p e = absurd p
 makeable_object (Struct tag rs) p e = p
@@ -118,7 +118,7 @@ array_handled g at place (Key r) x a v e z = no_array place x a v (Handled g (Ke
 array_handled g at place (Struct tag rs) x a v e z = no_array place x a v (Handled g (Struct tag rs) x) e z
 array_handled g at place (Union tag rs) x a v e z = no_array place x a v (Handled g (Union tag rs) x) e z
 
-module _ (n : ℕ) (d : Tables) (g : Env) (scope : Scope) (f : NameOf → Region) (b : ℕ) where
+module _ (n : ℕ) (d : Tables) (g : Env) (scope : Scope) (f : NameOf → Region) (b : ℕ) (low : ℕ) where
   -- ---- where a value is made
 
   -- the region that a name stands for
@@ -128,12 +128,12 @@ module _ (n : ℕ) (d : Tables) (g : Env) (scope : Scope) (f : NameOf → Region
     pub region : f r ≡ Born birth
 
   abbrev pub Aims : States → States → NameOf → Act Maker → Type 0
-  Aims s s2 r act = (k : ℕ) (w : Ghost) (m : Memory) → Inv d w m → Scene d g scope f b s k w m
+  Aims s s2 r act = (k : ℕ) (w : Ghost) (m : Memory) → Inv d w m → Scene d g scope f b low s k w m
       → Runs n act m (λ to. After d k b w m (λ w' m'. Aimed r to × Standing d g scope f s2 w' m'))
 
   -- it stays live
   abbrev pub Lives : NameOf → Type 0
-  Lives r = (s : States) (k : ℕ) (w : Ghost) (m : Memory) → Inv d w m → Scene d g scope f b s k w m → m.state (f r) ≡ Live
+  Lives r = (s : States) (k : ℕ) (w : Ghost) (m : Memory) → Inv d w m → Scene d g scope f b low s k w m → m.state (f r) ≡ Live
 
   pub heap_lives : Lives TheHeap
   heap_lives = λ s k w m i x. ap m.state x.names.heap_is ∙ i.heap_lives
@@ -148,7 +148,7 @@ module _ (n : ℕ) (d : Tables) (g : Env) (scope : Scope) (f : NameOf → Region
     });
   }
 
-  pub aims_by_handle : (s s2 : States) (r : NameOf) (e : Sense) → Shows n d g scope f b s s2 (Handle r) e.look → Aims s s2 r (handle_maker e)
+  pub aims_by_handle : (s s2 : States) (r : NameOf) (e : Sense) → Shows n d g scope f b low s s2 (Handle r) e.look → Aims s s2 r (handle_maker e)
   aims_by_handle s s2 r e shows = λ k w m i x. record {
     by = λ next q. (shows k w m i x).by (λ vs. (one vs >>= maker_of) next) (λ vs m1 y.
         let z : OneValue d y.ghost (y.holds.0.by 0) vs (Handle (f r)) = one_value d y.ghost y.holds.0.by vs (Handle (f r)) y.holds.0.typed in
@@ -166,18 +166,18 @@ module _ (n : ℕ) (d : Tables) (g : Env) (scope : Scope) (f : NameOf → Region
 
   pub gives_new : (s0 s1 s2 : States) (t : StaticType) (r : NameOf) (to : Act Maker) (e : Sense) → Agrees scope.world d → Lives r → Below g.regions.count r
       → e.shape ≡ shape_of t → Aims s0 s1 r to
-      → Gives n d g scope f b s1 s2 t e.value
-      → Gives n d g scope f b s0 s2 (Thin false r t)
+      → Gives n d g scope f b low s1 s2 t e.value
+      → Gives n d g scope f b low s0 s2 (Thin false r t)
       (to >>= λ to. e.value >>= λ vs. ask to (size_of scope.world e.shape) (blank_object (cells_of scope.world e.shape)) >>= λ s.
       write_cells s vs >> give (memory.Thin (Some s) ∷ []))
   gives_new s0 s1 s2 t r to e agrees live below shape aims gives = λ k w m i x. record {
     by = λ next q. (aims k w m i x).by (λ to. (e.value >>= λ vs. stored (ask to bytes (blank_object (cells_of scope.world e.shape))) vs) next) (λ to m1 y.
-        let x1 : Scene d g scope f b s1 k y.ghost m1 = scene_later d g scope f b s0 s1 k w m y.ghost m1 y.inv y.grows y.holds.1 x in
+        let x1 : Scene d g scope f b low s1 k y.ghost m1 = scene_later d g scope f b low s0 s1 k w m y.ghost m1 y.inv y.grows y.holds.1 x in
         subst (λ (p : Maker). Safe n ((e.value >>= λ vs. stored (ask p bytes (blank_object (cells_of scope.world e.shape))) vs) next m1)) (sym y.holds.0.is)
         ((gives k y.ghost m1 y.inv x1).by (λ vs. stored (ask (InRegion y.holds.0.birth) bytes (blank_object (cells_of scope.world e.shape))) vs next)
         (λ vs m2 z.
         (made_here k w m y.holds.0.birth vs z.ghost m2 z.inv (grows_trans y.grows z.grows) z.holds.0 y.holds.0.region
-        (scene_later d g scope f b s1 s2 k y.ghost m1 z.ghost m2 z.inv z.grows z.holds.1 x1)).by next q)));
+        (scene_later d g scope f b low s1 s2 k y.ghost m1 z.ghost m2 z.inv z.grows z.holds.1 x1)).by next q)));
   }
     where
       bytes : ℕ
@@ -193,7 +193,7 @@ module _ (n : ℕ) (d : Tables) (g : Env) (scope : Scope) (f : NameOf → Region
       cells = ap (cells_of scope.world) (shape ∙ sym (shape_renamed f t)) ∙ agrees (renamed f t)
 
       made_here : (k : ℕ) (w : Ghost) (m : Memory) (birth : ℕ) (vs : List Scalar) (w2 : Ghost) (m2 : Memory) → Inv d w2 m2 → Grows k b w m w2 m2
-          → HaveTypes d w2 (flying k 0) vs (cells_type d f t) → f r ≡ Born birth → Scene d g scope f b s2 k w2 m2
+          → HaveTypes d w2 (flying k 0) vs (cells_type d f t) → f r ≡ Born birth → Scene d g scope f b low s2 k w2 m2
           → Runs n (stored (ask (InRegion birth) bytes (blank_object (cells_of scope.world e.shape))) vs) m2 (post k w m)
       made_here k w m birth vs w2 m2 i2 g2 typed region x2 =
           let lives : m2.state (Born birth) ≡ Live = sym (ap m2.state region) ∙ live s2 k w2 m2 i2 x2 in
@@ -213,15 +213,16 @@ module _ (n : ℕ) (d : Tables) (g : Env) (scope : Scope) (f : NameOf → Region
                     grows = grows_trans g2 (grows_base x2.base g3);
                     holds = (
                       pointer at w3 m3 i3 (there.region ∙ sym region) full
-                          (scene_later d g scope f b s2 s2 k w2 m2 w3 m3 i3 (grows_base x2.base g3) (stands_kept d g scope f b s2 k w2 m2 w3 m3 x2 g3) x2),
-                      stands_kept d g scope f b s2 k w2 m2 w3 m3 x2 g3,
+                          (scene_later d g scope f b low s2 s2 k w2 m2 w3 m3 i3 (grows_base x2.base g3)
+                          (stands_kept d g scope f b low s2 k w2 m2 w3 m3 x2 g3) x2),
+                      stands_kept d g scope f b low s2 k w2 m2 w3 m3 x2 g3,
                     );
                   });
                 })))).by next q;
           })
         where
           pointer : (at : Spot) (w3 : Ghost) (m3 : Memory) → Inv d w3 m3 → at.region ≡ f r → FullAt (λ u. Reached u) w3 m3 at (cells_type d f t) vs
-              → Scene d g scope f b s2 k w3 m3
+              → Scene d g scope f b low s2 k w3 m3
               → HaveTypes d w3 (flying k 0) (memory.Thin (Some at) ∷ []) (cells_type d f (Thin false r t))
           pointer at w3 m3 i3 there full x3 = (
             inr (record {
@@ -235,22 +236,43 @@ module _ (n : ℕ) (d : Tables) (g : Env) (scope : Scope) (f : NameOf → Region
             tt,
           )
 
-  pub denotes_made : (at : ℕ) (r : NameOf) (to : Act Maker) (p : States → Passed) (a v : Value) (u : Use) (e : Sense) → Agrees scope.world d → Lives r
+  pub denotes_made : b ≤ low → (at : ℕ) (r : NameOf) (to : Act Maker) (p : States → Passed) (a v : Value) (u : Use) (e : Sense) → Agrees scope.world d → Lives r
       → Below g.regions.count r
-      → ((s : States) → (p s).faults ≡ [] → Aims s (p s).states r to) → Denotes n d g scope f b a u e → rules.made at (To r) a ≡ Of v
-      → Denotes n d g scope f b v (value_use (λ s. then_passed (p s) u.value)) (made scope.world to Shared e)
-  denotes_made at r to p a v u e agrees live below aims h j =
-      let z : (is_makeable a.type ≡ true) × Valued v (Thin false r a.type) = made_there (is_makeable a.type) at r a.type v j in
-      let it : IsObjectType a.type = makeable_object a.type h.simple z.0 in
-      let shape : e.shape ≡ shape_of a.type = h.sound.shape (object_some a.type it) in
-      denotes_value n d g scope f b v (λ s. then_passed (p s) u.value) (Thin false r a.type) (ThinShape false Shared e.shape) _ it (below, h.below) z.1
-      (ap (ThinShape false Shared) shape)
-      (λ s q. gives_new s (p s).states (u.value (p s).states).states a.type r to e agrees live below shape (aims s (passed_first p u.value s q))
-      (h.sound.value (p s).states (passed_second p u.value s q)))
+      → ((s : States) → (p s).faults ≡ [] → Aims s (p s).states r to) → Denotes n d g scope f b low a u e → rules.made at (To r) a ≡ Of v
+      → Denotes n d g scope f b low v (value_use (λ s. then_passed (p s) u.value)) (made scope.world to Shared e)
+  denotes_made is at r to p a v u e agrees live below aims h j = by h.sound
+    where
+      z : (is_makeable a.type ≡ true) × Valued v (Thin false r a.type)
+      z = made_there (is_makeable a.type) at r a.type v j
+
+      it : IsObjectType a.type
+      it = makeable_object a.type h.simple z.0
+
+      by : Sound n d g scope f b low a u h.own e ⊎ Refuses n d g scope f b low u
+          → Denotes n d g scope f b low v (value_use (λ s. then_passed (p s) u.value)) (made scope.world to Shared e)
+      by (inr y) = denotes_refused n d g scope f b low v (λ s. then_passed (p s) u.value) (Thin false r a.type) (made scope.world to Shared e) it
+          (below, h.below) z.1
+          (λ s q. y.value (p s).states (passed_second p u.value s q))
+      by (inl y) =
+          let shape : e.shape ≡ shape_of a.type = y.shape (object_some a.type it) in
+          denotes_value n d g scope f b low v (λ s. then_passed (p s) u.value) (Thin false r a.type) (ThinShape false Shared e.shape) _ it (below, h.below) z.1
+          (ap (ThinShape false Shared) shape)
+          (λ s q. gives_new s (p s).states (u.value (p s).states).states a.type r to e agrees live below shape (aims s (passed_first p u.value s q))
+          (y.value is (p s).states (passed_second p u.value s q)))
+
+  -- the region of a handle
+  pub denotes_aims : (a : Value) (u : Use) (e : Sense) (r : NameOf) → Denotes n d g scope f b low a u e → a.type ≡ Handle r → (s : States)
+      → (u.look s).faults ≡ [] → Aims s (u.look s).states r (handle_maker e)
+  denotes_aims a u e r h is s z = by h.sound
+    where
+      by : Sound n d g scope f b low a u h.own e ⊎ Refuses n d g scope f b low u → Aims s (u.look s).states r (handle_maker e)
+      by (inr y) = absurd (y.look s z)
+      by (inl y) = aims_by_handle s (u.look s).states r e (subst (λ (t : StaticType). Shows n d g scope f b low s (u.look s).states t e.look) is (y.look s z))
 
   -- the handle of the heap
-  pub denotes_heap : (v : Value) → Valued v (Handle TheHeap) → Denotes n d g scope f b v (value_use nothing) (value_sense HandleShape (give (HandleOf 0 ∷ [])))
-  denotes_heap v h = denotes_value n d g scope f b v nothing (Handle TheHeap) HandleShape (give (HandleOf 0 ∷ [])) tt tt h refl (λ s z k w m i x. record {
+  pub denotes_heap : (v : Value) → Valued v (Handle TheHeap) → Denotes n d g scope f b low v (value_use nothing)
+      (value_sense HandleShape (give (HandleOf 0 ∷ [])))
+  denotes_heap v h = denotes_value n d g scope f b low v nothing (Handle TheHeap) HandleShape (give (HandleOf 0 ∷ [])) tt tt h refl (λ s z k w m i x. record {
     by = λ next q. q (HandleOf 0 ∷ []) m (record {
       ghost = w;
       inv = i;

@@ -1,37 +1,39 @@
 -- Members of structs are places, and structs are made of their members' values.
 use Rattle.std.proofs.lemmas.Bool.{false≢true}
-use Rattle.std.proofs.Common.{◌≡◌, ℕ, zero, suc, ◌+◌, Bool, true, false, inl, inr, Option, Some, None, List, [], ◌∷◌, ◌++◌, refl, sym, ◌∙◌, ap, subst, arith}
+use Rattle.std.proofs.Common.{◌≡◌, ℕ, zero, suc, ◌+◌, Bool, true, false, inl, inr, Option, Some, None, List, [], ◌∷◌, refl, sym, ◌∙◌, ap, subst, arith}
 use Rattle.std.specs.Prelude.{map, length, slice_get, bytes_eq, if◌then◌else◌}
 use Rattle.source_meaning.specs.Shapes as shapes
 use Rattle.source_meaning.specs.Shapes.{Shape, has_tag, parts_of, part_shape, part_shapes}
 use Rattle.source_meaning.specs.Sizes.{cells_before}
-use Rattle.source_meaning.specs.Memory.{Region, Spot, Scalar, beyond}
+use Rattle.source_meaning.specs.Memory.{Region, Spot, Scalar, Memory, beyond}
 use Rattle.source_meaning.specs.Steps.{World, Scope, Act, give, ◌>>=◌}
 use Rattle.source_meaning.specs.Conversions.{cells_of}
 use Rattle.source_meaning.specs.Calls as calls
 use Rattle.source_typing.specs.Calls.{part_types}
 use Rattle.source_typing.specs.Regions.{TheHeap, Level}
-use Rattle.source_typing.specs.Scope.{Env}
+use Rattle.source_typing.specs.Scope.{Env, Seat, Nowhere, In, InBlock}
 use Rattle.source_typing.specs.Tables as typing
 use Rattle.source_typing.specs.Tables.{Entry, Tag, OfValue, OfTag, OfFunction, OfBuiltin, OfOther, find, as_tag, tag_in, parts_of_tag, parts_in, part_in}
 use Rattle.source_typing.specs.Tables.{argument, or_heap}
 use Rattle.source_typing.specs.Types.{StaticType, Int, Unsigned, Char, Void, Null, Thin, Fat, Unique, Handle, Key, Struct, Union, renamed, shape_of}
 use Rattle.type_proof.specs.Entries.{IsObjectType, AreObjects, PlainEntry}
 use Rattle.type_proof.specs.Members.{names_union}
-use Rattle.source_typing.specs.States.{States}
+use Rattle.source_typing.specs.States.{States, Passed}
 use Rattle.type_proof.specs.Flat.{Declared, Tables, or_region, filled, flat, flat_all}
 use Rattle.type_proof.specs.Structs.{AreMemberTypes, AreMembers}
 use Rattle.type_proof.proofs.invariant.Facts.{further, not_further}
-use Rattle.type_proof.proofs.invariant.Invariant.{RunType, heap, Owner, Ghost, Laid, HaveTypes}
+use Rattle.type_proof.proofs.invariant.Invariant.{RunType, heap, Ghost, Laid, HaveTypes}
 use Rattle.type_proof.proofs.invariant.After.{flying}
 use Rattle.type_proof.proofs.invariant.Arguments.{Agrees, Flown}
 use Rattle.type_proof.proofs.invariant.Names.{NameOf}
-use Rattle.type_proof.proofs.invariant.Scenes.{Scene, scene_later}
-use Rattle.type_proof.proofs.invariant.Sound.{PlaceOk, Gives, Finds}
+use Rattle.type_proof.proofs.invariant.Scenes.{Scene, scene_later, stands_typed}
+use Rattle.type_proof.proofs.invariant.Sound.{PlaceStands, Gives, FindsAny}
 use Rattle.type_proof.proofs.invariant.Rows.{laid_first, laid_rest}
 use Rattle.type_proof.proofs.expressions.Elements.{cells_counted}
-use Rattle.type_proof.proofs.invariant.Layouts.{member_types, member_object, members_typed, members_at, struct_is, all_copied, Structs, agrees}
-use Rattle.type_proof.proofs.expressions.Words.{object_twice, values_copied, grown_itself}
+use Rattle.type_proof.proofs.invariant.Layouts.{member_types, member_object, members_typed, members_at, struct_is, Structs, agrees}
+use Rattle.type_proof.proofs.invariant.Growth.{grows_trans}
+use Rattle.type_proof.proofs.expressions.Gathered.{Gathered, gathered}
+use Rattle.type_proof.proofs.expressions.Words.{object_twice}
 use Rattle.type_proof.proofs.expressions.Calling.{Passes}
 
 -- ---- types in a struct
@@ -169,23 +171,24 @@ struct_there d world tables tag x part h apart e = by (find tables tag) refl apa
     by (Some (OfBuiltin c)) z n e = absurd cc
     by (Some OfOther) z n e = absurd cc
 
-module _ (n : ℕ) (d : Tables) (g : Env) (scope : Scope) (f : NameOf → Region) (b : ℕ) (h : Structs d scope.world g.tables) where
-  -- a member of a struct that is a place is a place in the same region
-  pub finds_member : (s0 s2 : States) (tag : List ℕ) (rs : List NameOf) (x : List ℕ) (part : typing.Part) (u : StaticType) (r : NameOf) (place : Act Spot)
+module _ (n : ℕ) (d : Tables) (g : Env) (scope : Scope) (f : NameOf → Region) (b : ℕ) (low : ℕ) (h : Structs d scope.world g.tables) where
+  -- a member of a struct that is a place is a place in the same region, or in the same block
+  pub finds_member : (p : States → Passed) (tag : List ℕ) (rs : List NameOf) (x : List ℕ) (part : typing.Part) (u : StaticType) (seat : Seat)
+      (place : Act Spot)
       → names_union (tag_in g.tables tag) ≡ false → part_in (parts_in g.tables tag) x ≡ Some part
-      → part.type ≡ Some u → Finds n d g scope f b s0 s2 (Struct tag rs) r place
-      → Finds n d g scope f b s0 s2 (renamed (argument rs) u) r
+      → part.type ≡ Some u → FindsAny n d g scope f b low p false seat (Struct tag rs) place
+      → FindsAny n d g scope f b low p false seat (renamed (argument rs) u)
       (place >>= λ s. give (beyond s (cells_before (cells_of scope.world) (parts_of scope.world.structs tag) x)))
-  finds_member s0 s2 tag rs x part u r place apart e z finds = λ k w m i q. record {
-    by = λ next p. (finds k w m i q).by (λ s. next (beyond s (cells_before (cells_of scope.world) (parts_of scope.world.structs tag) x)))
+  finds_member p tag rs x part u seat place apart e z finds = λ s0 none k w m i q. record {
+    by = λ next go. (finds s0 none k w m i q).by (λ s. next (beyond s (cells_before (cells_of scope.world) (parts_of scope.world.structs tag) x)))
         (λ s m1 y.
-        let at : PlaceOk d f (Struct tag rs) r s y.ghost m1 = y.holds.0 in
-        let q1 : Scene d g scope f b s2 k y.ghost m1 = scene_later d g scope f b s0 s2 k w m y.ghost m1 y.inv y.grows y.holds.1 q in
-        p (beyond s (cells_before (cells_of scope.world) (parts_of scope.world.structs tag) x)) m1 (record {
+        let q1 : Scene d g scope f b low (p s0).states k y.ghost m1 =
+        scene_later d g scope f b low s0 (p s0).states k w m y.ghost m1 y.inv y.grows y.holds.1 q in
+        go (beyond s (cells_before (cells_of scope.world) (parts_of scope.world.structs tag) x)) m1 (record {
           ghost = y.ghost;
           inv = y.inv;
           grows = y.grows;
-          holds = ((record { typed = laid q1.names.heap_is s y.ghost at.0.typed; above = at.0.above }, at.1), q1.stands);
+          holds = (stands seat q1.names.heap_is s y.ghost m1 y.holds.0, q1.stands);
         }));
   }
     where
@@ -205,46 +208,48 @@ module _ (n : ℕ) (d : Tables) (g : Env) (scope : Scope) (f : NameOf → Region
           (member_types d.structs tag) x part u there e z
           (subst (λ (ts : List RunType). Laid w s ts) (struct_is d.structs tag (map f rs) h.in_order) l))
 
+      stands : (seat : Seat) → f TheHeap ≡ heap → (s : Spot) (w : Ghost) (m : Memory) → PlaceStands d f low false seat (Struct tag rs) s w m
+          → PlaceStands d f low false seat (renamed (argument rs) u) (beyond s (cells_before (cells_of scope.world) (parts_of scope.world.structs tag) x)) w m
+      stands Nowhere here s w m y = absurd y
+      stands (In r) here s w m y = (record { typed = laid here s w y.0.typed; above = y.0.above }, y.1)
+      stands InBlock here s w m y = (
+        laid here s w y.0,
+        y.1,
+        (let a = y.2 in record {
+          holder = a.holder;
+          nullable = a.nullable;
+          to = a.to;
+          typed = a.typed;
+          pointer = a.pointer;
+          holds = a.holds;
+          same = a.same;
+          frame = a.frame;
+          lies = a.lies;
+          known = a.known;
+        }),
+      )
+
   -- ---- structs are made
 
-  -- values one after another
-  joined : (w : Ghost) (by : ℕ → Owner) (xs ys : List Scalar) (ts us : List RunType) → HaveTypes d w by xs ts
-      → ((to : ℕ → Owner) → HaveTypes d w to ys us) → HaveTypes d w by (xs ++ ys) (ts ++ us)
-  joined w by [] ys [] us p q = q by
-  joined w by (x ∷ xs) ys (t ∷ ts) us p q = (p.0, joined w (λ k. by (suc k)) xs ys ts us p.1 q)
-  joined w by [] ys (t ∷ ts) us p q = absurd p
-  joined w by (x ∷ xs) ys [] us p q = absurd p
-
-  flown_joined : (qs : List Region) (w : Ghost) (k : ℕ) (vss : List (List Scalar)) (ts : List StaticType) → AreObjects ts
-      → Flown d w k vss (map (renamed (filled heap qs)) ts)
-      → (to : ℕ → Owner) → HaveTypes d w to (calls.flat vss) (flat_all (flat heap d) (map (renamed (filled heap qs)) ts))
-  flown_joined qs w k [] [] o p to = tt
-  flown_joined qs w k (vs ∷ vss) (t ∷ ts) o p to =
-      joined w to vs (calls.flat vss) (flat heap d (renamed (filled heap qs) t)) (flat_all (flat heap d) (map (renamed (filled heap qs)) ts))
-      (values_copied d w w (flying k 0) to vs (flat heap d (renamed (filled heap qs) t)) (grown_itself w)
-      (all_copied d.structs (filled heap qs) t h.in_order o.0) p.0)
-      (λ to2. flown_joined qs w (suc k) vss ts o.1 p.1 to2)
-  flown_joined qs w k [] (t ∷ ts) o p to = absurd p
-  flown_joined qs w k (vs ∷ vss) [] o p to = absurd p
-
   pub gives_made : (s0 s2 : States) (tag : List ℕ) (rs : List NameOf) (act : Act (List (List Scalar)))
-      → Passes n d g scope f b s0 s2 (map (renamed (argument rs)) (member_types d.structs tag)) act
-      → Gives n d g scope f b s0 s2 (Struct tag rs) (act >>= λ vss. give (calls.flat vss))
+      → Passes n d g scope f b low s0 s2 (map (renamed (argument rs)) (member_types d.structs tag)) act
+      → Gives n d g scope f b low s0 s2 (Struct tag rs) (act >>= λ vss. give (calls.flat vss))
   gives_made s0 s2 tag rs act passes = λ k w m i q. record {
     by = λ next p. (passes k w m i q).by (λ vss. next (calls.flat vss)) (λ vss m1 y.
-        let q1 : Scene d g scope f b s2 k y.ghost m1 = scene_later d g scope f b s0 s2 k w m y.ghost m1 y.inv y.grows y.holds.1 q in
+        let q1 : Scene d g scope f b low s2 k y.ghost m1 = scene_later d g scope f b low s0 s2 k w m y.ghost m1 y.inv y.grows y.holds.1 q in
         let flown : Flown d y.ghost k vss (map (renamed (filled heap (map f rs))) (member_types d.structs tag)) =
         subst (λ (ts : List RunType). Flown d y.ghost k vss ts)
         (all_member_run f rs d.structs (member_types d.structs tag) q1.names.heap_is (members_typed d.structs tag h.in_order)) y.holds.0 in
+        let r : Gathered d k b y.ghost m1 (calls.flat vss)
+        (flat_all (flat heap d) (map (renamed (filled heap (map f rs))) (member_types d.structs tag))) =
+        gathered d k b y.ghost m1 vss (map (renamed (filled heap (map f rs))) (member_types d.structs tag)) y.inv flown in
         p (calls.flat vss) m1 (record {
-          ghost = y.ghost;
-          inv = y.inv;
-          grows = y.grows;
+          ghost = r.ghost;
+          inv = r.inv;
+          grows = grows_trans y.grows r.grows;
           holds = (
-            subst (λ (ts : List RunType). HaveTypes d y.ghost (flying k 0) (calls.flat vss) ts) (sym (struct_is d.structs tag (map f rs) h.in_order))
-                (flown_joined (map f rs) y.ghost k vss (member_types d.structs tag)
-                (members_objects d.structs (member_types d.structs tag) (members_typed d.structs tag h.in_order)) flown (flying k 0)),
-            q1.stands,
+            subst (λ (ts : List RunType). HaveTypes d r.ghost (flying k 0) (calls.flat vss) ts) (sym (struct_is d.structs tag (map f rs) h.in_order)) r.typed,
+            stands_typed d g scope f s2 y.ghost m1 r.ghost m1 r.types (λ y q e. refl) q1.stands,
           );
         }));
   }

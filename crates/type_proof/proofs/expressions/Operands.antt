@@ -25,26 +25,27 @@ use Rattle.type_proof.proofs.expressions.Integers.{IsWord, word_of, joined_typed
 use Rattle.type_proof.proofs.expressions.Words.{IsWordType}
 use Rattle.type_proof.proofs.expressions.Pointers.{word_value, truth_known, runs_value}
 
-module _ (n : ℕ) (d : Tables) (g : Env) (scope : Scope) (f : NameOf → Region) (b : ℕ) where
+module _ (n : ℕ) (d : Tables) (g : Env) (scope : Scope) (f : NameOf → Region) (b : ℕ) (low : ℕ) where
   -- what an integer that is looked at is, and what goes on with it
   pub runs_word : {B : Type 0} (s s2 : States) (t : StaticType) (act : Act (List Scalar)) (h : Scalar → Act B) (k : ℕ) (w : Ghost) (m : Memory)
       (Q : B → Memory → Type 0)
-      → IsInteger t → Shows n d g scope f b s s2 t act → Inv d w m → Scene d g scope f b s k w m
-      → ((c : IntegerType) (x : ℕ) (w' : Ghost) (m' : Memory) → t ≡ integer_type c → Inv d w' m' → Grows k b w m w' m' → Scene d g scope f b s2 k w' m'
+      → IsInteger t → Shows n d g scope f b low s s2 t act → Inv d w m → Scene d g scope f b low s k w m
+      → ((c : IntegerType) (x : ℕ) (w' : Ghost) (m' : Memory) → t ≡ integer_type c → Inv d w' m' → Grows k b w m w' m' → Scene d g scope f b low s2 k w' m'
       → Runs n (h (Integer c x)) m' Q)
       → Runs n (act >>= one >>= h) m Q
   runs_word s s2 t act h k w m Q integer shows i x go = record {
     by = λ next q. (shows k w m i x).by (λ vs. one vs (λ a. h a next)) (λ vs m' y.
         let z : IsWord vs t = word_of d f y.ghost y.holds.0.by vs t integer y.holds.0.typed in
         subst (λ (us : List Scalar). Safe n (one us (λ a. h a next) m')) (sym z.is) ((go z.of z.word y.ghost m' z.type y.inv y.grows
-        (scene_later d g scope f b s s2 k w m y.ghost m' y.inv y.grows y.holds.1 x)).by next q));
+        (scene_later d g scope f b low s s2 k w m y.ghost m' y.inv y.grows y.holds.1 x)).by next q));
   }
 
   -- two integers are joined by an operator
   pub gives_applied : (s0 s1 s2 : States) (o : Operator) (s t : StaticType) (a c : Act (List Scalar)) → IsInteger s → IsInteger t
-      → Shows n d g scope f b s0 s1 s a
-      → Shows n d g scope f b s1 s2 t c
-      → Gives n d g scope f b s0 s2 (on_integers o s t) (a >>= one >>= λ x. c >>= one >>= λ y. memory >>= λ m. need (operated m o x y) >>= λ r. give (r ∷ []))
+      → Shows n d g scope f b low s0 s1 s a
+      → Shows n d g scope f b low s1 s2 t c
+      → Gives n d g scope f b low s0 s2 (on_integers o s t) (a >>= one >>= λ x. c >>= one >>= λ y. memory >>= λ m. need (operated m o x y)
+      >>= λ r. give (r ∷ []))
   gives_applied s0 s1 s2 o s t a c is it ha hc = λ k w m i x.
       runs_word s0 s1 s a (λ x. c >>= one >>= λ y. memory >>= λ m. need (operated m o x y) >>= λ r. give (r ∷ [])) k w m (post k w m) is ha i x
       (λ u p w1 m1 e i1 g1 x1.
@@ -71,15 +72,16 @@ module _ (n : ℕ) (d : Tables) (g : Env) (scope : Scope) (f : NameOf → Region
 
   -- an act that tells whether
   abbrev pub Tells : States → States → Act Bool → Type 0
-  Tells s s2 act = (k : ℕ) (w : Ghost) (m : Memory) → Inv d w m → Scene d g scope f b s k w m
+  Tells s s2 act = (k : ℕ) (w : Ghost) (m : Memory) → Inv d w m → Scene d g scope f b low s k w m
       → Runs n act m (λ t. After d k b w m (λ w' m'. Standing d g scope f s2 w' m'))
 
   abbrev pub TellsBy : (States → Passed) → Act Bool → Type 0
   TellsBy p act = (s : States) → (p s).faults ≡ [] → Tells s (p s).states act
 
-  pub tells_truth : (s s2 : States) (t : StaticType) (e : Sense) → IsWordType t → Shows n d g scope f b s s2 t e.look → Tells s s2 (truth e)
+  pub tells_truth : (s s2 : States) (t : StaticType) (e : Sense) → IsWordType t → Shows n d g scope f b low s s2 t e.look → Tells s s2 (truth e)
   tells_truth s s2 t e is h = λ k w m i x.
-      runs_value n d g scope f b s s2 t e.look (λ v. need (is_true v)) k w m (λ t. After d k b w m (λ w' m'. Standing d g scope f s2 w' m')) (word_value t is) h
+      runs_value n d g scope f b low s s2 t e.look (λ v. need (is_true v)) k w m (λ t. After d k b w m (λ w' m'. Standing d g scope f s2 w' m'))
+      (word_value t is) h
       i x
       (λ by v w1 m1 hv i1 g1 x1.
       let z : (c : Bool) × (is_true v ≡ Some c) = truth_known d f w1 by v t is hv in
@@ -90,12 +92,12 @@ module _ (n : ℕ) (d : Tables) (g : Env) (scope : Scope) (f : NameOf → Region
   -- a test, and one of two acts
   pub runs_choose : {B : Type 0} (s s2 : States) (act : Act Bool) (k : ℕ) (w : Ghost) (m : Memory) (h : Bool → Act B) (Q : B → Memory → Type 0) → Tells s s2 act
       → Inv d w m
-      → Scene d g scope f b s k w m
-      → ((t : Bool) (w' : Ghost) (m' : Memory) → Inv d w' m' → Grows k b w m w' m' → Scene d g scope f b s2 k w' m' → Runs n (h t) m' Q)
+      → Scene d g scope f b low s k w m
+      → ((t : Bool) (w' : Ghost) (m' : Memory) → Inv d w' m' → Grows k b w m w' m' → Scene d g scope f b low s2 k w' m' → Runs n (h t) m' Q)
       → Runs n (act >>= h) m Q
   runs_choose s s2 act k w m h Q tells i x go = record {
     by = λ next q. (tells k w m i x).by (λ t. h t next)
-        (λ t m' y. (go t y.ghost m' y.inv y.grows (scene_later d g scope f b s s2 k w m y.ghost m' y.inv y.grows y.holds x)).by next q);
+        (λ t m' y. (go t y.ghost m' y.inv y.grows (scene_later d g scope f b low s s2 k w m y.ghost m' y.inv y.grows y.holds x)).by next q);
   }
 
   tells_at_once : (s : States) (t : Bool) → Tells s s (give t)
@@ -103,7 +105,7 @@ module _ (n : ℕ) (d : Tables) (g : Env) (scope : Scope) (f : NameOf → Region
 
   -- what tells after something else was done
   tells_then : (s s2 : States) (act : Act Bool) (k : ℕ) (w : Ghost) (m : Memory) (w' : Ghost) (m' : Memory) → Tells s s2 act → Inv d w' m' → Grows k b w m w' m'
-      → Scene d g scope f b s k w' m' → Runs n act m' (λ t. After d k b w m (λ w2 m2. Standing d g scope f s2 w2 m2))
+      → Scene d g scope f b low s k w' m' → Runs n act m' (λ t. After d k b w m (λ w2 m2. Standing d g scope f s2 w2 m2))
   tells_then s s2 act k w m w' m' h i g1 x = record {
     by = λ next q. (h k w' m' i x).by next (λ t m2 y. q t m2 (record { ghost = y.ghost; inv = y.inv; grows = grows_trans g1 y.grows; holds = y.holds }));
   }
@@ -114,7 +116,7 @@ module _ (n : ℕ) (d : Tables) (g : Env) (scope : Scope) (f : NameOf → Region
       runs_choose s s1 act k w m (λ t. choose t yes_act no_act) (λ t. After d k b w m (λ w' m'. Standing d g scope f s2 w' m')) h i x
       (λ t w' m' i' g' x'. by k w m t w' m' i' g' x')
     where
-      by : (k : ℕ) (w : Ghost) (m : Memory) (t : Bool) (w' : Ghost) (m' : Memory) → Inv d w' m' → Grows k b w m w' m' → Scene d g scope f b s1 k w' m'
+      by : (k : ℕ) (w : Ghost) (m : Memory) (t : Bool) (w' : Ghost) (m' : Memory) → Inv d w' m' → Grows k b w m w' m' → Scene d g scope f b low s1 k w' m'
           → Runs n (choose t yes_act no_act) m' (λ t. After d k b w m (λ w2 m2. Standing d g scope f s2 w2 m2))
       by k w m true w' m' i g1 x = tells_then s1 s2 yes_act k w m w' m' hy i g1 x
       by k w m false w' m' i g1 x = tells_then s1 s2 no_act k w m w' m' hn i g1 x
@@ -122,7 +124,7 @@ module _ (n : ℕ) (d : Tables) (g : Env) (scope : Scope) (f : NameOf → Region
   pub tells_not : (s s2 : States) (act : Act Bool) → Tells s s2 act → Tells s s2 (inverted act)
   tells_not s s2 act h = tells_choice s s2 s2 act (give false) (give true) h (tells_at_once s2 false) (tells_at_once s2 true)
 
-  pub gives_tested : (s s2 : States) (act : Act Bool) → Tells s s2 act → Gives n d g scope f b s s2 Int (act >>= λ t. give (truth_value t ∷ []))
+  pub gives_tested : (s s2 : States) (act : Act Bool) → Tells s s2 act → Gives n d g scope f b low s s2 Int (act >>= λ t. give (truth_value t ∷ []))
   gives_tested s s2 act h = λ k w m i x. record {
     by = λ next q. (h k w m i x).by (λ t. next (truth_value t ∷ []))
         (λ t m' y. q (truth_value t ∷ []) m' (record {

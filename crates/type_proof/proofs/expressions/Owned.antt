@@ -1,12 +1,12 @@
 -- Places that are a part of a local that can't be copied: found while it is held, read and stored with it held before and after.
 use Rattle.std.proofs.Common.{◌≡◌, ℕ, suc, ◌≤◌, ◌+◌, Bool, true, false, ◌⊎◌, inl, inr, Option, Some, List, [], ◌∷◌, ◌++◌, refl, sym, ◌∙◌, ap, subst, arith}
 use Rattle.std.proofs.lemmas.Bool.{false≢true}
-use Rattle.std.specs.Prelude.{map, length, bytes_eq, if◌then◌else◌}
+use Rattle.std.specs.Prelude.{map, length, if◌then◌else◌}
 use Rattle.cyc_tree.specs.Tree as tree
 use Rattle.source_meaning.specs.Shapes.{Shape}
 use Rattle.source_meaning.specs.Memory as memory
-use Rattle.source_meaning.specs.Memory.{Region, Frame, Spot, Scalar, Holds, Live, Memory, any_moved, with_cell, beyond}
-use Rattle.source_meaning.specs.Steps.{Entity, Binding, Variable, Fixed, Scope, Act, ◌>>=◌, ◌>>◌, give}
+use Rattle.source_meaning.specs.Memory.{Region, Spot, Scalar, Holds, Live, Memory, any_moved, with_cell, beyond}
+use Rattle.source_meaning.specs.Steps.{Entity, Variable, Scope, Act, ◌>>=◌, ◌>>◌, give}
 use Rattle.source_meaning.specs.Conversions.{cells_of}
 use Rattle.source_meaning.specs.Values.{take_cells, read_cells, write_cells, put_contents}
 use Rattle.source_meaning.specs.Places.{Sense, place_sense, bound_to, entity_sense, entity_of}
@@ -14,10 +14,10 @@ use Rattle.source_typing.specs.Moves.{local_use, copy_if, place_use}
 use Rattle.source_typing.specs.Regions.{TheHeap}
 use Rattle.source_typing.specs.Scope.{Env, Value, Seat}
 use Rattle.source_typing.specs.States.{State, Held, States, Passed, state_of, with_state, unless_lent}
-use Rattle.source_typing.specs.Types.{Int, Unsigned, Char, Void, Null, Thin, Fat, Unique, Handle, Key, Struct, Union, StaticType, shape_of}
+use Rattle.source_typing.specs.Types.{renamed, Int, Unsigned, Char, Void, Null, Thin, Fat, Unique, Handle, Key, Struct, Union, StaticType, shape_of}
 use Rattle.type_proof.specs.Flat.{Tables}
 use Rattle.type_proof.proofs.invariant.Facts.{at_spot, further, not_further}
-use Rattle.type_proof.proofs.invariant.Invariant.{RunType, Kept, Private, Flying, Ghost, HasType, HaveTypes, Inv, Grows}
+use Rattle.type_proof.proofs.invariant.Invariant.{RunType, Private, Flying, Ghost, HasType, HaveTypes, Inv, Grows}
 use Rattle.type_proof.proofs.invariant.Invariant as invariant
 use Rattle.type_proof.proofs.invariant.Values.{values_kept}
 use Rattle.type_proof.proofs.invariant.Moves.{into}
@@ -27,15 +27,16 @@ use Rattle.type_proof.proofs.invariant.After.{After, flying, flight_kept}
 use Rattle.type_proof.proofs.invariant.Arguments.{Agrees}
 use Rattle.type_proof.proofs.invariant.Cells.{cell, seen, typed_is, runs_write, stored, inv_stored, grows_stored, Copied}
 use Rattle.type_proof.proofs.invariant.Names.{NameOf}
-use Rattle.type_proof.proofs.invariant.Sound.{Looked, shape_renamed, cells_type, PlaceStands, GivesBy, ShowsBy, FindsAny, StoresBy, Sound, none_first}
-use Rattle.type_proof.proofs.invariant.Sound.{none_second}
+use Rattle.type_proof.proofs.invariant.Sound.{InOwn, in_own_ours, Looked, ShowsHeld, shape_renamed, cells_type, PlaceStands, GivesBy, ShowsBy, FindsAny}
+use Rattle.type_proof.proofs.invariant.Sound.{StoresBy, Sound, none_first, none_second}
 use Rattle.type_proof.proofs.invariant.Scenes.{Scene, scene_more}
 use Rattle.type_proof.proofs.invariant.Rights.{Ours, HeldAt, runs_read_held}
 use Rattle.type_proof.proofs.invariant.LocalCells.{Whole}
-use Rattle.type_proof.proofs.invariant.Standing.{Standing, InRoom, Rooms}
+use Rattle.type_proof.proofs.invariant.InRooms.{InFrame, room_found, in_frame}
+use Rattle.type_proof.proofs.invariant.Standing.{Standing}
 use Rattle.type_proof.proofs.invariant.Moving.{into_later}
-use Rattle.type_proof.proofs.expressions.Uses.{Own, Setting, gives_moved, shows_held, runs_assigned, copied_flies, looked_held, ours, alive, here, held_by, now}
-use Rattle.type_proof.proofs.expressions.Uses.{means}
+use Rattle.type_proof.proofs.expressions.Uses.{Own, Setting, bound_here, gives_moved, shows_held, runs_assigned, copied_flies, looked_held, alive, here}
+use Rattle.type_proof.proofs.expressions.Uses.{held_by, now, means}
 use Rattle.type_proof.proofs.expressions.Places.{none_moved, uncopied}
 use Rattle.type_proof.proofs.expressions.Rewriting.{Rewritten, Rewrites, held_again, all_again}
 
@@ -129,54 +130,78 @@ runs_write_held d n k b c w m s (t ∷ ts) [] (v ∷ vs) g Q i l o h hv r = absu
 
 -- ---- places
 
--- a variable that is found lies in a block of the function
-room_found : (b : ℕ) (bs : List Binding) (x : List ℕ) (sh : Shape) (at : Spot) → Rooms b bs → bound_to bs x ≡ Some (Variable sh at) → (j : ℕ) → at.region
-    ≡ Frame j → b ≤ j
-room_found b [] x sh at h e j r = absurd cc
-room_found b (y ∷ bs) x sh at h e j r = by (bytes_eq y.name x) (λ q. room_found b bs x sh at h.1 q j r) e
-  where
-    one : (z : Entity) → InRoom b z bs → z ≡ Variable sh at → b ≤ j
-    one (Variable sh2 s) room q =
-        let p : s ≡ at = cc in
-        let z : Frame room.frame ≡ Frame j = sym room.region ∙ (ap (λ (c : Spot). c.region) p ∙ r) in
-        let c : room.frame ≡ j = cc in let l = room.own in omega (arith, l, c)
-    one (Fixed sh2 u) room q = absurd cc
-
-    by : (c : Bool) → (bound_to bs x ≡ Some (Variable sh at) → b ≤ j) → (if c then Some y.entity else bound_to bs x) ≡ Some (Variable sh at) → b ≤ j
-    by true others q = one y.entity h.0 (let z : y.entity ≡ Variable sh at = cc in z)
-    by false others q = others q
-
-module _ (n : ℕ) (d : Tables) (g : Env) (scope : Scope) (f : NameOf → Region) (b : ℕ) (agrees : Agrees scope.world d) where
-  setting : (s : States) (k : ℕ) (w : Ghost) (m : Memory) → Scene d g scope f b s k w m → Setting d g scope f b
+module _ (n : ℕ) (d : Tables) (g : Env) (scope : Scope) (f : NameOf → Region) (b : ℕ) (low : ℕ) (agrees : Agrees scope.world d) where
+  pub setting : (s : States) (k : ℕ) (w : Ghost) (m : Memory) → Scene d g scope f b low s k w m → Setting d g scope f b low
   setting s k w m x = record {
     alongside = x.alongside;
     rooms = x.rooms;
     agrees = agrees;
-    own = λ y t at e j r. room_found b scope.locals y (shape_of t) at x.rooms e j r;
+    own = λ y t at e j r. room_found low scope.locals y (shape_of t) at x.rooms e j r;
   }
+
+  -- its cells lie in a block of the function
+  pub in_own : (x : tree.Name) (t : StaticType) (o : Own d g scope f x.text t) (s : States) (k : ℕ) (w : Ghost) (m : Memory) → Scene d g scope f b low s k w m
+      → InOwn low o.at m
+  in_own x t o s k w m q =
+      let z : Setting d g scope f b low = setting s k w m q in
+      let bound : bound_to scope.locals x.text ≡ Some (Variable (shape_of t) o.at) = bound_here n d g scope f b low z x t o in
+      let r : InFrame m.activations low o.at =
+      in_frame m.activations low scope.locals x.text (shape_of t) o.at q.rooms q.inside bound in
+      record { frame = r.frame; region = r.region; known = r.known; own = r.own }
 
   -- the local by its name, as what a member is of: it is held
   finds_held : (x : tree.Name) (t : StaticType) (seat : Seat) → Own d g scope f x.text t
-      → FindsAny n d g scope f b (local_use g.locals x).look true seat t (entity_sense scope.world (entity_of scope x.text)).place
+      → FindsAny n d g scope f b low (local_use g.locals x).look true seat t (entity_sense scope.world (entity_of scope x.text)).place
   finds_held x t seat o s e k w m i q =
-      let z : Setting d g scope f b = setting s k w m q in
+      let z : Setting d g scope f b low = setting s k w m q in
       subst (λ (a : Sense). Runs n a.place m (λ at. After d k b w m
-      (λ w' m'. PlaceStands d f b true seat t at w' m' × Standing d g scope f ((local_use g.locals x).look s).states w' m')))
-      (sym (means n d g scope f b z x t o))
+      (λ w' m'. PlaceStands d f low true seat t at w' m' × Standing d g scope f ((local_use g.locals x).look s).states w' m')))
+      (sym (means n d g scope f b low z x t o))
       (let h : Whole w m o.at (cells_type d f t) × ((c : State) → unless_lent (state_of g.locals x.text s) c ≡ c) =
-      held_by n d g scope f b z x t o x.at (state_of g.locals x.text s) w m (here n d g scope f b z x t o s w m q.stands) e in
+      held_by n d g scope f b low z x t o x.at (state_of g.locals x.text s) w m (here n d g scope f b low z x t o s w m q.stands) e in
       record {
         by = λ next r. r o.at m (record {
           ghost = w;
           inv = i;
           grows = grows_refl k b w m;
           holds = (
-            (h.0.values, h.0.held, alive n d g scope f b z x t o k w m q.names, ours n d g scope f b z x t o),
+            (h.0.values, h.0.held, alive n d g scope f b low z x t o k w m q.names, in_own x t o s k w m q),
             subst (λ (a : State). Standing d g scope f (with_state g.locals x.text a s) w m) (sym (h.1 Held))
-                (now n d g scope f b z x t o s Held w m w m q.stands (record { types = λ y q u. u; cells = λ y u q v. refl }) h.0),
+                (now n d g scope f b low z x t o s Held w m w m q.stands (record { types = λ y q u. u; cells = λ y u q v. refl }) h.0),
           );
         });
       })
+
+  -- the local by its name, as what is dereferenced
+  shows_whole : (x : tree.Name) (t : StaticType) → (o : Own d g scope f x.text t) → (s : States) → ((local_use g.locals x).look s).faults ≡ []
+      → ShowsHeld n d g scope f b low s ((local_use g.locals x).look s).states t (entity_sense scope.world (entity_of scope x.text)).look
+  shows_whole x t o s e k w m i q =
+      let z : Setting d g scope f b low = setting s k w m q in
+      let ts : List RunType = cells_type d f t in
+      let cells : cells_of scope.world (shape_of t) ≡ map shape_of ts =
+      ap (cells_of scope.world) (sym (shape_renamed f t)) ∙ agrees (renamed f t) in
+      let post : List Scalar → Memory → Type 0 = (λ vs. After d k b w m
+      (λ w' m'. ((at : Spot) × HeldAt w' m' at (cells_type d f t) vs × InOwn low at m')
+      × Standing d g scope f ((local_use g.locals x).look s).states w' m')) in
+      let h : Whole w m o.at (cells_type d f t) × ((c : State) → unless_lent (state_of g.locals x.text s) c ≡ c) =
+      held_by n d g scope f b low z x t o x.at (state_of g.locals x.text s) w m (here n d g scope f b low z x t o s w m q.stands) e in
+      subst (λ (a : Sense). Runs n a.look m post) (sym (means n d g scope f b low z x t o))
+      (subst (λ (cs : List Shape). Runs n (read_cells (length cs) o.at) m post) (sym cells)
+      (record {
+        by = λ next r. (runs_read_held n w m o.at (cells_type d f t) h.0.values (λ vs. give vs) post (alive n d g scope f b low z x t o k w m q.names) h.0.held
+            (record {
+              by = λ next2 r2. r2 h.0.values m (record {
+                ghost = w;
+                inv = i;
+                grows = grows_refl k b w m;
+                holds = (
+                  (o.at, h.0.held, in_own x t o s k w m q),
+                  subst (λ (a : State). Standing d g scope f (with_state g.locals x.text a s) w m) (sym (h.1 Held))
+                      (now n d g scope f b low z x t o s Held w m w m q.stands (record { types = λ y q u. u; cells = λ y u q v. refl }) h.0),
+                );
+              });
+            })).by next r;
+      }))
 
   of_variable : (u : StaticType) (at : Spot) → (entity_sense scope.world (Some (Variable (shape_of u) at))).shape ≡ shape_of u
   of_variable Int at = refl
@@ -194,15 +219,16 @@ module _ (n : ℕ) (d : Tables) (g : Env) (scope : Scope) (f : NameOf → Region
 
   -- A local that can't be copied: moved where it is given away, held where it is looked at and where its members are, held again once it is assigned.
   pub sound_own : (x : tree.Name) (v : Value) → Own d g scope f x.text v.type
-      → Sound n d g scope f b v (local_use g.locals x) true (entity_sense scope.world (entity_of scope x.text))
+      → Sound n d g scope f b low v (local_use g.locals x) true (entity_sense scope.world (entity_of scope x.text))
   sound_own x v o = record {
     shape = λ z. shaped;
     owned = λ z. refl;
-    value = λ s e k w m i q. gives_moved n d g scope f b (setting s k w m q) x v.type o k s w m i q.names q.stands e;
-    look = λ s e k w m i q. shows_held n d g scope f b (setting s k w m q) x v.type o k s w m i q.names q.stands e;
+    value = λ is s e k w m i q. gives_moved n d g scope f b low (setting s k w m q) x v.type o is k s w m i q.names q.stands e;
+    look = λ s e k w m i q. shows_held n d g scope f b low (setting s k w m q) x v.type o k s w m i q.names q.stands e;
+    held = λ z s e k w m i q. shows_whole x v.type o s e k w m i q;
     place = λ z. finds_held x v.type v.seat o;
     pointed = λ z r q. absurd (false≢true (sym z));
-    stores = λ z s e k w m vs i q typed. runs_assigned n d g scope f b (setting s k w m q) x v.type o k s w m vs (give tt)
+    stores = λ is z s e k w m vs i q typed. runs_assigned n d g scope f b low (setting s k w m q) x v.type o is k s w m vs (give tt)
         (λ u. After d k b w m (λ w' m'. Standing d g scope f ((local_use g.locals x).target s).states w' m')) i q.names q.stands e typed
         (λ w' m' i' g' st'. record { by = λ next r. r tt m' (record { ghost = w'; inv = i'; grows = g'; holds = st' }) });
   }
@@ -215,8 +241,8 @@ module _ (n : ℕ) (d : Tables) (g : Env) (scope : Scope) (f : NameOf → Region
   -- a member's cells are held where those of the local are
   pub finds_own_part : (p : States → Passed) (seat : Seat) (t u : StaticType) (place : Act Spot) (count : ℕ) (first others : List RunType)
       → (f TheHeap ≡ invariant.heap → cells_type d f t ≡ first ++ (cells_type d f u ++ others)) → count ≡ length first
-      → FindsAny n d g scope f b p true seat t place
-      → FindsAny n d g scope f b p true seat u (place >>= λ s. give (beyond s count))
+      → FindsAny n d g scope f b low p true seat t place
+      → FindsAny n d g scope f b low p true seat u (place >>= λ s. give (beyond s count))
   finds_own_part p seat t u place count first others cells counted finds s e k w m i x = record {
     by = λ next r. (finds s e k w m i x).by (λ at. next (beyond at count)) (λ at m1 y.
         let q : (us : List Scalar) × HeldAt y.ghost m1 (beyond at (length first)) (cells_type d f u) us =
@@ -227,19 +253,24 @@ module _ (n : ℕ) (d : Tables) (g : Env) (scope : Scope) (f : NameOf → Region
           inv = y.inv;
           grows = y.grows;
           holds = (
-            (q.0, subst (λ (c : ℕ). HeldAt y.ghost m1 (beyond at c) (cells_type d f u) q.0) (sym counted) q.1, y.holds.0.2, y.holds.0.3),
+            (
+              q.0,
+              subst (λ (c : ℕ). HeldAt y.ghost m1 (beyond at c) (cells_type d f u) q.0) (sym counted) q.1,
+              y.holds.0.2,
+              (let z = y.holds.0.3 in record { frame = z.frame; region = z.region; known = z.known; own = z.own }),
+            ),
             y.holds.1,
           );
         }));
   }
 
   own_cells : (t : StaticType) (sh : Shape) → sh ≡ shape_of t → cells_of scope.world sh ≡ map shape_of (cells_type d f t)
-  own_cells t sh shape = ap (cells_of scope.world) (shape ∙ sym (shape_renamed f t)) ∙ agrees (Rattle.source_typing.specs.Types.renamed f t)
+  own_cells t sh shape = ap (cells_of scope.world) (shape ∙ sym (shape_renamed f t)) ∙ agrees (renamed f t)
 
   -- what is given away out of it is copied, else Copy
   gives_own : (p : States → Passed) (at : ℕ) (moves po : Bool) (seat : Seat) (t : StaticType) (sh : Shape) (act : Act Spot) → sh ≡ shape_of t
-      → (moves ≡ false → Copied (cells_type d f t)) → FindsAny n d g scope f b p true seat t act
-      → GivesBy n d g scope f b (place_use at moves po p).value t (place_sense scope.world sh act).value
+      → (moves ≡ false → Copied (cells_type d f t)) → FindsAny n d g scope f b low p true seat t act
+      → GivesBy n d g scope f b low (place_use at moves po p).value t (place_sense scope.world sh act).value
   gives_own p at moves po seat t sh act shape copies finds s e k w m i x = record {
     by = λ next q. (finds s (none_first (p s).faults (copy_if moves at (p s).states).faults e) k w m i x).by
         (λ spot. take_cells (cells_of scope.world sh) spot next) (λ spot m1 y.
@@ -273,7 +304,7 @@ module _ (n : ℕ) (d : Tables) (g : Env) (scope : Scope) (f : NameOf → Region
 
   -- looked at, as `*x.p` and `x.p != NULL` do
   shows_own : (p : States → Passed) (seat : Seat) (t : StaticType) (sh : Shape) (act : Act Spot) → sh ≡ shape_of t
-      → FindsAny n d g scope f b p true seat t act → ShowsBy n d g scope f b p t (place_sense scope.world sh act).look
+      → FindsAny n d g scope f b low p true seat t act → ShowsBy n d g scope f b low p t (place_sense scope.world sh act).look
   shows_own p seat t sh act shape finds s e k w m i x = record {
     by = λ next q. (finds s e k w m i x).by (λ spot. (read_cells (length (cells_of scope.world sh)) spot) next) (λ spot m1 y.
         (subst (λ (cs : List Shape). Runs n (read_cells (length cs) spot) m1 post) (sym (own_cells t sh shape))
@@ -286,7 +317,7 @@ module _ (n : ℕ) (d : Tables) (g : Env) (scope : Scope) (f : NameOf → Region
       post : List Scalar → Memory → Type 0
       post vs = After d k b w m (λ w' m'. Looked d w' vs ts × Standing d g scope f (p s).states w' m')
 
-      read : (spot : Spot) (m1 : Memory) → After d k b w m (λ w' m'. PlaceStands d f b true seat t spot w' m' × Standing d g scope f (p s).states w' m') m1
+      read : (spot : Spot) (m1 : Memory) → After d k b w m (λ w' m'. PlaceStands d f low true seat t spot w' m' × Standing d g scope f (p s).states w' m') m1
           → Runs n (read_cells (length (map shape_of ts)) spot) m1 post
       read spot m1 y = record {
         by = λ next q. (runs_read_held n y.ghost m1 spot ts y.holds.0.0 (λ vs. give vs) post y.holds.0.2 y.holds.0.1 (record {
@@ -303,13 +334,13 @@ module _ (n : ℕ) (d : Tables) (g : Env) (scope : Scope) (f : NameOf → Region
       }
 
   -- a value is stored to it: all locals stand as they did
-  stores_own : (p : States → Passed) (seat : Seat) (t : StaticType) (act : Act Spot) → FindsAny n d g scope f b p true seat t act
-      → StoresBy n d g scope f b p t act
-  stores_own p seat t act finds s e k w m vs i x typed = record {
-    by = λ next q. (finds s e (suc k) w m i (scene_more d g scope f b s k w m x)).by (λ spot. (write_cells spot vs >> give tt) next) (λ spot m1 y.
+  stores_own : b ≤ low → (p : States → Passed) (seat : Seat) (t : StaticType) (act : Act Spot) → FindsAny n d g scope f b low p true seat t act
+      → StoresBy n d g scope f b low p t act
+  stores_own is p seat t act finds s e k w m vs i x typed = record {
+    by = λ next q. (finds s e (suc k) w m i (scene_more d g scope f b low s k w m x)).by (λ spot. (write_cells spot vs >> give tt) next) (λ spot m1 y.
         (runs_write_held d n k b 0 y.ghost m1 spot (cells_type d f t) y.holds.0.0 vs (give tt)
         (λ u. After d k b w m (λ w' m'. Standing d g scope f (p s).states w' m'))
-        y.inv y.holds.0.2 y.holds.0.3 y.holds.0.1 (flight_kept d k b w m y.ghost m1 vs (cells_type d f t) i y.grows typed)
+        y.inv y.holds.0.2 (in_own_ours b low spot m1 is y.holds.0.3) y.holds.0.1 (flight_kept d k b w m y.ghost m1 vs (cells_type d f t) i y.grows typed)
         (λ w2 m2 i2 g2 z. record {
           by = λ next2 q2. q2 tt m2 (record {
             ghost = w2;
@@ -322,14 +353,15 @@ module _ (n : ℕ) (d : Tables) (g : Env) (scope : Scope) (f : NameOf → Region
 
   -- A part of a local that can't be copied, as a place.
   pub sound_part : (v : Value) (place : ℕ) (moves po : Bool) → po ≡ true → (p : States → Passed) (sh : Shape) (act : Act Spot) → sh ≡ shape_of v.type
-      → (moves ≡ false → Copied (cells_type d f v.type)) → FindsAny n d g scope f b p true v.seat v.type act
-      → Sound n d g scope f b v (place_use place moves po p) true (place_sense scope.world sh act)
+      → (moves ≡ false → Copied (cells_type d f v.type)) → FindsAny n d g scope f b low p true v.seat v.type act
+      → Sound n d g scope f b low v (place_use place moves po p) true (place_sense scope.world sh act)
   sound_part v place moves po is p sh act shape copies finds = record {
     shape = λ z. shape;
     owned = λ z. is;
-    value = gives_own p place moves po v.seat v.type sh act shape copies finds;
+    value = λ z. gives_own p place moves po v.seat v.type sh act shape copies finds;
     look = shows_own p v.seat v.type sh act shape finds;
+    held = λ z. absurd cc;
     place = λ z. finds;
     pointed = λ z r q. absurd (false≢true (sym z ∙ is));
-    stores = λ z. stores_own p v.seat v.type act finds;
+    stores = λ is z. stores_own is p v.seat v.type act finds;
   }

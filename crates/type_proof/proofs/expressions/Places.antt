@@ -56,28 +56,28 @@ pub uncopied : (c : Bool) (at : ℕ) (s : States) → (copy_if c at s).faults �
 uncopied true at s e = absurd cc
 uncopied false at s e = (refl, refl)
 
-module _ (n : ℕ) (d : Tables) (g : Env) (scope : Scope) (f : NameOf → memory.Region) (b : ℕ) (agrees : Agrees scope.world d) where
+module _ (n : ℕ) (d : Tables) (g : Env) (scope : Scope) (f : NameOf → memory.Region) (b : ℕ) (low : ℕ) (agrees : Agrees scope.world d) where
   cells_are : (sh : Shape) (t : StaticType) → sh ≡ shape_of t → cells_of scope.world sh ≡ map shape_of (cells_type d f t)
   cells_are sh t e = ap (cells_of scope.world) (e ∙ sym (shape_renamed f t)) ∙ agrees (renamed f t)
 
   -- a place of a region, or in a block
   abbrev FindsThere : States → States → Seat → StaticType → Act Spot → Type 0
-  FindsThere s s2 seat t act = (k : ℕ) (w : Ghost) (m : Memory) → Inv d w m → Scene d g scope f b s k w m
-      → Runs n act m (λ at. After d k b w m (λ w' m'. PlaceStands d f b false seat t at w' m' × Standing d g scope f s2 w' m'))
+  FindsThere s s2 seat t act = (k : ℕ) (w : Ghost) (m : Memory) → Inv d w m → Scene d g scope f b low s k w m
+      → Runs n act m (λ at. After d k b w m (λ w' m'. PlaceStands d f low false seat t at w' m' × Standing d g scope f s2 w' m'))
 
   -- its cells are reached
-  reached_cells : (seat : Seat) (t : StaticType) (at : Spot) (w : Ghost) (m : Memory) → PlaceStands d f b false seat t at w m
+  reached_cells : (seat : Seat) (t : StaticType) (at : Spot) (w : Ghost) (m : Memory) → PlaceStands d f low false seat t at w m
       → Laid w at (cells_type d f t) × (m.state at.region ≡ Live)
   reached_cells Nowhere t at w m h = absurd h
   reached_cells (In r) t at w m h = (h.0.typed, h.1)
-  reached_cells InBlock t at w m h = h
+  reached_cells InBlock t at w m h = (h.0, h.1)
 
   -- a value is copied out of a place that pointers may reach
   pub gives_reached : (s s2 : States) (t : StaticType) (sh : Shape) (seat : Seat) (at : Act Spot) → sh ≡ shape_of t → Copied (cells_type d f t)
-      → FindsThere s s2 seat t at → Gives n d g scope f b s s2 t (place_sense scope.world sh at).value
+      → FindsThere s s2 seat t at → Gives n d g scope f b low s s2 t (place_sense scope.world sh at).value
   gives_reached s s2 t sh seat at e copied run = λ k w m i x.
       runs_bind n at (λ spot. take_cells (cells_of scope.world sh) spot) m
-      (λ spot. After d k b w m (λ w' m'. PlaceStands d f b false seat t spot w' m' × Standing d g scope f s2 w' m'))
+      (λ spot. After d k b w m (λ w' m'. PlaceStands d f low false seat t spot w' m' × Standing d g scope f s2 w' m'))
       (given k w m) (run k w m i x)
       (λ spot m1 y.
       let place : Laid y.ghost spot (cells_type d f t) × (m1.state spot.region ≡ Live) = reached_cells seat t spot y.ghost m1 y.holds.0 in
@@ -100,10 +100,10 @@ module _ (n : ℕ) (d : Tables) (g : Env) (scope : Scope) (f : NameOf → memory
 
   -- and looked at there
   pub shows_reached : (s s2 : States) (t : StaticType) (sh : Shape) (seat : Seat) (at : Act Spot) → sh ≡ shape_of t
-      → FindsThere s s2 seat t at → Shows n d g scope f b s s2 t (place_sense scope.world sh at).look
+      → FindsThere s s2 seat t at → Shows n d g scope f b low s s2 t (place_sense scope.world sh at).look
   shows_reached s s2 t sh seat at e run = λ k w m i x.
       runs_bind n at (λ spot. read_cells (length (cells_of scope.world sh)) spot) m
-      (λ spot. After d k b w m (λ w' m'. PlaceStands d f b false seat t spot w' m' × Standing d g scope f s2 w' m')) (shown k w m) (run k w m i x)
+      (λ spot. After d k b w m (λ w' m'. PlaceStands d f low false seat t spot w' m' × Standing d g scope f s2 w' m')) (shown k w m) (run k w m i x)
       (λ spot m1 y.
       let place : Laid y.ghost spot (cells_type d f t) × (m1.state spot.region ≡ Live) = reached_cells seat t spot y.ghost m1 y.holds.0 in
       subst (λ (cs : List Shape). Runs n (read_cells (length cs) spot) m1 (shown k w m)) (sym (cells_are sh t e))
@@ -126,12 +126,12 @@ module _ (n : ℕ) (d : Tables) (g : Env) (scope : Scope) (f : NameOf → memory
       shown k w m = λ vs. After d k b w m (λ w' m'. Looked d w' vs ts × Standing d g scope f s2 w' m')
 
   -- a value is stored there: no local changes
-  pub stores_reached : (s s2 : States) (t : StaticType) (seat : Seat) (at : Act Spot) → FindsThere s s2 seat t at → Stores n d g scope f b s s2 t at
+  pub stores_reached : (s s2 : States) (t : StaticType) (seat : Seat) (at : Act Spot) → FindsThere s s2 seat t at → Stores n d g scope f b low s s2 t at
   stores_reached s s2 t seat at finds = λ k w m vs i x typed. record {
-    by = λ next q. (finds (suc k) w m i (scene_more d g scope f b s k w m x)).by (λ spot. (write_cells spot vs >> give tt) next) (λ spot m1 y.
+    by = λ next q. (finds (suc k) w m i (scene_more d g scope f b low s k w m x)).by (λ spot. (write_cells spot vs >> give tt) next) (λ spot m1 y.
         let place : Laid y.ghost spot (cells_type d f t) × (m1.state spot.region ≡ Live) = reached_cells seat t spot y.ghost m1 y.holds.0 in
-        let x1 : Scene d g scope f b s2 (suc k) y.ghost m1 =
-        scene_later d g scope f b s s2 (suc k) w m y.ghost m1 y.inv y.grows y.holds.1 (scene_more d g scope f b s k w m x) in
+        let x1 : Scene d g scope f b low s2 (suc k) y.ghost m1 =
+        scene_later d g scope f b low s s2 (suc k) w m y.ghost m1 y.inv y.grows y.holds.1 (scene_more d g scope f b low s k w m x) in
         (runs_write_laid d n k m1.activations 0 y.ghost m1 spot (cells_type d f t) vs (give tt)
         (λ u. After d k b w m (λ w' m'. Standing d g scope f s2 w' m')) y.inv place.1 place.0
         (flight_kept d k b w m y.ghost m1 vs (cells_type d f t) i y.grows typed)
@@ -140,38 +140,40 @@ module _ (n : ℕ) (d : Tables) (g : Env) (scope : Scope) (f : NameOf → memory
             ghost = w2;
             inv = i2;
             grows = grows_trans (grows_less y.grows) (grows_base x1.base g2);
-            holds = all_kept g.tables d f k b m1.activations g.locals scope.locals s2 y.ghost m1 w2 m2 x1.rooms x1.inside g2 x1.stands;
+            holds = all_kept g.tables d f k low m1.activations g.locals scope.locals s2 y.ghost m1 w2 m2 x1.rooms x1.inside g2 x1.stands;
           });
         })).by next q);
   }
 
   -- a place in the region of a name or in a block, that is no local
   pub sound_placed : (v : Value) (place : ℕ) (moves own : Bool) (p : States → Passed) (sh : Shape) (at : Act Spot) → sh ≡ shape_of v.type
-      → (moves ≡ false → Copied (cells_type d f v.type)) → FindsAny n d g scope f b p false v.seat v.type at
-      → Sound n d g scope f b v (place_use place moves own p) false (place_sense scope.world sh at)
+      → (moves ≡ false → Copied (cells_type d f v.type)) → FindsAny n d g scope f b low p false v.seat v.type at
+      → Sound n d g scope f b low v (place_use place moves own p) false (place_sense scope.world sh at)
   sound_placed v place moves own p sh at e copied run = record {
     shape = λ z. e;
     owned = λ z. absurd cc;
-    value = λ s z.
+    value = λ y s z.
         let c : (moves ≡ false) × ((copy_if moves place (p s).states).states ≡ (p s).states) =
         uncopied moves place (p s).states (none_second (p s).faults (copy_if moves place (p s).states).faults z) in
-        subst (λ (s2 : States). Gives n d g scope f b s s2 v.type (place_sense scope.world sh at).value) (sym c.1)
+        subst (λ (s2 : States). Gives n d g scope f b low s s2 v.type (place_sense scope.world sh at).value) (sym c.1)
         (gives_reached s (p s).states v.type sh v.seat at e (copied c.0) (run s (none_first (p s).faults (copy_if moves place (p s).states).faults z)));
     look = λ s z. shows_reached s (p s).states v.type sh v.seat at e (run s z);
+    held = λ z. absurd cc;
     place = λ z. run;
-    pointed = λ o r z. subst (λ (q : Seat). FindsAny n d g scope f b p false q v.type at) z run;
-    stores = λ z s q. stores_reached s (p s).states v.type v.seat at (run s q);
+    pointed = λ o r z. subst (λ (q : Seat). FindsAny n d g scope f b low p false q v.type at) z run;
+    stores = λ y z s q. stores_reached s (p s).states v.type v.seat at (run s q);
   }
 
   -- a local that can be copied
   pub sound_copied : (v : Value) (p : States → Passed) (sh : Shape) (at : Act Spot) → sh ≡ shape_of v.type → Copied (cells_type d f v.type)
-      → FindsAny n d g scope f b p false v.seat v.type at → Sound n d g scope f b v (value_use p) false (place_sense scope.world sh at)
+      → FindsAny n d g scope f b low p false v.seat v.type at → Sound n d g scope f b low v (value_use p) false (place_sense scope.world sh at)
   sound_copied v p sh at e copied run = record {
     shape = λ z. e;
     owned = λ z. absurd cc;
-    value = λ s z. gives_reached s (p s).states v.type sh v.seat at e copied (run s z);
+    value = λ y s z. gives_reached s (p s).states v.type sh v.seat at e copied (run s z);
     look = λ s z. shows_reached s (p s).states v.type sh v.seat at e (run s z);
+    held = λ z. absurd cc;
     place = λ z. run;
-    pointed = λ o r z. subst (λ (q : Seat). FindsAny n d g scope f b p false q v.type at) z run;
-    stores = λ z s q. stores_reached s (p s).states v.type v.seat at (run s q);
+    pointed = λ o r z. subst (λ (q : Seat). FindsAny n d g scope f b low p false q v.type at) z run;
+    stores = λ y z s q. stores_reached s (p s).states v.type v.seat at (run s q);
   }

@@ -1,33 +1,33 @@
 -- What is known where an expression is judged, which forms are taken, and what prefixes denote.
-use Rattle.std.proofs.Common.{◌≡◌, ℕ, Bool, true, false, Some, List, [], ◌∷◌, refl, ap}
+use Rattle.std.proofs.Common.{◌≡◌, ℕ, Bool, true, false, Some, List, [], ◌∷◌, refl, ◌∙◌, ap}
 use Rattle.std.specs.Prelude.{◌&&◌, not, ◌++◌, ◌^◌, ◌-◌}
 use Rattle.cyc_tree.specs.Operands.{AreSome}
 use Rattle.cyc_tree.specs.Tree as tree
-use Rattle.cyc_tree.specs.Tree.{Expression, Expressions, NoExpressions, MoreExpressions, Suffixes}
-use Rattle.cyc_tree.specs.Tree.{Made}
+use Rattle.cyc_tree.specs.Tree.{Expression, Expressions, NoExpressions, MoreExpressions, Suffixes, Made}
 use Rattle.cyc_tree.specs.declared.expression.Operator.TheVariants.{Subtract, BitXor}
 use Rattle.cyc_tree.specs.declared.expression.Prefix.{Prefix}
 use Rattle.cyc_tree.specs.declared.expression.Prefix.TheVariants as prefix
 use Rattle.source_meaning.specs.Memory.{Region, IntegerType, AsInt, AsUnsigned, AsChar}
 use Rattle.source_meaning.specs.Steps.{Scope}
-use Rattle.source_meaning.specs.Places.{Sense, contents}
+use Rattle.source_meaning.specs.Places.{Sense}
 use Rattle.source_meaning.specs.Calls.{truth, inverted}
 use Rattle.source_meaning.specs.Calls as calls
+use Rattle.source_meaning.specs.Expressions.{is_unique_region}
 use Rattle.source_typing.specs.Verdicts.{Verdict, Of, after, if_fits}
 use Rattle.source_typing.specs.Making.{with_counter}
 use Rattle.source_typing.specs.Operators as rules
 use Rattle.source_typing.specs.Operators.{applied_to}
 use Rattle.source_typing.specs.Places as places
-use Rattle.source_typing.specs.Scope.{Env, Enclosing, Value, value, meant}
+use Rattle.source_typing.specs.Scope.{Env, Enclosing, Value, Seat, Nowhere, In, InBlock, value, meant}
 use Rattle.source_typing.specs.Tables.{OfFunction, Signature, find}
-use Rattle.source_typing.specs.Taken.{taken, if_taken, takes_prefix, takes_handle}
-use Rattle.source_typing.specs.Types.{Int, is_integer, is_testable, integer_type}
+use Rattle.source_typing.specs.Taken.{taken, if_taken, takes_prefix}
+use Rattle.source_typing.specs.Types.{StaticType, Int, is_integer, is_testable, is_unique, integer_type}
 use Rattle.source_typing.specs.Flow.{use_of, use_all}
-use Rattle.source_typing.specs.Moves.{Use, prefixed_use, is_moved, is_unique_value, in_block}
+use Rattle.source_typing.specs.Moves.{Use, nothing, prefixed_use, is_moved, is_unique_value, in_block}
 use Rattle.source_typing.specs.States.{States, Passed, passed}
 use Rattle.type_proof.specs.Flat.{Tables}
 use Rattle.type_proof.specs.Judged.{safe_forms}
-use Rattle.type_proof.proofs.invariant.Layouts.{Structs, agrees}
+use Rattle.type_proof.proofs.invariant.Layouts.{Structs}
 use Rattle.type_proof.proofs.invariant.Names.{NameOf}
 use Rattle.type_proof.proofs.invariant.Scenes.{Binds}
 use Rattle.type_proof.proofs.expressions.Operands.{tells_not}
@@ -37,8 +37,9 @@ use Rattle.type_proof.proofs.expressions.Fixed.{within}
 use Rattle.type_proof.proofs.Entries.{MeansPlain, Invokes}
 use Rattle.type_proof.proofs.expressions.Counters.{counted_scope, counter_binds, counter_means, counter_functions}
 use Rattle.type_proof.proofs.expressions.WordRules.{Valued, fitted}
-use Rattle.type_proof.proofs.expressions.Forms.{Denotes}
-use Rattle.type_proof.proofs.expressions.Applied.{denotes_contents, denotes_address, denotes_signed, denotes_tested, denotes_tells}
+use Rattle.type_proof.proofs.expressions.Forms.{Denotes, uncopied_type, whole_is}
+use Rattle.type_proof.proofs.expressions.Contents.{denotes_contents, denotes_address}
+use Rattle.type_proof.proofs.expressions.Applied.{denotes_signed, denotes_tested, denotes_tells}
 
 -- ---- which forms there are
 
@@ -48,10 +49,32 @@ new_taken true at m new p = (refl, cc)
 new_taken false at m new p = absurd cc
 
 pub new_in_taken : (c b : Bool) (at : ℕ) (y x : Expression) (m new : Made)
-    → if_taken (takes_handle safe_forms c && b) at (Expression.NewIn at y m) ≡ Expression.NewIn at x new → (c ≡ false) × (b ≡ true) × (y ≡ x) × (m ≡ new)
-new_in_taken true b at y x m new p = absurd cc
-new_in_taken false true at y x m new p = (refl, refl, cc, cc)
-new_in_taken false false at y x m new p = absurd cc
+    → if_taken (c && b) at (Expression.NewIn at y m) ≡ Expression.NewIn at x new → (b ≡ true) × (y ≡ x) × (m ≡ new)
+new_in_taken true true at y x m new p = (refl, cc, cc)
+new_in_taken true false at y x m new p = absurd cc
+new_in_taken false b at y x m new p = absurd cc
+
+-- the unique region is looked at without a word
+pub unique_used : (g : Env) (e : Expression) → is_unique_region e ≡ true → (s : States) → (use_of g e).look s ≡ nothing s
+unique_used g (Expression.UniqueRegion at) h s = refl
+unique_used g (Expression.Grouped at e) h s = unique_used g e h s
+unique_used g (Expression.Number at k suffix) h s = absurd cc
+unique_used g (Expression.Character at byte) h s = absurd cc
+unique_used g (Expression.Text at bytes) h s = absurd cc
+unique_used g (Expression.Null at) h s = absurd cc
+unique_used g (Expression.HeapRegion at) h s = absurd cc
+unique_used g (Expression.Variable x) h s = absurd cc
+unique_used g (Expression.Call x es) h s = absurd cc
+unique_used g (Expression.MakeUnion tag f e) h s = absurd cc
+unique_used g (Expression.NumElts at e) h s = absurd cc
+unique_used g (Expression.Suffixed e es) h s = absurd cc
+unique_used g (Expression.Prefixed at o e) h s = absurd cc
+unique_used g (Expression.New at new) h s = absurd cc
+unique_used g (Expression.NewIn at x new) h s = absurd cc
+unique_used g (Expression.Chain e es) h s = absurd cc
+unique_used g (Expression.AllOf e es) h s = absurd cc
+unique_used g (Expression.AnyOf e es) h s = absurd cc
+unique_used g (Expression.Assign to from) h s = absurd cc
 
 -- a prefix that is taken, and its operand
 pub prefix_taken : (at : ℕ) (o : Prefix) (e : Expression)
@@ -104,37 +127,46 @@ setting_counted n d g scope f x k s = record {
   strict = s.strict;
 }
 
-module _ (n : ℕ) (d : Tables) (g : Env) (scope : Scope) (f : NameOf → Region) (b : ℕ) (setting : Setting n d g scope f) where
+module _ (n : ℕ) (d : Tables) (g : Env) (scope : Scope) (f : NameOf → Region) (b : ℕ) (low : ℕ) (setting : Setting n d g scope f) where
   -- operands that are tested, from the second on
   pub record Tested (i : Enclosing) (a v : Value) (es : Expressions) : Type 0 where
-    pub others : AllTell n d g scope f b i es
+    pub others : AllTell n d g scope f b low i es
     pub valued : Valued a Int → Valued v Int
     pub some : AreSome es → (is_testable a.type ≡ true) × Valued v Int
 
   -- a prefix
   pub prefixed_sound : (i : Enclosing) (at : ℕ) (p : Prefix) (e : Sense) (a v : Value) (u : Use) (y : Verdict Value) → takes_prefix safe_forms p ≡ true
-      → Denotes n d g scope f b a u e
-      → rules.prefixed (within i g) at p a ≡ Of v → Denotes n d g scope f b v (prefixed_use (within i g) at p y u) (calls.prefixed scope.world p e)
-  prefixed_sound i at prefix.Negate e a v u y k h j = denotes_signed n d g scope f b i setting.strict Subtract at 0 a v u e by h j
+      → y ≡ Of a → Denotes n d g scope f b low a u e
+      → rules.prefixed (within i g) at p a ≡ Of v → Denotes n d g scope f b low v (prefixed_use (within i g) at p y u) (calls.prefixed scope.world p e)
+  prefixed_sound i at prefix.Negate e a v u y k same h j = denotes_signed n d g scope f b low i setting.strict Subtract at 0 a v u e by h j
     where
       by : (s : IntegerType) → applied_to (within i g) Subtract at Int (integer_type s)
           ≡ after (if_fits (is_integer (integer_type s)) at (rules.promoted (integer_type s))) (value at)
       by AsInt = refl
       by AsUnsigned = refl
       by AsChar = refl
-  prefixed_sound i at prefix.Complement e a v u y k h j = denotes_signed n d g scope f b i setting.strict BitXor at (2 ^ 32 - 1) a v u e by h j
+  prefixed_sound i at prefix.Complement e a v u y k same h j = denotes_signed n d g scope f b low i setting.strict BitXor at (2 ^ 32 - 1) a v u e by h j
     where
       by : (s : IntegerType) → applied_to (within i g) BitXor at Int (integer_type s)
           ≡ after (if_fits (is_integer (integer_type s)) at (rules.promoted (integer_type s))) (value at)
       by AsInt = refl
       by AsUnsigned = refl
       by AsChar = refl
-  prefixed_sound i at prefix.Not e a v u y k h j =
+  prefixed_sound i at prefix.Not e a v u y k same h j =
       let r : (is_testable a.type ≡ true) × Valued v Int = fitted (is_testable a.type) at at Int v j in
-      denotes_tested n d g scope f b v u.look (inverted (truth e)) r.1
-      (λ s z. tells_not n d g scope f b s (u.look s).states (truth e) (denotes_tells n d g scope f b a u e h r.0 s z))
-  prefixed_sound i at prefix.Dereference e a v u y k h j =
-      denotes_contents n d g scope f b i setting.strict (agrees d scope.world g.tables setting.structs) setting.structs.in_order at at
+      denotes_tested n d g scope f b low v u.look (inverted (truth e)) r.1
+      (λ s z. tells_not n d g scope f b low s (u.look s).states (truth e) (denotes_tells n d g scope f b low a u e h r.0 s z))
+  prefixed_sound i at prefix.Dereference e a v u y k same h j =
+      denotes_contents n d g scope f b low i setting.strict setting.structs at at
       (is_moved (within i g) (after y (places.contents (within i g) at)))
-      (is_unique_value y && not u.whole) a v u e h j
-  prefixed_sound i at prefix.AddressOf e a v u y k h j = denotes_address n d g scope f b at at (in_block y) a v u e h j
+      (is_unique_value y && not u.whole) a v u e
+      (uncopied_type (within i g) (after y (places.contents (within i g) at)) v
+      (ap (λ (q : Verdict Value). after q (places.contents (within i g) at)) same ∙ j))
+      (λ q c t z. whole_is (is_unique_value y) u.whole (ap is_unique_value same ∙ ap is_unique z) q) h j
+  prefixed_sound i at prefix.AddressOf e a v u y k same h j = denotes_address n d g scope f b low at at (in_block y) a v u e
+      (λ z. ap in_block same ∙ block_is a.at a.type a.seat z) h j
+    where
+      block_is : (place : ℕ) (t : StaticType) (s : Seat) → s ≡ InBlock → in_block (Of (record { at = place; type = t; seat = s })) ≡ true
+      block_is place t Nowhere z = absurd cc
+      block_is place t (In r) z = absurd cc
+      block_is place t InBlock z = refl

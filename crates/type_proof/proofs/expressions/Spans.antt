@@ -54,17 +54,17 @@ moved_shape Add s t e = refl
 moved_shape Subtract s t e = refl
 moved_shape _ s t e = absurd cc
 
-module _ (n : ℕ) (d : Tables) (g : Env) (scope : Scope) (f : NameOf → Region) (b : ℕ) where
+module _ (n : ℕ) (d : Tables) (g : Env) (scope : Scope) (f : NameOf → Region) (b : ℕ) (low : ℕ) where
   -- `p + e` and `p - e`
   pub gives_moved : (s0 s1 s2 : States) (o : Operator) (r : NameOf) (t u : StaticType) (a c : Act (List Scalar)) → is_move o ≡ true → IsObjectType t
       → IsInteger u
-      → Shows n d g scope f b s0 s1 (Fat r t) a → Shows n d g scope f b s1 s2 u c
-      → Gives n d g scope f b s0 s2 (Fat r t) (a >>= one >>= λ x. c >>= one >>= λ y. memory >>= λ m. need (operated m o x y) >>= λ r. give (r ∷ []))
+      → Shows n d g scope f b low s0 s1 (Fat r t) a → Shows n d g scope f b low s1 s2 u c
+      → Gives n d g scope f b low s0 s2 (Fat r t) (a >>= one >>= λ x. c >>= one >>= λ y. memory >>= λ m. need (operated m o x y) >>= λ r. give (r ∷ []))
   gives_moved s0 s1 s2 o r t u a c e it iu ha hc = λ k w m i x.
-      runs_value n d g scope f b s0 s1 (Fat r t) a (λ p. c >>= one >>= λ y. memory >>= λ m. need (operated m o p y) >>= λ r. give (r ∷ [])) k w m
+      runs_value n d g scope f b low s0 s1 (Fat r t) a (λ p. c >>= one >>= λ y. memory >>= λ m. need (operated m o p y) >>= λ r. give (r ∷ [])) k w m
       (post k w m) it ha i x
       (λ by v w1 m1 hv i1 g1 x1.
-      runs_word n d g scope f b s1 s2 u c (λ y. memory >>= λ m. need (operated m o v y) >>= λ r. give (r ∷ [])) k w1 m1 (post k w m) iu hc i1 x1
+      runs_word n d g scope f b low s1 s2 u c (λ y. memory >>= λ m. need (operated m o v y) >>= λ r. give (r ∷ [])) k w1 m1 (post k w m) iu hc i1 x1
       (λ s q w2 m2 e2 i2 g2 x2.
       let kept : HasType d w2 by v (Fat (f r) (renamed f t)) = copied_kept d w1 w2 by by v (Fat (f r) (renamed f t)) (grows_grown g2) refl hv in
       let z = moved_typed d w2 m2 by (flying k 0 0) o v s q (f r) (renamed f t) e kept in
@@ -81,10 +81,10 @@ module _ (n : ℕ) (d : Tables) (g : Env) (scope : Scope) (f : NameOf → Region
       post k w m = λ vs. After d k b w m (λ w' m'. HaveTypes d w' (flying k 0) vs (cells_type d f (Fat r t)) × Standing d g scope f s2 w' m')
 
   -- `numelts(e)`
-  pub gives_counted : (s s2 : States) (r : NameOf) (t : StaticType) (act : Act (List Scalar)) → IsObjectType t → Shows n d g scope f b s s2 (Fat r t) act
-      → Gives n d g scope f b s s2 Unsigned (act >>= one >>= elements_left >>= λ n. give (n ∷ []))
+  pub gives_counted : (s s2 : States) (r : NameOf) (t : StaticType) (act : Act (List Scalar)) → IsObjectType t → Shows n d g scope f b low s s2 (Fat r t) act
+      → Gives n d g scope f b low s s2 Unsigned (act >>= one >>= elements_left >>= λ n. give (n ∷ []))
   gives_counted s s2 r t act it shows = λ k w m i x. record {
-    by = λ next q. (runs_value n d g scope f b s s2 (Fat r t) act (λ p. elements_left p >>= λ n. give (n ∷ [])) k w m (post k w m) it shows i x
+    by = λ next q. (runs_value n d g scope f b low s s2 (Fat r t) act (λ p. elements_left p >>= λ n. give (n ∷ [])) k w m (post k w m) it shows i x
         (λ by v w1 m1 hv i1 g1 x1. counted k w m by v w1 m1 hv i1 g1 x1)).by next q;
   }
     where
@@ -92,7 +92,7 @@ module _ (n : ℕ) (d : Tables) (g : Env) (scope : Scope) (f : NameOf → Region
       post k w m = λ vs. After d k b w m (λ w' m'. HaveTypes d w' (flying k 0) vs (cells_type d f Unsigned) × Standing d g scope f s2 w' m')
 
       counted : (k : ℕ) (w : Ghost) (m : Memory) (by : Owner) (v : Scalar) (w1 : Ghost) (m1 : Memory) → HasType d w1 by v (renamed f (Fat r t)) → Inv d w1 m1
-          → Grows k b w m w1 m1 → Scene d g scope f b s2 k w1 m1 → Runs n (elements_left v >>= λ n. give (n ∷ [])) m1 (post k w m)
+          → Grows k b w m w1 m1 → Scene d g scope f b low s2 k w1 m1 → Runs n (elements_left v >>= λ n. give (n ∷ [])) m1 (post k w m)
       counted k w m by v w1 m1 (inl h) i1 g1 x1 = subst (λ (y : Scalar). Runs n (elements_left y >>= λ n. give (n ∷ [])) m1 (post k w m)) (sym h) (record {
         by = λ next q. q (Integer AsUnsigned 0 ∷ []) m1 (record
             { ghost = w1; inv = i1; grows = g1; holds = ((record { word = 0; is = refl }, tt), x1.stands) });
@@ -111,7 +111,7 @@ module _ (n : ℕ) (d : Tables) (g : Env) (scope : Scope) (f : NameOf → Region
   -- NULL raises, an index that isn't below the count raises, and else the element is there, in a region that is live
   finds_spanned : (s2 : States) (r : NameOf) (t : StaticType) (cells k : ℕ) (w : Ghost) (m : Memory) (by : Owner) (v : Scalar) (w1 : Ghost) (m1 : Memory)
       → cells ≡ length (cells_type d f t) → g.regions.live r ≡ true → HasType d w1 by v (renamed f (Fat r t)) → Inv d w1 m1 → Grows k b w m w1 m1
-      → Scene d g scope f b s2 k w1 m1 → Runs n (accessed cells v) m1
+      → Scene d g scope f b low s2 k w1 m1 → Runs n (accessed cells v) m1
       (λ at. After d k b w m (λ w' m'. PlaceOk d f t r at w' m' × Standing d g scope f s2 w' m'))
   finds_spanned s2 r t cells k w m by v w1 m1 count live (inl h) i1 g1 x1 =
       subst (λ (y : Scalar). Runs n (accessed cells y) m1 (λ at. After d k b w m (λ w' m'. PlaceOk d f t r at w' m' × Standing d g scope f s2 w' m'))) (sym h)
@@ -142,9 +142,9 @@ module _ (n : ℕ) (d : Tables) (g : Env) (scope : Scope) (f : NameOf → Region
 
   -- `*e`
   pub finds_element : (s s2 : States) (r : NameOf) (t : StaticType) (cells : ℕ) (act : Act (List Scalar)) → IsObjectType t → cells ≡ length (cells_type d f t)
-      → g.regions.live r ≡ true → Shows n d g scope f b s s2 (Fat r t) act → Finds n d g scope f b s s2 t r (act >>= one >>= λ p. accessed cells p)
+      → g.regions.live r ≡ true → Shows n d g scope f b low s s2 (Fat r t) act → Finds n d g scope f b low s s2 t r (act >>= one >>= λ p. accessed cells p)
   finds_element s s2 r t cells act it count live shows = λ k w m i x. record {
-    by = λ next q. (runs_value n d g scope f b s s2 (Fat r t) act (λ p. accessed cells p) k w m
+    by = λ next q. (runs_value n d g scope f b low s s2 (Fat r t) act (λ p. accessed cells p) k w m
         (λ at. After d k b w m (λ w' m'. PlaceOk d f t r at w' m' × Standing d g scope f s2 w' m')) it shows i x
         (λ by v w1 m1 hv i1 g1 x1.
         finds_spanned s2 r t cells k w m by v w1 m1 count live hv i1 g1 x1)).by next q;
@@ -153,7 +153,7 @@ module _ (n : ℕ) (d : Tables) (g : Env) (scope : Scope) (f : NameOf → Region
   -- and so where the index is another one
   finds_further : (s2 : States) (r : NameOf) (t : StaticType) (cells j k : ℕ) (w : Ghost) (m : Memory) (by : Owner) (v : Scalar) (w1 : Ghost) (m1 : Memory)
       → cells ≡ length (cells_type d f t) → g.regions.live r ≡ true → HasType d w1 by v (renamed f (Fat r t)) → Inv d w1 m1 → Grows k b w m w1 m1
-      → Scene d g scope f b s2 k w1 m1 → Runs n (indexed_span j v >>= λ p. accessed cells p) m1
+      → Scene d g scope f b low s2 k w1 m1 → Runs n (indexed_span j v >>= λ p. accessed cells p) m1
       (λ at. After d k b w m (λ w' m'. PlaceOk d f t r at w' m' × Standing d g scope f s2 w' m'))
   finds_further s2 r t cells j k w m by v w1 m1 count live (inl h) i1 g1 x1 =
       subst (λ (y : Scalar). Runs n (indexed_span j y >>= λ p. accessed cells p) m1
@@ -169,13 +169,13 @@ module _ (n : ℕ) (d : Tables) (g : Env) (scope : Scope) (f : NameOf → Region
 
   -- `a[b]`: the index goes first
   pub finds_indexed : (s0 s1 s2 : States) (r : NameOf) (t u : StaticType) (cells : ℕ) (index act : Act (List Scalar)) → IsObjectType t → IsInteger u
-      → cells ≡ length (cells_type d f t) → g.regions.live r ≡ true → Shows n d g scope f b s0 s1 u index → Shows n d g scope f b s1 s2 (Fat r t) act
-      → Finds n d g scope f b s0 s2 t r (index >>= one >>= integer >>= λ k. act >>= one >>= indexed_span k >>= λ p. accessed cells p)
+      → cells ≡ length (cells_type d f t) → g.regions.live r ≡ true → Shows n d g scope f b low s0 s1 u index → Shows n d g scope f b low s1 s2 (Fat r t) act
+      → Finds n d g scope f b low s0 s2 t r (index >>= one >>= integer >>= λ k. act >>= one >>= indexed_span k >>= λ p. accessed cells p)
   finds_indexed s0 s1 s2 r t u cells index act it iu count live hi ha = λ k w m i x. record {
-    by = λ next q. (runs_word n d g scope f b s0 s1 u index (λ y. integer y >>= λ j. act >>= one >>= indexed_span j >>= λ p. accessed cells p) k w m
+    by = λ next q. (runs_word n d g scope f b low s0 s1 u index (λ y. integer y >>= λ j. act >>= one >>= indexed_span j >>= λ p. accessed cells p) k w m
         (λ at. After d k b w m (λ w' m'. PlaceOk d f t r at w' m' × Standing d g scope f s2 w' m')) iu hi i x
         (λ s j w1 m1 e1 i1 g1 x1. record {
-          by = λ next1 q1. (runs_value n d g scope f b s1 s2 (Fat r t) act (λ p. indexed_span j p >>= λ p. accessed cells p) k w1 m1
+          by = λ next1 q1. (runs_value n d g scope f b low s1 s2 (Fat r t) act (λ p. indexed_span j p >>= λ p. accessed cells p) k w1 m1
               (λ at. After d k b w m (λ w' m'. PlaceOk d f t r at w' m' × Standing d g scope f s2 w' m')) it ha i1 x1
               (λ by v w2 m2 hv i2 g2 x2.
               let g3 : Grows k b w m w2 m2 = grows_trans g1 g2 in

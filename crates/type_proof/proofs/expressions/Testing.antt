@@ -38,11 +38,11 @@ pub tests_value : (g : Env) (p : States → Passed) (es : Expressions) → use_t
 tests_value g p NoExpressions = refl
 tests_value g p (MoreExpressions e es) = tests_value g (λ s. maybe (p s) (use_of g e).look) es
 
-module _ (n : ℕ) (d : Tables) (g : Env) (scope : Scope) (f : NameOf → Region) (b : ℕ) (i : Enclosing) where
+module _ (n : ℕ) (d : Tables) (g : Env) (scope : Scope) (f : NameOf → Region) (b : ℕ) (low : ℕ) (i : Enclosing) where
   -- it may be evaluated or not
-  maybe_tells : (c : Bool) (p q : States → Passed) (x : Effects) (act more : Act Bool) → TellsBy n d g scope f b p act → TellsBy n d g scope f b q more
+  maybe_tells : (c : Bool) (p q : States → Passed) (x : Effects) (act more : Act Bool) → TellsBy n d g scope f b low p act → TellsBy n d g scope f b low q more
       → ((s : States) → (q s).states ≡ states_after (length g.locals) x s)
-      → TellsBy n d g scope f b (λ s. maybe (p s) q) (act >>= λ t. further c t more)
+      → TellsBy n d g scope f b low (λ s. maybe (p s) q) (act >>= λ t. further c t more)
   maybe_tells c p q x act more ha hm told s e = by c
     where
       s1 : States
@@ -51,10 +51,10 @@ module _ (n : ℕ) (d : Tables) (g : Env) (scope : Scope) (f : NameOf → Region
       s2 : States
       s2 = (maybe (p s) q).states
 
-      first : Tells n d g scope f b s s1 act
+      first : Tells n d g scope f b low s s1 act
       first = ha s (none_first (p s).faults (q (p s).states).faults e)
 
-      done : Tells n d g scope f b s1 s2 more
+      done : Tells n d g scope f b low s1 s2 more
       done = λ k w m j y. record {
         by = λ next r. (hm s1 (none_second (p s).faults (q (p s).states).faults e) k w m j y).by next (λ t m2 z. r t m2 (record {
           ghost = z.ghost;
@@ -65,7 +65,7 @@ module _ (n : ℕ) (d : Tables) (g : Env) (scope : Scope) (f : NameOf → Region
         }));
       }
 
-      skipped : (t : Bool) → Tells n d g scope f b s1 s2 (give t)
+      skipped : (t : Bool) → Tells n d g scope f b low s1 s2 (give t)
       skipped t = λ k w m j y. record {
         by = λ next r. r t m (record {
           ghost = w;
@@ -78,17 +78,17 @@ module _ (n : ℕ) (d : Tables) (g : Env) (scope : Scope) (f : NameOf → Region
         });
       }
 
-      by : (c : Bool) → Tells n d g scope f b s s2 (act >>= λ t. further c t more)
-      by true = tells_choice n d g scope f b s s1 s2 act more (give false) first done (skipped false)
-      by false = tells_choice n d g scope f b s s1 s2 act (give true) more first (skipped true) done
+      by : (c : Bool) → Tells n d g scope f b low s s2 (act >>= λ t. further c t more)
+      by true = tells_choice n d g scope f b low s s1 s2 act more (give false) first done (skipped false)
+      by false = tells_choice n d g scope f b low s s1 s2 act (give true) more first (skipped true) done
 
   -- each operand tells, from any states from which it has no fault
   abbrev pub AllTell : Expressions → Type 0
   AllTell NoExpressions = Unit {0}
-  AllTell (MoreExpressions e es) = TellsBy n d g scope f b (use_of (within i g) e).look (truth (sense e scope)) × AllTell es
+  AllTell (MoreExpressions e es) = TellsBy n d g scope f b low (use_of (within i g) e).look (truth (sense e scope)) × AllTell es
 
-  pub all_tell : (c : Bool) (es : Expressions) (u : Use) (act : Act Bool) → TellsBy n d g scope f b u.look act → AllTell es
-      → TellsBy n d g scope f b (use_tests (within i g) u es).look (act >>= λ t. further c t (tests c (senses es scope)))
+  pub all_tell : (c : Bool) (es : Expressions) (u : Use) (act : Act Bool) → TellsBy n d g scope f b low u.look act → AllTell es
+      → TellsBy n d g scope f b low (use_tests (within i g) u es).look (act >>= λ t. further c t (tests c (senses es scope)))
   all_tell c NoExpressions u act h hs s e k w m j x = record {
     by = λ next r. (h s e k w m j x).by (λ t. further c t (tests c []) next) (λ t m1 y. by c t next m1 (r t m1 y));
   }

@@ -1,5 +1,5 @@
 -- What the making of a tagged union denotes: it holds one member's value.
-use Rattle.std.proofs.Common.{◌≡◌, ℕ, Bool, true, false, inl, inr, Option, Some, None, List, [], ◌∷◌, refl, sym, ◌∙◌, ap, subst}
+use Rattle.std.proofs.Common.{◌≡◌, ℕ, Bool, true, false, inl, inr, Option, Some, None, List, [], ◌∷◌, refl, sym, ◌∙◌, ap, subst, ◌≤◌}
 use Rattle.std.specs.Prelude.{map, slice_get}
 use Rattle.std.proofs.lemmas.Bool.{false≢true}
 use Rattle.cyc_tree.specs.Tree as tree
@@ -88,18 +88,18 @@ union_there : (world : _) (x : List ℕ) (t : Tag) → t.is_union ≡ true → P
 union_there world x t u (inl k) = absurd (false≢true (sym k.no_union ∙ u))
 union_there world x t u (inr k) = k
 
-module _ (n : ℕ) (d : Tables) (g : Env) (scope : Scope) (f : NameOf → Region) (b : ℕ) (structs : Structs d scope.world g.tables) where
+module _ (n : ℕ) (d : Tables) (g : Env) (scope : Scope) (f : NameOf → Region) (b : ℕ) (low : ℕ) (structs : Structs d scope.world g.tables) where
   -- ---- its value
 
   -- the value of a member, with its position
   gives_tagged : (s s2 : States) (x name : List ℕ) (rs : List NameOf) (part : Part) (act : Act (List Scalar))
-      → (p : Placed (parts_of scope.world.unions x) (member_types d.unions x) name part) → Gives n d g scope f b s s2 (renamed (argument rs) p.type) act
-      → Gives n d g scope f b s s2 (Union x rs)
+      → (p : Placed (parts_of scope.world.unions x) (member_types d.unions x) name part) → Gives n d g scope f b low s s2 (renamed (argument rs) p.type) act
+      → Gives n d g scope f b low s s2 (Union x rs)
       (act >>= one >>= λ v. need (part_position (parts_of scope.world.unions x) name) >>= λ k. give (Tagged k v ∷ []))
   gives_tagged s s2 x name rs part act p gives = λ i w m inv q. record {
     by = λ next go. (gives i w m inv q).by (λ vs. (one vs >>= λ v. need (part_position (parts_of scope.world.unions x) name) >>= λ j. give (Tagged j v ∷ []))
         next) (λ vs m1 y.
-        let q1 : Scene d g scope f b s2 i y.ghost m1 = scene_later d g scope f b s s2 i w m y.ghost m1 y.inv y.grows y.holds.1 q in
+        let q1 : Scene d g scope f b low s2 i y.ghost m1 = scene_later d g scope f b low s s2 i w m y.ghost m1 y.inv y.grows y.holds.1 q in
         let cell : cells_type d f (renamed (argument rs) p.type) ≡ renamed f (renamed (argument rs) p.type) ∷ [] =
         held_cell d f (renamed (argument rs) p.type) (held_renamed (argument rs) p.type (object_renamed (argument rs)) held) in
         let v : OneValue d y.ghost (flying i 0 0) vs (renamed f (renamed (argument rs) p.type)) =
@@ -139,14 +139,14 @@ module _ (n : ℕ) (d : Tables) (g : Env) (scope : Scope) (f : NameOf → Region
       held : IsUnionMember p.type
       held = held_at (member_types d.unions x) p.position p.type (unions_typed d.unions scope.world.unions x structs.unions) p.here
 
-  pub denotes_union : (i : Enclosing) → EnclosingBelow g.regions.count i → (tag m : tree.Name) (p : Tag × Part) (a v : Value) (u : Use) (e : Sense)
+  pub denotes_union : b ≤ low → (i : Enclosing) → EnclosingBelow g.regions.count i → (tag m : tree.Name) (p : Tag × Part) (a v : Value) (u : Use) (e : Sense)
       → MeansPlain scope.world g
-      → union_tag tag m (meant (within i g) tag.text) ≡ Of p → Denotes n d g scope f b a u e → rules.union_made (within i g) tag.at p a ≡ Of v
-      → Denotes n d g scope f b v (value_use u.value) (union_made scope.world tag.text m.text e)
-  denotes_union i inside tag m p a v u e plain is h j =
+      → union_tag tag m (meant (within i g) tag.text) ≡ Of p → Denotes n d g scope f b low a u e → rules.union_made (within i g) tag.at p a ≡ Of v
+      → Denotes n d g scope f b low v (value_use u.value) (union_made scope.world tag.text m.text e)
+  denotes_union loudly i inside tag m p a v u e plain is h j =
       by (union_is tag m (meant (within i g) tag.text) p is)
     where
-      by : OfUnion (meant (within i g) tag.text) m.text p → Denotes n d g scope f b v (value_use u.value) (union_made scope.world tag.text m.text e)
+      by : OfUnion (meant (within i g) tag.text) m.text p → Denotes n d g scope f b low v (value_use u.value) (union_made scope.world tag.text m.text e)
       by o =
           let x : List ℕ = tag.text in
           let k : Unioned scope.world x o.tag = union_there scope.world x o.tag o.union (plain x (OfTag o.tag) o.is) in
@@ -169,12 +169,13 @@ module _ (n : ℕ) (d : Tables) (g : Env) (scope : Scope) (f : NameOf → Region
           fixed_within g.regions.count tag.at o.tag.regions i (q.type ∷ []) (a ∷ []) z.0 inside (held_object q.type held, tt) (h.below, tt)
           (subst (λ (t : Option StaticType). fixed_from i tag.at (all_fits (t ∷ []) (a ∷ [])) 0 o.tag.regions ≡ Of z.0) q.typed c.found) in
           let valued : Valued v (Union x z.0) = subst (λ (y : List ℕ). Valued v (Union y z.0)) k.named (value_of tag.at (Union o.tag.text z.0) v z.2) in
-          let pass : AllPass n d g scope f b (shape_of q.type ∷ []) (renamed (argument z.0) q.type ∷ []) (u ∷ []) (e ∷ []) =
-          all_pass n d g scope f b (agrees d scope.world g.tables structs) z.0 (q.type ∷ []) (a ∷ []) (u ∷ []) (e ∷ []) (held_object q.type held, tt) refl
+          let pass : AllPass n d g scope f b low (shape_of q.type ∷ []) (renamed (argument z.0) q.type ∷ []) (u ∷ []) (e ∷ []) =
+          all_pass n d g scope f b low loudly (agrees d scope.world g.tables structs) z.0 (q.type ∷ []) (a ∷ []) (u ∷ []) (e ∷ [])
+          (held_object q.type held, tt) refl
           (subst (λ (t : Option StaticType). AllConvert (within i g) z.0 (t ∷ []) (a ∷ [])) q.typed c.convert) (h, tt) in
-          denotes_value n d g scope f b v u.value (Union x z.0) (UnionShape x) _ tt below valued refl
+          denotes_value n d g scope f b low v u.value (Union x z.0) (UnionShape x) _ tt below valued refl
           (λ s y. gives_tagged s (u.value s).states x m.text z.0 o.part
           (e.value >>= converted scope.world (part_shape (parts_of scope.world.unions x) m.text) e.shape) q
-          (subst (λ (t : Shape). Gives n d g scope f b s (u.value s).states (renamed (argument z.0) q.type) (e.value >>= converted scope.world t e.shape))
+          (subst (λ (t : Shape). Gives n d g scope f b low s (u.value s).states (renamed (argument z.0) q.type) (e.value >>= converted scope.world t e.shape))
           (sym q.shape)
           (pass.0 s y)))

@@ -4,7 +4,8 @@ use Rattle.std.proofs.Common.{◌≡◌, ℕ, suc, ◌≤◌, Bool, true, false,
 use Rattle.std.specs.Prelude.{map, length, bytes_eq, if◌then◌else◌}
 use Rattle.cyc_tree.specs.Tree as tree
 use Rattle.source_meaning.specs.Shapes.{Shape}
-use Rattle.source_meaning.specs.Memory.{Region, Frame, Spot, Scalar, Content, Holds, Cell, Live, Memory, is_moved, any_moved}
+use Rattle.source_meaning.specs.Memory as memory
+use Rattle.source_meaning.specs.Memory.{beyond, Region, Frame, Spot, Scalar, Holds, Live, Memory, is_moved, any_moved}
 use Rattle.source_meaning.specs.Steps.{Binding, Entity, Variable, Scope, Act, ◌>>=◌, ◌>>◌, give}
 use Rattle.source_meaning.specs.Conversions.{cells_of}
 use Rattle.source_meaning.specs.Values.{read_cells, take_cells, put_contents, write_cells}
@@ -16,7 +17,7 @@ use Rattle.source_typing.specs.Tables.{Stored, is_copyable}
 use Rattle.source_typing.specs.Types.{Int, Unsigned, Char, Void, Null, Thin, Fat, Unique, Handle, Key, Struct, Union, StaticType, renamed, shape_of}
 use Rattle.type_proof.specs.Flat.{Tables}
 use Rattle.type_proof.proofs.invariant.Invariant.{RunType, Flying, InCell, Private, Ghost, HasType, HaveTypes, CellOk, Inv, Grows}
-use Rattle.type_proof.proofs.invariant.Values.{Grown, copied_kept}
+use Rattle.type_proof.proofs.invariant.Values.{values_kept, copied_kept}
 use Rattle.type_proof.proofs.invariant.Growth.{grows_refl}
 use Rattle.type_proof.proofs.invariant.Runs.{Runs}
 use Rattle.type_proof.proofs.invariant.After.{After, flying}
@@ -25,9 +26,9 @@ use Rattle.type_proof.proofs.invariant.Names.{NameOf, NamesOk, names_later}
 use Rattle.type_proof.proofs.invariant.Sound.{Looked, shape_renamed, cells_type, none_first, none_second}
 use Rattle.type_proof.proofs.invariant.Rights.{Ours, HeldAt, runs_read_held, runs_gone, content_same}
 use Rattle.type_proof.proofs.invariant.LocalCells.{CellsStand, Whole, FreeAt, gone_free, held_free}
-use Rattle.type_proof.proofs.invariant.Standing.{Standing, Beside, LocalStands, Alongside, Rooms, found_stands}
-use Rattle.type_proof.proofs.invariant.Standing.{updated}
+use Rattle.type_proof.proofs.invariant.Standing.{Standing, Beside, LocalStands, Alongside, Rooms, found_stands, updated}
 use Rattle.type_proof.proofs.invariant.Moving.{runs_write_free}
+use Rattle.type_proof.proofs.invariant.Facts.{further, not_further}
 
 -- cells that are copied are read, where their values may go
 pub copied_flies : (d : Tables) (w : Ghost) (m : Memory) (s : Spot) (k c : ℕ) (ts : List RunType) (vs : List Scalar) → Inv d w m → any_moved (map shape_of ts)
@@ -35,7 +36,7 @@ pub copied_flies : (d : Tables) (w : Ghost) (m : Memory) (s : Spot) (k c : ℕ) 
     → HeldAt w m s ts vs → HaveTypes d w (flying k c) vs ts
 copied_flies d w m s k c [] [] i e h = tt
 copied_flies d w m s k c (u ∷ us) (v ∷ vs) i e h = by (is_moved (shape_of u))
-    (λ r. copied_flies d w m (Rattle.source_meaning.specs.Memory.beyond s 1) k (suc c) us vs i r h.2) refl e
+    (λ r. copied_flies d w m (beyond s 1) k (suc c) us vs i r h.2) refl e
   where
     by : (q : Bool) → (any_moved (map shape_of us) ≡ false → HaveTypes d w (flying k (suc c)) vs us) → is_moved (shape_of u) ≡ q
         → (if q then true else any_moved (map shape_of us)) ≡ false → HaveTypes d w (flying k c) (v ∷ vs) (u ∷ us)
@@ -45,7 +46,7 @@ copied_flies d w m s k c (u ∷ us) (v ∷ vs) i e h = by (is_moved (shape_of u)
         let ok : (a : Scalar) → y.content ≡ Holds a → HasType d w (InCell s) a u = y.ok in (
           copied_kept d w w (InCell s) (flying k c 0) v u (record { types = λ a b2 q. q; above = λ a b2 q. q }) p
               (ok v (content_same _ u y.content (Holds v) y.is h.1)),
-          Rattle.type_proof.proofs.invariant.Values.values_kept d w w (flying k (suc c)) (λ j. flying k c (suc j)) vs us
+          values_kept d w w (flying k (suc c)) (λ j. flying k c (suc j)) vs us
               (λ j. record { types = λ a b2 q. q; above = λ a b2 q. q; keyed = λ a q. refl; owner = λ a q. q ∙ ap (Flying k) (omega arith) })
               (others r),
         )
@@ -54,24 +55,24 @@ copied_flies d w m s k c (u ∷ us) [] i e h = absurd h
 
 -- cells of a local that are held, and looked at
 pub looked_held : (d : Tables) (w : Ghost) (m : Memory) (s : Spot) (ts : List RunType) (vs : List Scalar) → Inv d w m → HeldAt w m s ts vs
-    → HaveTypes d w (λ j. InCell (Rattle.source_meaning.specs.Memory.beyond s j)) vs ts
+    → HaveTypes d w (λ j. InCell (beyond s j)) vs ts
 looked_held d w m s [] [] i h = tt
 looked_held d w m s (u ∷ us) (v ∷ vs) i h =
     let y : CellOk d w s (m.cells s) (Private u) = i.cells s (Private u) h.0 in
     let ok : (a : Scalar) → y.content ≡ Holds a → HasType d w (InCell s) a u = y.ok in (
-      subst (λ (p : Spot). HasType d w (InCell p) v u) (sym (Rattle.type_proof.proofs.invariant.Facts.not_further s))
+      subst (λ (p : Spot). HasType d w (InCell p) v u) (sym (not_further s))
           (ok v (content_same _ u y.content (Holds v) y.is h.1)),
-      Rattle.type_proof.proofs.invariant.Values.values_kept d w w
-          (λ j. InCell (Rattle.source_meaning.specs.Memory.beyond (Rattle.source_meaning.specs.Memory.beyond s 1) j))
-          (λ j. InCell (Rattle.source_meaning.specs.Memory.beyond s (suc j))) vs us
+      values_kept d w w
+          (λ j. InCell (beyond (beyond s 1) j))
+          (λ j. InCell (beyond s (suc j))) vs us
           (λ j. record {
             types = λ a b2 q. q;
             above = λ a b2 q. q;
             keyed = λ a q. refl;
             owner = λ a q. q
-                ∙ ap InCell (Rattle.type_proof.proofs.invariant.Facts.further s 1 j (suc j) (omega arith));
+                ∙ ap InCell (further s 1 j (suc j) (omega arith));
           })
-          (looked_held d w m (Rattle.source_meaning.specs.Memory.beyond s 1) us vs i h.2),
+          (looked_held d w m (beyond s 1) us vs i h.2),
     )
 looked_held d w m s [] (v ∷ vs) i h = absurd h
 looked_held d w m s (u ∷ us) [] i h = absurd h
@@ -106,13 +107,13 @@ pub record Own (d : Tables) (g : Env) (scope : Scope) (f : NameOf → Region) (x
   pub lives : g.regions.live region ≡ true
 
 -- the names and variables of a point of a function, whose blocks are the activations from b on
-pub record Setting (d : Tables) (g : Env) (scope : Scope) (f : NameOf → Region) (b : ℕ) : Type 0 where
+pub record Setting (d : Tables) (g : Env) (scope : Scope) (f : NameOf → Region) (b : ℕ) (low : ℕ) : Type 0 where
   pub alongside : Alongside g.locals scope.locals
-  pub rooms : Rooms b scope.locals
+  pub rooms : Rooms low scope.locals
   pub agrees : Agrees scope.world d
-  pub own : (x : List ℕ) (t : StaticType) (at : Spot) → bound_to scope.locals x ≡ Some (Variable (shape_of t) at) → (j : ℕ) → at.region ≡ Frame j → b ≤ j
+  pub own : (x : List ℕ) (t : StaticType) (at : Spot) → bound_to scope.locals x ≡ Some (Variable (shape_of t) at) → (j : ℕ) → at.region ≡ Frame j → low ≤ j
 
-module _ (n : ℕ) (d : Tables) (g : Env) (scope : Scope) (f : NameOf → Region) (b : ℕ) where
+module _ (n : ℕ) (d : Tables) (g : Env) (scope : Scope) (f : NameOf → Region) (b : ℕ) (low : ℕ) where
   -- an act that gives a value of a type, by what the rules say of its use
   abbrev pub GivesBy : (States → Passed) → StaticType → Act (List Scalar) → Type 0
   GivesBy p t act = (k : ℕ) (s : States) (w : Ghost) (m : Memory) → Inv d w m → NamesOk g.regions f k w m → Standing d g scope f s w m → (p s).faults ≡ []
@@ -136,12 +137,12 @@ module _ (n : ℕ) (d : Tables) (g : Env) (scope : Scope) (f : NameOf → Region
         (none_second (p s).faults (q (p s).states).faults e)).by next r);
   }
 
-  module _ (z : Setting d g scope f b) (x : tree.Name) (t : StaticType) (o : Own d g scope f x.text t) where
-    bound_here : bound_to scope.locals x.text ≡ Some (Variable (shape_of t) o.at)
+  module _ (z : Setting d g scope f b low) (x : tree.Name) (t : StaticType) (o : Own d g scope f x.text t) where
+    pub bound_here : bound_to scope.locals x.text ≡ Some (Variable (shape_of t) o.at)
     bound_here = found_bound g.locals scope.locals x.text o.local (Variable (shape_of t) o.at) (bound_to scope.world.globals x.text) z.alongside o.found o.bound
 
-    pub ours : Ours b o.at
-    ours = λ j e l. let q : b ≤ j = z.own x.text t o.at bound_here j e in omega (arith, l, q)
+    pub ours : b ≤ low → Ours b o.at
+    ours is = λ j e l. let q : low ≤ j = z.own x.text t o.at bound_here j e in omega (arith, l, is, q)
 
     cells_are : cells_of scope.world (shape_of t) ≡ map shape_of (cells_type d f t)
     cells_are = ap (cells_of scope.world) (sym (shape_renamed f t)) ∙ z.agrees (renamed f t)
@@ -159,7 +160,7 @@ module _ (n : ℕ) (d : Tables) (g : Env) (scope : Scope) (f : NameOf → Region
     pub now : (s : States) (a : State) (w : Ghost) (m : Memory) (w' : Ghost) (m' : Memory) → Standing d g scope f s w m → Beside o.at w m w' m'
         → CellsStand a w' m' o.at (cells_type d f t) → Standing d g scope f (with_state g.locals x.text a s) w' m'
     now s a w m w' m' st beside c =
-        updated g.tables d f w m w' m' b g.locals scope.locals s x.text o.local (shape_of t) o.at a z.alongside z.rooms o.found bound_here beside
+        updated g.tables d f w m w' m' low g.locals scope.locals s x.text o.local (shape_of t) o.at a z.alongside z.rooms o.found bound_here beside
         (subst (λ v. LocalStands g.tables d f v (Variable (shape_of t) o.at) a w' m') (sym o.what) (λ q. c)) st
 
     -- what may be read is held: it isn't gone, and not lent
@@ -180,14 +181,14 @@ module _ (n : ℕ) (d : Tables) (g : Env) (scope : Scope) (f : NameOf → Region
 
     -- ---- a local that is read as a value
 
-    taken : (k : ℕ) (s : States) (w : Ghost) (m : Memory) → Inv d w m → NamesOk g.regions f k w m → Standing d g scope f s w m
+    taken : b ≤ low → (k : ℕ) (s : States) (w : Ghost) (m : Memory) → Inv d w m → NamesOk g.regions f k w m → Standing d g scope f s w m
         → need_held x.at (state_of g.locals x.text s) ≡ []
         → Runs n (take_cells (map shape_of (cells_type d f t)) o.at) m (λ vs. After d k b w m (λ w' m'. HaveTypes d w' (flying k 0) vs (cells_type d f t)
         × Standing d g scope f (with_state g.locals x.text Gone s) w' m'))
-    taken k s w m i names st e =
+    taken is k s w m i names st e =
         runs_read_held n w m o.at (cells_type d f t) a.0.values
         (λ vs. (if any_moved (map shape_of (cells_type d f t)) then put_contents (length (map shape_of (cells_type d f t))) o.at
-        Rattle.source_meaning.specs.Memory.Gone else give tt) >> give vs)
+        memory.Gone else give tt) >> give vs)
         (post) (alive k w m names) a.0.held (by (any_moved (map shape_of (cells_type d f t))) refl)
       where
         ts : List RunType
@@ -200,8 +201,8 @@ module _ (n : ℕ) (d : Tables) (g : Env) (scope : Scope) (f : NameOf → Region
         post vs = After d k b w m (λ w' m'. HaveTypes d w' (flying k 0) vs ts × Standing d g scope f (with_state g.locals x.text Gone s) w' m')
 
         by : (q : Bool) → any_moved (map shape_of ts) ≡ q
-            → Runs n ((if q then put_contents (length (map shape_of ts)) o.at Rattle.source_meaning.specs.Memory.Gone else give tt) >> give a.0.values) m post
-        by true p = runs_gone d n k b 0 w m o.at ts a.0.values (give a.0.values) post i (alive k w m names) ours a.0.held
+            → Runs n ((if q then put_contents (length (map shape_of ts)) o.at memory.Gone else give tt) >> give a.0.values) m post
+        by true p = runs_gone d n k b 0 w m o.at ts a.0.values (give a.0.values) post i (alive k w m names) (ours is) a.0.held
             (λ w' m' i' g' fly out older away gone. record {
               by = λ next r. r a.0.values m' (record {
                 ghost = w';
@@ -246,13 +247,13 @@ module _ (n : ℕ) (d : Tables) (g : Env) (scope : Scope) (f : NameOf → Region
     means = ap (entity_sense scope.world) o.bound ∙ variable_sense
 
     -- given away: it is moved
-    pub gives_moved : GivesBy (local_use g.locals x).value t (entity_sense scope.world (entity_of scope x.text)).value
-    gives_moved = subst (λ (e : Sense). GivesBy (local_use g.locals x).value t e.value) (sym means)
+    pub gives_moved : b ≤ low → GivesBy (local_use g.locals x).value t (entity_sense scope.world (entity_of scope x.text)).value
+    gives_moved is = subst (λ (e : Sense). GivesBy (local_use g.locals x).value t e.value) (sym means)
         (subst (λ (cs : List Shape). GivesBy (local_use g.locals x).value t (give o.at >>= λ spot. take_cells cs spot)) (sym cells_are)
         (λ k s w m i names st e. let h : Whole w m o.at (cells_type d f t) × ((c : State) → unless_lent (state_of g.locals x.text s) c ≡ c) =
         held_by x.at (state_of g.locals x.text s) w m (here s w m st) e in
         record {
-          by = λ next r. (taken k s w m i names st e).by next (λ vs m' y. r vs m' (record {
+          by = λ next r. (taken is k s w m i names st e).by next (λ vs m' y. r vs m' (record {
             ghost = y.ghost;
             inv = y.inv;
             grows = y.grows;
@@ -277,7 +278,7 @@ module _ (n : ℕ) (d : Tables) (g : Env) (scope : Scope) (f : NameOf → Region
                   grows = grows_refl k b w m;
                   holds = (
                     record {
-                      by = λ j. InCell (Rattle.source_meaning.specs.Memory.beyond o.at j);
+                      by = λ j. InCell (beyond o.at j);
                       holder = λ j. tt;
                       typed =
                           looked_held d w m o.at (cells_type d f t) h.0.values i h.0.held;
@@ -290,17 +291,18 @@ module _ (n : ℕ) (d : Tables) (g : Env) (scope : Scope) (f : NameOf → Region
         }))
 
     -- assigned as a whole, by a value that is on its way: it is held again
-    pub runs_assigned : {B : Type 0} (k : ℕ) (s : States) (w : Ghost) (m : Memory) (vs : List Scalar) (h : Act B) (Q : B → Memory → Type 0) → Inv d w m
+    pub runs_assigned : {B : Type 0} → b ≤ low → (k : ℕ) (s : States) (w : Ghost) (m : Memory) (vs : List Scalar) (h : Act B) (Q : B → Memory → Type 0)
+        → Inv d w m
         → NamesOk g.regions f k w m → Standing d g scope f s w m → ((local_use g.locals x).target s).faults ≡ []
         → HaveTypes d w (flying k 0) vs (cells_type d f t)
         → ((w' : Ghost) (m' : Memory) → Inv d w' m' → Grows k b w m w' m' → Standing d g scope f ((local_use g.locals x).target s).states w' m' → Runs n h m' Q)
         → Runs n ((entity_sense scope.world (entity_of scope x.text)).place >>= λ at. write_cells at vs >> h) m Q
-    runs_assigned k s w m vs h Q i names st e typed go =
+    runs_assigned is k s w m vs h Q i names st e typed go =
         subst (λ (a : Sense). Runs n (a.place >>= λ at. write_cells at vs >> h) m Q) (sym means)
         (let a : FreeAt w m o.at (cells_type d f t) × ((c : State) → unless_lent (state_of g.locals x.text s) c ≡ c) =
         free_by x.at (state_of g.locals x.text s) w m (here s w m st) e in
         record {
-          by = λ next r. (runs_write_free d n k b 0 w m o.at (cells_type d f t) vs h Q i (alive k w m names) ours a.0 typed
+          by = λ next r. (runs_write_free d n k b 0 w m o.at (cells_type d f t) vs h Q i (alive k w m names) (ours is) a.0 typed
               (λ w' m' i' g' older away held. go w' m' i' g'
               (subst (λ (c : State). Standing d g scope f (with_state g.locals x.text c s) w' m') (sym (a.1 Held))
               (now s Held w m w' m' st (record { types = g'.types; cells = λ y u q v. away y q }) (record { values = vs; held = held }))))).by next r;

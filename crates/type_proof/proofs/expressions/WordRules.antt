@@ -8,7 +8,8 @@ use Rattle.source_typing.specs.Verdicts.{Of, after, if_fits}
 use Rattle.source_typing.specs.Operators.{on_integers, applied_to, compared_thin, compared, fat_moved, if_equality, integers_joined, is_equality, is_move}
 use Rattle.source_typing.specs.Places as places
 use Rattle.source_typing.specs.Places.{assigned_type}
-use Rattle.source_typing.specs.Scope.{Env, Value, Nowhere, In, value, is_live}
+use Rattle.source_typing.specs.Regions.{Regions}
+use Rattle.source_typing.specs.Scope.{Env, Value, Seat, Nowhere, In, InBlock, value, is_live}
 use Rattle.source_typing.specs.Types.{
   StaticType,
   Int,
@@ -43,7 +44,7 @@ testable_word Void p e = absurd cc
 testable_word Null p e = absurd cc
 testable_word (Thin n r t) p e = p
 testable_word (Fat r t) p e = p
-testable_word (Unique n t) p e = absurd p
+testable_word (Unique n t) p e = p
 testable_word (Handle r) p e = absurd cc
 testable_word (Key r) p e = absurd p
 testable_word (Struct tag rs) p e = absurd cc
@@ -81,13 +82,14 @@ compared_seat g at (Thin n r t) Void v p q e = null_seat false at v e
 compared_seat g at (Thin n r t) Null v p q e = null_seat true at v e
 compared_seat g at (Thin n r t) (Thin m s u) v p q e = thin_seat g at (is_same t u) r s v e
 compared_seat g at (Thin n r t) (Fat s u) v p q e = null_seat false at v e
-compared_seat g at (Thin n r t) (Unique m u) v p q e = absurd q
+compared_seat g at (Thin n r t) (Unique m u) v p q e = null_seat false at v e
 compared_seat g at (Thin n r t) (Handle s) v p q e = null_seat false at v e
 compared_seat g at (Thin n r t) (Key s) v p q e = absurd q
 compared_seat g at (Thin n r t) (Struct tag rs) v p q e = null_seat false at v e
 compared_seat g at (Thin n r t) (Union tag rs) v p q e = null_seat false at v e
 compared_seat g at (Fat r t) b v p q e = null_seat ((is_pointer (Fat r t) && is_null b) || (is_null (Fat r t) && is_pointer b)) at v e
-compared_seat g at (Unique n t) b v p q e = absurd p
+compared_seat g at (Unique n t) b v p q e =
+    null_seat ((is_pointer (Unique n t) && is_null b) || (is_null (Unique n t) && is_pointer b)) at v e
 compared_seat g at (Handle r) b v p q e = null_seat ((is_pointer (Handle r) && is_null b) || (is_null (Handle r) && is_pointer b)) at v e
 compared_seat g at (Key r) b v p q e = absurd p
 compared_seat g at (Struct tag rs) b v p q e =
@@ -117,7 +119,7 @@ applied_seat g o at Void b v p q e = joined_seat (is_integer Void && is_integer 
 applied_seat g o at Null b v p q e = joined_seat (is_integer Null && is_integer b) g o at Null b v p q e
 applied_seat g o at (Thin n r t) b v p q e = joined_seat (is_integer (Thin n r t) && is_integer b) g o at (Thin n r t) b v p q e
 applied_seat g o at (Fat r t) b v p q e = moved_seat (is_move o && is_integer b) g o at r t b v p q e
-applied_seat g o at (Unique n t) b v p q e = absurd p
+applied_seat g o at (Unique n t) b v p q e = joined_seat (is_integer (Unique n t) && is_integer b) g o at (Unique n t) b v p q e
 applied_seat g o at (Handle r) b v p q e = joined_seat (is_integer (Handle r) && is_integer b) g o at (Handle r) b v p q e
 applied_seat g o at (Key r) b v p q e = absurd p
 applied_seat g o at (Struct tag rs) b v p q e = joined_seat (is_integer (Struct tag rs) && is_integer b) g o at (Struct tag rs) b v p q e
@@ -128,10 +130,11 @@ pub fitted : (b : Bool) (at place : ℕ) (t : StaticType) (v : Value) → after 
 fitted true at place t v e = (refl, value_of place t v e)
 fitted false at place t v e = absurd cc
 
--- what an assignment gives: the stored value, but of a struct or a union nothing
+-- what an assignment gives: the stored value, but of a struct, a union or a unique pointer nothing
 abbrev pub given_type : StaticType → StaticType
 given_type (Struct tag rs) = Void
 given_type (Union tag rs) = Void
+given_type (Unique n t) = Void
 given_type t = t
 
 pub assigned_object : (g : Env) (t : StaticType) → IsObjectType t → assigned_type g t ≡ given_type t
@@ -142,7 +145,7 @@ assigned_object g Void e = absurd e
 assigned_object g Null e = absurd e
 assigned_object g (Thin n r t) e = refl
 assigned_object g (Fat r t) e = refl
-assigned_object g (Unique n t) e = absurd e
+assigned_object g (Unique n t) e = refl
 assigned_object g (Handle r) e = refl
 assigned_object g (Key r) e = absurd e
 assigned_object g (Struct tag rs) e = refl
@@ -156,7 +159,7 @@ given_simple Void e = absurd e
 given_simple Null e = absurd e
 given_simple (Thin n r t) e = e
 given_simple (Fat r t) e = e
-given_simple (Unique n t) e = absurd e
+given_simple (Unique n t) e = tt
 given_simple (Handle r) e = tt
 given_simple (Key r) e = absurd e
 given_simple (Struct tag rs) e = tt
@@ -170,7 +173,7 @@ given_below n Void e h = absurd e
 given_below n Null e h = absurd e
 given_below n (Thin c r t) e h = h
 given_below n (Fat r t) e h = h
-given_below n (Unique c t) e h = absurd e
+given_below n (Unique c t) e h = tt
 given_below n (Handle r) e h = h
 given_below n (Key r) e h = absurd e
 given_below n (Struct tag rs) e h = tt
@@ -184,54 +187,80 @@ given_shaped Void s e h n = absurd e
 given_shaped Null s e h n = absurd e
 given_shaped (Thin c r t) s e h n = h
 given_shaped (Fat r t) s e h n = h
-given_shaped (Unique c t) s e h n = absurd e
+given_shaped (Unique c t) s e h n = absurd (n refl)
 given_shaped (Handle r) s e h n = h
 given_shaped (Key r) s e h n = absurd e
 given_shaped (Struct tag rs) s e h n = absurd (n refl)
 given_shaped (Union tag rs) s e h n = absurd (n refl)
 
--- a pointer into a region to a type: a thin or a fat one
-pub data IsPointer : StaticType → NameOf → StaticType → Type 0 where
-  IsThin : {n : Bool} {r : NameOf} {t : StaticType} → IsPointer (Thin n r t) r t
-  IsFat : {r : NameOf} {t : StaticType} → IsPointer (Fat r t) r t
+-- ---- what a pointer leads to
+
+-- a place is in a region in scope, or in a block
+abbrev pub SeatBelow : ℕ → Seat → Type 0
+SeatBelow n Nowhere = Unit {0}
+SeatBelow n (In r) = Below n r
+SeatBelow n InBlock = Unit {0}
+
+-- and live
+abbrev pub SeatKnown : Regions → Seat → Type 0
+SeatKnown g Nowhere = Unit {0}
+SeatKnown g (In r) = Below g.count r × (g.live r ≡ true)
+SeatKnown g InBlock = Unit {0}
+
+-- a live region; whether a block is there is no matter of the rules
+abbrev pub SeatLives : Env → Seat → Type 0
+SeatLives g Nowhere = Unit {0}
+SeatLives g (In r) = (is_live g r ≡ true)
+SeatLives g InBlock = Unit {0}
+
+-- a pointer to a place of a type: a thin or a fat one into a region, or a unique one to its block
+pub data IsPointer : StaticType → Seat → StaticType → Type 0 where
+  IsThin : {n : Bool} {r : NameOf} {t : StaticType} → IsPointer (Thin n r t) (In r) t
+  IsFat : {r : NameOf} {t : StaticType} → IsPointer (Fat r t) (In r) t
+  IsUnique : {n : Bool} {t : StaticType} → IsPointer (Unique n t) InBlock t
 
 -- what it leads to is an object
-pub pointer_object : (t u : StaticType) (r : NameOf) → IsPointer t r u → IsSimple t → IsObjectType u
-pointer_object t u r IsThin p = p
-pointer_object t u r IsFat p = p
+pub pointer_object : (t u : StaticType) (s : Seat) → IsPointer t s u → IsSimple t → IsObjectType u
+pointer_object t u s IsThin p = p
+pointer_object t u s IsFat p = p
+pointer_object t u s IsUnique p = p
 
-pub pointer_some : (t u : StaticType) (r : NameOf) → IsPointer t r u → t ≡ Void → ⊥
-pointer_some t u r IsThin z = cc
-pointer_some t u r IsFat z = cc
+pub pointer_some : (t u : StaticType) (s : Seat) → IsPointer t s u → t ≡ Void → ⊥
+pointer_some t u s IsThin z = cc
+pointer_some t u s IsFat z = cc
+pointer_some t u s IsUnique z = cc
 
 -- in a region that is in scope
-pub pointer_below : (n : ℕ) (t u : StaticType) (r : NameOf) → IsPointer t r u → TypeBelow n t → Below n r × TypeBelow n u
-pointer_below n t u r IsThin h = h
-pointer_below n t u r IsFat h = h
+pub pointer_below : (n : ℕ) (t u : StaticType) (s : Seat) → IsPointer t s u → TypeBelow n t → SeatBelow n s × TypeBelow n u
+pointer_below n t u s IsThin h = h
+pointer_below n t u s IsFat h = h
+pointer_below n t u s IsUnique h = (tt, h)
 
 -- and its shape is the one that the pointer's shape says
-pub pointer_shape : (t u : StaticType) (r : NameOf) → IsPointer t r u → pointee (shape_of t) ≡ shape_of u
-pointer_shape t u r IsThin = refl
-pointer_shape t u r IsFat = refl
+pub pointer_shape : (t u : StaticType) (s : Seat) → IsPointer t s u → pointee (shape_of t) ≡ shape_of u
+pointer_shape t u s IsThin = refl
+pointer_shape t u s IsFat = refl
+pointer_shape t u s IsUnique = refl
 
--- what `*e` takes: a pointer into a live region
+-- what `*e` takes: a pointer into a live region, or a unique one
 pub record Pointed (g : Env) (at : ℕ) (t : StaticType) (v : Value) : Type 0 where
-  pub region : NameOf
+  pub seat : Seat
   pub to : StaticType
-  pub is : IsPointer t region to
-  pub live : is_live g region ≡ true
-  pub value_is : record { at = at; type = to; seat = In region } ≡ v
+  pub is : IsPointer t seat to
+  pub live : SeatLives g seat
+  pub value_is : record { at = at; type = to; seat = seat } ≡ v
 
 in_live_is : (c : Bool) (at : ℕ) (t : StaticType) (r : NameOf) (v : Value) → places.in_live c at t r ≡ Of v → (c ≡ true)
     × (record { at = at; type = t; seat = In r } ≡ v)
 in_live_is true at t r v e = (refl, of_is (record { at = at; type = t; seat = In r }) v e)
 in_live_is false at t r v e = absurd cc
 
--- `*e` of a pointer into a live region is a place there
-pub pointer_contents : (g : Env) (at : ℕ) (t u : StaticType) (r : NameOf) → IsPointer t r u → is_live g r ≡ true
-    → places.contents_of g at t ≡ Of (record { at = at; type = u; seat = In r })
-pointer_contents g at t u r IsThin e = ap (λ (c : Bool). places.in_live c at u r) e
-pointer_contents g at t u r IsFat e = ap (λ (c : Bool). places.in_live c at u r) e
+-- `*e` of such a pointer is a place there
+pub pointer_contents : (g : Env) (at : ℕ) (t u : StaticType) (s : Seat) → IsPointer t s u → SeatLives g s
+    → places.contents_of g at t ≡ Of (record { at = at; type = u; seat = s })
+pointer_contents g at t u s (IsThin {r = r}) e = ap (λ (c : Bool). places.in_live c at u r) e
+pointer_contents g at t u s (IsFat {r = r}) e = ap (λ (c : Bool). places.in_live c at u r) e
+pointer_contents g at t u s IsUnique e = refl
 
 pub contents_is : (g : Env) (at : ℕ) (t : StaticType) (v : Value) → IsSimple t → places.contents_of g at t ≡ Of v → Pointed g at t v
 contents_is g at Int v p e = absurd cc
@@ -241,11 +270,12 @@ contents_is g at Void v p e = absurd cc
 contents_is g at Null v p e = absurd cc
 contents_is g at (Thin n r t) v p e =
     let z : (is_live g r ≡ true) × (record { at = at; type = t; seat = In r } ≡ v) = in_live_is (is_live g r) at t r v e in
-    record { region = r; to = t; is = IsThin; live = z.0; value_is = z.1 }
+    record { seat = In r; to = t; is = IsThin; live = z.0; value_is = z.1 }
 contents_is g at (Fat r t) v p e =
     let z : (is_live g r ≡ true) × (record { at = at; type = t; seat = In r } ≡ v) = in_live_is (is_live g r) at t r v e in
-    record { region = r; to = t; is = IsFat; live = z.0; value_is = z.1 }
-contents_is g at (Unique n t) v p e = absurd p
+    record { seat = In r; to = t; is = IsFat; live = z.0; value_is = z.1 }
+contents_is g at (Unique n t) v p e =
+    record { seat = InBlock; to = t; is = IsUnique; live = tt; value_is = of_is (record { at = at; type = t; seat = InBlock }) v e }
 contents_is g at (Handle r) v p e = absurd cc
 contents_is g at (Key r) v p e = absurd p
 contents_is g at (Struct tag rs) v p e = absurd cc

@@ -1,4 +1,4 @@
--- Words and structs of them carry no right: they stay of their type whoever has them.
+-- Words and structs of them: their types, and values that carry no right, which stay of their type whoever has them.
 use Rattle.std.proofs.Common.{◌≡◌, ℕ, suc, true, false, List, [], ◌∷◌, refl, ap, subst}
 use Rattle.std.specs.Prelude.{map}
 use Rattle.source_meaning.specs.Shapes.{same_shape}
@@ -7,14 +7,12 @@ use Rattle.source_typing.specs.Converts.{IsInteger}
 use Rattle.source_typing.specs.Types.{StaticType, Int, Unsigned, Char, Void, Null, Thin, Fat, Unique, Handle, Key, Struct, Union, renamed, shape_of}
 use Rattle.type_proof.specs.Flat.{Tables}
 pub use Rattle.type_proof.specs.Entries.{IsObjectType, IsWordType, IsPlain}
-use Rattle.type_proof.specs.Structs.{AreInOrder}
 use Rattle.source_typing.specs.Named.{TypeBelow}
 use Rattle.type_proof.proofs.invariant.Invariant.{RunType, Reached, Owner, Ghost, HasType, HaveTypes, Grows}
 use Rattle.type_proof.proofs.invariant.Values.{Grown, copied_kept}
 use Rattle.type_proof.proofs.invariant.Cells.{Copied}
 use Rattle.type_proof.proofs.invariant.Names.{NameOf}
-use Rattle.type_proof.proofs.invariant.Sound.{cells_type}
-use Rattle.type_proof.proofs.invariant.Layouts.{same_text, all_copied}
+use Rattle.type_proof.proofs.invariant.Layouts.{same_text}
 
 -- what an expression gives: a word, a struct, nothing, or `NULL`
 abbrev pub IsSimple : StaticType → Type 0
@@ -29,7 +27,7 @@ object_simple Void e = absurd e
 object_simple Null e = tt
 object_simple (Thin n r t) e = e
 object_simple (Fat r t) e = e
-object_simple (Unique n t) e = absurd e
+object_simple (Unique n t) e = e
 object_simple (Handle r) e = tt
 object_simple (Key r) e = absurd e
 object_simple (Struct tag rs) e = e
@@ -43,7 +41,7 @@ plain_simple Void e = tt
 plain_simple Null e = tt
 plain_simple (Thin n r t) e = e
 plain_simple (Fat r t) e = e
-plain_simple (Unique n t) e = absurd e
+plain_simple (Unique n t) e = e
 plain_simple (Handle r) e = tt
 plain_simple (Key r) e = absurd e
 plain_simple (Struct tag rs) e = e
@@ -91,7 +89,7 @@ object_renamed h Void e = absurd e
 object_renamed h Null e = absurd e
 object_renamed h (Thin n r t) e = object_renamed h t e
 object_renamed h (Fat r t) e = object_renamed h t e
-object_renamed h (Unique n t) e = absurd e
+object_renamed h (Unique n t) e = object_renamed h t e
 object_renamed h (Handle r) e = tt
 object_renamed h (Key r) e = absurd e
 object_renamed h (Struct tag rs) e = tt
@@ -105,7 +103,7 @@ plain_renamed h Void e = tt
 plain_renamed h Null e = absurd e
 plain_renamed h (Thin n r t) e = object_renamed h t e
 plain_renamed h (Fat r t) e = object_renamed h t e
-plain_renamed h (Unique n t) e = absurd e
+plain_renamed h (Unique n t) e = object_renamed h t e
 plain_renamed h (Handle r) e = tt
 plain_renamed h (Key r) e = absurd e
 plain_renamed h (Struct tag rs) e = tt
@@ -124,7 +122,7 @@ object_twice f h Void e = refl
 object_twice f h Null e = refl
 object_twice f h (Thin n r t) e = ap (Thin n (f (h r))) (object_twice f h t e)
 object_twice f h (Fat r t) e = ap (Fat (f (h r))) (object_twice f h t e)
-object_twice f h (Unique n t) e = absurd e
+object_twice f h (Unique n t) e = ap (Unique n) (object_twice f h t e)
 object_twice f h (Handle r) e = refl
 object_twice f h (Key r) e = absurd e
 object_twice f h (Struct tag rs) e = ap (Struct tag) (map_twice f h rs)
@@ -138,7 +136,7 @@ plain_twice f h Void e = refl
 plain_twice f h Null e = refl
 plain_twice f h (Thin n r t) e = object_twice f h (Thin n r t) e
 plain_twice f h (Fat r t) e = object_twice f h (Fat r t) e
-plain_twice f h (Unique n t) e = absurd e
+plain_twice f h (Unique n t) e = object_twice f h (Unique n t) e
 plain_twice f h (Handle r) e = refl
 plain_twice f h (Key r) e = absurd e
 plain_twice f h (Struct tag rs) e = ap (Struct tag) (map_twice f h rs)
@@ -154,15 +152,12 @@ shape_itself Null e = absurd e
 shape_itself (Thin true r t) e = shape_itself t e
 shape_itself (Thin false r t) e = shape_itself t e
 shape_itself (Fat r t) e = shape_itself t e
-shape_itself (Unique n t) e = absurd e
+shape_itself (Unique true t) e = shape_itself t e
+shape_itself (Unique false t) e = shape_itself t e
 shape_itself (Handle r) e = refl
 shape_itself (Key r) e = absurd e
 shape_itself (Struct tag rs) e = same_text tag
 shape_itself (Union tag rs) e = same_text tag
-
--- its cells are copied when they are read
-pub object_copied : (d : Tables) (f : NameOf → Region) (t : StaticType) → AreInOrder d.structs → IsObjectType t → Copied (cells_type d f t)
-object_copied d f t h e = all_copied d.structs f t h e
 
 -- values that carry no right may be of any owner
 pub values_copied : (d : Tables) (w w' : Ghost) (by to : ℕ → Owner) (vs : List Scalar) (ts : List RunType) → Grown w w' → Copied ts → HaveTypes d w by vs ts
@@ -172,10 +167,6 @@ values_copied d w w' by to (v ∷ vs) (t ∷ ts) g c h =
     (copied_kept d w w' (by 0) (to 0) v t g c.0 h.0, values_copied d w w' (λ k. by (suc k)) (λ k. to (suc k)) vs ts g c.1 h.1)
 values_copied d w w' by to [] (t ∷ ts) g c h = absurd h
 values_copied d w w' by to (v ∷ vs) [] g c h = absurd h
-
-pub object_kept : (d : Tables) (f : NameOf → Region) (w w' : Ghost) (by to : ℕ → Owner) (vs : List Scalar) (t : StaticType) → AreInOrder d.structs
-    → IsObjectType t → Grown w w' → HaveTypes d w by vs (cells_type d f t) → HaveTypes d w' to vs (cells_type d f t)
-object_kept d f w w' by to vs t o e g h = values_copied d w w' by to vs (cells_type d f t) g (object_copied d f t o e) h
 
 -- types and the order of regions stay
 pub grows_grown : {k b : ℕ} {w w' : Ghost} {m m' : Memory} → Grows k b w m w' m' → Grown w w'

@@ -51,6 +51,7 @@ pub record Births (w : Ghost) (m : Memory) (a b : ℕ) (r : Region) (st : State)
   pub up_steady : (q : Region) → u q ≡ true → (q ≡ r → ⊥) → Steady (w.owner q)
   pub up_along : (p q : Region) → w.above p q ≡ true → u q ≡ true → (q ≡ r → ⊥) → u p ≡ true
   pub up_sole : (q : Region) → (o ≡ Nobody → ⊥) → u q ≡ true → (q ≡ r → ⊥) → q ≡ heap
+  pub framed : (j : ℕ) → r ≡ Frame j → o ≡ Nobody
 
 all_at : {A B C : Type 0} (f : Region → A) (g : Region → B) (h : Region → C) (r : Region) (a : A) (b : B) (c : C) (q : Region) (P : A → B → C → Type 0)
     → (q ≡ r → P a b c) → ((q ≡ r → ⊥) → P (f q) (g q) (h q))
@@ -85,6 +86,7 @@ inv_birth d w m a b r st u o f i n = record {
   top = λ q v. i.top q (of_old heap q no_heap v);
   heap_lives = at_region m.state r st heap (λ x. x ≡ Live) (λ e. absurd (no_heap e)) (λ e. i.heap_lives);
   heap_is_free = at_region w.owner r o heap (λ x. x ≡ Nobody) (λ e. absurd (no_heap e)) (λ e. i.heap_is_free);
+  frames = λ j. at_region w.owner r o (Frame j) (λ x. x ≡ Nobody) (λ e. n.framed j (sym e)) (λ e. i.frames j);
   unborn = λ q k. at_region m.state r st q (λ x. x ≡ Dead) (λ e. absurd (k (subst (λ (x : Region). Counted a b x) (sym e) n.here)))
       (λ e. i.unborn q (λ x. k (n.more q x)));
   unowned = λ q k. at_region w.owner r o q (λ x. x ≡ Nobody) (λ e. absurd (k (subst (λ (x : Region). Counted a b x) (sym e) n.here)))
@@ -152,6 +154,7 @@ inv_death d w m r i free nh alone = record {
   top = i.top;
   heap_lives = at_region m.state r Dead heap (λ x. x ≡ Live) (λ e. absurd (nh (sym e))) (λ n. i.heap_lives);
   heap_is_free = i.heap_is_free;
+  frames = i.frames;
   unborn = λ q k. at_region m.state r Dead q (λ x. x ≡ Dead) (λ e. refl) (λ n. i.unborn q k);
   unowned = i.unowned;
   empty = i.empty;

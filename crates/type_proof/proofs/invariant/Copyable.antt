@@ -1,7 +1,6 @@
 -- What the rules call copyable has no cell that carries a right.
-use Rattle.std.proofs.Common.{◌≡◌, ◌≤◌, ℕ, zero, suc, Bool, true, false, inl, inr, Option, Some, None, List, [], ◌∷◌, ◌++◌, refl, sym, ◌∙◌, ap, subst, arith}
+use Rattle.std.proofs.Common.{◌≡◌, ◌≤◌, ℕ, zero, suc, Bool, true, false, List, [], ◌∷◌, ◌++◌, refl, sym, ◌∙◌, ap, subst, arith}
 use Rattle.std.specs.Prelude.{map, length, bytes_eq, if◌then◌else◌}
-use Rattle.std.specs.Cmp.Derive.{both_true}
 use Rattle.std.proofs.lemmas.Bool.{false≢true, and_parts}
 use Rattle.std.proofs.lemmas.Slice.Eq.{bytes_eq-Decides}
 use Rattle.source_meaning.specs.Shapes as shapes
@@ -10,17 +9,13 @@ use Rattle.source_meaning.specs.Memory.{Region}
 use Rattle.source_meaning.specs.Steps.{World}
 use Rattle.source_typing.specs.Regions as names
 use Rattle.source_typing.specs.Tables as typing
-use Rattle.source_typing.specs.Tables.{Entry, Tag, OfTag, OfValue, OfFunction, OfBuiltin, OfOther, find, as_tag, parts_of_tag, parts_in, each_part, if_known}
-use Rattle.source_typing.specs.Tables.{copies, is_copyable}
+use Rattle.source_typing.specs.Tables.{parts_in, each_part, if_known, copies, is_copyable}
 use Rattle.source_typing.specs.Types.{StaticType, Int, Unsigned, Char, Void, Null, Thin, Fat, Unique, Handle, Key, Struct, Union, renamed}
 use Rattle.type_proof.specs.Flat.{Declared, Tables, filled, flat, flat_by, flat_all, struct_flat}
 use Rattle.type_proof.specs.Structs.{AreMembers, AreLaidOut}
 use Rattle.type_proof.proofs.invariant.Invariant.{RunType, heap}
 use Rattle.type_proof.proofs.invariant.Cells.{Copied}
-use Rattle.type_proof.specs.Entries.{IsObjectType, AreObjects, PlainEntry}
-use Rattle.type_proof.proofs.invariant.Layouts.{Structs, member_types, members_typed, members_at}
-use Rattle.type_proof.proofs.invariant.Unions.{held_objects, unions_typed}
-use Rattle.type_proof.proofs.expressions.Members.{members_objects}
+use Rattle.type_proof.proofs.invariant.Layouts.{Structs}
 
 abbrev cells : List Declared → RunType → List RunType
 cells ds t = flat_by (struct_flat heap ds) t
@@ -85,56 +80,3 @@ pub copyable_copied : (d : Tables) (world : World) (tables : typing.Tables) (f :
     → is_copyable tables t ≡ true → Copied (flat heap d (renamed f t))
 copyable_copied d world tables f t h e =
     type_copied tables d.structs (structs_copied tables d.structs world.structs h.laid_out) (length tables) f t h.few e
-
--- ---- what objects are of so far can be copied
-
-module _ (d : Tables) (world : World) (tables : typing.Tables) (h : Structs d world tables) where
-  all_copyable : (n : ℕ) → ((t : StaticType) → IsObjectType t → copies n tables t ≡ true)
-      → (ps : List typing.Part) (qs : List shapes.Part) (ts : List StaticType)
-      → AreMembers ps qs ts → AreObjects ts → each_part (copies n tables) ps ≡ true
-  all_copyable n each [] [] [] m o = refl
-  all_copyable n each (p ∷ ps) (q ∷ qs) (t ∷ ts) m o =
-      both_true (ap (if_known (copies n tables)) m.1 ∙ each t o.0) (all_copyable n each ps qs ts m.3 o.1)
-  all_copyable n each [] [] (t ∷ ts) m o = absurd m
-  all_copyable n each [] (q ∷ qs) ts m o = absurd m
-  all_copyable n each (p ∷ ps) [] ts m o = absurd m
-  all_copyable n each (p ∷ ps) (q ∷ qs) [] m o = absurd m
-
-  object_copies : (n : ℕ) (t : StaticType) → IsObjectType t → copies n tables t ≡ true
-  object_copies n Int e = refl
-  object_copies n Unsigned e = refl
-  object_copies n Char e = refl
-  object_copies n Void e = absurd e
-  object_copies n Null e = absurd e
-  object_copies n (Thin c r t) e = refl
-  object_copies n (Fat r t) e = refl
-  object_copies n (Unique c t) e = absurd e
-  object_copies n (Handle r) e = refl
-  object_copies n (Key r) e = absurd e
-  object_copies n (Union tag rs) e = refl
-  object_copies zero (Struct tag rs) e = refl
-  object_copies (suc n) (Struct tag rs) e = by (λ t q. object_copies n t q) (find tables tag) refl
-    where
-      of_tag : (t : Tag) → ((t : StaticType) → IsObjectType t → copies n tables t ≡ true) → PlainEntry world tag (OfTag t)
-          → each_part (copies n tables) (parts_in tables tag) ≡ true
-      of_tag t each (inl k) =
-          all_copyable n each (parts_in tables tag) (shapes.parts_of world.structs tag) (member_types d.structs tag)
-          (members_at tables d.structs world.structs tag h.laid_out k.there)
-          (members_objects d.structs (member_types d.structs tag) (members_typed d.structs tag h.in_order))
-      of_tag t each (inr k) =
-          all_copyable n each (parts_in tables tag) (shapes.parts_of world.unions tag) (member_types d.unions tag)
-          (members_at tables d.unions world.unions tag h.unions_laid k.there)
-          (held_objects (member_types d.unions tag) (unions_typed d.unions world.unions tag h.unions))
-
-      by : ((t : StaticType) → IsObjectType t → copies n tables t ≡ true) → (o : Option Entry) → find tables tag ≡ o
-          → each_part (copies n tables) (parts_in tables tag) ≡ true
-      by each None z = subst (λ (o : Option Entry). each_part (copies n tables) (parts_of_tag (as_tag o)) ≡ true) (sym z) refl
-      by each (Some (OfTag t)) z =
-          of_tag t each (h.plain tag (OfTag t) z)
-      by each (Some (OfValue v)) z = subst (λ (o : Option Entry). each_part (copies n tables) (parts_of_tag (as_tag o)) ≡ true) (sym z) refl
-      by each (Some (OfFunction s)) z = subst (λ (o : Option Entry). each_part (copies n tables) (parts_of_tag (as_tag o)) ≡ true) (sym z) refl
-      by each (Some (OfBuiltin c)) z = subst (λ (o : Option Entry). each_part (copies n tables) (parts_of_tag (as_tag o)) ≡ true) (sym z) refl
-      by each (Some OfOther) z = subst (λ (o : Option Entry). each_part (copies n tables) (parts_of_tag (as_tag o)) ≡ true) (sym z) refl
-
-  pub object_copyable : (t : StaticType) → IsObjectType t → is_copyable tables t ≡ true
-  object_copyable t e = object_copies (length tables) t e

@@ -207,6 +207,8 @@ pub record Inv (d : Tables) (w : Ghost) (m : Memory) : Type 0 where
   pub top : (q : Region) → w.above q heap ≡ true → q ≡ heap
   pub heap_lives : m.state heap ≡ Live
   pub heap_is_free : w.owner heap ≡ Nobody
+  -- a block is left with its scope
+  pub frames : (j : ℕ) → w.owner (Frame j) ≡ Nobody
   pub unborn : (r : Region) → (Known m r → ⊥) → m.state r ≡ Dead
   pub unowned : (r : Region) → (Known m r → ⊥) → w.owner r ≡ Nobody
   pub empty : (r : Region) → (Known m r → ⊥) → m.objects r ≡ 0

@@ -1,4 +1,4 @@
--- The cells of structs: they are those of their members in order, they agree with the shapes that the program has, and they carry no right.
+-- The cells of structs: they are those of their members in order, and they agree with the shapes that the program has.
 use Rattle.std.proofs.Common.{◌≡◌, ◌≤◌, ℕ, zero, suc, Bool, true, false, inl, None, List, [], ◌∷◌, ◌++◌, refl, sym, ◌∙◌, ap, subst, arith}
 use Rattle.std.specs.Prelude.{map, length, bytes_eq, if◌then◌else◌}
 use Rattle.std.proofs.lemmas.Bool.{false≢true, and_parts}
@@ -18,7 +18,6 @@ use Rattle.type_proof.specs.Entries.{IsObjectType, PlainTables}
 use Rattle.type_proof.specs.Flat.{Declared, Tables, filled, flat, flat_by, flat_all, struct_flat}
 use Rattle.type_proof.specs.Structs.{declares, IsMemberType, AreMemberTypes, AreInOrder, AreMembers, AreLaidOut, AreUnions}
 use Rattle.type_proof.proofs.invariant.Invariant.{RunType, heap, Owner, Ghost, HasType}
-use Rattle.type_proof.proofs.invariant.Cells.{Copied}
 use Rattle.type_proof.proofs.invariant.Arguments.{Agrees}
 use Rattle.type_proof.proofs.invariant.Sound.{shape_renamed}
 
@@ -193,47 +192,6 @@ members_at tables (d ∷ ds) (l ∷ ls) tag h e =
 members_at tables [] (l ∷ ls) tag h e = absurd h
 members_at tables (d ∷ ds) [] tag h e = absurd h
 
--- ---- no cell of them is moved when it is read
-
-copied_both : (xs ys : List RunType) → Copied xs → Copied ys → Copied (xs ++ ys)
-copied_both [] ys h k = k
-copied_both (x ∷ xs) ys h k = (h.0, copied_both xs ys h.1 k)
-
-copied_member : (ds : List Declared) → ((tag : List ℕ) (rs : List Region) → Copied (struct_flat heap ds tag rs)) → (f : names.Region → Region) (t : StaticType)
-    → IsObjectType t → Copied (cells ds (renamed f t))
-copied_member ds each f Int e = (refl, tt)
-copied_member ds each f Unsigned e = (refl, tt)
-copied_member ds each f Char e = (refl, tt)
-copied_member ds each f Void e = absurd e
-copied_member ds each f Null e = absurd e
-copied_member ds each f (Thin n r t) e = (refl, tt)
-copied_member ds each f (Fat r t) e = (refl, tt)
-copied_member ds each f (Unique n t) e = absurd e
-copied_member ds each f (Handle r) e = (refl, tt)
-copied_member ds each f (Key r) e = absurd e
-copied_member ds each f (Struct tag rs) e = each tag (map f rs)
-copied_member ds each f (Union tag rs) e = (refl, tt)
-
-copied_all : (ds : List Declared) → ((tag : List ℕ) (rs : List Region) → Copied (struct_flat heap ds tag rs))
-    → (f : names.Region → Region) (ts : List StaticType)
-    → AreMemberTypes ds ts → Copied (flat_all (cells ds) (map (renamed f) ts))
-copied_all ds each f [] h = tt
-copied_all ds each f (t ∷ ts) h =
-    copied_both (cells ds (renamed f t)) (flat_all (cells ds) (map (renamed f) ts)) (copied_member ds each f t (member_object ds t h.0))
-    (copied_all ds each f ts h.1)
-
-copied_struct : (ds : List Declared) → AreInOrder ds → (tag : List ℕ) (rs : List Region) → Copied (struct_flat heap ds tag rs)
-copied_struct [] h tag rs = tt
-copied_struct (d ∷ ds) h tag rs = by (bytes_eq d.tag tag) (copied_struct ds h.2)
-  where
-    by : (b : Bool) → ((x : List ℕ) (qs : List Region) → Copied (struct_flat heap ds x qs))
-        → Copied (if b then flat_all (cells ds) (map (renamed (filled heap rs)) d.parts) else struct_flat heap ds tag rs)
-    by true others = copied_all ds others (filled heap rs) d.parts h.1
-    by false others = others tag rs
-
-pub all_copied : (ds : List Declared) (f : names.Region → Region) (t : StaticType) → AreInOrder ds → IsObjectType t → Copied (cells ds (renamed f t))
-all_copied ds f t h e = copied_member ds (copied_struct ds h) f t e
-
 -- ---- how they begin
 
 -- a cell that holds a value from the start, which carries no right
@@ -260,6 +218,10 @@ pointer_begins true r t e =
     record { value = memory.Thin None; first = refl; typed = λ d w by. inl (record { allowed = refl; is = refl }) }
 pointer_begins false r t e = absurd (false≢true e)
 
+unique_begins : (c : Bool) (t : RunType) → c ≡ true → BeginsWith (Unique c t)
+unique_begins true t e = record { value = memory.Thin None; first = refl; typed = λ d w by. inl (record { allowed = refl; is = refl }) }
+unique_begins false t e = absurd (false≢true e)
+
 no_cells : (ds : List Declared) (tag : List ℕ) (rs : List Region) → length ds ≤ 0 → AllBegin (struct_flat heap ds tag rs)
 no_cells [] tag rs l = tt
 no_cells (d ∷ ds) tag rs l = absurd (omega (arith, l))
@@ -279,7 +241,7 @@ module _ (tables : typing.Tables) where
   type_begins ds each n f Null o l e = absurd o
   type_begins ds each n f (Thin c r t) o l e = (pointer_begins c (f r) (renamed f t) e, tt)
   type_begins ds each n f (Fat r t) o l e = (record { value = memory.Wide None; first = refl; typed = λ d w by. inl refl }, tt)
-  type_begins ds each n f (Unique c t) o l e = absurd o
+  type_begins ds each n f (Unique c t) o l e = (unique_begins c (renamed f t) e, tt)
   type_begins ds each n f (Handle r) o l e = absurd (false≢true e)
   type_begins ds each n f (Key r) o l e = absurd o
   type_begins ds each zero f (Struct tag rs) o l e = no_cells ds tag (map f rs) l

@@ -4,7 +4,6 @@ use Rattle.source_meaning.specs.Memory.{Spot, Scalar, Content, Memory, beyond}
 use Rattle.source_meaning.specs.Memory as memory
 use Rattle.source_meaning.specs.Values.{is_lent}
 use Rattle.source_typing.specs.States.{State, Plain, Held, Gone, Lent, meet}
-use Rattle.flow_summaries.specs.Effects.{Holds}
 use Rattle.type_proof.proofs.invariant.Invariant.{RunType, Kept, Private, Ghost}
 use Rattle.type_proof.proofs.invariant.Cells.{cell}
 use Rattle.type_proof.proofs.invariant.Rights.{HeldAt, GoneAt}

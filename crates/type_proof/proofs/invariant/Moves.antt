@@ -2,7 +2,7 @@
 use Rattle.std.proofs.Common.{◌≡◌, ℕ, Bool, true, ◌⊎◌, inl, inr, Option, Some, refl, sym, ◌∙◌, ap, subst}
 use Rattle.std.specs.Prelude.{nat_eq, ◌&&◌, if◌then◌else◌}
 use Rattle.std.proofs.lemmas.Bool.{cases_Bool}
-use Rattle.source_meaning.specs.Memory.{Region, Born, Spot, Cell, State, Live, Dead, Memory, same_region, same_spot, with_state}
+use Rattle.source_meaning.specs.Memory.{Region, Frame, Born, Spot, Cell, State, Live, Dead, Memory, same_region, same_spot, with_state}
 use Rattle.source_meaning.proofs.Cases.{region_is}
 use Rattle.type_proof.specs.Flat.{Tables}
 use Rattle.type_proof.proofs.invariant.Facts.{if_cases, at_region, not_region}
@@ -42,6 +42,7 @@ inv_cells d w m f c i t h = record {
   top = i.top;
   heap_lives = i.heap_lives;
   heap_is_free = ap f i.heap_is_free ∙ t.free;
+  frames = λ j. ap f (i.frames j) ∙ t.free;
   unborn = i.unborn;
   unowned = λ r n. ap f (i.unowned r n) ∙ t.free;
   empty = i.empty;
@@ -208,6 +209,7 @@ inv_turn d w m r o st i t = record {
   top = i.top;
   heap_lives = at_region m.state r st heap (λ y. y ≡ Live) (λ e. absurd (t.had (sym (ap w.owner e) ∙ i.heap_is_free))) (λ n. i.heap_lives);
   heap_is_free = at_region w.owner r o heap (λ y. y ≡ Nobody) (λ e. absurd (t.had (sym (ap w.owner e) ∙ i.heap_is_free))) (λ n. i.heap_is_free);
+  frames = λ j. at_region w.owner r o (Frame j) (λ y. y ≡ Nobody) (λ e. absurd (t.had (sym (ap w.owner e) ∙ i.frames j))) (λ n. i.frames j);
   unborn = λ q u. at_region m.state r st q (λ y. y ≡ Dead) (λ e. absurd (t.had (sym (ap w.owner e) ∙ i.unowned q u))) (λ n. i.unborn q u);
   unowned = λ q u. at_region w.owner r o q (λ y. y ≡ Nobody) (λ e. absurd (t.had (sym (ap w.owner e) ∙ i.unowned q u))) (λ n. i.unowned q u);
   empty = i.empty;

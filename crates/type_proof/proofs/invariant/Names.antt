@@ -5,12 +5,10 @@ use Rattle.std.proofs.lemmas.Bool.{cases_Bool, false≢true, eqb-true, eq-eqb, a
 use Rattle.source_meaning.specs.Memory.{Region, Live, Memory, same_region}
 use Rattle.source_typing.specs.Regions as names
 use Rattle.source_typing.specs.Regions.{TheHeap, Level, same_id, is_heap, is_among, any_of, by_bounds, reaches, Regions, with_scope, entry_regions}
-use Rattle.source_typing.specs.Written.{RegionNamed}
 pub use Rattle.source_typing.proofs.NamedBelow.{below_up, all_up, names_up}
 use Rattle.source_meaning.proofs.Cases.{region_is, region_itself}
 use Rattle.type_proof.specs.Flat.{Tables}
 pub use Rattle.source_typing.specs.Named.{Below, AllBelow, BoundsBelow}
-use Rattle.source_typing.specs.Named.{NamesBelow}
 use Rattle.type_proof.proofs.invariant.Facts.{if_cases, at_region, not_region}
 use Rattle.type_proof.proofs.invariant.Invariant.{heap, Owner, Nobody, Pinned, Ghost, Steady, ByScope, ByLoan, StateOk, Counted, Known, Inv, Grows}
 use Rattle.type_proof.proofs.invariant.Births.{bearing, with_birth, Births}
@@ -113,18 +111,18 @@ id_is : (a : NameOf) (n : ℕ) → same_id a (Level n) ≡ true → a ≡ Level 
 id_is TheHeap n h = absurd (false≢true h)
 id_is (Level k) n h = ap Level (eqb-true k n h)
 
-below_more : (n : ℕ) (a : NameOf) → Below (n + 1) a → same_id a (Level n) ≡ false → Below n a
+pub below_more : (n : ℕ) (a : NameOf) → Below (n + 1) a → same_id a (Level n) ≡ false → Below n a
 below_more n TheHeap h e = tt
 below_more n (Level k) h e = less k n h (λ z. false≢true (sym e ∙ eq-eqb k n z))
   where
     less : (x y : ℕ) → x < y + 1 → (x ≡ y → ⊥) → x < y
     less x y p z = omega (arith, p, z)
 
-new_below : (n : ℕ) (a : NameOf) → same_id a (Level n) ≡ true → Below (n + 1) a
+pub new_below : (n : ℕ) (a : NameOf) → same_id a (Level n) ≡ true → Below (n + 1) a
 new_below n a e = subst (λ (x : NameOf). Below (n + 1) x) (sym (id_is a n e)) (omega arith)
 
 -- what a name stands for, whether it is the new one or another
-named_cases : (f : NameOf → Region) (n : ℕ) (r : Region) (a : NameOf) (P : Region → Type 0) → (same_id a (Level n) ≡ true → P r)
+pub named_cases : (f : NameOf → Region) (n : ℕ) (r : Region) (a : NameOf) (P : Region → Type 0) → (same_id a (Level n) ≡ true → P r)
     → (same_id a (Level n) ≡ false → P (f a)) → P (naming f n r a)
 named_cases f n r a P h k = if_cases (same_id a (Level n)) r (f a) P h k
 

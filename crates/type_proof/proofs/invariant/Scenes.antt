@@ -111,20 +111,22 @@ globals_kept d tables world w w' keep h = record {
   strings = strings_kept w w' world.strings keep h.strings;
 }
 
+-- The function's blocks are the activations from `low` on, and the private cells of those below b are left alone: where b isn't more than that, the
+-- function's own ones may be touched.
+
 -- What holds of a scope at a point of its function, while k values are on their way: its region names stand for regions; its variables have their cells,
 -- which pointers may reach where they can be copied; and those that can't be copied stand in these states.
-pub record Scene (d : Tables) (g : Env) (scope : Scope) (f : NameOf → Region) (b : ℕ) (s : States) (k : ℕ) (w : Ghost) (m : Memory) : Type 0 where
+pub record Scene (d : Tables) (g : Env) (scope : Scope) (f : NameOf → Region) (b : ℕ) (low : ℕ) (s : States) (k : ℕ) (w : Ghost) (m : Memory) : Type 0 where
   pub names : NamesOk g.regions f k w m
-  -- the function's blocks are the activations from b on
   pub base : b ≤ m.activations
   pub variables : (x : List ℕ) (v : What) → meant g x ≡ Some (OfValue v) → is_own g.tables (find_local g.locals x) ≡ false → LaidAs d f w (entity_of scope x) v
   pub globals : Globals d g.tables scope.world w
   -- the locals, by what is bound to their names, each in a place of its own
   pub alongside : Alongside g.locals scope.locals
-  pub rooms : Rooms b scope.locals
+  pub rooms : Rooms low scope.locals
   pub inside : AllWithin m.activations scope.locals
   pub counted : AllCounted m scope.locals
-  pub own : b ≤ scope.frame
+  pub own : low ≤ scope.frame
   pub below : LocalsBelow g.regions.count g.locals
   pub stands : Standing d g scope f s w m
 
@@ -133,10 +135,10 @@ pub globals_later : (d : Tables) (tables : typing.Tables) (world : World) (k b :
 globals_later d tables world k b w m w' m' x h = globals_kept d tables world w w' (λ s u z. x.types s (Reached u) z) h
 
 -- later memories, in which the locals stand in other states
-pub scene_later : (d : Tables) (g : Env) (scope : Scope) (f : NameOf → Region) (b : ℕ) (s s' : States) (k : ℕ) (w : Ghost) (m : Memory) (w' : Ghost)
+pub scene_later : (d : Tables) (g : Env) (scope : Scope) (f : NameOf → Region) (b : ℕ) (low : ℕ) (s s' : States) (k : ℕ) (w : Ghost) (m : Memory) (w' : Ghost)
     (m' : Memory)
-    → Inv d w' m' → Grows k b w m w' m' → Standing d g scope f s' w' m' → Scene d g scope f b s k w m → Scene d g scope f b s' k w' m'
-scene_later d g scope f b s s' k w m w' m' i x st h = record {
+    → Inv d w' m' → Grows k b w m w' m' → Standing d g scope f s' w' m' → Scene d g scope f b low s k w m → Scene d g scope f b low s' k w' m'
+scene_later d g scope f b low s s' k w m w' m' i x st h = record {
   names = names_later d g.regions f k b w m w' m' i x h.names;
   base = base_later k b b w m w' m' h.base x;
   variables = λ y v e o. laid_as_kept d f w w' (entity_of scope y) v (λ s u z. x.types s (Reached u) z) (h.variables y v e o);
@@ -151,10 +153,10 @@ scene_later d g scope f b s s' k w m w' m' i x st h = record {
 }
 
 -- more may be on its way
-pub scene_more : (d : Tables) (g : Env) (scope : Scope) (f : NameOf → Region) (b : ℕ) (s : States) (k : ℕ) (w : Ghost) (m : Memory)
-    → Scene d g scope f b s k w m
-    → Scene d g scope f b s (suc k) w m
-scene_more d g scope f b s k w m h = record {
+pub scene_more : (d : Tables) (g : Env) (scope : Scope) (f : NameOf → Region) (b : ℕ) (low : ℕ) (s : States) (k : ℕ) (w : Ghost) (m : Memory)
+    → Scene d g scope f b low s k w m
+    → Scene d g scope f b low s (suc k) w m
+scene_more d g scope f b low s k w m h = record {
   names = names_more g.regions f k w m h.names;
   base = h.base;
   variables = h.variables;
@@ -179,6 +181,7 @@ stands_typed d g scope f s w m w1 m1 t c st = all_same g.tables d f w m w1 m1 g.
     each (y ∷ bs) = (λ sh p e. record { types = t; cells = λ q u a o z. c q (Private u) z }, each bs)
 
 -- What leaves the private cells of all activations so far alone leaves the locals as they stood.
-pub stands_kept : (d : Tables) (g : Env) (scope : Scope) (f : NameOf → Region) (b : ℕ) (s : States) (k : ℕ) (w : Ghost) (m : Memory) (w' : Ghost) (m' : Memory)
-    → Scene d g scope f b s k w m → Grows k m.activations w m w' m' → Standing d g scope f s w' m'
-stands_kept d g scope f b s k w m w' m' h x = all_kept g.tables d f k b m.activations g.locals scope.locals s w m w' m' h.rooms h.inside x h.stands
+pub stands_kept : (d : Tables) (g : Env) (scope : Scope) (f : NameOf → Region) (b : ℕ) (low : ℕ) (s : States) (k : ℕ) (w : Ghost) (m : Memory) (w' : Ghost)
+    (m' : Memory)
+    → Scene d g scope f b low s k w m → Grows k m.activations w m w' m' → Standing d g scope f s w' m'
+stands_kept d g scope f b low s k w m w' m' h x = all_kept g.tables d f k low m.activations g.locals scope.locals s w m w' m' h.rooms h.inside x h.stands

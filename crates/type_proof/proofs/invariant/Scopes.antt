@@ -76,6 +76,7 @@ scope_births d w m a b r i new here more only = record {
     | inr z ↦ (let l : m.state q ≡ Live = live_by _ (and_parts _ _ (old q e n)).0 in lasts w m r p (i.closed q p l v) (i.rests q p l v (not_region p q z)))
   ];
   up_sole = λ q n e z. absurd (n refl);
+  framed = λ j e. refl;
 }
   where
     old : (q : Region) → above_scope w m r q ≡ true → (q ≡ r → ⊥) → lasting w m q ≡ true

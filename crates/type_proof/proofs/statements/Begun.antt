@@ -3,20 +3,19 @@ use Rattle.std.proofs.Common.{◌≡◌, ℕ, suc, ◌+◌, ◌<◌, ◌≤◌, 
 use Rattle.std.specs.Prelude.{nat_eq, ◌&&◌, if◌then◌else◌, map, slice_get}
 use Rattle.std.proofs.lemmas.Bool.{eq-eqb}
 use Rattle.source_meaning.specs.Memory.{Region, Spot, Scalar, Holds, Cell, Object, Live, Memory, beyond, with_cell, with_object, next_spot, is_live}
-use Rattle.source_meaning.specs.Memory.{state_is_live}
-use Rattle.source_meaning.specs.Memory.{first_cell}
+use Rattle.source_meaning.specs.Memory.{state_is_live, first_cell}
 use Rattle.source_meaning.specs.Steps.{Act, ◌>>=◌}
 use Rattle.source_meaning.specs.Making.{make_object}
 use Rattle.source_typing.specs.Types.{shape_of}
 use Rattle.source_meaning.proofs.Cases.{region_itself}
 use Rattle.type_proof.specs.Flat.{Tables}
 use Rattle.type_proof.proofs.invariant.Facts.{at_region, at_spot, same_at, further, not_further}
-use Rattle.type_proof.proofs.invariant.Invariant.{RunType, Owner, Flying, Kept, Reached, Ghost, Laid, HasType, CellOk, Inv, Grows}
+use Rattle.type_proof.proofs.invariant.Invariant.{RunType, Owner, Flying, Kept, Reached, type_of, Ghost, Laid, HasType, CellOk, Inv, Grows}
 use Rattle.type_proof.proofs.invariant.Runs.{Runs, runs_check}
 use Rattle.type_proof.proofs.invariant.Moves.{Class, inv_cells}
 use Rattle.type_proof.proofs.invariant.Cells.{cell}
 use Rattle.type_proof.proofs.invariant.Layouts.{AllBegin}
-use Rattle.type_proof.proofs.invariant.Objects.{New, old_cells, inv_object, grows_object, filled, inv_filled, grows_filled, untyped}
+use Rattle.type_proof.proofs.invariant.Objects.{FullAt, full_laid, New, old_cells, inv_object, grows_object, filled, inv_filled, grows_filled, untyped}
 
 itself : Class (λ o. o)
 itself = record { state = λ o k s h. h; steady = λ o h. h; nobody = λ o h. h; free = refl }
@@ -106,62 +105,74 @@ held_later w m s y kept k (t ∷ ts) l h = (
 )
 
 -- the ghost in which they have types; where the object is new, nothing else grows by it
-pub record Typed (d : Tables) (k b : ℕ) (w : Ghost) (m : Memory) (s : Spot) (ts : List RunType) : Type 0 where
+pub record Typed (d : Tables) (k b : ℕ) (K : RunType → Kept) (w : Ghost) (m : Memory) (s : Spot) (ts : List RunType) : Type 0 where
   pub ghost : Ghost
   pub inv : Inv d ghost m
   pub grows : (w0 : Ghost) (m0 : Memory) → m0.objects s.region ≤ s.object → Grows k b w0 m0 w m → Grows k b w0 m0 ghost m
-  pub laid : Laid ghost s ts
+  pub values : List Scalar
+  pub full : FullAt K ghost m s ts values
   pub keeps : (y : Spot) (q : Kept) → w.types y ≡ Some q → ghost.types y ≡ Some q
   pub others : (y : Spot) → (y.object ≡ s.object → ⊥) → ghost.types y ≡ w.types y
 
-pub held_typed : (d : Tables) (k b : ℕ) (w : Ghost) (m : Memory) (s : Spot) (ts : List RunType) → Inv d w m → s.object < m.objects s.region
-    → HeldAt w m s ts → Typed d k b w m s ts
-held_typed d k b w m s [] i there h =
-    record { ghost = w; inv = i; grows = λ w0 m0 new g. g; laid = tt; keeps = λ y q e. e; others = λ y n. refl }
-held_typed d k b w m s (t ∷ ts) i there h =
+pub held_typed : (d : Tables) (k b : ℕ) (K : RunType → Kept) (w : Ghost) (m : Memory) (s : Spot) (ts : List RunType) → ((t : RunType) → type_of (K t) ≡ t)
+    → Inv d w m → s.object < m.objects s.region
+    → HeldAt w m s ts → Typed d k b K w m s ts
+held_typed d k b K w m s [] same i there h =
+    record { ghost = w; inv = i; grows = λ w0 m0 new g. g; values = []; full = tt; keeps = λ y q e. e; others = λ y n. refl }
+held_typed d k b K w m s (t ∷ ts) same i there h =
     let x : Cell = cell t (Holds h.0.value) in
-    let w1 : Ghost = filled s (Reached t) k 0 w in
-    let i1 : Inv d w1 m =
-    inv_same d w1 m s x h.0.is (inv_filled d w m s (Reached t) k 0 h.0.value i h.0.none there (h.0.typed d w (Flying k 0))) in
+    let w1 : Ghost = filled s (K t) k 0 w in
+    let i1 : Inv d w1 m = inv_same d w1 m s x h.0.is (subst (λ (u : RunType). Inv d w1 (with_cell m s (cell u (Holds h.0.value)))) (same t)
+    (inv_filled d w m s (K t) k 0 h.0.value i h.0.none there
+    (subst (λ (u : RunType). HasType d w (Flying k 0) h.0.value u) (sym (same t)) (h.0.typed d w (Flying k 0))))) in
     let kept : (y : Spot) (q : Kept) → w.types y ≡ Some q → w1.types y ≡ Some q =
-    (λ y q e. at_spot w.types s (Some (Reached t)) y (λ z. z ≡ Some q) (λ z. absurd (bare h.0.none (ap w.types z) e)) (λ z. e)) in
-    let r : Typed d k b w1 m (beyond s 1) ts =
-    held_typed d k b w1 m (beyond s 1) ts i1 there (held_later w m s (beyond s 1) (Reached t) k ts (omega arith) h.1) in
+    (λ y q e. at_spot w.types s (Some (K t)) y (λ z. z ≡ Some q) (λ z. absurd (bare h.0.none (ap w.types z) e)) (λ z. e)) in
+    let r : Typed d k b K w1 m (beyond s 1) ts =
+    held_typed d k b K w1 m (beyond s 1) ts same i1 there (held_later w m s (beyond s 1) (K t) k ts (omega arith) h.1) in
     record {
       ghost = r.ghost;
       inv = r.inv;
-      grows = λ w0 m0 new g. r.grows w0 m0 new (grows_same k b w0 m0 w1 m s x h.0.is (grows_filled k b w0 w m0 m s (Reached t) 0 x g h.0.none new));
-      laid = (r.keeps s (Reached t) (same_at s (Some (Reached t)) (w.types s)), r.laid);
+      grows = λ w0 m0 new g. r.grows w0 m0 new (grows_same k b w0 m0 w1 m s x h.0.is (grows_filled k b w0 w m0 m s (K t) 0 x g h.0.none new));
+      values = h.0.value ∷ r.values;
+      full = (r.keeps s (K t) (same_at s (Some (K t)) (w.types s)), h.0.is, r.full);
       keeps = λ y q e. r.keeps y q (kept y q e);
       others = λ y n. r.others y n
-          ∙ at_spot w.types s (Some (Reached t)) y (λ z. z ≡ w.types y) (λ z. absurd (n (ap (λ (p : Spot). p.object) z))) (λ z. refl);
+          ∙ at_spot w.types s (Some (K t)) y (λ z. z ≡ w.types y) (λ z. absurd (n (ap (λ (p : Spot). p.object) z))) (λ z. refl);
     }
   where
     bare : {o p : Option Kept} {q : Kept} → o ≡ None → p ≡ o → p ≡ Some q → ⊥
     bare a b c = cc
 
-pub cells_typed : (d : Tables) (k b : ℕ) (w : Ghost) (m : Memory) (s : Spot) (ts : List RunType) → Inv d w m → s.object < m.objects s.region
-    → AllBegin ts → BegunAt w m s ts → Typed d k b w m s ts
-cells_typed d k b w m s ts i there a h = held_typed d k b w m s ts i there (held_begun w m s ts a h)
+pub cells_typed : (d : Tables) (k b : ℕ) (K : RunType → Kept) (w : Ghost) (m : Memory) (s : Spot) (ts : List RunType) → ((t : RunType) → type_of (K t) ≡ t)
+    → Inv d w m → s.object < m.objects s.region
+    → AllBegin ts → BegunAt w m s ts → Typed d k b K w m s ts
+cells_typed d k b K w m s ts same i there a h = held_typed d k b K w m s ts same i there (held_begun w m s ts a h)
+
+-- cells that pointers may reach
+pub typed_laid : (d : Tables) (k b : ℕ) (w : Ghost) (m : Memory) (s : Spot) (ts : List RunType) → (z : Typed d k b (λ u. Reached u) w m s ts)
+    → Laid z.ghost s ts
+typed_laid d k b w m s ts z = full_laid z.ghost m s ts z.values z.full
 
 -- a new object whose cells hold their first values
-pub runs_begun : {B : Type 0} (d : Tables) (n k b : ℕ) (w : Ghost) (m : Memory) (r : Region) (o : Object) (ts : List RunType) (rest : Spot → Act B)
-    (Q : B → Memory → Type 0) → Inv d w m → m.state r ≡ Live → AllBegin ts → ((j : ℕ) → o j ≡ slice_get (map first_cell (map shape_of ts)) j)
+pub runs_begun : {B : Type 0} (d : Tables) (n k b : ℕ) (K : RunType → Kept) (w : Ghost) (m : Memory) (r : Region) (o : Object) (ts : List RunType)
+    (rest : Spot → Act B)
+    (Q : B → Memory → Type 0) → ((t : RunType) → type_of (K t) ≡ t) → Inv d w m → m.state r ≡ Live → AllBegin ts
+    → ((j : ℕ) → o j ≡ slice_get (map first_cell (map shape_of ts)) j)
     → ((at : Spot) (w' : Ghost) (m' : Memory) → Inv d w' m' → Grows k b w m w' m' → New m m' r at
-    → ((y : Spot) (q : Kept) → w.types y ≡ Some q → m'.cells y ≡ m.cells y) → Laid w' at ts → Runs n (rest at) m' Q)
+    → ((y : Spot) (q : Kept) → w.types y ≡ Some q → m'.cells y ≡ m.cells y) → (vs : List Scalar) → FullAt K w' m' at ts vs → Runs n (rest at) m' Q)
     → Runs n (make_object r o >>= rest) m Q
-runs_begun d n k b w m r o ts rest Q i l begins first go =
+runs_begun d n k b K w m r o ts rest Q same i l begins first go =
     let m1 : Memory = with_object m r o in
     let at : Spot = next_spot m r in
     let there : at.object < m1.objects at.region =
     at_region m.objects r (m.objects r + 1) r (λ y. m.objects r < y) (λ e. omega arith) (λ e. absurd (e refl)) in
-    let z : Typed d k b w m1 at ts =
-    cells_typed d k b w m1 at ts (inv_object d w m r o i l) there begins
+    let z : Typed d k b K w m1 at ts =
+    cells_typed d k b K w m1 at ts same (inv_object d w m r o i l) there begins
     (begun_slice w m1 at ts (λ j. untyped d w m (beyond at j) i (omega arith) (w.types (beyond at j)) refl) (λ j.
     ap (λ (c : Bool). if c && nat_eq (m.objects r) (m.objects r) then o (0 + j) else m.cells (beyond at j)) (region_itself r)
     ∙ (ap (λ (c : Bool). if c then o (0 + j) else m.cells (beyond at j)) (eq-eqb (m.objects r) (m.objects r) refl) ∙ (ap o (omega arith) ∙ first j)))) in
     let done = go at z.ghost m1 z.inv (z.grows w m (omega arith) (grows_object d k b w m r o i)) (record { region = refl; object = refl; counted = there })
-    (λ y q e. old_cells m r o y (i.counted y q e)) z.laid in
+    (λ y q e. old_cells m r o y (i.counted y q e)) z.values z.full in
     record {
       by = λ next q. (runs_check n (is_live m r) (λ next2 m2. rest at next2 m1) m Q (ap state_is_live l)
           (record { by = λ next2 q2. done.by next2 q2 })).by next q;

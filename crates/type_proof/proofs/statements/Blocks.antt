@@ -1,33 +1,33 @@
 -- All statements together.
-use Rattle.std.proofs.Common.{◌≡◌, ℕ, Bool, true, false, Option, Some, None, [], refl, sym, ◌∙◌, ap, subst, arith}
+use Rattle.std.proofs.Common.{◌≡◌, ℕ, Bool, true, false, ◌⊎◌, inl, inr, Option, Some, None, List, [], refl, sym, ◌∙◌, ap, subst, arith}
 use Rattle.std.specs.Prelude.{length, ◌++◌}
 use Rattle.cyc_tree.specs.Tree as tree
-use Rattle.cyc_tree.specs.Tree.{Initializer, Statement, BlockItems, NoItems, Declare, Execute, Clauses, NoClauses, MoreClauses, Case, Default}
+use Rattle.cyc_tree.specs.Tree.{Expression, Initializer, Statement, BlockItems, NoItems, Declare, Execute, Clauses, NoClauses, MoreClauses, Case, Default}
 use Rattle.source_meaning.specs.Shapes.{ArrayShape, HandleShape}
 use Rattle.source_meaning.specs.Memory.{Region, Frame, Born, Memory}
-use Rattle.source_meaning.specs.Steps.{Variable, World, Scope, Falls, Breaks, Continues, Returns, give, take_turn}
-use Rattle.source_meaning.specs.Places.{with_binding}
+use Rattle.source_meaning.specs.Steps.{Variable, World, Scope, Flow, Act, Falls, Breaks, Continues, Returns, give, take_turn}
+use Rattle.source_meaning.specs.Places.{or_else, with_binding}
 use Rattle.source_meaning.specs.Calls.{truth}
 use Rattle.source_meaning.specs.Strings.{expression_strings, statement_strings, items_strings, clauses_strings}
 use Rattle.source_meaning.specs.Expressions.{sense}
 use Rattle.source_meaning.specs.Statements.{statement, block_items}
-use Rattle.source_typing.specs.Scope.{Env, block_entered, next_region}
+use Rattle.source_typing.specs.Scope.{Env, Value, block_entered, next_region}
 use Rattle.source_typing.specs.Tables as typing
-use Rattle.source_typing.specs.Types.{StaticType, Void, Handle, Union, renamed, shape_of}
+use Rattle.source_typing.specs.Types.{StaticType, Void, Handle, Thin, Union, renamed, shape_of}
 use Rattle.source_typing.specs.Flow.{use_of}
-use Rattle.source_typing.specs.Left.{left, declares, turn_of, back_of, left_by, left_by_items}
+use Rattle.source_typing.specs.Left.{left, declares, turn_of, back_of, left_by, left_by_items, left_by_clauses, switched_left}
 use Rattle.source_typing.specs.States.{States, loop_head}
 use Rattle.source_typing.specs.Statements.{Chosen, chosen, in_a_loop, in_a_switch}
 use Rattle.type_proof.specs.Flat.{Tables}
-use Rattle.type_proof.specs.Judged.{Accepted, extended, arrayed, LocalUnset, LocalArray, LocalSet, StatementJudged, ItemsJudged, ClausesJudged, on_union}
+use Rattle.type_proof.specs.Judged.{AliasOpened, extended, arrayed, LocalUnset, LocalArray, LocalSet, StatementJudged, ItemsJudged, ClausesJudged, on_union}
 use Rattle.type_proof.proofs.invariant.Invariant.{RunType, Ghost, Inv}
 use Rattle.type_proof.proofs.invariant.Growth.{grows_refl}
 use Rattle.type_proof.proofs.invariant.Names.{NameOf, naming}
 use Rattle.type_proof.proofs.Strings.{AreFound, found_parts}
 use Rattle.type_proof.proofs.invariant.Scenes.{Scene, scene_later}
 use Rattle.type_proof.proofs.Entries.{Invokes}
-use Rattle.type_proof.proofs.expressions.Forms.{Denotes}
-use Rattle.type_proof.proofs.statements.Surroundings.{Surrounds, surrounds_local, surrounds_array, surrounds_block}
+use Rattle.type_proof.proofs.expressions.Forms.{Denotes, Refuses}
+use Rattle.type_proof.proofs.statements.Surroundings.{Surrounds, agrees_here, type_up, surrounds_local, surrounds_array, surrounds_block}
 use Rattle.type_proof.proofs.statements.Lexical.{lexical, names_with, with_region_is, surrounds_region}
 use Rattle.source_typing.specs.Tables.{argument}
 use Rattle.source_typing.specs.Ways.{ways_of}
@@ -40,15 +40,19 @@ use Rattle.flow_summaries.proofs.Exits.{leaves_at_end}
 use Rattle.flow_summaries.proofs.Expressions.{uses_told}
 use Rattle.flow_summaries.proofs.Statements.{exits_told, items_told}
 use Rattle.type_proof.proofs.statements.Declared.{leaves_unset, leaves_array, leaves_set, leaves_region}
+use Rattle.type_proof.proofs.statements.Exchanged.{leaves_exchange}
+use Rattle.type_proof.proofs.statements.Freed.{leaves_free}
+use Rattle.type_proof.proofs.statements.Aliased.{leaves_alias}
+use Rattle.type_proof.proofs.statements.AliasScope.{aliasing, surrounds_alias, with_name_is}
 use Rattle.type_proof.proofs.statements.Switched.{HoldsMember, AllLeave, switch_leaves}
 use Rattle.type_proof.proofs.statements.Clauses.{case_here, default_here, its_clause, none_falls}
 use Rattle.type_proof.proofs.statements.Unreached.{falls_nowhere, clauses_fall_nowhere}
-use Rattle.type_proof.proofs.invariant.Sound.{ShowsBy}
+use Rattle.type_proof.proofs.invariant.Sound.{ShowsBy, Sound, none_first}
 use Rattle.source_meaning.specs.Statements as meaning
 use Rattle.source_typing.specs.Expressions.{judge}
 use Rattle.source_typing.specs.Named.{AllBelow, TypeBelow}
 use Rattle.type_proof.proofs.statements.Looped.{surrounds_switch}
-use Rattle.type_proof.proofs.statements.Statements.{denotes, leaves_at_once, condition_tells, leaves_block, leaves_return}
+use Rattle.type_proof.proofs.statements.Statements.{denotes, leaves_at_once, condition_tells, leaves_block, leaves_return, leaves_run}
 
 -- what follows in a block is judged as reached where the rules of flow reach it
 reached_items : (g : Env) (x : Statement) (others : BlockItems) (s t : States) → (left_by g x s).falls ≡ Some t → ItemsJudged g (ways_of x).falls others
@@ -62,6 +66,27 @@ reached_items g x others s t e j = by (ways_of x).falls refl j
 module _ (n : ℕ) (d : Tables) (world : World) (tables : typing.Tables) (invokes : Invokes n d world tables) (turns : Turning n d world tables) (b : ℕ)
     (gives : RunType)
   where
+    -- a `switch`, by its place and its clauses
+    leaves_switch : (at : ℕ) (e : Expression) (cs : Clauses) (g : Env) (scope : Scope) (f : NameOf → Region) (v : Value) (tag : List ℕ) (rs : List NameOf)
+        → v.type ≡ Union tag rs → Denotes n d g scope f b b v (use_of g e) (sense e scope)
+        → ((s : States) → (left_by_clauses (in_a_switch g) (chosen (judge g e)) cs s).falls ≡ None)
+        → ((held : meaning.Held) (w : Ghost) → HoldsMember d scope f tag rs held w → (act : Act Flow)
+        × (or_else (meaning.case_for cs held scope) (meaning.default_for cs scope) ≡ Some act))
+        → ((held : meaning.Held) (k : ℕ) (s : States) (w : Ghost) (m : Memory) → HoldsMember d scope f tag rs held w → Inv d w m
+        → Scene d (in_a_switch g) scope f b b s k w m
+        → AllLeave n d gives (in_a_switch g) scope f b (chosen (judge g e)) held k s w m cs)
+        → Leaves n d gives g scope f b (left_by g (Statement.Switch at e cs)) (statement (Statement.Switch at e cs) scope)
+    leaves_switch at e cs g scope f v tag rs is z ends found clauses = by z.sound
+      where
+        by : Sound n d g scope f b b v (use_of g e) z.own (sense e scope) ⊎ Refuses n d g scope f b b (use_of g e)
+            → Leaves n d gives g scope f b (left_by g (Statement.Switch at e cs)) (statement (Statement.Switch at e cs) scope)
+        by (inr y) = λ s none. absurd (y.look s (none_first ((use_of g e).look s).faults
+            (switched_left (left_by_clauses (in_a_switch g) (chosen (judge g e)) cs ((use_of g e).look s).states)).faults none))
+        by (inl y) =
+            switch_leaves n d gives g scope f b at e cs tag rs
+            (y.shape (λ q. let u : Union tag rs ≡ Void = sym is ∙ q in cc) ∙ ap shape_of is)
+            (subst (λ (t : StaticType). ShowsBy n d g scope f b b (use_of g e).look t (sense e scope).look) is y.look) ends found clauses
+
     -- ---- all statements
 
     mutual
@@ -74,11 +99,11 @@ module _ (n : ℕ) (d : Tables) (world : World) (tables : typing.Tables) (invoke
           leaves_block n d world tables invokes b gives g scope f items h
           (λ a. items_leave items (block_entered g) (record scope { frame = a }) (naming f g.regions.count (Frame a))
           (surrounds_block d world tables g scope f gives h a) j fs)
-      statement_leaves (Statement.Run e) g scope f h j fs = λ s none k w m i x. record {
-        by = λ next q. ((denotes n d world tables invokes b gives g scope f e h j fs).sound.value s none k w m i x).by (λ vs. next Falls)
-            (λ vs m1 y. q Falls m1 (record { ghost = y.ghost; inv = y.inv; grows = y.grows; holds = (((use_of g e).value s).states, refl, y.holds.1) }));
-      }
-      statement_leaves (Statement.Exchange l r) g scope f h j fs = absurd j
+      statement_leaves (Statement.Run e) g scope f h j fs = leaves_run n d world tables invokes b gives g scope f e h j fs
+      statement_leaves (Statement.Exchange l r) g scope f h j fs =
+          let found : AreFound world.strings (expression_strings l) × AreFound world.strings (expression_strings r) =
+          found_parts world.strings (expression_strings l) (expression_strings r) fs in
+          leaves_exchange n d world tables invokes b gives g scope f l r h j found.0 found.1
       statement_leaves (Statement.If at e body) g scope f h j fs =
           leaves_either n d gives g scope f b (use_of g e).look (left_by g body) (λ t. left (Some t) None None []) (exits_of g body) ends
           (truth (sense e scope)) (statement body scope) (give Falls)
@@ -104,19 +129,18 @@ module _ (n : ℕ) (d : Tables) (world : World) (tables : typing.Tables) (invoke
           (condition_tells n d world tables invokes b gives g scope f e h j.0 (found_parts world.strings (expression_strings e) (statement_strings body) fs).0)
           (exits_told body (in_a_loop g)) (turns gives g scope f b e body h j.0 j.1 fs)
           (loop_head s (λ t. back_of (turn_of (use_of g e).look (left_by (in_a_loop g) body) t))) head.0 k w m i
-          (scene_later d g scope f b s (loop_head s (λ t. back_of (turn_of (use_of g e).look (left_by (in_a_loop g) body) t))) k w m w m i (grows_refl k b w m)
+          (scene_later d g scope f b b s (loop_head s (λ t. back_of (turn_of (use_of g e).look (left_by (in_a_loop g) body) t))) k w m w m i
+          (grows_refl k b w m)
           head.1 x)
       statement_leaves (Statement.Switch at e cs) g scope f h j fs =
-          let a : Accepted g e = j.0.accepted in
           let c : Chosen = on_union j.0 in
           let found : AreFound world.strings (expression_strings e) × AreFound world.strings (clauses_strings cs) =
           found_parts world.strings (expression_strings e) (clauses_strings cs) fs in
-          let z : Denotes n d g scope f b a.value (use_of g e) (sense e scope) = denotes n d world tables invokes b gives g scope f e h a found.0 in
+          let z : Denotes n d g scope f b b j.0.accepted.value (use_of g e) (sense e scope) =
+          denotes n d world tables invokes b gives g scope f e h j.0.accepted found.0 in
           let h1 : Surrounds d world tables (in_a_switch g) scope f gives = surrounds_switch d world tables g scope f gives h in
           let below : AllBelow g.regions.count j.0.regions = subst (λ (t : StaticType). TypeBelow g.regions.count t) j.0.is z.below in
-          switch_leaves n d gives g scope f b at e cs j.0.tag j.0.regions
-          (z.sound.shape (λ q. let y : Union j.0.tag j.0.regions ≡ Void = sym j.0.is ∙ q in cc) ∙ ap shape_of j.0.is)
-          (subst (λ (t : StaticType). ShowsBy n d g scope f b (use_of g e).look t (sense e scope).look) j.0.is z.sound.look)
+          leaves_switch at e cs g scope f j.0.accepted.value j.0.tag j.0.regions j.0.is z
           (λ s. clauses_fall_nowhere cs (in_a_switch g) (chosen (judge g e)) s (none_falls (in_a_switch g) c cs j.1))
           (λ held w holds. its_clause n d world tables invokes b gives (in_a_switch g) scope f h1 c held w holds cs j.0.fit)
           (λ held k s w m holds i x. subst (λ (o : Option Chosen). AllLeave n d gives (in_a_switch g) scope f b o held k s w m cs) (sym j.0.place)
@@ -129,7 +153,8 @@ module _ (n : ℕ) (d : Tables) (world : World) (tables : typing.Tables) (invoke
           leaves_at_once n d world tables invokes b gives g scope f (left_by g (Statement.Return at None)) (Returns [])
           (λ s w m st. subst (λ (t : RunType). ReturnOk d t [] w) (h.result Void j).run tt)
       statement_leaves (Statement.Return at (Some e)) g scope f h j fs = leaves_return n d world tables invokes b gives at g scope f e h j fs
-      statement_leaves (Statement.FreeUnique at p) g scope f h j fs = absurd j
+      statement_leaves (Statement.FreeUnique at p) g scope f h j fs =
+          leaves_free n d gives g scope f b at p (agrees_here d world tables g scope f gives h) h.binds j
       statement_leaves (Statement.FreeKey at p) g scope f h j fs = absurd j
 
       pub items_leave : (items : BlockItems) (g : Env) (scope : Scope) (f : NameOf → Region) → Surrounds d world tables g scope f gives
@@ -178,7 +203,19 @@ module _ (n : ℕ) (d : Tables) (world : World) (tables : typing.Tables) (invoke
           (surrounds_local d world tables (lexical g (names_with r g)) scope (naming f g.regions.count (Born a)) x t at gives h1 tt (omega arith) there)
           (subst (λ (y : Env). ItemsJudged y true others) same j.1) fs))
       items_leave (Declare (tree.Open at r x y) others) g scope f h j fs = absurd j.0
-      items_leave (Declare (tree.Alias at r t x p) others) g scope f h j fs = absurd j.0
+      items_leave (Declare (tree.Alias at r of x y) others) g scope f h j fs =
+          let o : AliasOpened g at r of x y = j.0 in
+          let t : StaticType = Thin o.operand.nullable (next_region g) o.operand.to in
+          let same = o.scope ∙ ap (λ (e : Env). extended e x t) (with_name_is r g) in
+          subst (λ (e : Env). Leaves n d gives g scope f b (λ s. declares g e (tree.Alias at r of x y) (λ q. left_by_items e others q) s)
+          (block_items (Declare (tree.Alias at r of x y) others) scope)) (sym same)
+          (leaves_alias n d world tables invokes b gives g scope f x y r of (left_by_items (extended (aliasing g (names_with r g)) x t) others)
+          (block_items others) h at o
+          (λ q it under l there.
+          items_leave others (extended (aliasing g (names_with r g)) x t) (with_binding scope x.text (Variable (shape_of t) l)) (naming f g.regions.count q)
+          (surrounds_local d world tables (aliasing g (names_with r g)) scope (naming f g.regions.count q) x t l gives
+          (surrounds_alias d world tables g scope f gives (names_with r g) q h) it (omega arith, type_up g.regions.count o.operand.to under) there)
+          (subst (λ (e : Env). ItemsJudged e true others) same j.1) fs))
       items_leave (Declare (tree.NewKey at r x) others) g scope f h j fs = absurd j.0
       items_leave (Execute s others) g scope f h j fs =
           leaves_then n d gives g scope f b (left_by g s) (left_by_items g others) (exits_of g s) (exits_of_items g others) (statement s scope)
@@ -191,7 +228,7 @@ module _ (n : ℕ) (d : Tables) (world : World) (tables : typing.Tables) (invoke
       -- each clause is a block of items
       clauses_leave_all : (cs : Clauses) (g : Env) (scope : Scope) (f : NameOf → Region) (h : Surrounds d world tables g scope f gives) (c : Chosen)
           → AllBelow g.regions.count c.regions → ClausesJudged g true c cs → AreFound world.strings (clauses_strings cs) → (held : meaning.Held) (w : Ghost)
-          → HoldsMember d scope f c.tag c.regions held w → (k : ℕ) (s : States) (m : Memory) → Inv d w m → Scene d g scope f b s k w m
+          → HoldsMember d scope f c.tag c.regions held w → (k : ℕ) (s : States) (m : Memory) → Inv d w m → Scene d g scope f b b s k w m
           → AllLeave n d gives g scope f b (Some c) held k s w m cs
       clauses_leave_all NoClauses g scope f h c below j fs held w holds k s m i x = tt
       clauses_leave_all (MoreClauses at Default body others) g scope f h c below j fs held w holds k s m i x =

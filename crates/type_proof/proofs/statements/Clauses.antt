@@ -1,8 +1,7 @@
 -- The clauses of a `switch`: each is a block, in which the name of a member stands for a copy of what the union holds.
 use Rattle.std.proofs.Common.{◌≡◌, ◌<◌, arith, ℕ, Bool, true, false, Option, Some, List, [], ◌∷◌, refl, sym, ◌∙◌, ap, subst}
-use Rattle.std.specs.Prelude.{bytes_eq, map, ◌+◌, nat_eq, slice_get, if◌then◌else◌}
+use Rattle.std.specs.Prelude.{bytes_eq, map, ◌+◌, nat_eq, slice_get, if◌then◌else◌, nat_le}
 use Rattle.std.proofs.lemmas.Bool.{eqb-true, and_parts, false≢true}
-use Rattle.std.specs.Prelude.{nat_le}
 use Rattle.cyc_tree.specs.Tree as tree
 use Rattle.cyc_tree.specs.Tree.{Clauses, NoClauses, MoreClauses, BlockItems, Case, Default}
 use Rattle.source_meaning.specs.Shapes as shapes
@@ -30,13 +29,14 @@ use Rattle.type_proof.specs.Judged.{ClauseNamed, ClausesJudged, extended}
 use Rattle.type_proof.specs.Structs.{AreLaidOut, AreMembers, IsUnionMember}
 use Rattle.type_proof.proofs.invariant.Facts.{at_region}
 use Rattle.type_proof.proofs.invariant.Invariant as invariant
-use Rattle.type_proof.proofs.invariant.Invariant.{RunType, heap, Reached, Nobody, Flying, Ghost, HasPlain, HaveTypes, Inv}
+use Rattle.type_proof.proofs.invariant.Invariant.{RunType, heap, Nobody, Flying, Ghost, HasPlain, HaveTypes, Inv}
 use Rattle.type_proof.proofs.invariant.Values.{Grown, copied_plain}
 use Rattle.type_proof.proofs.invariant.Alikes.{renamed_alike}
 use Rattle.type_proof.proofs.invariant.Runs.{Runs}
 use Rattle.type_proof.proofs.invariant.After.{After, flying}
-use Rattle.type_proof.proofs.invariant.Objects.{runs_made, full_laid}
+use Rattle.type_proof.proofs.invariant.Objects.{runs_made}
 use Rattle.type_proof.proofs.invariant.Scopes.{above_scope, block_ghost, block_memory, runs_block}
+use Rattle.type_proof.proofs.invariant.Received.{kept_as, kept_type}
 use Rattle.type_proof.proofs.invariant.Names.{NameOf, naming}
 use Rattle.type_proof.proofs.invariant.Scenes.{Scene, scene_later, stands_typed}
 use Rattle.type_proof.proofs.invariant.Sound.{cells_type, shape_renamed}
@@ -51,7 +51,7 @@ use Rattle.type_proof.proofs.statements.Surroundings.{Surrounds, naming_alike, s
 use Rattle.type_proof.proofs.statements.Flows.{WaysStand, Leaves}
 use Rattle.type_proof.proofs.statements.Statements.{block_out, leaves_block}
 use Rattle.type_proof.proofs.statements.Dropped.{entering_none}
-use Rattle.type_proof.proofs.statements.Declared.{first_state, follows, frame_live, local_cells, made_apart, made_counted}
+use Rattle.type_proof.proofs.statements.Declared.{follows, frame_live, local_cells, made_apart, made_counted}
 use Rattle.type_proof.proofs.statements.Cases.{clause_found}
 use Rattle.type_proof.proofs.statements.Switched.{HoldsMember, LeavesHere, clause_left}
 use Rattle.type_proof.proofs.statements.Unreached.{NoneFalls}
@@ -119,7 +119,7 @@ module _ (n : ℕ) (d : Tables) (world : World) (tables : typing.Tables) (invoke
         (and_parts (nat_le (defaults cs) 1) (all_named (parts_in g.tables c.tag) cs (nat_eq (defaults cs) 1)) fit).1 z.among
         (ap (λ (qs : List shapes.Part). part_position qs z.name) parts ∙ z.found)
 
-    module _ (below : AllBelow g.regions.count c.regions) (k : ℕ) (s : States) (m : Memory) (i : Inv d w m) (x : Scene d g scope f b s k w m) where
+    module _ (below : AllBelow g.regions.count c.regions) (k : ℕ) (s : States) (m : Memory) (i : Inv d w m) (x : Scene d g scope f b b s k w m) where
       -- `default` is a block
       pub default_here : (body : BlockItems)
           → ((a : ℕ) → Leaves n d gives (block_entered g) (record scope { frame = a }) (naming f g.regions.count (Frame a)) b
@@ -219,7 +219,7 @@ module _ (n : ℕ) (d : Tables) (world : World) (tables : typing.Tables) (invoke
               (λ flow. After d k b (block_ghost w m) (block_memory m)
               (λ w' m'. WaysStand d gives (block_entered g) its_scope its_names (entering (block_entered g) inner p s) flow w' m'))
           opened e i1 =
-              let x1 : Scene d (block_entered g) its_scope its_names b s k (block_ghost w m) (block_memory m) =
+              let x1 : Scene d (block_entered g) its_scope its_names b b s k (block_ghost w m) (block_memory m) =
               scene_block d world tables g scope f gives b s k w m h i x in
               let h1 : Surrounds d world tables (block_entered g) its_scope its_names gives = surrounds_block d world tables g scope f gives h a0 in
               let cells : cells_of scope.world (shape_of t) ≡ map shape_of (cells_type d its_names t) =
@@ -228,8 +228,8 @@ module _ (n : ℕ) (d : Tables) (world : World) (tables : typing.Tables) (invoke
               (subst (λ (cs : List Shape). Runs n (make_object (Frame a0) (blank_object cs) >>= λ at.
               write_cells at (held.value ∷ []) >> block_items body (with_binding its_scope z.text (Variable (shape_of t) at))) (block_memory m) post)
               (sym cells)
-              (runs_made d n k b (λ q. Reached q) (block_ghost w m) (block_memory m) (Frame a0) (cells_type d its_names t) (held.value ∷ [])
-              (λ at. block_items body (with_binding its_scope z.text (Variable (shape_of t) at))) post (λ q. refl) i1
+              (runs_made d n k b (kept_as g.tables t) (block_ghost w m) (block_memory m) (Frame a0) (cells_type d its_names t) (held.value ∷ [])
+              (λ at. block_items body (with_binding its_scope z.text (Variable (shape_of t) at))) post (kept_type g.tables t) i1
               (frame_live n d world tables invokes b gives (block_entered g) its_scope its_names s k (block_ghost w m) (block_memory m) h1 x1) typed
               (λ at w2 m2 i2 g2 new full st settles.
               follows n d world tables invokes b gives (block_entered g) its_scope its_names z (Stored t (block_entered g).frame) (shape_of t) p
@@ -237,10 +237,10 @@ module _ (n : ℕ) (d : Tables) (world : World) (tables : typing.Tables) (invoke
               (λ at2 there. inside a0 at2 there object (type_up g.regions.count t type_below)) at new.region s e k (block_ghost w m) (block_memory m) w2 m2 i2
               g2
               (scene_local d world tables (block_entered g) its_scope its_names z t at gives h1 object (type_up g.regions.count t type_below) new.region b
-              (first_state n d world tables invokes b gives (block_entered g) z (Stored t (block_entered g).frame)) s k w2 m2
-              (scene_later d (block_entered g) its_scope its_names b s s k (block_ghost w m) (block_memory m) w2 m2 i2 g2
+              inner s k w2 m2 (held.value ∷ []) refl
+              (scene_later d (block_entered g) its_scope its_names b b s s k (block_ghost w m) (block_memory m) w2 m2 i2 g2
               (stands_typed d (block_entered g) its_scope its_names s (block_ghost w m) (block_memory m) w2 m2 g2.types settles.cells x1.stands) x1)
-              (full_laid w2 m2 at (cells_type d its_names t) (held.value ∷ []) full)
+              full
               (made_apart n d world tables invokes b gives its_scope (block_memory m) m2 at new x1.counted)
               (made_counted n d world tables invokes b gives its_scope (block_memory m) m2 at new)))))
             where

@@ -1,5 +1,5 @@
 -- Declarations, each with what follows it in its block.
-use Rattle.std.proofs.Common.{◌≡◌, ℕ, ◌<◌, true, List, [], ◌∷◌, refl, sym, ◌∙◌, ap, subst, arith}
+use Rattle.std.proofs.Common.{◌≡◌, ℕ, ◌<◌, true, ◌⊎◌, inl, inr, List, [], ◌∷◌, refl, sym, ◌∙◌, ap, subst, arith}
 use Rattle.std.specs.Prelude.{map}
 use Rattle.cyc_tree.specs.Tree as tree
 use Rattle.cyc_tree.specs.Tree.{Expression, TypeName}
@@ -29,16 +29,16 @@ use Rattle.type_proof.proofs.invariant.Growth.{grows_trans}
 use Rattle.type_proof.proofs.invariant.Runs.{Runs}
 use Rattle.type_proof.proofs.invariant.After.{After}
 use Rattle.type_proof.proofs.invariant.Objects.{New, runs_made, full_laid}
+use Rattle.type_proof.proofs.invariant.Received.{kept_as, kept_type}
 use Rattle.type_proof.proofs.invariant.Scopes.{region_ghost, region_memory, runs_region}
 use Rattle.type_proof.proofs.invariant.Names.{NameOf, naming}
 use Rattle.type_proof.proofs.Strings.{AreFound}
 use Rattle.type_proof.proofs.invariant.Scenes.{Scene, scene_later, stands_typed}
-use Rattle.type_proof.proofs.invariant.Sound.{shape_renamed, cells_type}
+use Rattle.type_proof.proofs.invariant.Sound.{shape_renamed, cells_type, Sound, none_first, none_second}
 use Rattle.type_proof.proofs.expressions.Storing.{runs_converted}
 use Rattle.type_proof.proofs.Entries.{Invokes}
-use Rattle.type_proof.proofs.expressions.Forms.{Denotes}
-use Rattle.type_proof.proofs.statements.Surroundings.{Surrounds, agrees_here, scene_local, scene_array}
-use Rattle.type_proof.proofs.statements.Surroundings.{naming_itself}
+use Rattle.type_proof.proofs.expressions.Forms.{Denotes, Refuses}
+use Rattle.type_proof.proofs.statements.Surroundings.{Surrounds, agrees_here, scene_local, scene_array, naming_itself}
 use Rattle.type_proof.proofs.statements.Lexical.{lexical, surrounds_region, scene_region}
 use Rattle.type_proof.proofs.statements.Begun.{runs_begun}
 use Rattle.type_proof.proofs.invariant.Layouts.{AllBegin, agrees, all_begin, cells_begin}
@@ -49,19 +49,18 @@ use Rattle.type_proof.proofs.statements.Flows.{WaysStand, Leaves}
 use Rattle.type_proof.proofs.statements.Ways.{as_after}
 use Rattle.type_proof.proofs.statements.Dropped.{entering_one, ways_dropped}
 use Rattle.type_proof.proofs.invariant.Standing.{LocalsBelow, ApartFrom, AllCounted, counted_apart}
-use Rattle.type_proof.proofs.invariant.Sound.{none_first, none_second}
 use Rattle.type_proof.proofs.statements.Statements.{denotes, way_out}
 
 module _ (n : ℕ) (d : Tables) (world : World) (tables : typing.Tables) (invokes : Invokes n d world tables) (b : ℕ)
     (gives : RunType)
   where
     -- what follows a declaration, wherever the local lies
-    abbrev Follows : Env → Scope → (NameOf → Region) → tree.Name → What → Shape → (States → Left) → (Scope → Act Flow) → Type 0
+    abbrev pub Follows : Env → Scope → (NameOf → Region) → tree.Name → What → Shape → (States → Left) → (Scope → Act Flow) → Type 0
     Follows g scope f x v sh p rest = (at : Spot) → at.region ≡ Frame scope.frame
         → Leaves n d gives (named g x v) (with_binding scope x.text (Variable sh at)) f b p (rest (with_binding scope x.text (Variable sh at)))
 
     pub frame_live : (g : Env) (scope : Scope) (f : NameOf → Region) (s : States) (k : ℕ) (w : Ghost) (m : Memory) → Surrounds d world tables g scope f gives
-        → Scene d g scope f b s k w m → m.state (Frame scope.frame) ≡ Live
+        → Scene d g scope f b b s k w m → m.state (Frame scope.frame) ≡ Live
     frame_live g scope f s k w m h x = subst (λ (r : Region). m.state r ≡ Live) h.frame (x.names.live g.frame h.frame_lives)
 
     -- the state in which it begins
@@ -78,7 +77,7 @@ module _ (n : ℕ) (d : Tables) (world : World) (tables : typing.Tables) (invoke
     pub follows : (g : Env) (scope : Scope) (f : NameOf → Region) (x : tree.Name) (v : What) (sh : Shape) (p : States → Left) (rest : Scope → Act Flow)
         → Follows g scope f x v sh p rest → (at : Spot) → at.region ≡ Frame scope.frame → (s : States) → (entering g (named g x v) p s).faults ≡ []
         → (k : ℕ) (w : Ghost) (m : Memory) (w1 : Ghost) (m1 : Memory)
-        → Inv d w1 m1 → Grows k b w m w1 m1 → Scene d (named g x v) (with_binding scope x.text (Variable sh at)) f b (first_state g x v ∷ s) k w1 m1
+        → Inv d w1 m1 → Grows k b w m w1 m1 → Scene d (named g x v) (with_binding scope x.text (Variable sh at)) f b b (first_state g x v ∷ s) k w1 m1
         → Runs n (rest (with_binding scope x.text (Variable sh at))) m1
         (λ flow. After d k b w m (λ w' m'. WaysStand d gives g scope f (entering g (named g x v) p s) flow w' m'))
     follows g scope f x v sh p rest go at there s e k w m w1 m1 i g1 z = record {
@@ -127,13 +126,14 @@ module _ (n : ℕ) (d : Tables) (world : World) (tables : typing.Tables) (invoke
         (make_object (Frame scope.frame) (object_of (map first_cell cs)) >>= λ at.
         rest (with_binding scope x.text (Variable (shape_of l.type) at)))) (sym (local_cells g scope f l.type h))
         (λ s e k w m i z.
-        runs_begun d n k b w m (Frame scope.frame) (object_of (map first_cell (map shape_of (cells_type d f l.type)))) (cells_type d f l.type)
-        (λ at. rest (with_binding scope x.text (Variable (shape_of l.type) at))) _ i (frame_live g scope f s k w m h z)
+        runs_begun d n k b (kept_as g.tables l.type) w m (Frame scope.frame) (object_of (map first_cell (map shape_of (cells_type d f l.type))))
+        (cells_type d f l.type)
+        (λ at. rest (with_binding scope x.text (Variable (shape_of l.type) at))) _ (kept_type g.tables l.type) i (frame_live g scope f s k w m h z)
         (local_begins g scope f l.type h l.object l.begins) (λ j. refl)
-        (λ at w1 m1 i1 g1 new same laid.
+        (λ at w1 m1 i1 g1 new same vs full.
         follows g scope f x (Stored l.type g.frame) (shape_of l.type) p rest go at new.region s e k w m w1 m1 i1 g1
-        (scene_local d world tables g scope f x l.type at gives h l.object l.below new.region b (first_state g x (Stored l.type g.frame)) s k w1 m1
-        (scene_later d g scope f b s s k w m w1 m1 i1 g1 (stands_typed d g scope f s w m w1 m1 g1.types same z.stands) z) laid
+        (scene_local d world tables g scope f x l.type at gives h l.object l.below new.region b (extended g x l.type) s k w1 m1 vs refl
+        (scene_later d g scope f b b s s k w m w1 m1 i1 g1 (stands_typed d g scope f s w m w1 m1 g1.types same z.stands) z) full
         (made_apart scope m m1 at new z.counted) (made_counted scope m m1 at new)))))
 
     -- an array, each of whose elements begins so
@@ -151,14 +151,16 @@ module _ (n : ℕ) (d : Tables) (world : World) (tables : typing.Tables) (invoke
         (make_object (Frame scope.frame) (array_of c (map first_cell cs)) >>= λ at.
         rest (with_binding scope x.text (Variable (ArrayShape c (shape_of l.type)) at)))) (sym (local_cells g scope f l.type h))
         (λ s e k w m i z.
-        runs_begun d n k b w m (Frame scope.frame) (array_of c (map first_cell (map shape_of (cells_type d f l.type)))) (repeated c (cells_type d f l.type))
-        (λ at. rest (with_binding scope x.text (Variable (ArrayShape c (shape_of l.type)) at))) _ i (frame_live g scope f s k w m h z)
+        runs_begun d n k b (λ u. Reached u) w m (Frame scope.frame) (array_of c (map first_cell (map shape_of (cells_type d f l.type))))
+        (repeated c (cells_type d f l.type))
+        (λ at. rest (with_binding scope x.text (Variable (ArrayShape c (shape_of l.type)) at))) _ (λ u. refl) i (frame_live g scope f s k w m h z)
         (all_begin c (cells_type d f l.type) (local_begins g scope f l.type h l.object l.begins)) (array_row first_cell c (cells_type d f l.type))
-        (λ at w1 m1 i1 g1 new same laid.
+        (λ at w1 m1 i1 g1 new same vs full.
         follows g scope f x (Arrayed l.type g.frame) (ArrayShape c (shape_of l.type)) p rest go at new.region s e k w m w1 m1 i1 g1
         (scene_array d world tables g scope f x l.type at gives h l.object l.below new.region c b (first_state g x (Arrayed l.type g.frame)) s k w1 m1
-        (scene_later d g scope f b s s k w m w1 m1 i1 g1 (stands_typed d g scope f s w m w1 m1 g1.types same z.stands) z)
-        (laid_all w1 at c (cells_type d f l.type) laid) (made_apart scope m m1 at new z.counted) (made_counted scope m m1 at new)))))
+        (scene_later d g scope f b b s s k w m w1 m1 i1 g1 (stands_typed d g scope f s w m w1 m1 g1.types same z.stands) z)
+        (laid_all w1 at c (cells_type d f l.type) (full_laid w1 m1 at (repeated c (cells_type d f l.type)) vs full)) (made_apart scope m m1 at new z.counted)
+        (made_counted scope m m1 at new)))))
 
     -- ---- with an initializer
 
@@ -170,51 +172,67 @@ module _ (n : ℕ) (d : Tables) (world : World) (tables : typing.Tables) (invoke
         ((sense e scope).value >>= converted scope.world (settled_by (written of) (sense e scope).shape) (sense e scope).shape >>= λ vs.
         make_object (Frame scope.frame) (blank_object (cells_of scope.world (settled_by (written of) (sense e scope).shape))) >>= λ at.
         write_cells at vs >> rest (with_binding scope x.text (Variable (settled_by (written of) (sense e scope).shape) at)))
-    leaves_set g scope f of x e p rest h l found go =
-        let a : Accepted g e = l.fitting.accepted in
-        let z : Denotes n d g scope f b a.value (use_of g e) (sense e scope) = denotes n d world tables invokes b gives g scope f e h a found in
-        let from : (sense e scope).shape ≡ shape_of a.value.type =
-        z.sound.shape (converts_some g.regions a.value.type l.type l.fitting.converts l.object) in
-        let shape_is : settled_by (written of) (sense e scope).shape ≡ shape_of l.type = ap (settled_by (written of)) from ∙ l.shape in
-        let way : States → Left = (λ s. after_passed ((use_of g e).value s) (entering g (extended g x l.type) p)) in
-        let cells : cells_of scope.world (shape_of l.type) ≡ map shape_of (cells_type d f l.type) = local_cells g scope f l.type h in
-        subst (λ (y : Shape). Leaves n d gives g scope f b way ((sense e scope).value >>= converted scope.world y (sense e scope).shape >>= λ vs.
-        make_object (Frame scope.frame) (blank_object (cells_of scope.world y)) >>= λ at.
-        write_cells at vs >> rest (with_binding scope x.text (Variable y at)))) (sym shape_is)
-        (subst (λ (y : Shape). Leaves n d gives g scope f b way ((sense e scope).value >>= converted scope.world (shape_of l.type) y >>= λ vs.
-        make_object (Frame scope.frame) (blank_object (cells_of scope.world (shape_of l.type))) >>= λ at.
-        write_cells at vs >> rest (with_binding scope x.text (Variable (shape_of l.type) at)))) (sym from)
-        (subst (λ (cs : List Shape). Leaves n d gives g scope f b way
-        ((sense e scope).value >>= converted scope.world (shape_of l.type) (shape_of a.value.type) >>= λ vs.
-        make_object (Frame scope.frame) (blank_object cs) >>= λ at. write_cells at vs >> rest (with_binding scope x.text (Variable (shape_of l.type) at))))
-        (sym cells)
-        (λ s none k w m i q.
-        let s1 : States = ((use_of g e).value s).states in
-        let before : ((use_of g e).value s).faults ≡ [] = none_first ((use_of g e).value s).faults (entering g (extended g x l.type) p s1).faults none in
-        let behind : (entering g (extended g x l.type) p s1).faults ≡ [] =
-        none_second ((use_of g e).value s).faults (entering g (extended g x l.type) p s1).faults none in
-        runs_converted n d g scope f b s s1 a.value.type l.type (sense e scope).value
-        (λ vs. make_object (Frame scope.frame) (blank_object (map shape_of (cells_type d f l.type))) >>= λ at.
-        write_cells at vs >> rest (with_binding scope x.text (Variable (shape_of l.type) at)))
-        k w m (λ flow. After d k b w m (λ w' m'. WaysStand d gives g scope f (way s) flow w' m')) (agrees_here d world tables g scope f gives h) z.simple
-        l.object l.fitting.converts (z.sound.value s before) i q
-        (λ vs w1 m1 i1 g1 typed q1.
-        runs_made d n k b (λ t. Reached t) w1 m1 (Frame scope.frame) (cells_type d f l.type) vs
-        (λ at. rest (with_binding scope x.text (Variable (shape_of l.type) at)))
-        (λ flow. After d k b w m (λ w' m'. WaysStand d gives g scope f (way s) flow w' m'))
-        (λ t. refl) i1 (frame_live g scope f s1 k w1 m1 h q1) typed
-        (λ at w2 m2 i2 g2 new full st settles. record {
-          by = λ next go2. (follows g scope f x (Stored l.type g.frame) (shape_of l.type) p rest go at new.region s1 behind k w m w2 m2 i2 (grows_trans g1 g2)
-              (scene_local d world tables g scope f x l.type at gives h l.object l.below new.region b (first_state g x (Stored l.type g.frame)) s1 k w2 m2
-              (scene_later d g scope f b s1 s1 k w1 m1 w2 m2 i2 g2 (stands_typed d g scope f s1 w1 m1 w2 m2 g2.types settles.cells q1.stands) q1)
-              (full_laid w2 m2 at (cells_type d f l.type) vs full) (made_apart scope m1 m2 at new q1.counted) (made_counted scope m1 m2 at new))).by next
-              (λ flow m3 y. go2 flow m3 (record {
-                ghost = y.ghost;
-                inv = y.inv;
-                grows = y.grows;
-                holds = as_after n d gives g scope f b (entering g (extended g x l.type) p s1) ((use_of g e).value s).faults flow y.ghost m3 y.holds;
-              }));
-        })))))
+    leaves_set g scope f of x e p rest h l found go = by z.sound
+      where
+        a : Accepted g e
+        a = l.fitting.accepted
+
+        z : Denotes n d g scope f b b a.value (use_of g e) (sense e scope)
+        z = denotes n d world tables invokes b gives g scope f e h a found
+
+        way : States → Left
+        way s = after_passed ((use_of g e).value s) (entering g (extended g x l.type) p)
+
+        by : Sound n d g scope f b b a.value (use_of g e) z.own (sense e scope) ⊎ Refuses n d g scope f b b (use_of g e)
+            → Leaves n d gives g scope f b way
+            ((sense e scope).value >>= converted scope.world (settled_by (written of) (sense e scope).shape) (sense e scope).shape >>= λ vs.
+            make_object (Frame scope.frame) (blank_object (cells_of scope.world (settled_by (written of) (sense e scope).shape))) >>= λ at.
+            write_cells at vs >> rest (with_binding scope x.text (Variable (settled_by (written of) (sense e scope).shape) at)))
+        by (inr r) = λ s none. absurd (r.value s
+            (none_first ((use_of g e).value s).faults (entering g (extended g x l.type) p ((use_of g e).value s).states).faults none))
+        by (inl y) =
+            let from : (sense e scope).shape ≡ shape_of a.value.type =
+            y.shape (converts_some g.regions a.value.type l.type l.fitting.converts l.object) in
+            let shape_is : settled_by (written of) (sense e scope).shape ≡ shape_of l.type = ap (settled_by (written of)) from ∙ l.shape in
+            let cells : cells_of scope.world (shape_of l.type) ≡ map shape_of (cells_type d f l.type) = local_cells g scope f l.type h in
+            subst (λ (q : Shape). Leaves n d gives g scope f b way ((sense e scope).value >>= converted scope.world q (sense e scope).shape >>= λ vs.
+            make_object (Frame scope.frame) (blank_object (cells_of scope.world q)) >>= λ at.
+            write_cells at vs >> rest (with_binding scope x.text (Variable q at)))) (sym shape_is)
+            (subst (λ (q : Shape). Leaves n d gives g scope f b way ((sense e scope).value >>= converted scope.world (shape_of l.type) q >>= λ vs.
+            make_object (Frame scope.frame) (blank_object (cells_of scope.world (shape_of l.type))) >>= λ at.
+            write_cells at vs >> rest (with_binding scope x.text (Variable (shape_of l.type) at)))) (sym from)
+            (subst (λ (cs : List Shape). Leaves n d gives g scope f b way
+            ((sense e scope).value >>= converted scope.world (shape_of l.type) (shape_of a.value.type) >>= λ vs.
+            make_object (Frame scope.frame) (blank_object cs) >>= λ at. write_cells at vs >> rest (with_binding scope x.text (Variable (shape_of l.type) at))))
+            (sym cells)
+            (λ s none k w m i z0.
+            let s1 : States = ((use_of g e).value s).states in
+            let before : ((use_of g e).value s).faults ≡ [] = none_first ((use_of g e).value s).faults (entering g (extended g x l.type) p s1).faults none in
+            let behind : (entering g (extended g x l.type) p s1).faults ≡ [] =
+            none_second ((use_of g e).value s).faults (entering g (extended g x l.type) p s1).faults none in
+            runs_converted n d g scope f b b s s1 a.value.type l.type (sense e scope).value
+            (λ vs. make_object (Frame scope.frame) (blank_object (map shape_of (cells_type d f l.type))) >>= λ at.
+            write_cells at vs >> rest (with_binding scope x.text (Variable (shape_of l.type) at)))
+            k w m (λ flow. After d k b w m (λ w' m'. WaysStand d gives g scope f (way s) flow w' m')) (agrees_here d world tables g scope f gives h) z.simple
+            l.object l.fitting.converts (y.value (omega arith) s before) i z0
+            (λ vs w1 m1 i1 g1 typed q1.
+            runs_made d n k b (kept_as g.tables l.type) w1 m1 (Frame scope.frame) (cells_type d f l.type) vs
+            (λ at. rest (with_binding scope x.text (Variable (shape_of l.type) at)))
+            (λ flow. After d k b w m (λ w' m'. WaysStand d gives g scope f (way s) flow w' m'))
+            (kept_type g.tables l.type) i1 (frame_live g scope f s1 k w1 m1 h q1) typed
+            (λ at w2 m2 i2 g2 new full st settles. record {
+              by = λ next go2. (follows g scope f x (Stored l.type g.frame) (shape_of l.type) p rest go at new.region s1 behind k w m w2 m2 i2
+                  (grows_trans g1 g2)
+                  (scene_local d world tables g scope f x l.type at gives h l.object l.below new.region b (extended g x l.type) s1 k w2 m2 vs refl
+                  (scene_later d g scope f b b s1 s1 k w1 m1 w2 m2 i2 g2 (stands_typed d g scope f s1 w1 m1 w2 m2 g2.types settles.cells q1.stands) q1)
+                  full (made_apart scope m1 m2 at new q1.counted) (made_counted scope m1 m2 at new))).by next
+                  (λ flow m3 y. go2 flow m3 (record {
+                    ghost = y.ghost;
+                    inv = y.inv;
+                    grows = y.grows;
+                    holds = as_after n d gives g scope f b (entering g (extended g x l.type) p s1) ((use_of g e).value s).faults flow y.ghost m3 y.holds;
+                  }));
+            })))))
 
     -- ---- lexical regions
 
@@ -252,7 +270,7 @@ module _ (n : ℕ) (d : Tables) (world : World) (tables : typing.Tables) (invoke
         out a below l (Returns vs) w2 m2 y = y
 
         opened : (s : States) → (entering g inner p s).faults ≡ [] → (k : ℕ) (w : Ghost) (m : Memory) → Inv d (region_ghost w m) (region_memory m)
-            → Scene d (lexical g names) scope (naming f g.regions.count (Born m.births)) b s k (region_ghost w m) (region_memory m)
+            → Scene d (lexical g names) scope (naming f g.regions.count (Born m.births)) b b s k (region_ghost w m) (region_memory m)
             → Surrounds d world tables (lexical g names) scope (naming f g.regions.count (Born m.births)) gives
             → Runs n (local_with scope x.text HandleShape (HandleOf m.births ∷ []) rest) (region_memory m)
             (λ flow. After d k b (region_ghost w m) (region_memory m)
@@ -270,9 +288,9 @@ module _ (n : ℕ) (d : Tables) (world : World) (tables : typing.Tables) (invoke
             follows (lexical g names) scope (naming f g.regions.count (Born m.births)) x (Stored (Handle (next_region g)) g.frame) HandleShape p rest
             (go m.births) at new.region s e k (region_ghost w m) (region_memory m) w2 m2 i2 g2
             (scene_local d world tables (lexical g names) scope (naming f g.regions.count (Born m.births)) x (Handle (next_region g)) at gives h1 tt
-            (omega arith) new.region b (first_state (lexical g names) x (Stored (Handle (next_region g)) g.frame)) s k w2 m2
-            (scene_later d (lexical g names) scope (naming f g.regions.count (Born m.births)) b s s k (region_ghost w m) (region_memory m) w2 m2 i2 g2
+            (omega arith) new.region b inner s k w2 m2 (HandleOf m.births ∷ []) refl
+            (scene_later d (lexical g names) scope (naming f g.regions.count (Born m.births)) b b s s k (region_ghost w m) (region_memory m) w2 m2 i2 g2
             (stands_typed d (lexical g names) scope (naming f g.regions.count (Born m.births)) s (region_ghost w m) (region_memory m) w2 m2 g2.types
             settles.cells q1.stands) q1)
-            (full_laid w2 m2 at (cells_type d (naming f g.regions.count (Born m.births)) (Handle (next_region g))) (HandleOf m.births ∷ []) full)
+            full
             (made_apart scope (region_memory m) m2 at new q1.counted) (made_counted scope (region_memory m) m2 at new)))

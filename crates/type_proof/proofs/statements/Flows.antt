@@ -40,7 +40,7 @@ WaysStand d gives g scope f l (Returns vs) w m = ReturnOk d gives vs w
 
 -- an act that is left so, wherever its function is run, from all states from which it has no fault
 abbrev pub Leaves : ℕ → Tables → RunType → Env → Scope → (NameOf → Region) → ℕ → (States → Left) → Act Flow → Type 0
-Leaves n d gives g scope f b p act = (s : States) → (p s).faults ≡ [] → (k : ℕ) (w : Ghost) (m : Memory) → Inv d w m → Scene d g scope f b s k w m
+Leaves n d gives g scope f b p act = (s : States) → (p s).faults ≡ [] → (k : ℕ) (w : Ghost) (m : Memory) → Inv d w m → Scene d g scope f b b s k w m
     → Runs n act m (λ flow. After d k b w m (λ w' m'. WaysStand d gives g scope f (p s) flow w' m'))
 
 -- states at the head of a loop that each turn keeps, and from which a turn has no fault
@@ -51,7 +51,7 @@ pub record Head (d : Tables) (g : Env) (f : NameOf → Region) (c : States → P
 
 -- a turn, and what follows it
 abbrev pub Turns : ℕ → Tables → RunType → Env → Scope → (NameOf → Region) → ℕ → (States → Passed) → (States → Left) → Act Flow → Type 0
-Turns n d gives g scope f b c l act = (h : States) → Head d g f c l h → (k : ℕ) (w : Ghost) (m : Memory) → Inv d w m → Scene d g scope f b (c h).states k w m
+Turns n d gives g scope f b c l act = (h : States) → Head d g f c l h → (k : ℕ) (w : Ghost) (m : Memory) → Inv d w m → Scene d g scope f b b (c h).states k w m
     → Runs n act m (λ flow. After d k b w m (λ w' m'. WaysStand d gives g scope f (loop_from c l h) flow w' m'))
 
 -- Each turn of a loop, and what follows it, runs safely with n units.

@@ -111,7 +111,8 @@ pub scene_entry : (d : Tables) (world : World) (tables : typing.Tables) (sources
     (judged : FunctionJudged world tables x s F) (h : NameOf → Region) (k : ℕ) (w : Ghost) (m : Memory) → Inv d w m → Globals d tables world w
     → (e : Enters s h k w m)
     → (top : Env) → Scene d (block_entered judged.outside) (entry_scope d world tables sources x s F judged h e.heap_is m.activations)
-    (entry_names d world tables sources x s F judged h e.heap_is m.activations) m.activations (map (λ l. begins_as top l.what) judged.outside.locals) k
+    (entry_names d world tables sources x s F judged h e.heap_is m.activations) m.activations m.activations
+    (map (λ l. begins_as top l.what) judged.outside.locals) k
     (block_ghost w m) (block_memory m)
 scene_entry d world tables sources x s F judged h k w m i globals enters top = record {
   names = names_scope d judged.outside.regions h k w m (m.activations + 1) m.births (Frame m.activations) i (frame_births d w m i)

@@ -65,8 +65,8 @@ surrounds_region d world tables g scope f gives names a h = record {
 
 pub scene_region : (d : Tables) (world : World) (tables : typing.Tables) (g : Env) (scope : Scope) (f : NameOf → Region) (gives : RunType)
     (names : List RegionNamed) (b : ℕ) (s : States) (k : ℕ) (w : Ghost) (m : Memory)
-    → Surrounds d world tables g scope f gives → Inv d w m → Scene d g scope f b s k w m
-    → Scene d (lexical g names) scope (naming f g.regions.count (Born m.births)) b s k (region_ghost w m) (region_memory m)
+    → Surrounds d world tables g scope f gives → Inv d w m → Scene d g scope f b b s k w m
+    → Scene d (lexical g names) scope (naming f g.regions.count (Born m.births)) b b s k (region_ghost w m) (region_memory m)
 scene_region d world tables g scope f gives names b s k w m h i z = record {
   names = names_scope d g.regions f k w m m.activations (m.births + 1) (Born m.births) i (born_births d w m i) z.names;
   base = z.base;

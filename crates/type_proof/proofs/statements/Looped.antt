@@ -31,8 +31,8 @@ surrounds_loop d world tables g scope f gives h = record {
 }
 
 pub scene_loop : (d : Tables) (g : Env) (scope : Scope) (f : NameOf → Region) (b : ℕ) (s : States) (k : ℕ) (w : Ghost) (m : Memory)
-    → Scene d g scope f b s k w m
-    → Scene d (in_a_loop g) scope f b s k w m
+    → Scene d g scope f b b s k w m
+    → Scene d (in_a_loop g) scope f b b s k w m
 scene_loop d g scope f b s k w m h = record {
   names = h.names;
   base = h.base;
@@ -66,8 +66,8 @@ surrounds_switch d world tables g scope f gives h = record {
 }
 
 pub scene_switch : (d : Tables) (g : Env) (scope : Scope) (f : NameOf → Region) (b : ℕ) (s : States) (k : ℕ) (w : Ghost) (m : Memory)
-    → Scene d g scope f b s k w m
-    → Scene d (in_a_switch g) scope f b s k w m
+    → Scene d g scope f b b s k w m
+    → Scene d (in_a_switch g) scope f b b s k w m
 scene_switch d g scope f b s k w m h = record {
   names = h.names;
   base = h.base;

@@ -1,6 +1,6 @@
 -- A result lands with its caller, and a function's parameters are in scope.
 use Rattle.std.proofs.Common.{◌≡◌, ℕ, suc, ◌+◌, ◌<◌, ◌≤◌, Bool, List, [], ◌∷◌, refl, sym, ◌∙◌, ap, subst, arith}
-use Rattle.std.specs.Prelude.{map}
+use Rattle.std.specs.Prelude.{length, map}
 use Rattle.source_meaning.specs.Shapes.{Shape, Part, part_shapes}
 use Rattle.source_meaning.specs.Memory.{Region, Frame, Spot, Scalar, State, Memory}
 use Rattle.source_meaning.specs.Steps.{Entity, Binding, Variable, Fixed, World, Scope}
@@ -10,14 +10,13 @@ use Rattle.source_typing.specs.Tables as typing
 use Rattle.source_typing.specs.Types.{StaticType, renamed, shape_of}
 use Rattle.source_typing.specs.Left.{begins_as}
 use Rattle.source_typing.specs.States.{States}
-use Rattle.source_typing.specs.Tables.{Stored}
 use Rattle.type_proof.proofs.invariant.Standing.{ApartFrom, EntityApart}
 use Rattle.type_proof.specs.Flat.{Tables, flat}
 use Rattle.source_typing.specs.Named.{TypesBelow}
 use Rattle.type_proof.specs.Judged.{extended}
 pub use Rattle.type_proof.specs.Programs.{name_alone, with_all}
 use Rattle.type_proof.proofs.invariant.Invariant as invariant
-use Rattle.type_proof.proofs.invariant.Invariant.{RunType, heap, Owner, Nobody, Flying, Pinned, InCell, Freed, Reached, Ghost, Laid, Steady, Inv, Grows}
+use Rattle.type_proof.proofs.invariant.Invariant.{RunType, heap, Owner, Nobody, Flying, Pinned, InCell, Freed, Kept, Ghost, Steady, Inv, Grows}
 use Rattle.type_proof.proofs.invariant.Values.{Carries, values_kept}
 use Rattle.type_proof.proofs.invariant.Moves.{passing, Class, inv_cells, cell_kept}
 use Rattle.type_proof.proofs.invariant.Growth.{grows_cells}
@@ -28,7 +27,8 @@ use Rattle.type_proof.proofs.invariant.Scenes.{Alike, renamed_alike, Scene}
 use Rattle.type_proof.proofs.invariant.Sound.{shape_renamed}
 use Rattle.type_proof.proofs.Entries.{AreObjects}
 use Rattle.type_proof.proofs.statements.Surroundings.{Surrounds, surrounds_local, scene_local, type_up}
-use Rattle.type_proof.proofs.invariant.Objects.{full_laid}
+use Rattle.type_proof.proofs.invariant.Objects.{FullAt}
+use Rattle.type_proof.proofs.invariant.Received.{kept_if, kept_as, erased, copies_same}
 
 -- a result is on its way again once all blocks of the function were left
 abbrev pub landing : ℕ → Owner → Owner
@@ -131,47 +131,63 @@ under_apart o at (y ∷ bs) l h = (one y.entity h.0, under_apart o at bs l h.1)
     one (Variable sh s) q = λ u v. omega (arith, l, q, v)
     one (Fixed sh v) q = tt
 
-module _ (d : Tables) (world : World) (tables : typing.Tables) (f : NameOf → Region) (gives : RunType) (a : ℕ) (top : Env) where
-  -- what is known once all parameters are in scope
-  pub record AllBound (g g' : Env) (scope scope' : Scope) (w : Ghost) (m : Memory) : Type 0 where
-    pub surrounds : Surrounds d world tables g' scope' f gives
-    pub scene : (b k : ℕ) → Scene d g scope f b (beginning top g.locals) k w m → Scene d g' scope' f b (beginning top g'.locals) k w m
-    pub in_loop : g'.in_loop ≡ g.in_loop
-    pub in_switch : g'.in_switch ≡ g.in_switch
-    pub result : g'.result ≡ g.result
+-- how a parameter's cells are kept, by its type in the run
+abbrev pub kept_parameter : typing.Tables → RunType → RunType → Kept
+kept_parameter tables t u = kept_as tables (erased t) u
 
-  pub all_bound : (o : ℕ) (ps : List Part) (ts : List StaticType) (ss : List Spot) (vss : List (List Scalar)) (g : Env) (scope : Scope) (w : Ghost) (m : Memory)
-      → Surrounds d world tables g scope f gives → scope.frame ≡ a → AreObjects ts → TypesBelow g.regions.count ts → part_shapes ps ≡ map shape_of ts
-      → AllUnder o scope.locals
-      → Landed d (λ t u. Reached u) a o w m ss (map (renamed f) ts) vss → AllBound g (with_all ps ts g) scope (bound_all scope ps ss) w m
-  all_bound o [] [] [] [] g scope w m h at_frame i q e under l = record { surrounds = h; scene = λ b k z. z; in_loop = refl; in_switch = refl; result = refl }
-  all_bound o (p ∷ ps) (t ∷ ts) (s ∷ ss) (vs ∷ vss) g scope w m h at_frame i q e under l =
-      let shape : shape_of t ≡ p.shape = cc in
-      let others : part_shapes ps ≡ map shape_of ts = cc in
-      let there : s.region ≡ Frame scope.frame = l.0 ∙ ap (λ (j : ℕ). Frame j) (sym at_frame) in
-      let laid : Laid w s (flat heap d (renamed f t)) = full_laid w m s (flat heap d (renamed f t)) vs l.1 in
-      let counted : s.object < m.objects s.region = subst (λ (r : Region). s.object < m.objects r) (sym l.0) l.4 in
-      let h1 = surrounds_local d world tables g scope f (name_alone p.name) t s gives h i.0 q.0 there in
-      let more : AllUnder (suc s.object) scope.locals = under_more o (suc s.object) scope.locals (let z : o ≤ s.object = l.3 in omega (arith, z)) under in
-      let r : AllBound (extended g (name_alone p.name) t) (with_all ps ts (extended g (name_alone p.name) t))
-      (with_binding scope p.name (Variable (shape_of t) s))
-      (bound_all (with_binding scope p.name (Variable (shape_of t) s)) ps ss) w m =
-      all_bound (suc s.object) ps ts ss vss (extended g (name_alone p.name) t) (with_binding scope p.name (Variable (shape_of t) s)) w m h1 at_frame i.1 q.1
-      others (omega arith, more) l.2 in
-      subst (λ (y : Shape). AllBound g (with_all ps ts (extended g (name_alone p.name) t)) scope (bound_all (with_binding scope p.name (Variable y s)) ps ss) w
-      m) shape
-      (record {
-        surrounds = r.surrounds;
-        scene = λ b k z. r.scene b k (scene_local d world tables g scope f (name_alone p.name) t s gives h i.0 q.0 there b (begins_as top (Stored t g.frame))
-            (beginning top g.locals) k w m z laid
-            (under_apart o s scope.locals l.3 under) counted);
-        in_loop = r.in_loop;
-        in_switch = r.in_switch;
-        result = r.result;
-      })
-  all_bound o [] (t ∷ ts) ss vss g scope w m h at_frame i q e under l = absurd cc
-  all_bound o (p ∷ ps) [] ss vss g scope w m h at_frame i q e under l = absurd cc
-  all_bound o [] [] (s ∷ ss) vss g scope w m h at_frame i q e under l = absurd l
-  all_bound o [] [] [] (vs ∷ vss) g scope w m h at_frame i q e under l = absurd l
-  all_bound o (p ∷ ps) (t ∷ ts) [] vss g scope w m h at_frame i q e under l = absurd l
-  all_bound o (p ∷ ps) (t ∷ ts) (s ∷ ss) [] g scope w m h at_frame i q e under l = absurd l
+-- parameters leave the tables as they are
+pub with_all_tables : (ps : List Part) (ts : List StaticType) (g : Env) → (with_all ps ts g).tables ≡ g.tables
+with_all_tables [] ts g = refl
+with_all_tables (p ∷ ps) [] g = refl
+with_all_tables (p ∷ ps) (t ∷ ts) g = with_all_tables ps ts (extended g (name_alone p.name) t)
+
+module _ (d : Tables) (world : World) (tables : typing.Tables) (f : NameOf → Region) (gives : RunType) (a : ℕ) (top : Env)
+    (same : top.tables ≡ tables)
+  where
+    -- what is known once all parameters are in scope
+    pub record AllBound (g g' : Env) (scope scope' : Scope) (w : Ghost) (m : Memory) : Type 0 where
+      pub surrounds : Surrounds d world tables g' scope' f gives
+      pub scene : (b k : ℕ) → Scene d g scope f b b (beginning top g.locals) k w m → Scene d g' scope' f b b (beginning top g'.locals) k w m
+      pub in_loop : g'.in_loop ≡ g.in_loop
+      pub in_switch : g'.in_switch ≡ g.in_switch
+      pub result : g'.result ≡ g.result
+
+    pub all_bound : (o : ℕ) (ps : List Part) (ts : List StaticType) (ss : List Spot) (vss : List (List Scalar)) (g : Env) (scope : Scope) (w : Ghost)
+        (m : Memory)
+        → Surrounds d world tables g scope f gives → scope.frame ≡ a → AreObjects ts → TypesBelow g.regions.count ts → part_shapes ps ≡ map shape_of ts
+        → AllUnder o scope.locals
+        → Landed d (kept_parameter tables) a o w m ss (map (renamed f) ts) vss → AllBound g (with_all ps ts g) scope (bound_all scope ps ss) w m
+    all_bound o [] [] [] [] g scope w m h at_frame i q e under l = record { surrounds = h; scene = λ b k z. z; in_loop = refl; in_switch = refl; result = refl }
+    all_bound o (p ∷ ps) (t ∷ ts) (s ∷ ss) (vs ∷ vss) g scope w m h at_frame i q e under l =
+        let shape : shape_of t ≡ p.shape = cc in
+        let others : part_shapes ps ≡ map shape_of ts = cc in
+        let there : s.region ≡ Frame scope.frame = l.0 ∙ ap (λ (j : ℕ). Frame j) (sym at_frame) in
+        let full : FullAt (kept_as g.tables t) w m s (flat heap d (renamed f t)) vs =
+        subst (λ (y : typing.Tables). FullAt (kept_as y t) w m s (flat heap d (renamed f t)) vs) (sym h.tables_are)
+        (subst (λ (c : Bool). FullAt (kept_if c) w m s (flat heap d (renamed f t)) vs) (copies_same (length tables) tables f t) l.1) in
+        let counted : s.object < m.objects s.region = subst (λ (r : Region). s.object < m.objects r) (sym l.0) l.4 in
+        let h1 = surrounds_local d world tables g scope f (name_alone p.name) t s gives h i.0 q.0 there in
+        let more : AllUnder (suc s.object) scope.locals = under_more o (suc s.object) scope.locals (let z : o ≤ s.object = l.3 in omega (arith, z)) under in
+        let r : AllBound (extended g (name_alone p.name) t) (with_all ps ts (extended g (name_alone p.name) t))
+        (with_binding scope p.name (Variable (shape_of t) s))
+        (bound_all (with_binding scope p.name (Variable (shape_of t) s)) ps ss) w m =
+        all_bound (suc s.object) ps ts ss vss (extended g (name_alone p.name) t) (with_binding scope p.name (Variable (shape_of t) s)) w m h1 at_frame i.1 q.1
+        others (omega arith, more) l.2 in
+        subst (λ (y : Shape). AllBound g (with_all ps ts (extended g (name_alone p.name) t)) scope
+        (bound_all (with_binding scope p.name (Variable y s)) ps ss) w
+        m) shape
+        (record {
+          surrounds = r.surrounds;
+          scene = λ b k z. r.scene b k (scene_local d world tables g scope f (name_alone p.name) t s gives h i.0 q.0 there b top
+              (beginning top g.locals) k w m vs (same ∙ sym h.tables_are) z full
+              (under_apart o s scope.locals l.3 under) counted);
+          in_loop = r.in_loop;
+          in_switch = r.in_switch;
+          result = r.result;
+        })
+    all_bound o [] (t ∷ ts) ss vss g scope w m h at_frame i q e under l = absurd cc
+    all_bound o (p ∷ ps) [] ss vss g scope w m h at_frame i q e under l = absurd cc
+    all_bound o [] [] (s ∷ ss) vss g scope w m h at_frame i q e under l = absurd l
+    all_bound o [] [] [] (vs ∷ vss) g scope w m h at_frame i q e under l = absurd l
+    all_bound o (p ∷ ps) (t ∷ ts) [] vss g scope w m h at_frame i q e under l = absurd l
+    all_bound o (p ∷ ps) (t ∷ ts) (s ∷ ss) [] g scope w m h at_frame i q e under l = absurd l

@@ -1,15 +1,16 @@
 -- What surrounds a statement: the program's names and the locals, and how blocks and declarations change them.
 use Rattle.std.proofs.Common.{◌≡◌, ℕ, ◌+◌, ◌<◌, ◌≤◌, Bool, true, false, inl, inr, Some, List, [], ◌∷◌, refl, sym, ◌∙◌, ap, subst, arith}
-use Rattle.std.specs.Prelude.{bytes_eq, if◌then◌else◌}
-use Rattle.std.proofs.lemmas.Bool.{eq-eqb, false≢true}
+use Rattle.std.specs.Prelude.{bytes_eq, not, if◌then◌else◌}
+use Rattle.std.proofs.lemmas.Bool.{eq-eqb}
 use Rattle.std.proofs.lemmas.Bool.Decides.{eqb_tells}
 use Rattle.cyc_tree.specs.Tree as tree
 use Rattle.source_meaning.specs.Shapes.{Shape, ArrayShape}
-use Rattle.source_meaning.specs.Memory.{Region, Frame, Spot, Memory}
+use Rattle.source_meaning.specs.Memory.{Region, Frame, Spot, Scalar, Memory}
 use Rattle.source_meaning.specs.Steps.{Binding, Entity, Variable, World, Scope}
 use Rattle.source_meaning.specs.Places.{bound_to, or_else, entity_of, with_binding}
 use Rattle.source_typing.specs.Regions.{Regions, TheHeap, Level, same_id, with_scope}
 use Rattle.source_typing.specs.Scope.{Env, InRegion, Local, find_local, meant, block_entered}
+use Rattle.source_typing.specs.Left.{begins_as}
 use Rattle.source_typing.specs.States.{State, States}
 use Rattle.source_typing.specs.Tables as typing
 use Rattle.source_typing.specs.Tables.{What, is_copyable, Counter, Unknown, Entry, OfValue, OfFunction, Stored, Arrayed, Signature, find}
@@ -38,7 +39,8 @@ use Rattle.type_proof.proofs.invariant.Scenes.{
   Binds,
   Scene,
 }
-use Rattle.type_proof.proofs.invariant.Copyable.{object_copyable}
+use Rattle.type_proof.proofs.invariant.Objects.{FullAt}
+use Rattle.type_proof.proofs.invariant.Received.{kept_as, laid_new, stands_new}
 use Rattle.type_proof.proofs.invariant.Standing.{owns, is_own, InRoom, Room, ApartFrom, EntityWithin, EntityCounted, WhatBelow, LocalsBelow, LocalStands}
 use Rattle.type_proof.proofs.invariant.Standing.{SameAll, Standing, all_same, all_more}
 use Rattle.type_proof.proofs.invariant.Standing as standing
@@ -117,7 +119,7 @@ module _ (d : Tables) (world : World) (tables : typing.Tables) (g : Env) (scope 
       frame_below = h.frame_below;
     }
 
-    name_laid : (b : ℕ) (s : States) (k : ℕ) (w : Ghost) (m : Memory) → Scene d g scope f b s k w m → (owns g.tables v ≡ false → LaidAs d f w (Some e) v)
+    name_laid : (b : ℕ) (s : States) (k : ℕ) (w : Ghost) (m : Memory) → Scene d g scope f b b s k w m → (owns g.tables v ≡ false → LaidAs d f w (Some e) v)
         → (y : List ℕ) (u : What) (c : Bool)
         → (if c then Some (OfValue v) else meant g y) ≡ Some (OfValue u)
         → is_own g.tables (if c then Some (record { name = x.text; what = v; block = g.block }) else find_local g.locals y) ≡ false
@@ -126,10 +128,10 @@ module _ (d : Tables) (world : World) (tables : typing.Tables) (g : Env) (scope 
     name_laid b s k w m z laid y u false q o = z.variables y u q o
 
     -- the new local has a place of its own, and stands in some state
-    pub scene_named : (b : ℕ) (a : State) (s : States) (k : ℕ) (w : Ghost) (m : Memory) → Scene d g scope f b s k w m
+    pub scene_named : (b : ℕ) (a : State) (s : States) (k : ℕ) (w : Ghost) (m : Memory) → Scene d g scope f b b s k w m
         → (owns g.tables v ≡ false → LaidAs d f w (Some e) v)
         → InRoom b e scope.locals → EntityWithin m.activations e → EntityCounted m e → WhatBelow g.regions.count v → LocalStands g.tables d f v e a w m
-        → Scene d (named g x v) (with_binding scope x.text e) f b (a ∷ s) k w m
+        → Scene d (named g x v) (with_binding scope x.text e) f b b (a ∷ s) k w m
     scene_named b a s k w m z laid room inside counted below stands = record {
       names = z.names;
       base = z.base;
@@ -173,30 +175,35 @@ module _ (d : Tables) (world : World) (tables : typing.Tables) (g : Env) (scope 
         subst (λ (p : Spot). AllLaid w p c (flat heap d (renamed f t))) a (subst (λ (k : ℕ). AllLaid w at k (flat heap d (renamed f t))) e laid)
 
     -- it lies in the innermost block, in a new object
-    new_room : (b : ℕ) (s : States) (k : ℕ) (w : Ghost) (m : Memory) → Scene d g scope f b s k w m → ApartFrom at scope.locals → Room b at scope.locals
+    new_room : (b : ℕ) (s : States) (k : ℕ) (w : Ghost) (m : Memory) → Scene d g scope f b b s k w m → ApartFrom at scope.locals → Room b at scope.locals
     new_room b s k w m z apart = record { frame = scope.frame; region = there; own = z.own; apart = apart }
 
-    new_within : (b : ℕ) (s : States) (k : ℕ) (w : Ghost) (m : Memory) → Scene d g scope f b s k w m → (i : ℕ) → at.region ≡ Frame i → i < m.activations
+    new_within : (b : ℕ) (s : States) (k : ℕ) (w : Ghost) (m : Memory) → Scene d g scope f b b s k w m → (i : ℕ) → at.region ≡ Frame i → i < m.activations
     new_within b s k w m z i e =
         let known : scope.frame < m.activations = subst (λ (r : Region). Known m r) h.frame (z.names.known g.frame h.frame_below) in
         subst (λ (r : Region). Known m r) (sym there ∙ e) known
 
-    -- what can be copied has no part in the states
-    no_part : (a : State) (sh : Shape) (w : Ghost) (m : Memory) → LocalStands g.tables d f (Stored t g.frame) (Variable sh at) a w m
-    no_part a sh w m = λ c. absurd (false≢true (sym c ∙ subst (λ (y : typing.Tables). is_copyable y t ≡ true) (sym h.tables_are)
-        (object_copyable d world tables h.structs t object)))
+    reached : (c : Bool) → not c ≡ false → c ≡ true
+    reached true e = refl
+    reached false e = absurd cc
 
-    pub scene_local : (b : ℕ) (a : State) (s : States) (k : ℕ) (w : Ghost) (m : Memory) → Scene d g scope f b s k w m → Laid w at (flat heap d (renamed f t))
+    -- a local that holds a value
+    pub scene_local : (b : ℕ) (top : Env) (s : States) (k : ℕ) (w : Ghost) (m : Memory) (vs : List Scalar) → top.tables ≡ g.tables
+        → Scene d g scope f b b s k w m
+        → FullAt (kept_as g.tables t) w m at (flat heap d (renamed f t)) vs
         → ApartFrom at scope.locals → at.object < m.objects at.region
-        → Scene d (extended g x t) (with_binding scope x.text (Variable (shape_of t) at)) f b (a ∷ s) k w m
-    scene_local b a s k w m z laid apart counted =
+        → Scene d (extended g x t) (with_binding scope x.text (Variable (shape_of t) at)) f b b (begins_as top (Stored t g.frame) ∷ s) k w m
+    scene_local b top s k w m vs same z full apart counted =
         scene_named d world tables g scope f x (Stored t g.frame) (Variable (shape_of t) at) gives h (λ y. object) (new_bound (shape_of t)) h.frame_lives
-        b a s k w m z (λ o. local_laid w laid) (new_room b s k w m z apart) (new_within b s k w m z) counted below (no_part a (shape_of t) w m)
+        b (begins_as top (Stored t g.frame)) s k w m z
+        (λ o. local_laid w (laid_new g.tables d f t w m at vs full (reached (is_copyable g.tables t) o))) (new_room b s k w m z apart)
+        (new_within b s k w m z) counted below
+        (stands_new g.tables d f t w m at vs full g.frame (shape_of t) top same)
 
-    pub scene_array : (n b : ℕ) (a : State) (s : States) (k : ℕ) (w : Ghost) (m : Memory) → Scene d g scope f b s k w m
+    pub scene_array : (n b : ℕ) (a : State) (s : States) (k : ℕ) (w : Ghost) (m : Memory) → Scene d g scope f b b s k w m
         → AllLaid w at n (flat heap d (renamed f t))
         → ApartFrom at scope.locals → at.object < m.objects at.region
-        → Scene d (arrayed g x t) (with_binding scope x.text (Variable (ArrayShape n (shape_of t)) at)) f b (a ∷ s) k w m
+        → Scene d (arrayed g x t) (with_binding scope x.text (Variable (ArrayShape n (shape_of t)) at)) f b b (a ∷ s) k w m
     scene_array n b a s k w m z laid apart counted =
         scene_named d world tables g scope f x (Arrayed t g.frame) (Variable (ArrayShape n (shape_of t)) at) gives h (λ y. object)
         (n, new_bound (ArrayShape n (shape_of t))) h.frame_lives b a s k w m z (λ o. array_laid w n laid) (new_room b s k w m z apart) (new_within b s k w m z)
@@ -324,8 +331,8 @@ stands_out d g scope f s r w m m' below c st =
 pub scene_block : (d : Tables) (world : World) (tables : typing.Tables) (g : Env) (scope : Scope) (f : NameOf → Region) (gives : RunType) (b : ℕ) (s : States)
     (k : ℕ) (w : Ghost)
     (m : Memory)
-    → Surrounds d world tables g scope f gives → Inv d w m → Scene d g scope f b s k w m
-    → Scene d (block_entered g) (record scope { frame = m.activations }) (naming f g.regions.count (Frame m.activations)) b s k (block_ghost w m)
+    → Surrounds d world tables g scope f gives → Inv d w m → Scene d g scope f b b s k w m
+    → Scene d (block_entered g) (record scope { frame = m.activations }) (naming f g.regions.count (Frame m.activations)) b b s k (block_ghost w m)
     (block_memory m)
 scene_block d world tables g scope f gives b s k w m h i z = record {
   names = names_scope d g.regions f k w m (m.activations + 1) m.births (Frame m.activations) i (frame_births d w m i) z.names;

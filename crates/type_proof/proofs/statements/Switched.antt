@@ -152,12 +152,12 @@ pub record HoldsMember (d : Tables) (scope : Scope) (f : NameOf → Region) (tag
 module _ (n : ℕ) (d : Tables) (gives : RunType) (g : Env) (scope : Scope) (f : NameOf → Region) (b : ℕ) where
   -- a clause is found, and none is left at its end
   pub switch_leaves : (at : ℕ) (e : Expression) (cs : Clauses) (tag : List ℕ) (rs : List NameOf) → (sense e scope).shape ≡ UnionShape tag
-      → ShowsBy n d g scope f b (use_of g e).look (Union tag rs) (sense e scope).look
+      → ShowsBy n d g scope f b b (use_of g e).look (Union tag rs) (sense e scope).look
       → ((s : States) → (left_by_clauses (in_a_switch g) (chosen (judge g e)) cs s).falls ≡ None)
       → ((held : meaning.Held) (w : Ghost) → HoldsMember d scope f tag rs held w → (act : Act Flow)
       × (or_else (case_for cs held scope) (default_for cs scope) ≡ Some act))
       → ((held : meaning.Held) (k : ℕ) (s : States) (w : Ghost) (m : Memory) → HoldsMember d scope f tag rs held w → Inv d w m
-      → Scene d (in_a_switch g) scope f b s k w m
+      → Scene d (in_a_switch g) scope f b b s k w m
       → AllLeave n d gives (in_a_switch g) scope f b (chosen (judge g e)) held k s w m cs)
       → Leaves n d gives g scope f b (left_by g (Statement.Switch at e cs)) (statement (Statement.Switch at e cs) scope)
   switch_leaves at e cs tag rs shape shows ends found clauses = λ s q k w m i x.
@@ -172,7 +172,7 @@ module _ (n : ℕ) (d : Tables) (gives : RunType) (g : Env) (scope : Scope) (f :
             let held : meaning.Held = record { parts = parts_of scope.world.unions tag; position = u.position; value = u.value } in
             let holds : HoldsMember d scope f tag rs held y.ghost = record { parts = refl; type = u.type; here = u.part; typed = u.typed } in
             let a : (act : Act Flow) × (or_else (case_for cs held scope) (default_for cs scope) ≡ Some act) = found held y.ghost holds in
-            let x1 : Scene d g scope f b p.states k y.ghost m1 = scene_later d g scope f b s p.states k w m y.ghost m1 y.inv y.grows y.holds.1 x in
+            let x1 : Scene d g scope f b b p.states k y.ghost m1 = scene_later d g scope f b b s p.states k w m y.ghost m1 y.inv y.grows y.holds.1 x in
             subst (λ (xs : List Scalar). Safe n ((one xs >>= held_by scope.world (sense e scope).shape >>= rest) next m1)) (sym z.is)
             (subst (λ (v : Scalar). Safe n ((held_by scope.world (sense e scope).shape v >>= rest) next m1)) (sym u.is)
             (subst (λ (sh : Shape). Safe n ((held_by scope.world sh (Tagged u.position u.value) >>= rest) next m1)) (sym shape)

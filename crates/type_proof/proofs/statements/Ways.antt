@@ -125,7 +125,7 @@ module _ (n : ℕ) (d : Tables) (gives : RunType) (g : Env) (scope : Scope) (f :
   as_after l fs (Returns vs) w m h = h
 
   -- one of two statements, by a test
-  pub leaves_either : (c : States → Passed) (l r : States → Left) (u v : Exits) (act : Act Bool) (yes_act no_act : Act Flow) → TellsBy n d g scope f b c act
+  pub leaves_either : (c : States → Passed) (l r : States → Left) (u v : Exits) (act : Act Bool) (yes_act no_act : Act Flow) → TellsBy n d g scope f b b c act
       → LeavesAs (length g.locals) l u → LeavesAs (length g.locals) r v → Leaves n d gives g scope f b l yes_act → Leaves n d gives g scope f b r no_act
       → Leaves n d gives g scope f b (λ s. after_passed (c s) (λ t. either (l t) (r t))) (act >>= λ t. choose t yes_act no_act)
   leaves_either c l r u v act yes_act no_act tells lu rv hy hn s e k w m i x = record {
@@ -147,7 +147,7 @@ module _ (n : ℕ) (d : Tables) (gives : RunType) (g : Env) (scope : Scope) (f :
           m' → Safe n (next flow m'))
           → Safe n (choose t yes_act no_act next m1)
       by true m1 y next q = (hy s1 (none_first (l s1).faults (r s1).faults rest) k y.ghost m1 y.inv
-          (scene_later d g scope f b s s1 k w m y.ghost m1 y.inv y.grows y.holds x)).by next
+          (scene_later d g scope f b b s s1 k w m y.ghost m1 y.inv y.grows y.holds x)).by next
           (λ flow m2 z. q flow m2 (record {
             ghost = z.ghost;
             inv = z.inv;
@@ -156,7 +156,7 @@ module _ (n : ℕ) (d : Tables) (gives : RunType) (g : Env) (scope : Scope) (f :
                 (kinds_left r v rv s1 (are_kinds g.tables d f g.locals scope.locals s1 y.ghost m1 y.holds)) z.holds);
           }))
       by false m1 y next q = (hn s1 (none_second (l s1).faults (r s1).faults rest) k y.ghost m1 y.inv
-          (scene_later d g scope f b s s1 k w m y.ghost m1 y.inv y.grows y.holds x)).by next
+          (scene_later d g scope f b b s s1 k w m y.ghost m1 y.inv y.grows y.holds x)).by next
           (λ flow m2 z. q flow m2 (record {
             ghost = z.ghost;
             inv = z.inv;
@@ -168,10 +168,10 @@ module _ (n : ℕ) (d : Tables) (gives : RunType) (g : Env) (scope : Scope) (f :
   -- ---- loops
 
   -- from its head
-  pub head_leaves : (c : States → Passed) (l : States → Left) (v : Exits) (act : Act Bool) (turn : Act Flow) → TellsBy n d g scope f b c act
+  pub head_leaves : (c : States → Passed) (l : States → Left) (v : Exits) (act : Act Bool) (turn : Act Flow) → TellsBy n d g scope f b b c act
       → LeavesAs (length g.locals) l v
       → Turns n d gives g scope f b c l turn
-      → (h : States) → Head d g f c l h → (k : ℕ) (w : Ghost) (m : Memory) → Inv d w m → Scene d g scope f b h k w m
+      → (h : States) → Head d g f c l h → (k : ℕ) (w : Ghost) (m : Memory) → Inv d w m → Scene d g scope f b b h k w m
       → Runs n (act >>= λ t. choose t turn (give Falls)) m (λ flow. After d k b w m (λ w' m'. WaysStand d gives g scope f (loop_from c l h) flow w' m'))
   head_leaves c l v act turn tells lv turns h head k w m i x = record {
     by = λ next q. (tells h (none_first (c h).faults (l (c h).states).faults head.faultless) k w m i x).by (λ t. choose t turn (give Falls) next)
@@ -181,7 +181,7 @@ module _ (n : ℕ) (d : Tables) (gives : RunType) (g : Env) (scope : Scope) (f :
       by : (t : Bool) (m1 : Memory) → After d k b w m (λ w' m'. Standing d g scope f (c h).states w' m') m1 → (next : Flow → Memory → Step)
           → ((flow : Flow) (m' : Memory) → After d k b w m (λ w' m'. WaysStand d gives g scope f (loop_from c l h) flow w' m') m' → Safe n (next flow m'))
           → Safe n (choose t turn (give Falls) next m1)
-      by true m1 y next q = (turns h head k y.ghost m1 y.inv (scene_later d g scope f b h (c h).states k w m y.ghost m1 y.inv y.grows y.holds x)).by next
+      by true m1 y next q = (turns h head k y.ghost m1 y.inv (scene_later d g scope f b b h (c h).states k w m y.ghost m1 y.inv y.grows y.holds x)).by next
           (λ flow m2 z. q flow m2 (record { ghost = z.ghost; inv = z.inv; grows = grows_trans y.grows z.grows; holds = z.holds }))
       by false m1 y next q = q Falls m1 (record {
         ghost = y.ghost;
@@ -196,9 +196,9 @@ module _ (n : ℕ) (d : Tables) (gives : RunType) (g : Env) (scope : Scope) (f :
   pub turn_goes : (c : States → Passed) (l : States → Left) (v : Exits) (body again : Act Flow) → Leaves n d gives (in_a_loop g) scope f b l body
       → LeavesAs (length g.locals) l v
       → (h : States) → Head d g f c l h
-      → ((k : ℕ) (w : Ghost) (m : Memory) → Inv d w m → Scene d g scope f b h k w m
+      → ((k : ℕ) (w : Ghost) (m : Memory) → Inv d w m → Scene d g scope f b b h k w m
       → Runs n again m (λ flow. After d k b w m (λ w' m'. WaysStand d gives g scope f (loop_from c l h) flow w' m')))
-      → (k : ℕ) (w : Ghost) (m : Memory) → Inv d w m → Scene d g scope f b (c h).states k w m
+      → (k : ℕ) (w : Ghost) (m : Memory) → Inv d w m → Scene d g scope f b b (c h).states k w m
       → Runs n (body >>= λ flow. after_turn flow again) m (λ flow. After d k b w m (λ w' m'. WaysStand d gives g scope f (loop_from c l h) flow w' m'))
   turn_goes c l v body again leaves lv h head goes k w m i x = record {
     by = λ next q. (leaves (c h).states (none_second (c h).faults (l (c h).states).faults head.faultless) k w m i
@@ -216,7 +216,7 @@ module _ (n : ℕ) (d : Tables) (gives : RunType) (g : Env) (scope : Scope) (f :
       repeats : (m1 : Memory) (w1 : Ghost) → Inv d w1 m1 → Grows k b w m w1 m1 → Standing d g scope f h w1 m1 → (next : Flow → Memory → Step)
           → ((flow : Flow) (m' : Memory) → After d k b w m (λ w' m'. WaysStand d gives g scope f (loop_from c l h) flow w' m') m' → Safe n (next flow m'))
           → Safe n (again next m1)
-      repeats m1 w1 i1 g1 y next q = (goes k w1 m1 i1 (scene_later d g scope f b (c h).states h k w m w1 m1 i1 g1 y x)).by next
+      repeats m1 w1 i1 g1 y next q = (goes k w1 m1 i1 (scene_later d g scope f b b (c h).states h k w m w1 m1 i1 g1 y x)).by next
           (λ flow m2 z. q flow m2 (record { ghost = z.ghost; inv = z.inv; grows = grows_trans g1 z.grows; holds = z.holds }))
 
       by : (flow : Flow) (m1 : Memory) (w1 : Ghost) → Inv d w1 m1 → Grows k b w m w1 m1 → WaysStand d gives (in_a_loop g) scope f (l (c h).states) flow w1 m1
@@ -304,7 +304,7 @@ module _ (n : ℕ) (d : Tables) (gives : RunType) (g : Env) (scope : Scope) (f :
       by (Some t) z Falls m1 y next r =
           let same : y.holds.0 ≡ t = (let a : Some y.holds.0 ≡ Some t = sym y.holds.1 ∙ z in cc) in
           let there : Standing d g scope f t y.ghost m1 = subst (λ (a : States). Standing d g scope f a y.ghost m1) same y.holds.2 in
-          (hq s t z t (second t z) k y.ghost m1 y.inv (scene_later d g scope f b s t k w m y.ghost m1 y.inv y.grows there x)).by next
+          (hq s t z t (second t z) k y.ghost m1 y.inv (scene_later d g scope f b b s t k w m y.ghost m1 y.inv y.grows there x)).by next
           (λ c m2 a. r c m2 (record {
             ghost = a.ghost;
             inv = a.inv;

@@ -1,0 +1,65 @@
+-- The names of aliases.
+use Rattle.std.proofs.Common.{◌≡◌, ◌+◌, Bool, true, false, inl, inr, sym, subst, ℕ}
+use Rattle.std.specs.Prelude.{if◌then◌else◌}
+use Rattle.std.proofs.lemmas.Bool.{cases_Bool, false≢true}
+use Rattle.source_meaning.specs.Memory.{Region, Live, Memory}
+use Rattle.source_typing.specs.Regions.{TheHeap, Level, same_id, Regions, with_name}
+use Rattle.type_proof.specs.Flat.{Tables}
+use Rattle.type_proof.proofs.invariant.Facts.{if_cases}
+use Rattle.type_proof.proofs.invariant.Invariant.{heap, Ghost, Known, Inv}
+use Rattle.type_proof.proofs.invariant.Names.{NameOf, NamesOk, Below, Stands, Outlasts, naming, below_up, below_more, new_below, named_cases}
+
+-- a name for a region that is there: only the heap outlives it
+pub names_named : (d : Tables) (g : Regions) (f : NameOf → Region) (k : ℕ) (w : Ghost) (m : Memory) (q : Region) (live : Bool) → Inv d w m → Known m q
+    → (live ≡ true → m.state q ≡ Live) → (live ≡ true → Stands k (w.owner q)) → NamesOk g f k w m → NamesOk (with_name live g) (naming f g.count q) k w m
+names_named d g f k w m q live i born lives stays h = record {
+  heap_is = h.heap_is;
+  known = λ a l. named_cases f g.count q a (λ r. Known m r) (λ e. born) (λ e. h.known a (below_more g.count a l e));
+  bounded = λ a. if_cases (same_id a (Level g.count)) live (g.live a) (λ z. z ≡ true → Below (g.count + 1) a) (λ e l. new_below g.count a e)
+      (λ e l. below_up g.count a (h.bounded a l));
+  live = λ a. elim (cases_Bool (same_id a (Level g.count))) [
+    | inl e ↦ (λ l. subst (λ (b : Bool). m.state (if b then q else f a) ≡ Live) (sym e) (lives (is_new a e l)))
+    | inr e ↦ (λ l. subst (λ (b : Bool). m.state (if b then q else f a) ≡ Live) (sym e) (h.live a (is_old a e l)))
+  ];
+  stands = λ a. elim (cases_Bool (same_id a (Level g.count))) [
+    | inl e ↦ (λ l. subst (λ (b : Bool). Stands k (w.owner (if b then q else f a))) (sym e) (stays (is_new a e l)))
+    | inr e ↦ (λ l. subst (λ (b : Bool). Stands k (w.owner (if b then q else f a))) (sym e) (h.stands a (is_old a e l)))
+  ];
+  lasting = λ a. elim (cases_Bool (same_id a (Level g.count))) [
+    | inl e ↦ (λ l. absurd (false≢true (subst (λ (b : Bool). (if b then false else g.lasts a) ≡ true) e l)))
+    | inr e ↦ (λ l. let z : Below g.count a × Outlasts (f a) k w m = h.lasting a (subst (λ (b : Bool). (if b then false else g.lasts a) ≡ true) e l) in
+        (below_up g.count a z.0, subst (λ (b : Bool). Outlasts (if b then q else f a) k w m) (sym e) z.1))
+  ];
+  order = λ a b. elim (cases_Bool (same_id b (Level g.count))) [
+    | inl e ↦ (λ v. subst (λ (z : Bool). w.above (naming f g.count q a) (if z then q else f b) ≡ true) (sym e)
+        (upper a (subst (λ (z : Bool). by_end z a b ≡ true) e v)))
+    | inr e ↦ (λ v. subst (λ (z : Bool). w.above (naming f g.count q a) (if z then q else f b) ≡ true) (sym e)
+        (older a b (subst (λ (z : Bool). by_end z a b ≡ true) e v)))
+  ];
+}
+  where
+    by_end : Bool → NameOf → NameOf → Bool
+    by_end z a b = (if z then (if same_id a (Level g.count) then true else g.order a TheHeap) else (if same_id a (Level g.count) then false else g.order a b))
+
+    is_new : (a : NameOf) → same_id a (Level g.count) ≡ true → (if same_id a (Level g.count) then live else g.live a) ≡ true → live ≡ true
+    is_new a e l = subst (λ (b : Bool). (if b then live else g.live a) ≡ true) e l
+
+    is_old : (a : NameOf) → same_id a (Level g.count) ≡ false → (if same_id a (Level g.count) then live else g.live a) ≡ true → g.live a ≡ true
+    is_old a e l = subst (λ (b : Bool). (if b then live else g.live a) ≡ true) e l
+
+    over_heap : (a : NameOf) → g.order a TheHeap ≡ true → w.above (f a) q ≡ true
+    over_heap a e = i.along (f a) heap q (subst (λ (r : Region). w.above (f a) r ≡ true) h.heap_is (h.order a TheHeap e)) (i.under_heap q born)
+
+    upper : (a : NameOf) → (if same_id a (Level g.count) then true else g.order a TheHeap) ≡ true → w.above (naming f g.count q a) q ≡ true
+    upper a = elim (cases_Bool (same_id a (Level g.count))) [
+      | inl e ↦ (λ v. subst (λ (z : Bool). w.above (if z then q else f a) q ≡ true) (sym e) (i.itself q born))
+      | inr e ↦ (λ v. subst (λ (z : Bool). w.above (if z then q else f a) q ≡ true) (sym e)
+          (over_heap a (subst (λ (z : Bool). (if z then true else g.order a TheHeap) ≡ true) e v)))
+    ]
+
+    older : (a b : NameOf) → (if same_id a (Level g.count) then false else g.order a b) ≡ true → w.above (naming f g.count q a) (f b) ≡ true
+    older a b = elim (cases_Bool (same_id a (Level g.count))) [
+      | inl e ↦ (λ v. absurd (false≢true (subst (λ (z : Bool). (if z then false else g.order a b) ≡ true) e v)))
+      | inr e ↦ (λ v. subst (λ (z : Bool). w.above (if z then q else f a) (f b) ≡ true) (sym e)
+          (h.order a b (subst (λ (z : Bool). (if z then false else g.order a b) ≡ true) e v)))
+    ]

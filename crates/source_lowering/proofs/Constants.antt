@@ -144,7 +144,7 @@ null_converted w m0 c0 at (ArrayShape count of) h = absurd h
 
 -- a string, for a pointer to characters: it has an element, to which a thin pointer leads
 text_converted : (w : World) (m0 : source.Memory) (c0 : core.Memory) (at : ℕ) (bytes : List ℕ) (s : Shape) → AreStructs w.unions w.structs → IsString s
-    → IsObject w.structs s → AreTexts w m0 c0 w.strings
+    → IsObject w.unions w.structs s → AreTexts w m0 c0 w.strings
     → IsConverted w m0 c0 (Constant.Text at bytes) s ⊎ HasNoValue w (Constant.Text at bytes) s
 text_converted w m0 c0 at bytes s structs h object texts = by (string_at w.strings at) refl
   where
@@ -156,7 +156,7 @@ text_converted w m0 c0 at bytes s structs h object texts = by (string_at w.strin
         → need found (λ v. converted w z (FatShape CharShape) (v ∷ []) k) m ≡ k (value ∷ []) m))
 
     span_given : (number count : ℕ) → 0 < count → count < 2 ^ 32 → LeadsAll w m0 c0 CharShape count (heap_spot number) 0 → (z : Shape) → IsString z
-        → IsObject w.structs z → IsGiven (Some (span_at count (heap_spot number))) z
+        → IsObject w.unions w.structs z → IsGiven (Some (span_at count (heap_spot number))) z
     span_given number count some few leads (FatShape CharShape) g o = (
       span_at count (heap_spot number),
       (
@@ -196,7 +196,7 @@ text_converted w m0 c0 at bytes s structs h object texts = by (string_at w.strin
         })
 
 constant_converted : (w : World) (m0 : source.Memory) (c0 : core.Memory) (c : Constant) (s : Shape) → AreStructs w.unions w.structs → TakesConstant s c
-    → IsObject w.structs s → AreTexts w m0 c0 w.strings → IsConverted w m0 c0 c s ⊎ HasNoValue w c s
+    → IsObject w.unions w.structs s → AreTexts w m0 c0 w.strings → IsConverted w m0 c0 c s ⊎ HasNoValue w c s
 constant_converted w m0 c0 (Constant.Number at value suffix) s structs h object texts =
     number_converted w m0 c0 (Constant.Number at value suffix) s (number_type value suffix) (integer_shape (number_type value suffix)) h (modulo_small value)
     refl (λ k m. refl)
@@ -216,7 +216,8 @@ pub record Begins (w : World) (fs : Program) (n : ℕ) (c : core.Memory) (s : so
 
 -- one global's constant is stored
 one_stored : (w : World) (fs : Program) (n : ℕ) (initial : Initial) (shape : Shape) (i : ℕ) (m : source.Memory) (c : core.Memory)
-    (s : Unit {0} → source.Memory → steps.Step) (k : core_steps.Step) → AreStructs w.unions w.structs → TakesGlobal shape initial → IsObject w.structs shape
+    (s : Unit {0} → source.Memory → steps.Step) (k : core_steps.Step) → AreStructs w.unions w.structs → TakesGlobal shape initial
+    → IsObject w.unions w.structs shape
     → SameMemory w m c → AreTexts w m c w.strings → VariableLeads w m c (global_shape initial shape) (heap_spot i) → IsStored w c initial shape i
     → ((m' : source.Memory) → SameMemory w m' c → Grown nothing m c m' c → Same w fs n (s tt m') k) → Same w fs n (global_stored w initial shape (heap_spot i) s m) k
 one_stored w fs n Initial.Unset shape i m c s k structs h object agree texts leads part go = go m agree (later_self nothing m c)
@@ -229,7 +230,7 @@ one_stored w fs n (Initial.Given constant) shape i m c s k structs h object agre
     one = cell_of w shape (constant_is_value w constant shape h object)
 
     leads_to : Leads w m c shape (heap_spot i) 0
-    leads_to = object_leads w.structs w m c shape (heap_spot i) object leads
+    leads_to = object_leads w.unions w.structs w m c shape (heap_spot i) object leads
 
     here : CellAt m c (heap_spot i) 0 shape
     here = cell_there w m c (heap_spot i) 0 shape one leads_to
@@ -249,12 +250,13 @@ pub globals_same : (w : World) (fs : Program) (n : ℕ) (items : List Item) (i :
 globals_same w fs n [] i m c s k structs h agree statics here stored begins = begins.go m agree statics
 globals_same w fs n (tree.StructItem x ∷ items) i m c s k structs h agree statics here stored begins =
     globals_same w fs n items i m c s k structs h.1 agree statics here stored begins
-globals_same w fs n (tree.UnionItem u ∷ items) i m c s k structs h agree statics here stored begins = absurd h.0
+globals_same w fs n (tree.UnionItem u ∷ items) i m c s k structs h agree statics here stored begins =
+    globals_same w fs n items i m c s k structs h.1 agree statics here stored begins
 globals_same w fs n (tree.FunctionItem f ∷ items) i m c s k structs h agree statics here stored begins =
     globals_same w fs n items i m c s k structs h.1 agree statics here stored begins
 globals_same w fs n (tree.GlobalItem g ∷ items) i m c s k structs h agree statics here stored begins =
     one_stored w fs n g.initial (settled (written g.of)) i m c (λ u. globals_stored w items (suc i) s) k structs h.0.1
-    (object_settled w.structs g.of h.0.0) agree statics.strings here.0
+    (object_settled w.unions w.structs g.of h.0.0) agree statics.strings here.0
     stored.0
     (λ m' agree' later.
     globals_same w fs n items (suc i) m' c s k structs h.1 agree' (statics_later nothing w m m' c c later statics) (all_led_later nothing w m m' c c

@@ -1,3 +1,4 @@
+pub mod UnionSizes
 pub mod Structs
 pub mod memory
 pub mod Runs

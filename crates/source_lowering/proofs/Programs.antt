@@ -81,22 +81,23 @@ use Rattle.source_lowering.proofs.Constants.{globals_same}
 -- ---- a program of words
 
 -- an array's count is a word
-pub global_variable : (w : World) (initial : Initial) (s : Shape) → TakesGlobal s initial → IsObject w.structs s → IsVariable w.structs (global_shape initial s)
-global_variable w Initial.Unset s h object = object_named w.structs s object
+pub global_variable : (w : World) (initial : Initial) (s : Shape) → TakesGlobal s initial → IsObject w.unions w.structs s
+    → IsVariable w.unions w.structs (global_shape initial s)
+global_variable w Initial.Unset s h object = object_named w.unions w.structs s object
 global_variable w (Initial.Elements count) s h object = (h.0, object)
-global_variable w (Initial.Given c) s h object = object_named w.structs s object
+global_variable w (Initial.Given c) s h object = object_named w.unions w.structs s object
 
-globals_are : (w : World) (items : List Item) (k : ℕ) → TakesProgram w items → AreGlobals w.structs (globals_from items k)
+globals_are : (w : World) (items : List Item) (k : ℕ) → TakesProgram w items → AreGlobals w.unions w.structs (globals_from items k)
 globals_are w [] k h = tt
 globals_are w (tree.StructItem s ∷ items) k h = globals_are w items k h.1
-globals_are w (tree.UnionItem u ∷ items) k h = absurd h.0
+globals_are w (tree.UnionItem u ∷ items) k h = globals_are w items k h.1
 globals_are w (tree.FunctionItem f ∷ items) k h = globals_are w items k h.1
 globals_are w (tree.GlobalItem g ∷ items) k h = (
   record {
     shape = global_shape g.initial (settled (written g.of));
     number = k;
     is = refl;
-    is_variable = global_variable w g.initial (settled (written g.of)) h.0.1 (object_settled w.structs g.of h.0.0);
+    is_variable = global_variable w g.initial (settled (written g.of)) h.0.1 (object_settled w.unions w.structs g.of h.0.0);
   },
   globals_are w items (suc k) h.1,
 )
@@ -138,12 +139,13 @@ routine_is w f h = record {
 pub routines_are : (w : World) (items : List Item) → TakesProgram w items → AreRoutines w (functions_of items)
 routines_are w [] h = tt
 routines_are w (tree.StructItem s ∷ items) h = routines_are w items h.1
-routines_are w (tree.UnionItem u ∷ items) h = absurd h.0
+routines_are w (tree.UnionItem u ∷ items) h = routines_are w items h.1
 routines_are w (tree.GlobalItem g ∷ items) h = routines_are w items h.1
 routines_are w (tree.FunctionItem f ∷ items) h = (routine_is w f h.0, routines_are w items h.1)
 
 pub world_plain : (p : tree.Program) → IsLowerable p → IsPlainWorld (world_of p)
 world_plain p h = record {
+  unions = h.unions;
   structs = h.structs;
   globals = globals_are (world_of p) p 0 h.items;
   functions = routines_are (world_of p) p h.items;

@@ -25,7 +25,8 @@ use Rattle.source_meaning.specs.Shapes.{
 }
 use Rattle.source_meaning.specs.Sizes.{Extent, rounded_up, all_cells, struct_cells, laid_out, no_extent, struct_extent}
 use Rattle.source_meaning.specs.Placing.{Placed, moved, all_placed, struct_placed}
-use Rattle.source_lowering.specs.Lowerable.{IsObject, AreObjects, HasMember, IsStruct, AreStructs}
+use Rattle.source_lowering.specs.Lowerable.{IsObject, AreObjects, HasMember, AreUnions, IsStruct, AreStructs}
+use Rattle.source_lowering.proofs.UnionSizes.{union_small}
 pub use Rattle.source_lowering.specs.ObjectCells.{cells_in, placed_in, extent_in}
 
 -- another struct's tag is another
@@ -44,7 +45,7 @@ record IsStill (unions earlier : List Layout) (l : Layout) (s : Shape) : Type 0 
   placed : placed_in unions (l ∷ earlier) s ≡ placed_in unions earlier s
   extent : extent_in unions (l ∷ earlier) s ≡ extent_in unions earlier s
 
-still : (unions earlier : List Layout) (l : Layout) (s : Shape) → has_tag earlier l.tag ≡ false → IsObject earlier s → IsStill unions earlier l s
+still : (unions earlier : List Layout) (l : Layout) (s : Shape) → has_tag earlier l.tag ≡ false → IsObject unions earlier s → IsStill unions earlier l s
 still unions earlier l (StructShape tag) new h =
     let other = other_tag earlier tag l.tag h new in
     record {
@@ -60,10 +61,10 @@ still unions earlier l (ThinShape may_be_null owner to) new h = record { cells =
 still unions earlier l (FatShape to) new h = record { cells = refl; placed = refl; extent = refl }
 still unions earlier l HandleShape new h = record { cells = refl; placed = refl; extent = refl }
 still unions earlier l KeyShape new h = absurd h
-still unions earlier l (UnionShape tag) new h = absurd h
+still unions earlier l (UnionShape tag) new h = record { cells = refl; placed = refl; extent = refl }
 still unions earlier l (ArrayShape count of) new h = absurd h
 
-cells_still : (unions earlier : List Layout) (l : Layout) (ps : List Part) → has_tag earlier l.tag ≡ false → AreObjects earlier (part_shapes ps)
+cells_still : (unions earlier : List Layout) (l : Layout) (ps : List Part) → has_tag earlier l.tag ≡ false → AreObjects unions earlier (part_shapes ps)
     → all_cells (cells_in (l ∷ earlier)) ps ≡ all_cells (cells_in earlier) ps
 cells_still unions earlier l [] new h = refl
 cells_still unions earlier l (p ∷ ps) new h =
@@ -76,7 +77,7 @@ placed_one placed extent others so_far =
     let at = rounded_up so_far extent.align in map (moved at) placed ++ others (at + extent.size)
 
 placed_still : (unions earlier : List Layout) (l : Layout) (ps : List Part) (so_far : ℕ) → has_tag earlier l.tag ≡ false
-    → AreObjects earlier (part_shapes ps)
+    → AreObjects unions earlier (part_shapes ps)
     → all_placed (placed_in unions (l ∷ earlier)) (extent_in unions (l ∷ earlier)) so_far ps
     ≡ all_placed (placed_in unions earlier) (extent_in unions earlier) so_far ps
 placed_still unions earlier l [] so_far new h = refl
@@ -93,7 +94,7 @@ abbrev laid_one : Extent → Extent → Extent
 laid_one e so_far = record { size = rounded_up so_far.size e.align + e.size; align = max so_far.align e.align }
 
 extent_still : (unions earlier : List Layout) (l : Layout) (ps : List Part) (so_far : Extent) → has_tag earlier l.tag ≡ false
-    → AreObjects earlier (part_shapes ps) → laid_out (extent_in unions (l ∷ earlier)) so_far ps ≡ laid_out (extent_in unions earlier) so_far ps
+    → AreObjects unions earlier (part_shapes ps) → laid_out (extent_in unions (l ∷ earlier)) so_far ps ≡ laid_out (extent_in unions earlier) so_far ps
 extent_still unions earlier l [] so_far new h = refl
 extent_still unions earlier l (p ∷ ps) so_far new h =
     ap (λ z. laid_out (extent_in unions (l ∷ earlier)) (laid_one z so_far) ps) (still unions earlier l p.shape new h.0).extent ∙
@@ -101,30 +102,31 @@ extent_still unions earlier l (p ∷ ps) so_far new h =
 
 -- ---- the members of a struct are declared
 
-object_still : (l : Layout) (earlier : List Layout) (s : Shape) → IsObject earlier s → IsObject (l ∷ earlier) s
-object_still l earlier (StructShape tag) h = by (bytes_eq l.tag tag) refl
+object_still : (unions : List Layout) (l : Layout) (earlier : List Layout) (s : Shape) → IsObject unions earlier s → IsObject unions (l ∷ earlier) s
+object_still unions l earlier (StructShape tag) h = by (bytes_eq l.tag tag) refl
   where
     by : (b : Bool) → bytes_eq l.tag tag ≡ b → has_tag (l ∷ earlier) tag ≡ true
     by true e = ap (λ b. if b then true else has_tag earlier tag) e
     by false e = ap (λ b. if b then true else has_tag earlier tag) e ∙ h
-object_still l earlier IntShape h = tt
-object_still l earlier UnsignedShape h = tt
-object_still l earlier CharShape h = tt
-object_still l earlier VoidShape h = h
-object_still l earlier (ThinShape may_be_null owner to) h = h
-object_still l earlier (FatShape to) h = h
-object_still l earlier HandleShape h = h
-object_still l earlier KeyShape h = h
-object_still l earlier (UnionShape tag) h = h
-object_still l earlier (ArrayShape count of) h = h
+object_still unions l earlier IntShape h = tt
+object_still unions l earlier UnsignedShape h = tt
+object_still unions l earlier CharShape h = tt
+object_still unions l earlier VoidShape h = h
+object_still unions l earlier (ThinShape may_be_null owner to) h = h
+object_still unions l earlier (FatShape to) h = h
+object_still unions l earlier HandleShape h = h
+object_still unions l earlier KeyShape h = h
+object_still unions l earlier (UnionShape tag) h = h
+object_still unions l earlier (ArrayShape count of) h = h
 
-objects_still : (l : Layout) (earlier : List Layout) (ss : List Shape) → AreObjects earlier ss → AreObjects (l ∷ earlier) ss
-objects_still l earlier [] h = tt
-objects_still l earlier (s ∷ ss) h = (object_still l earlier s h.0, objects_still l earlier ss h.1)
+objects_still : (unions : List Layout) (l : Layout) (earlier : List Layout) (ss : List Shape) → AreObjects unions earlier ss
+    → AreObjects unions (l ∷ earlier) ss
+objects_still unions l earlier [] h = tt
+objects_still unions l earlier (s ∷ ss) h = (object_still unions l earlier s h.0, objects_still unions l earlier ss h.1)
 
 -- what is known of the struct of a tag
 pub record IsMade (unions structs : List Layout) (tag : List ℕ) : Type 0 where
-  pub members : AreObjects structs (part_shapes (parts_of structs tag))
+  pub members : AreObjects unions structs (part_shapes (parts_of structs tag))
   pub some : has_tag structs tag ≡ true → HasMember (parts_of structs tag)
   pub cells : struct_cells structs tag ≡ all_cells (cells_in structs) (parts_of structs tag)
   pub placed : struct_placed unions structs tag ≡ all_placed (placed_in unions structs) (extent_in unions structs) 0 (parts_of structs tag)
@@ -156,7 +158,7 @@ struct_made unions (l ∷ earlier) tag h = by (bytes_eq l.tag tag) refl (struct_
         let parts : l.parts ≡ parts_of structs tag = sym (ap (λ b. parts_by b l earlier tag) e) in
         let same : l.tag ≡ tag = (bytes_eq-Decides l.tag tag).0 e in
         record {
-          members = subst (λ z. AreObjects structs (part_shapes z)) parts (objects_still l earlier (part_shapes l.parts) one.members);
+          members = subst (λ z. AreObjects unions structs (part_shapes z)) parts (objects_still unions l earlier (part_shapes l.parts) one.members);
           some = λ f. subst HasMember parts one.some;
           cells = ap (λ b. if b then all_cells (cells_in earlier) l.parts else struct_cells earlier tag) e ∙
               sym (cells_still unions earlier l l.parts one.new one.members) ∙ ap (all_cells (cells_in structs)) parts;
@@ -174,7 +176,8 @@ struct_made unions (l ∷ earlier) tag h = by (bytes_eq l.tag tag) refl (struct_
         let extent : struct_extent unions structs tag ≡ struct_extent unions earlier tag =
         ap (λ b. if b then laid_out (extent_in unions earlier) (no_extent tag) l.parts else struct_extent unions earlier tag) e in
         record {
-          members = subst (λ z. AreObjects structs (part_shapes z)) parts (objects_still l earlier (part_shapes (parts_of earlier tag)) more.members);
+          members = subst (λ z. AreObjects unions structs (part_shapes z)) parts
+              (objects_still unions l earlier (part_shapes (parts_of earlier tag)) more.members);
           some = λ f. subst HasMember parts (more.some (sym tags ∙ f));
           cells = ap (λ b. if b then all_cells (cells_in earlier) l.parts else struct_cells earlier tag) e ∙ more.cells ∙
               sym (cells_still unions earlier l (parts_of earlier tag) one.new more.members) ∙ ap (all_cells (cells_in structs)) parts;
@@ -188,18 +191,19 @@ struct_made unions (l ∷ earlier) tag h = by (bytes_eq l.tag tag) refl (struct_
 
 -- ---- sizes
 
-pub object_small : (unions structs : List Layout) (s : Shape) → AreStructs unions structs → IsObject structs s → (extent_in unions structs s).size ≤ 4096
-object_small unions structs (StructShape tag) h o = (struct_made unions structs tag h).small
-object_small unions structs IntShape h o = omega arith
-object_small unions structs UnsignedShape h o = omega arith
-object_small unions structs CharShape h o = omega arith
-object_small unions structs VoidShape h o = absurd o
-object_small unions structs (ThinShape may_be_null owner to) h o = omega arith
-object_small unions structs (FatShape to) h o = omega arith
-object_small unions structs HandleShape h o = omega arith
-object_small unions structs KeyShape h o = absurd o
-object_small unions structs (UnionShape tag) h o = absurd o
-object_small unions structs (ArrayShape count of) h o = absurd o
+pub object_small : (unions structs : List Layout) (s : Shape) → AreUnions unions → AreStructs unions structs → IsObject unions structs s
+    → (extent_in unions structs s).size ≤ 4096
+object_small unions structs (StructShape tag) all h o = (struct_made unions structs tag h).small
+object_small unions structs IntShape all h o = omega arith
+object_small unions structs UnsignedShape all h o = omega arith
+object_small unions structs CharShape all h o = omega arith
+object_small unions structs VoidShape all h o = absurd o
+object_small unions structs (ThinShape may_be_null owner to) all h o = omega arith
+object_small unions structs (FatShape to) all h o = omega arith
+object_small unions structs HandleShape all h o = omega arith
+object_small unions structs KeyShape all h o = absurd o
+object_small unions structs (UnionShape tag) all h o = let small = union_small unions tag all o in omega (arith, small)
+object_small unions structs (ArrayShape count of) all h o = absurd o
 
 pub rounded_zero : (a : ℕ) → rounded_up 0 a ≡ 0
 rounded_zero zero = refl

@@ -1,4 +1,6 @@
+pub mod Nodes
 pub mod Taken
+pub mod LocalWords
 pub mod Costs
 pub mod Counted
 pub mod ValueCosts
@@ -11,5 +13,7 @@ pub mod ExpressionCosts
 pub mod WholeCosts
 pub mod DeclarationCosts
 pub mod WholeObjects
-pub mod LocalWords
+pub mod NodesPaid
+pub mod StatementsPaid
+pub mod StatementCosts
 pub mod Bounded

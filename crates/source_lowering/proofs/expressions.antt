@@ -7,6 +7,7 @@ pub mod Places
 pub mod Wholes
 pub mod MakingMembers
 pub mod MakingStructs
+pub mod MakingUnions
 pub mod Reaching
 pub mod ValuePlaces
 pub mod Suffixing
@@ -30,6 +31,7 @@ pub mod Numbered
 pub mod WholeForms
 pub mod StoredRequests
 pub mod Requests
+pub mod UnionMembers
 pub mod Homes
 pub mod MadeElements
 pub mod MadeLoops

@@ -9,12 +9,15 @@ pub mod Cells
 pub mod ValueCells
 pub mod MovedParts
 pub mod Members
+pub mod UnionCells
+pub mod UnionCode
 pub mod Ordered
 pub mod Loading
 pub mod Initialising
 pub mod Overwriting
 pub mod CopiedOver
 pub mod Clearing
+pub mod ObjectReads
 pub mod Copying
 pub mod FirstCells
 pub mod Beginning

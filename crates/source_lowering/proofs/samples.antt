@@ -3,3 +3,5 @@ mod WholeSamples
 mod RegionSamples
 mod TextSamples
 mod MadeSamples
+mod SwitchSamples
+mod FrameSamples

@@ -8,3 +8,6 @@ pub mod WrittenTypes
 pub mod EachDeclaration
 pub mod EachRun
 pub mod EachStatement
+pub mod UnionReads
+pub mod Clauses
+pub mod Switching

@@ -1,5 +1,5 @@
 -- How large a function's frame may be, and how many operations a program may have: in Core, and in the source.
-use Rattle.std.specs.Prelude.{◌≤◌, ℕ, ◌+◌, ◌*◌, ◌/◌, Some, List, [], ◌∷◌, length}
+use Rattle.std.specs.Prelude.{◌≤◌, ℕ, suc, ◌+◌, ◌*◌, ◌/◌, max, Some, List, [], ◌∷◌, length}
 use Rattle.cyc_tree.specs.Tree as tree
 use Rattle.cyc_tree.specs.Tree.{
   Expression,
@@ -24,15 +24,23 @@ use Rattle.cyc_tree.specs.Tree.{
   NoItems,
   Declare,
   Execute,
+  Clauses,
+  NoClauses,
+  MoreClauses,
+  Case,
+  Default,
 }
-use Rattle.source_meaning.specs.Shapes.{Shape, VoidShape, part_shapes}
+use Rattle.source_meaning.specs.Shapes.{Shape, IntShape, UnsignedShape, VoidShape, StructShape, UnionShape, Part, part_shape, part_shapes, pointee}
 use Rattle.source_meaning.specs.Steps.{World, Routine}
+use Rattle.source_meaning.specs.Operators.{operator_shape}
 use Rattle.core_meaning.specs.Core as core
 use Rattle.source_lowering.specs.Layouts.{extent_of}
-use Rattle.source_lowering.specs.Members.{all_words}
-use Rattle.source_lowering.specs.Pieces.{call_shape}
-use Rattle.source_lowering.specs.Programs.{RegionsAround, no_regions, in_loop, regions_with, local_shape, function_code, routine_values}
-use Rattle.core_meaning.specs.Core.{Local, Do, If, While, Block, Leave, Break, Continue, Call, Return, Raise, Statements, NoStatements, MoreStatements, Function}
+use Rattle.source_lowering.specs.Members.{all_words, member_shape}
+use Rattle.source_lowering.specs.Pieces.{Named, number_named, call_shape, prefix_shape, new_shape, static_shape, union_parts}
+use Rattle.source_lowering.specs.Programs.{RegionsAround, no_regions, in_loop, in_switch, regions_with, local_shape, named_here, outward, parameter_names}
+use Rattle.source_lowering.specs.Programs.{function_code}
+use Rattle.core_meaning.specs.Core.{Local, Do, If, While, Block, Leave, Break, Continue, Call, Return, Raise, Statements, NoStatements, MoreStatements}
+use Rattle.core_meaning.specs.Core.{Function}
 
 -- ---- Core: words of a frame
 
@@ -106,102 +114,145 @@ core_code p = 4096 + 64 * all_operations p.functions
 
 -- ---- the source: nodes of expressions
 
--- A literal, a variable, a call, what is made, an operator, a subscript and the use of a member are a node each, which counts as two: itself and its value.
--- An assignment counts as one. Parentheses and a call's name are none.
-abbrev mutual
-  pub frame_nodes : Expression → ℕ
-  frame_nodes (Expression.Call name arguments) = 2 + argument_nodes arguments
-  frame_nodes (Expression.MakeUnion tag member value) = 2 + frame_nodes value
-  frame_nodes (Expression.NumElts at operand) = 2 + frame_nodes operand
-  frame_nodes (Expression.Grouped at inner) = frame_nodes inner
-  frame_nodes (Expression.Suffixed primary suffixes) = frame_nodes primary + suffix_nodes suffixes
-  frame_nodes (Expression.Prefixed at operator operand) = 2 + frame_nodes operand
-  frame_nodes (Expression.Chain first others) = frame_nodes first + link_nodes others
-  frame_nodes (Expression.AllOf first others) = frame_nodes first + joined_nodes others
-  frame_nodes (Expression.AnyOf first others) = frame_nodes first + joined_nodes others
-  frame_nodes (Expression.Assign place value) = frame_nodes place + (1 + frame_nodes value)
-  frame_nodes (Expression.New at new) = 2 + made_nodes new
-  frame_nodes (Expression.NewIn at handle new) = 2 + (frame_nodes handle + made_nodes new)
-  frame_nodes _ = 2
-
-  pub made_nodes : Made → ℕ
-  made_nodes (One value) = frame_nodes value
-  made_nodes (Array index count element) = frame_nodes count + frame_nodes element
-
-  pub argument_nodes : Expressions → ℕ
-  argument_nodes NoExpressions = 0
-  argument_nodes (MoreExpressions first others) = frame_nodes first + argument_nodes others
-
-  -- operands of `&&` and `||` after the first, with the operators before them
-  pub joined_nodes : Expressions → ℕ
-  joined_nodes NoExpressions = 0
-  joined_nodes (MoreExpressions first others) = 2 + (frame_nodes first + joined_nodes others)
-
-  pub link_nodes : Links → ℕ
-  link_nodes NoLinks = 0
-  link_nodes (MoreLinks operator operand others) = 2 + (frame_nodes operand + link_nodes others)
-
-  pub suffix_nodes : Suffixes → ℕ
-  suffix_nodes NoSuffixes = 0
-  suffix_nodes (Index index others) = 2 + (frame_nodes index + suffix_nodes others)
-  suffix_nodes (Dot f others) = 2 + suffix_nodes others
-  suffix_nodes (Arrow f others) = 2 + suffix_nodes others
-
--- what a result counts as: nothing is no value
-abbrev pub result_nodes : Shape → ℕ
-result_nodes VoidShape = 0
-result_nodes s = 1
-
--- of an expression that is a statement: a call may have no value
-abbrev pub run_nodes : World → Expression → ℕ
-run_nodes w (Expression.Call name arguments) = 1 + (result_nodes (call_shape w name.text) + argument_nodes arguments)
-run_nodes w (Expression.Grouped at inner) = run_nodes w inner
-run_nodes w e = frame_nodes e
-
--- ---- the source: nodes and locals of statements
-
-abbrev pub initializer_nodes : Initializer → ℕ
-initializer_nodes Initializer.Unset = 0
-initializer_nodes (Initializer.Elements count) = 0
-initializer_nodes (Initializer.Value e) = frame_nodes e
-
-abbrev pub declaration_nodes : Declaration → ℕ
-declaration_nodes (tree.Local of name initializer) = initializer_nodes initializer
-declaration_nodes _ = 0
-
-abbrev mutual
-  -- nodes of the expressions of a statement
-  pub statement_nodes : World → Statement → ℕ
-  statement_nodes w (Statement.Block at items) = item_nodes w items
-  statement_nodes w (Statement.Run e) = run_nodes w e
-  statement_nodes w (Statement.If at condition body) = frame_nodes condition + statement_nodes w body
-  statement_nodes w (Statement.IfElse at condition body otherwise) = frame_nodes condition + (statement_nodes w body + statement_nodes w otherwise)
-  statement_nodes w (Statement.While at condition body) = frame_nodes condition + statement_nodes w body
-  statement_nodes w (Statement.Return at (Some e)) = frame_nodes e
-  statement_nodes w _ = 0
-
-  pub item_nodes : World → BlockItems → ℕ
-  item_nodes w NoItems = 0
-  item_nodes w (Declare d others) = declaration_nodes d + item_nodes w others
-  item_nodes w (Execute s others) = statement_nodes w s + item_nodes w others
-
 -- the words of an object of a shape
 abbrev pub shape_words : World → Shape → ℕ
 shape_words w s = words_of (extent_of w s).size
 
-abbrev mutual
-  -- the words of the locals that are declared in a statement
-  pub statement_locals : World → Statement → ℕ
-  statement_locals w (Statement.Block at items) = item_locals w items
-  statement_locals w (Statement.If at condition body) = statement_locals w body
-  statement_locals w (Statement.IfElse at condition body otherwise) = statement_locals w body + statement_locals w otherwise
-  statement_locals w (Statement.While at condition body) = statement_locals w body
-  statement_locals w _ = 0
+-- the words of a value that is used: one at least
+abbrev pub value_words : World → Shape → ℕ
+value_words w s = max 1 (shape_words w s)
 
-  pub item_locals : World → BlockItems → ℕ
-  item_locals w NoItems = 0
-  item_locals w (Declare d others) = shape_words w (local_shape d) + item_locals w others
-  item_locals w (Execute s others) = statement_locals w s + item_locals w others
+-- a node counts as one, and as the words of its value
+abbrev pub node : World → Shape → ℕ
+node w s = 1 + value_words w s
+
+-- a struct and a tagged union that are assigned give no value
+abbrev pub assigned_node : World → Shape → ℕ
+assigned_node w (StructShape tag) = 1
+assigned_node w (UnionShape tag) = 1
+assigned_node w s = node w s
+
+-- A literal, a variable, a call, what is made, an operator, a subscript and the use of a member are a node each. Parentheses and a call's name are none.
+abbrev mutual
+  pub frame_nodes : World → List Named → Expression → ℕ
+  frame_nodes w names (Expression.Call name arguments) = node w (call_shape w name.text) + argument_nodes w names arguments
+  frame_nodes w names (Expression.MakeUnion tag member value) = node w (UnionShape tag.text) + frame_nodes w names value
+  frame_nodes w names (Expression.NumElts at operand) = node w UnsignedShape + frame_nodes w names operand
+  frame_nodes w names (Expression.Grouped at inner) = frame_nodes w names inner
+  frame_nodes w names (Expression.Suffixed primary suffixes) =
+      frame_nodes w names primary + suffix_nodes w names suffixes (static_shape w names primary)
+  frame_nodes w names (Expression.Prefixed at operator operand) =
+      node w (prefix_shape operator (static_shape w names operand)) + frame_nodes w names operand
+  frame_nodes w names (Expression.Chain first others) = frame_nodes w names first + link_nodes w names others (static_shape w names first)
+  frame_nodes w names (Expression.AllOf first others) = frame_nodes w names first + joined_nodes w names others
+  frame_nodes w names (Expression.AnyOf first others) = frame_nodes w names first + joined_nodes w names others
+  frame_nodes w names (Expression.Assign place value) =
+      assigned_node w (static_shape w names place) + (frame_nodes w names place + frame_nodes w names value)
+  frame_nodes w names (Expression.New at new) = node w (new_shape w names new) + made_nodes w names new
+  frame_nodes w names (Expression.NewIn at handle new) = node w (new_shape w names new) + (frame_nodes w names handle + made_nodes w names new)
+  frame_nodes w names e = node w (static_shape w names e)
+
+  -- the name of an element's number counts as one word
+  pub made_nodes : World → List Named → Made → ℕ
+  made_nodes w names (One value) = frame_nodes w names value
+  made_nodes w names (Array index count element) = 1 + (frame_nodes w names count + frame_nodes w (number_named index.text 0 ∷ names) element)
+
+  pub argument_nodes : World → List Named → Expressions → ℕ
+  argument_nodes w names NoExpressions = 0
+  argument_nodes w names (MoreExpressions first others) = frame_nodes w names first + argument_nodes w names others
+
+  -- operands of `&&` and `||` after the first, with the operators before them
+  pub joined_nodes : World → List Named → Expressions → ℕ
+  joined_nodes w names NoExpressions = 0
+  joined_nodes w names (MoreExpressions first others) = node w IntShape + (frame_nodes w names first + joined_nodes w names others)
+
+  -- of a chain, from what is on its left
+  pub link_nodes : World → List Named → Links → Shape → ℕ
+  link_nodes w names NoLinks left = 0
+  link_nodes w names (MoreLinks operator operand others) left =
+      let s = operator_shape operator left (static_shape w names operand) in
+      node w s + (frame_nodes w names operand + link_nodes w names others s)
+
+  pub suffix_nodes : World → List Named → Suffixes → Shape → ℕ
+  suffix_nodes w names NoSuffixes left = 0
+  suffix_nodes w names (Index index others) left = node w (pointee left) + (frame_nodes w names index + suffix_nodes w names others (pointee left))
+  suffix_nodes w names (Dot f others) left =
+      let s = member_shape w left f.text in node w s + suffix_nodes w names others s
+  suffix_nodes w names (Arrow f others) left =
+      let s = member_shape w (pointee left) f.text in node w s + suffix_nodes w names others s
+
+-- a call that is a statement may have no value
+abbrev pub result_words : World → Shape → ℕ
+result_words w VoidShape = 0
+result_words w s = value_words w s
+
+-- of an expression that is a statement
+abbrev pub run_nodes : World → List Named → Expression → ℕ
+run_nodes w names (Expression.Call name arguments) = 1 + result_words w (call_shape w name.text) + argument_nodes w names arguments
+run_nodes w names (Expression.Grouped at inner) = run_nodes w names inner
+run_nodes w names e = frame_nodes w names e
+
+-- ---- the source: nodes and locals of statements
+
+abbrev pub initializer_nodes : World → List Named → Initializer → ℕ
+initializer_nodes w names Initializer.Unset = 0
+initializer_nodes w names (Initializer.Elements count) = 0
+initializer_nodes w names (Initializer.Value e) = frame_nodes w names e
+
+abbrev pub declaration_nodes : World → List Named → Declaration → ℕ
+declaration_nodes w names (tree.Local of name initializer) = initializer_nodes w names initializer
+declaration_nodes w names _ = 0
+
+abbrev mutual
+  -- nodes of the expressions of a statement
+  pub statement_nodes : World → List Named → Statement → ℕ
+  statement_nodes w names (Statement.Block at items) = item_nodes w (outward names) 0 items
+  statement_nodes w names (Statement.Run e) = run_nodes w names e
+  statement_nodes w names (Statement.If at condition body) = frame_nodes w names condition + statement_nodes w names body
+  statement_nodes w names (Statement.IfElse at condition body otherwise) =
+      frame_nodes w names condition + (statement_nodes w names body + statement_nodes w names otherwise)
+  statement_nodes w names (Statement.While at condition body) = frame_nodes w names condition + statement_nodes w names body
+  statement_nodes w names (Statement.Switch at place clauses) =
+      frame_nodes w names place + clause_nodes w names (union_parts w (static_shape w names place)) clauses
+  statement_nodes w names (Statement.Return at (Some e)) = frame_nodes w names e
+  statement_nodes w names _ = 0
+
+  -- the next local of the block has this number
+  pub item_nodes : World → List Named → ℕ → BlockItems → ℕ
+  item_nodes w names index NoItems = 0
+  item_nodes w names index (Declare d others) =
+      declaration_nodes w names d + item_nodes w (named_here (tree.local_of d).text (local_shape d) index ∷ names) (suc index) others
+  item_nodes w names index (Execute s others) = statement_nodes w names s + item_nodes w names index others
+
+  pub clause_nodes : World → List Named → List Part → Clauses → ℕ
+  clause_nodes w names parts NoClauses = 0
+  clause_nodes w names parts (MoreClauses at (Case f x) body others) =
+      item_nodes w (named_here x.text (part_shape parts f.text) 0 ∷ outward names) 1 body + clause_nodes w names parts others
+  clause_nodes w names parts (MoreClauses at Default body others) = item_nodes w (outward names) 0 body + clause_nodes w names parts others
+
+abbrev mutual
+  -- the words of the locals that are declared in a statement, and of the members that `case` binds
+  pub statement_locals : World → List Named → Statement → ℕ
+  statement_locals w names (Statement.Block at items) = item_locals w (outward names) 0 items
+  statement_locals w names (Statement.If at condition body) = statement_locals w names body
+  statement_locals w names (Statement.IfElse at condition body otherwise) = statement_locals w names body + statement_locals w names otherwise
+  statement_locals w names (Statement.While at condition body) = statement_locals w names body
+  statement_locals w names (Statement.Switch at place clauses) = clause_locals w names (union_parts w (static_shape w names place)) clauses
+  statement_locals w names _ = 0
+
+  -- the next local of the block has this number
+  pub item_locals : World → List Named → ℕ → BlockItems → ℕ
+  item_locals w names index NoItems = 0
+  item_locals w names index (Declare d others) =
+      shape_words w (local_shape d) + item_locals w (named_here (tree.local_of d).text (local_shape d) index ∷ names) (suc index) others
+  item_locals w names index (Execute s others) = statement_locals w names s + item_locals w names index others
+
+  pub clause_locals : World → List Named → List Part → Clauses → ℕ
+  clause_locals w names parts NoClauses = 0
+  clause_locals w names parts (MoreClauses at (Case f x) body others) =
+      let s = part_shape parts f.text in
+      shape_words w s + item_locals w (named_here x.text s 0 ∷ outward names) 1 body + clause_locals w names parts others
+  clause_locals w names parts (MoreClauses at Default body others) = item_locals w (outward names) 0 body + clause_locals w names parts others
 
 -- ---- the source: how large its text is at least
 
@@ -267,6 +318,7 @@ abbrev mutual
   statement_size (Statement.If at condition body) = 1 + (tokens_of condition + statement_size body)
   statement_size (Statement.IfElse at condition body otherwise) = 1 + (tokens_of condition + (statement_size body + statement_size otherwise))
   statement_size (Statement.While at condition body) = 1 + (tokens_of condition + statement_size body)
+  statement_size (Statement.Switch at place clauses) = 5 + (tokens_of place + clauses_size clauses)
   statement_size (Statement.Return at (Some e)) = 1 + tokens_of e
   statement_size _ = 1
 
@@ -274,6 +326,12 @@ abbrev mutual
   item_size NoItems = 0
   item_size (Declare d others) = 1 + (declaration_tokens d + item_size others)
   item_size (Execute s others) = statement_size s + item_size others
+
+  -- `case {.M = x}:` and `default:`, and what is behind them
+  pub clauses_size : Clauses → ℕ
+  clauses_size NoClauses = 0
+  clauses_size (MoreClauses at (Case f x) body others) = 8 + (item_size body + clauses_size others)
+  clauses_size (MoreClauses at Default body others) = 2 + (item_size body + clauses_size others)
 
 -- a function has its name, its parentheses and its braces, and each parameter its name
 abbrev pub routines_size : List Routine → ℕ
@@ -288,8 +346,9 @@ abbrev mutual
   statement_left h (Statement.If at condition body) = statement_left h body
   statement_left h (Statement.IfElse at condition body otherwise) = statement_left h body + statement_left h otherwise
   statement_left h (Statement.While at condition body) = statement_left (in_loop h) body
-  statement_left h (Statement.Break at) = h.inner
-  statement_left h (Statement.Continue at) = h.inner
+  statement_left h (Statement.Switch at place clauses) = clauses_left (in_switch h) clauses
+  statement_left h (Statement.Break at) = h.broken
+  statement_left h (Statement.Continue at) = h.continued
   statement_left h (Statement.Return at result) = h.all
   statement_left h _ = 0
 
@@ -297,6 +356,10 @@ abbrev mutual
   items_left h NoItems = 0
   items_left h (Declare d others) = items_left (regions_with d h) others
   items_left h (Execute s others) = statement_left h s + items_left h others
+
+  pub clauses_left : RegionsAround → Clauses → ℕ
+  clauses_left h NoClauses = 0
+  clauses_left h (MoreClauses at label body others) = items_left h body + clauses_left h others
 
 abbrev pub regions_left : List Routine → ℕ
 regions_left [] = 0
@@ -306,15 +369,12 @@ regions_left (f ∷ fs) = items_left no_regions f.body + regions_left fs
 abbrev pub code_bound : List Routine → ℕ
 code_bound fs = 4096 + 512 * (routines_size fs + regions_left fs)
 
--- the words of values
-abbrev pub value_words : World → List Shape → ℕ
-value_words w [] = 0
-value_words w (s ∷ ss) = shape_words w s + value_words w ss
-
--- 128 bytes, and 16 for each word of parameters and locals, for each node and for its value, and for each word of a struct that is made or read whole
+-- 128 bytes, and 16 for each word of parameters and locals, and for what the nodes of its expressions count
 abbrev pub frame_bound : World → Routine → ℕ
 frame_bound w f =
-    128 + 16 * (all_words (part_shapes f.parameters) + (item_locals w f.body + (item_nodes w f.body + value_words w (routine_values w f))))
+    let names = parameter_names f.parameters 0 [] in
+    let next = length f.parameters in
+    128 + 16 * (all_words (part_shapes f.parameters) + (item_locals w names next f.body + item_nodes w names next f.body))
 
 -- each function's frame in Core is within its bound
 abbrev pub FramesFit : World → List Routine → Type 0

@@ -1,5 +1,5 @@
--- Which programs lowering takes: functions, globals and locals of integers, of structs, of handles, of pointers to these and of arrays of them, with the heap,
--- lexical regions and arrays that are made there, by the forms of the tree and by shapes.
+-- Which programs lowering takes: functions, globals and locals of integers, of structs, of tagged unions, of handles, of pointers to these and of arrays of them,
+-- with the heap, lexical regions and arrays that are made there, by the forms of the tree and by shapes.
 use Rattle.std.specs.Prelude.{◌≡◌, ◌<◌, ◌≤◌, ◌^◌, ℕ, suc, ◌+◌, Bool, true, false, Some, None, List, [], ◌∷◌, length}
 use Rattle.cyc_tree.specs.declared.expression.Prefix.{Prefix}
 use Rattle.cyc_tree.specs.declared.expression.Prefix.TheVariants as prefix
@@ -29,6 +29,11 @@ use Rattle.cyc_tree.specs.Tree.{
   NoItems,
   Declare,
   Execute,
+  Clauses,
+  NoClauses,
+  MoreClauses,
+  Case,
+  Default,
   Member,
   Initial,
   Function,
@@ -36,20 +41,20 @@ use Rattle.cyc_tree.specs.Tree.{
   Program,
 }
 use Rattle.source_meaning.specs.Shapes.{Shape, Shared, IntShape, UnsignedShape, CharShape, VoidShape, ThinShape, FatShape, HandleShape, KeyShape, StructShape}
-use Rattle.source_meaning.specs.Shapes.{UnionShape, ArrayShape, Part, Layout, part_shapes, parts_of, has_tag, pointee, written, settled}
+use Rattle.source_meaning.specs.Shapes.{UnionShape, ArrayShape, Part, Layout, part_position, part_shape, part_shapes, parts_of, has_tag, pointee, written, settled}
 use Rattle.source_meaning.specs.Sizes.{struct_extent}
 use Rattle.source_meaning.specs.Steps.{World, Routine}
 use Rattle.source_meaning.specs.Expressions.{is_unique_region}
 use Rattle.source_meaning.specs.Programs.{is_main, routine_of, world_of}
 use Rattle.source_meaning.specs.Strings.{Literal, program_strings}
-use Rattle.source_lowering.specs.Lowered.{Named, number_named, static_shape, member_shape, suffixed_shape}
+use Rattle.source_lowering.specs.Lowered.{Named, number_named, static_shape, member_shape, suffixed_shape, union_parts}
 use Rattle.source_lowering.specs.Programs.{local_shape, named_here, outward, parameter_names}
 use Rattle.source_lowering.specs.Whole.{makes_struct}
 use Rattle.source_lowering.specs.Taken.{IsVoidType, AreShared, HasFirst, IsIntType, TakesConstant}
 
 -- ---- shapes
 
--- what a pointer leads to, beside nothing: an integer, a pointer, a handle, a struct
+-- what a pointer leads to, beside nothing: an integer, a pointer, a handle, a struct, a tagged union
 abbrev pub IsTarget : Shape → Type 0
 IsTarget IntShape = Unit {0}
 IsTarget UnsignedShape = Unit {0}
@@ -60,7 +65,7 @@ IsTarget (FatShape to) = IsTarget to
 IsTarget HandleShape = Unit {0}
 IsTarget KeyShape = ⊥
 IsTarget (StructShape tag) = Unit {0}
-IsTarget (UnionShape tag) = ⊥
+IsTarget (UnionShape tag) = Unit {0}
 IsTarget (ArrayShape count of) = ⊥
 
 -- a word: an integer, a thin pointer that isn't unique, or a handle
@@ -82,42 +87,69 @@ abbrev pub IsValueShape : Shape → Type 0
 IsValueShape (FatShape to) = IsTarget to
 IsValueShape s = IsWordShape s
 
--- such a value, or one of these structs
-abbrev pub IsObject : List Layout → Shape → Type 0
-IsObject structs (StructShape tag) = (has_tag structs tag ≡ true)
-IsObject structs s = IsValueShape s
+-- such a value, or one of these unions and structs
+abbrev pub IsObject : (unions structs : List Layout) → Shape → Type 0
+IsObject unions structs (StructShape tag) = (has_tag structs tag ≡ true)
+IsObject unions structs (UnionShape tag) = (has_tag unions tag ≡ true)
+IsObject unions structs s = IsValueShape s
 
 -- what a name may stand for: an object, or an array of objects, whose count is a word
-abbrev pub IsVariable : List Layout → Shape → Type 0
-IsVariable structs (ArrayShape count of) = (count < 2 ^ 32) × IsObject structs of
-IsVariable structs s = IsObject structs s
+abbrev pub IsVariable : (unions structs : List Layout) → Shape → Type 0
+IsVariable unions structs (ArrayShape count of) = (count < 2 ^ 32) × IsObject unions structs of
+IsVariable unions structs s = IsObject unions structs s
 
-abbrev pub AreObjects : List Layout → List Shape → Type 0
-AreObjects structs [] = Unit {0}
-AreObjects structs (s ∷ ss) = IsObject structs s × AreObjects structs ss
+abbrev pub AreObjects : (unions structs : List Layout) → List Shape → Type 0
+AreObjects unions structs [] = Unit {0}
+AreObjects unions structs (s ∷ ss) = IsObject unions structs s × AreObjects unions structs ss
 
--- one of these structs
-abbrev pub IsStructShape : List Layout → Shape → Type 0
-IsStructShape structs (StructShape tag) = (has_tag structs tag ≡ true)
-IsStructShape structs s = ⊥
+-- one of these unions
+abbrev pub IsUnionShape : List Layout → Shape → Type 0
+IsUnionShape unions (UnionShape tag) = (has_tag unions tag ≡ true)
+IsUnionShape unions s = ⊥
 
--- what is no struct: an operand, and what is passed and returned
-abbrev pub IsNoStruct : Shape → Type 0
-IsNoStruct (StructShape tag) = ⊥
-IsNoStruct s = Unit {0}
+-- one of these unions and structs
+abbrev pub IsWholeShape : (unions structs : List Layout) → Shape → Type 0
+IsWholeShape unions structs (StructShape tag) = (has_tag structs tag ≡ true)
+IsWholeShape unions structs (UnionShape tag) = (has_tag unions tag ≡ true)
+IsWholeShape unions structs s = ⊥
 
--- ---- structs
+-- what is no struct and no union: an operand, and what is passed and returned
+abbrev pub IsOperandShape : Shape → Type 0
+IsOperandShape (StructShape tag) = ⊥
+IsOperandShape (UnionShape tag) = ⊥
+IsOperandShape s = Unit {0}
+
+-- ---- unions and structs
 
 abbrev pub HasMember : List Part → Type 0
 HasMember [] = ⊥
 HasMember (p ∷ ps) = Unit {0}
 
--- a struct after earlier ones: its tag is new, it has a member, each of its members is a word, a fat pointer or an earlier struct, and it takes at most
+abbrev pub AreValues : List Shape → Type 0
+AreValues [] = Unit {0}
+AreValues (s ∷ ss) = IsValueShape s × AreValues ss
+
+-- a union: it has a member, each of its members is a word or a fat pointer, and a word counts them
+pub record IsUnion (l : Layout) : Type 0 where
+  pub some : HasMember l.parts
+  pub members : AreValues (part_shapes l.parts)
+  pub few : length l.parts < 2 ^ 32
+
+-- a word counts the members of each
+abbrev pub HaveFewMembers : List Layout → Type 0
+HaveFewMembers [] = Unit {0}
+HaveFewMembers (l ∷ ls) = (length l.parts < 2 ^ 32) × HaveFewMembers ls
+
+abbrev pub AreUnions : List Layout → Type 0
+AreUnions [] = Unit {0}
+AreUnions (l ∷ ls) = IsUnion l × AreUnions ls
+
+-- a struct after earlier ones: its tag is new, it has a member, each of its members is a word, a fat pointer, a union or an earlier struct, and it takes at most
 -- 4,096 bytes
 pub record IsStruct (unions earlier : List Layout) (l : Layout) : Type 0 where
   pub new : has_tag earlier l.tag ≡ false
   pub some : HasMember l.parts
-  pub members : AreObjects earlier (part_shapes l.parts)
+  pub members : AreObjects unions earlier (part_shapes l.parts)
   pub small : (struct_extent unions (l ∷ earlier) l.tag).size ≤ 4096
 
 -- the latest comes first
@@ -132,25 +164,27 @@ IsObjectBase tree.Int = Unit {0}
 IsObjectBase tree.Unsigned = Unit {0}
 IsObjectBase tree.Char = Unit {0}
 IsObjectBase (tree.Struct tag arguments) = Unit {0}
+IsObjectBase (tree.Union tag arguments) = Unit {0}
 IsObjectBase (tree.Handle region) = Unit {0}
 IsObjectBase _ = ⊥
 
--- a struct that is among these, or none
-abbrev pub IsKnownIn : List Layout → Shape → Type 0
-IsKnownIn structs (StructShape tag) = (has_tag structs tag ≡ true)
-IsKnownIn structs s = Unit {0}
+-- a struct or a union that is among these, or neither
+abbrev pub IsKnownIn : (unions structs : List Layout) → Shape → Type 0
+IsKnownIn unions structs (StructShape tag) = (has_tag structs tag ≡ true)
+IsKnownIn unions structs (UnionShape tag) = (has_tag unions tag ≡ true)
+IsKnownIn unions structs s = Unit {0}
 
--- an integer, a struct, a handle, or a thin or fat pointer to these, or to such a pointer
-pub record IsObjectType (structs : List Layout) (t : TypeName) : Type 0 where
+-- an integer, a struct, a union, a handle, or a thin or fat pointer to these, or to such a pointer
+pub record IsObjectType (unions structs : List Layout) (t : TypeName) : Type 0 where
   pub pointers : AreShared t.pointers
   pub base : IsObjectBase t.base
-  pub known : IsKnownIn structs (settled (written t))
+  pub known : IsKnownIn unions structs (settled (written t))
 
 -- an integer, a handle, or such a pointer
 pub record IsWordType (t : TypeName) : Type 0 where
   pub pointers : AreShared t.pointers
   pub base : IsObjectBase t.base
-  pub word : IsNoStruct (settled (written t))
+  pub word : IsOperandShape (settled (written t))
 
 -- what has a beginning: a struct, an integer, and a pointer that may be NULL
 abbrev pub HasBeginning : Shape → Type 0
@@ -164,7 +198,7 @@ abbrev pub TakesPrefix : Prefix → Shape → Type 0 → Type 0 → Type 0
 TakesPrefix prefix.Negate s value place = value
 TakesPrefix prefix.Complement s value place = value
 TakesPrefix prefix.Not s value place = value
-TakesPrefix prefix.Dereference s value place = value × IsNoStruct (pointee s)
+TakesPrefix prefix.Dereference s value place = value × IsOperandShape (pointee s)
 TakesPrefix prefix.AddressOf s value place = place
 
 -- only `*e` names a place
@@ -175,13 +209,19 @@ TakesPointer prefix.Not value = ⊥
 TakesPointer prefix.Dereference value = value
 TakesPointer prefix.AddressOf value = ⊥
 
--- what has a shape is taken as a struct, or else as an operand
+-- a member of a union is named
+pub record IsMember (parts : List Part) (f : List ℕ) : Type 0 where
+  pub number : ℕ
+  pub is : part_position parts f ≡ Some number
+
+-- what has a shape is taken as a whole, if it is a struct or a union, or else as an operand
 abbrev pub TakesMember : Shape → (whole word : Type 0) → Type 0
 TakesMember (StructShape tag) whole word = whole
+TakesMember (UnionShape tag) whole word = whole
 TakesMember s whole word = word
 
 abbrev mutual
-  -- what is assigned to, has its address taken or is a struct: a name, `*e`, a member or an element, in parentheses too
+  -- what is assigned to, has its address taken or is a struct or a union: a name, `*e`, a member or an element, in parentheses too
   pub TakesPlace : World → List Named → Expression → Type 0
   TakesPlace w names (Expression.Variable name) = Unit {0}
   TakesPlace w names (Expression.Grouped at inner) = TakesPlace w names inner
@@ -194,35 +234,35 @@ abbrev mutual
   pub TakesSuffixes : World → List Named → Suffixes → Shape → Type 0 → Type 0 → Type 0
   TakesSuffixes w names NoSuffixes s value place = ⊥
   TakesSuffixes w names (Index index others) s value place =
-      value × (Takes w names index × (IsObject w.structs (pointee s) × TakesMembers w names others (pointee s)))
+      value × (Takes w names index × (IsObject w.unions w.structs (pointee s) × TakesMembers w names others (pointee s)))
   TakesSuffixes w names (Dot f others) s value place =
-      place × (IsObject w.structs (member_shape w s f.text) × TakesMembers w names others (member_shape w s f.text))
+      place × (IsObject w.unions w.structs (member_shape w s f.text) × TakesMembers w names others (member_shape w s f.text))
   TakesSuffixes w names (Arrow f others) s value place =
-      value × (IsObject w.structs (member_shape w (pointee s) f.text) × TakesMembers w names others (member_shape w (pointee s) f.text))
+      value × (IsObject w.unions w.structs (member_shape w (pointee s) f.text) × TakesMembers w names others (member_shape w (pointee s) f.text))
 
-  -- further suffixes on what they lead to: it is a place, and a value where it is no struct
+  -- further suffixes on what they lead to: it is a place, and a value where it is no struct and no union
   pub TakesMembers : World → List Named → Suffixes → Shape → Type 0
   TakesMembers w names NoSuffixes s = Unit {0}
   TakesMembers w names (Index index others) s =
-      IsNoStruct s × (Takes w names index × (IsObject w.structs (pointee s) × TakesMembers w names others (pointee s)))
-  TakesMembers w names (Dot f others) s = IsObject w.structs (member_shape w s f.text) × TakesMembers w names others (member_shape w s f.text)
+      IsOperandShape s × (Takes w names index × (IsObject w.unions w.structs (pointee s) × TakesMembers w names others (pointee s)))
+  TakesMembers w names (Dot f others) s = IsObject w.unions w.structs (member_shape w s f.text) × TakesMembers w names others (member_shape w s f.text)
   TakesMembers w names (Arrow f others) s =
-      IsNoStruct s × (IsObject w.structs (member_shape w (pointee s) f.text) × TakesMembers w names others (member_shape w (pointee s) f.text))
+      IsOperandShape s × (IsObject w.unions w.structs (member_shape w (pointee s) f.text) × TakesMembers w names others (member_shape w (pointee s) f.text))
 
-  -- a value that is no struct; a name that is called is no struct's
+  -- a value that is no struct and no union; a name that is called is no struct's
   pub Takes : World → List Named → Expression → Type 0
   Takes w names (Expression.Number at value suffix) = Unit {0}
   Takes w names (Expression.Character at byte) = Unit {0}
   Takes w names (Expression.Null at) = Unit {0}
   Takes w names (Expression.HeapRegion at) = Unit {0}
-  Takes w names (Expression.Variable name) = IsNoStruct (static_shape w names (Expression.Variable name))
+  Takes w names (Expression.Variable name) = IsOperandShape (static_shape w names (Expression.Variable name))
   Takes w names (Expression.Call name arguments) = (has_tag w.structs name.text ≡ false) × TakesAll w names arguments
   Takes w names (Expression.NumElts at operand) = Takes w names operand
   Takes w names (Expression.Text at bytes) = Unit {0}
   Takes w names (Expression.Grouped at inner) = Takes w names inner
   Takes w names (Expression.Suffixed primary suffixes) =
       TakesSuffixes w names suffixes (static_shape w names primary) (Takes w names primary) (TakesPlace w names primary) ×
-      IsNoStruct (suffixed_shape w suffixes (static_shape w names primary))
+      IsOperandShape (suffixed_shape w suffixes (static_shape w names primary))
   Takes w names (Expression.Prefixed at operator operand) =
       TakesPrefix operator (static_shape w names operand) (Takes w names operand) (TakesPlace w names operand)
   Takes w names (Expression.New at new) = TakesNew w names new
@@ -231,7 +271,7 @@ abbrev mutual
   Takes w names (Expression.Chain first others) = Takes w names first × TakesLinks w names others
   Takes w names (Expression.AllOf first others) = Takes w names first × TakesAll w names others
   Takes w names (Expression.AnyOf first others) = Takes w names first × TakesAll w names others
-  Takes w names (Expression.Assign place value) = TakesPlace w names place × (Takes w names value × IsNoStruct (static_shape w names place))
+  Takes w names (Expression.Assign place value) = TakesPlace w names place × (Takes w names value × IsOperandShape (static_shape w names place))
   Takes w names _ = ⊥
 
   pub TakesAll : World → List Named → Expressions → Type 0
@@ -242,29 +282,31 @@ abbrev mutual
   TakesLinks w names NoLinks = Unit {0}
   TakesLinks w names (MoreLinks operator operand others) = Takes w names operand × TakesLinks w names others
 
-  -- An object is made: a struct, a word or a fat pointer; or an array of them, whichever temporary has the number of the element.
+  -- An object is made: a struct, a union, a word or a fat pointer; or an array of them, whichever temporary has the number of the element.
   pub TakesNew : World → List Named → Made → Type 0
   TakesNew w names (One value) =
-      IsObject w.structs (static_shape w names value) ×
+      IsObject w.unions w.structs (static_shape w names value) ×
       TakesMember (static_shape w names value) (TakesWhole w names value) (Takes w names value)
   TakesNew w names (Array index count element) =
       Takes w names count ×
       ((t : ℕ) →
       let inner = number_named index.text t ∷ names in
-      IsObject w.structs (static_shape w inner element) ×
+      IsObject w.unions w.structs (static_shape w inner element) ×
       TakesMember (static_shape w inner element) (TakesWhole w inner element) (Takes w inner element))
 
-  -- a struct that is made of its members, or what names one
+  -- a struct that is made of its members, a union that is made of one of its own, or what names either
   pub TakesWhole : World → List Named → Expression → Type 0
   TakesWhole w names (Expression.Call name arguments) =
       (makes_struct w name.text ≡ true) × TakesMade w names (parts_of w.structs name.text) arguments
+  TakesWhole w names (Expression.MakeUnion tag member value) =
+      (has_tag w.unions tag.text ≡ true) × (IsMember (parts_of w.unions tag.text) member.text × Takes w names value)
   TakesWhole w names (Expression.Grouped at inner) = TakesWhole w names inner
-  TakesWhole w names (Expression.Variable name) = Unit {0} × IsStructShape w.structs (static_shape w names (Expression.Variable name))
+  TakesWhole w names (Expression.Variable name) = Unit {0} × IsWholeShape w.unions w.structs (static_shape w names (Expression.Variable name))
   TakesWhole w names (Expression.Suffixed primary suffixes) =
       TakesSuffixes w names suffixes (static_shape w names primary) (Takes w names primary) (TakesPlace w names primary) ×
-      IsStructShape w.structs (static_shape w names (Expression.Suffixed primary suffixes))
+      IsWholeShape w.unions w.structs (static_shape w names (Expression.Suffixed primary suffixes))
   TakesWhole w names (Expression.Prefixed at operator operand) =
-      TakesPointer operator (Takes w names operand) × IsStructShape w.structs (static_shape w names (Expression.Prefixed at operator operand))
+      TakesPointer operator (Takes w names operand) × IsWholeShape w.unions w.structs (static_shape w names (Expression.Prefixed at operator operand))
   TakesWhole w names _ = ⊥
 
   -- so many arguments, each a value for its member
@@ -274,16 +316,19 @@ abbrev mutual
   TakesMade w names (p ∷ ps) NoExpressions = ⊥
   TakesMade w names (p ∷ ps) (MoreExpressions first others) = TakesMember p.shape (TakesWhole w names first) (Takes w names first) × TakesMade w names ps others
 
--- ---- structs that are assigned
+-- ---- structs and unions that are assigned
 
--- what is assigned: a struct, a word or a fat pointer
+-- what is assigned: a struct, a union, a word or a fat pointer
 abbrev pub TakesAssigned : World → List Named → Shape → (place value : Expression) → Type 0
 TakesAssigned w names (StructShape tag) place value =
-    TakesPlace w names place × (TakesWhole w names value × IsStructShape w.structs (StructShape tag))
+    TakesPlace w names place × (TakesWhole w names value × IsWholeShape w.unions w.structs (StructShape tag))
+TakesAssigned w names (UnionShape tag) place value =
+    TakesPlace w names place × (TakesWhole w names value × IsWholeShape w.unions w.structs (UnionShape tag))
 TakesAssigned w names s place value = Takes w names (Expression.Assign place value)
 
 abbrev pub TakesDropped : World → List Named → Shape → Expression → Type 0
 TakesDropped w names (StructShape tag) e = TakesWhole w names e
+TakesDropped w names (UnionShape tag) e = TakesWhole w names e
 TakesDropped w names s e = Takes w names e
 
 -- what a name calls, by whether it makes a struct
@@ -291,7 +336,7 @@ abbrev pub TakesCalled : Bool → (whole word : Type 0) → Type 0
 TakesCalled true whole word = whole
 TakesCalled false whole word = word
 
--- an expression whose value is dropped: a struct that is assigned, made or read, or what is no struct
+-- an expression whose value is dropped: a struct or a union that is assigned, made or read, or what is neither
 abbrev pub TakesRun : World → List Named → Expression → Type 0
 TakesRun w names (Expression.Assign place value) = TakesAssigned w names (static_shape w names place) place value
 TakesRun w names (Expression.Grouped at inner) = TakesRun w names inner
@@ -304,6 +349,7 @@ TakesRun w names e = TakesDropped w names (static_shape w names e) e
 -- what a local of a shape is initialized with
 abbrev pub TakesValue : World → List Named → Shape → Expression → Type 0
 TakesValue w names (StructShape tag) e = TakesWhole w names e
+TakesValue w names (UnionShape tag) e = TakesWhole w names e
 TakesValue w names s e = Takes w names e
 
 -- of a local of a shape
@@ -313,7 +359,7 @@ TakesInitializer w names shape (Initializer.Elements count) = (count < 2 ^ 32) �
 TakesInitializer w names shape (Initializer.Value e) = TakesValue w names shape e
 
 abbrev pub TakesDeclaration : World → List Named → Declaration → Type 0
-TakesDeclaration w names (tree.Local of name initializer) = IsObjectType w.structs of × TakesInitializer w names (settled (written of)) initializer
+TakesDeclaration w names (tree.Local of name initializer) = IsObjectType w.unions w.structs of × TakesInitializer w names (settled (written of)) initializer
 TakesDeclaration w names (tree.Region at region handle) = Unit {0}
 TakesDeclaration w names _ = ⊥
 
@@ -327,6 +373,9 @@ abbrev mutual
   TakesStatement w result names (Statement.IfElse at condition body otherwise) =
       Takes w names condition × (TakesStatement w result names body × TakesStatement w result names otherwise)
   TakesStatement w result names (Statement.While at condition body) = Takes w names condition × TakesStatement w result names body
+  TakesStatement w result names (Statement.Switch at place clauses) =
+      TakesPlace w names place ×
+      (IsUnionShape w.unions (static_shape w names place) × TakesClauses w result names (union_parts w (static_shape w names place)) clauses)
   TakesStatement w result names (Statement.Break at) = Unit {0}
   TakesStatement w result names (Statement.Continue at) = Unit {0}
   TakesStatement w result names (Statement.Return at None) = (result ≡ VoidShape)
@@ -339,6 +388,15 @@ abbrev mutual
   TakesItems w result names index (Declare d others) =
       TakesDeclaration w names d × TakesItems w result (named_here (tree.local_of d).text (local_shape d) index ∷ names) (suc index) others
   TakesItems w result names index (Execute s others) = TakesStatement w result names s × TakesItems w result names index others
+
+  -- each clause is for one of these members, whose copy is its first local, or for those that aren't named
+  pub TakesClauses : World → Shape → List Named → List Part → Clauses → Type 0
+  TakesClauses w result names parts NoClauses = Unit {0}
+  TakesClauses w result names parts (MoreClauses at (Case f x) body others) =
+      IsMember parts f.text ×
+      (TakesItems w result (named_here x.text (part_shape parts f.text) 0 ∷ outward names) 1 body × TakesClauses w result names parts others)
+  TakesClauses w result names parts (MoreClauses at Default body others) =
+      TakesItems w result (outward names) 0 body × TakesClauses w result names parts others
 
 -- ---- items
 
@@ -370,8 +428,8 @@ TakesGlobal shape (Initial.Given c) = TakesConstant shape c
 
 abbrev pub TakesItem : World → Item → Type 0
 TakesItem w (tree.StructItem s) = Unit {0}
-TakesItem w (tree.UnionItem u) = ⊥
-TakesItem w (tree.GlobalItem g) = IsObjectType w.structs g.of × TakesGlobal (settled (written g.of)) g.initial
+TakesItem w (tree.UnionItem u) = Unit {0}
+TakesItem w (tree.GlobalItem g) = IsObjectType w.unions w.structs g.of × TakesGlobal (settled (written g.of)) g.initial
 TakesItem w (tree.FunctionItem f) = TakesFunction w f
 
 abbrev pub TakesProgram : World → List Item → Type 0
@@ -383,8 +441,9 @@ abbrev pub AreStrings : List Literal → Type 0
 AreStrings [] = Unit {0}
 AreStrings (s ∷ ss) = (length s.1 + 1 < 2 ^ 32) × AreStrings ss
 
--- the forms that are taken, structs one after the other, and strings
+-- the forms that are taken, unions, structs one after the other, and strings
 pub record IsLowerable (p : Program) : Type 0 where
   pub items : TakesProgram (world_of p) p
+  pub unions : AreUnions (world_of p).unions
   pub structs : AreStructs (world_of p).unions (world_of p).structs
   pub strings : AreStrings (program_strings p)

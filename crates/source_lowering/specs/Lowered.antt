@@ -1,10 +1,10 @@
 -- What an expression is lowered to. It leaves its value in the temporaries from a number on, a word in one and a fat pointer in three, and uses no earlier
--- ones. A struct that is made, or read whole, is an unnamed value of its function, and its code leaves a pointer to it in the first. Unnamed values are
+-- ones. A struct or a tagged union that is made, or read whole, is an unnamed value of its function, and its code leaves a pointer to it in the first. Unnamed values are
 -- numbered in the order of the evaluation: from the left, but for an assigned value, which comes before its place, and each before those of its parts.
 use Rattle.std.specs.Prelude.{ℕ, suc, ◌+◌, ◌%◌, List, [], ◌∷◌, ◌++◌, length}
 use Rattle.cyc_tree.specs.Tree.{Expression, Expressions, NoExpressions, MoreExpressions, Links, NoLinks, MoreLinks, Suffixes, NoSuffixes, Index, Dot, Arrow}
 use Rattle.cyc_tree.specs.Tree.{Made, One, Array}
-use Rattle.source_meaning.specs.Shapes.{Shape, StructShape, Part, parts_of, pointee}
+use Rattle.source_meaning.specs.Shapes.{Shape, StructShape, UnionShape, Part, parts_of, part_shape, pointee}
 use Rattle.source_meaning.specs.Sizes.{rounded_up}
 use Rattle.source_meaning.specs.Steps.{World}
 use Rattle.source_meaning.specs.Operators.{operator_shape}
@@ -24,6 +24,10 @@ pub use Rattle.source_lowering.specs.Pieces.{
   reach_code,
   loads_code,
   stores_code,
+  tag_load,
+  tag_store,
+  held_loads,
+  held_stores,
   member_shape,
   valued,
   suffixed_shape,
@@ -49,6 +53,8 @@ pub use Rattle.source_lowering.specs.Pieces.{
   call_shape,
   makes_struct,
   is_made,
+  union_parts,
+  member_number,
   prefix_shape,
   static_shape,
   new_shape,
@@ -99,9 +105,10 @@ pub use Rattle.source_lowering.specs.Pieces.{
 
 -- ---- unnamed values
 
--- those of a value of a shape: as a struct, or else as an operand
+-- those of a value of a shape: as a struct or a tagged union, or else as an operand
 abbrev pub values_by : Shape → (whole word : List Shape) → List Shape
 values_by (StructShape tag) whole word = whole
+values_by (UnionShape tag) whole word = whole
 values_by s whole word = word
 
 abbrev mutual
@@ -142,9 +149,10 @@ abbrev mutual
       let inner = number_named index.text 0 ∷ names in
       expression_values w names count ++ values_by (static_shape w inner element) (whole_values w inner element) (expression_values w inner element)
 
-  -- of a struct: its own, and then those of its parts, or of the place that it is read from
+  -- of a struct or a tagged union: its own, and then those of its parts, or of the place that it is read from
   pub whole_values : World → List Named → Expression → List Shape
   whole_values w names (Expression.Call name arguments) = StructShape name.text ∷ made_values w names (parts_of w.structs name.text) arguments
+  whole_values w names (Expression.MakeUnion tag member value) = UnionShape tag.text ∷ expression_values w names value
   whole_values w names (Expression.Grouped at inner) = whole_values w names inner
   whole_values w names (Expression.Suffixed primary suffixes) =
       static_shape w names (Expression.Suffixed primary suffixes) ∷ (suffix_values w names suffixes ++ expression_values w names primary)
@@ -158,22 +166,23 @@ abbrev mutual
   made_values w names (p ∷ ps) (MoreExpressions first others) =
       values_by p.shape (whole_values w names first) (expression_values w names first) ++ made_values w names ps others
 
--- ---- pieces of code with structs
+-- ---- pieces of code with structs and tagged unions
 
 -- a place is copied to an unnamed value, from the pointer in the same temporary
 abbrev pub copied_code : World → Shape → (d own : ℕ) → List Statement
 copied_code w s d own = Do (OwnAddress (d + 1) own) ∷ Do (Copy (d + 1) d (layout_of w s)) ∷ Do (OwnAddress d own) ∷ []
 
--- A member that is a struct is copied so far on, from the pointer in the next temporary; another one is converted, and stored there.
+-- A member that is a struct or a tagged union is copied so far on, from the pointer in the next temporary; another one is converted, and stored there.
 abbrev pub struct_member_code : World → Shape → (d cells bytes : ℕ) → List Statement
 struct_member_code w s d cells bytes = Do (Offset (d + 2) d cells bytes) ∷ Do (Copy (d + 2) (d + 1) (layout_of w s)) ∷ []
 
 abbrev pub word_member_code : World → Shape → Shape → (d cells bytes : ℕ) → List Statement
 word_member_code w s from d cells bytes = conversion_code w s from (d + 1) ++ stores_code s d (d + 1) cells bytes
 
--- a member of a shape, by the code of its argument as a struct and as an operand
+-- a member of a shape, by the code of its argument as a whole and as an operand
 abbrev pub member_code : World → Shape → Shape → (d cells bytes : ℕ) → (whole word : List Statement) → List Statement
 member_code w (StructShape tag) from d cells bytes whole word = whole ++ struct_member_code w (StructShape tag) d cells bytes
+member_code w (UnionShape tag) from d cells bytes whole word = whole ++ struct_member_code w (UnionShape tag) d cells bytes
 member_code w s from d cells bytes whole word = word ++ word_member_code w s from d cells bytes
 
 -- A block for one object is asked for in the region of the handle in this temporary, which gets a pointer to it; the count 1 comes into another one.
@@ -184,6 +193,8 @@ request_code w s d count = Do (Constant count 1) ∷ Do (RegionAlloc d d count (
 abbrev pub new_code_by : World → Shape → ℕ → (whole word : List Statement) → List Statement
 new_code_by w (StructShape tag) d whole word =
     whole ++ (request_code w (StructShape tag) d (d + 2) ++ (Do (Copy d (d + 1) (layout_of w (StructShape tag))) ∷ []))
+new_code_by w (UnionShape tag) d whole word =
+    whole ++ (request_code w (UnionShape tag) d (d + 2) ++ (Do (Copy d (d + 1) (layout_of w (UnionShape tag))) ∷ []))
 new_code_by w s d whole word = word ++ (request_code w s d (d + 1 + words_in s) ++ stores_code s d (d + 1) 0 0)
 
 -- An element's value comes into the temporaries behind the array's pointer, its count and the element's number, or a pointer to it does. Then it is stored where
@@ -192,6 +203,9 @@ abbrev pub element_by : World → Shape → ℕ → (whole word : List Statement
 element_by w (StructShape tag) d whole word =
     whole ++ (Do (Element (d + 4) d (d + 2) (length (cells_of w (StructShape tag))) (extent_of w (StructShape tag)).size) ∷
     Do (Copy (d + 4) (d + 3) (layout_of w (StructShape tag))) ∷ [])
+element_by w (UnionShape tag) d whole word =
+    whole ++ (Do (Element (d + 4) d (d + 2) (length (cells_of w (UnionShape tag))) (extent_of w (UnionShape tag)).size) ∷
+    Do (Copy (d + 4) (d + 3) (layout_of w (UnionShape tag))) ∷ [])
 element_by w s d whole word =
     word ++ (Do (Element (d + 3 + words_in s) d (d + 2) (length (cells_of w s)) (extent_of w s).size) ∷ stores_code s (d + 3 + words_in s) (d + 3) 0 0)
 
@@ -207,6 +221,11 @@ elements_code d each =
 -- A block for so many objects as the next temporary says is asked for in the region of the handle in this one, which gets a pointer to it.
 abbrev pub array_code : World → Shape → ℕ → (each : List Statement) → List Statement
 array_code w s d each = Do (RegionAlloc d d (d + 1) (layout_of w s)) ∷ Do (Constant (d + 2) 0) ∷ elements_code d each
+
+-- A tagged union to which this temporary points holds the member of a number and a shape then: its value, of another shape as yet, is in the next temporaries,
+-- and is converted, and the tag is set by way of the one behind them.
+abbrev pub union_code : World → Shape → Shape → ℕ → ℕ → List Statement
+union_code w s from number d = conversion_code w s from (d + 1) ++ (tag_store d (d + 1 + words_in s) number ++ held_stores s d (d + 1))
 
 -- ---- expressions
 
@@ -327,10 +346,14 @@ abbrev mutual
       array_code w (static_shape w inner element) d
       (element_by w (static_shape w inner element) d (whole_code w inner element (d + 3) first) (expression_code w inner element (d + 3) first))
 
-  -- a struct: made of its members, or copied from a place
+  -- a struct made of its members, a tagged union made of one, or either copied from a place
   pub whole_code : World → List Named → Expression → (d own : ℕ) → List Statement
   whole_code w names (Expression.Call name arguments) d own =
       Do (OwnAddress d own) ∷ members_code w names (parts_of w.structs name.text) arguments d 0 0 (suc own)
+  whole_code w names (Expression.MakeUnion tag member value) d own =
+      let parts = parts_of w.unions tag.text in
+      Do (OwnAddress d own) ∷ (expression_code w names value (d + 1) (suc own) ++
+      union_code w (part_shape parts member.text) (static_shape w names value) (member_number parts member.text) d)
   whole_code w names (Expression.Grouped at inner) d own = whole_code w names inner d own
   whole_code w names (Expression.Variable name) d own =
       address_by (local_named names name.text) (bound_to w.globals name.text) d ++

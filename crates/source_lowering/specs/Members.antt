@@ -46,6 +46,26 @@ stores_code (FatShape to) p d cells bytes =
     Do (Store p (part_at cells bytes 0) d) ∷ Do (Store p (part_at cells bytes 1) (d + 1)) ∷ Do (Store p (part_at cells bytes 2) (d + 2)) ∷ []
 stores_code s p d cells bytes = Do (Store p (distance cells bytes (width_of s)) d) ∷ []
 
+-- ---- tagged unions: a tag, and the words of the member that it says
+
+-- the tag of the union to which a pointer in p leads is read
+abbrev pub tag_load : (t p : ℕ) → List Statement
+tag_load t p = Do (Load t p (part_at 0 0 0)) ∷ []
+
+-- it is set, by way of a temporary
+abbrev pub tag_store : (p t number : ℕ) → List Statement
+tag_store p t number = Do (Constant t number) ∷ Do (Store p (part_at 0 0 0) t) ∷ []
+
+-- The member of a shape that the union holds to which this temporary points is read into it and those behind it, the pointer's own part last.
+abbrev pub held_loads : Shape → ℕ → List Statement
+held_loads (FatShape to) d = Do (Load (d + 2) d (part_at 0 0 3)) ∷ Do (Load (d + 1) d (part_at 0 0 2)) ∷ Do (Load d d (part_at 0 0 1)) ∷ []
+held_loads s d = Do (Load d d (part_at 0 0 1)) ∷ []
+
+-- the value in the temporaries from d on becomes the member of the union where p points
+abbrev pub held_stores : Shape → (p d : ℕ) → List Statement
+held_stores (FatShape to) p d = Do (Store p (part_at 0 0 1) d) ∷ Do (Store p (part_at 0 0 2) (d + 1)) ∷ Do (Store p (part_at 0 0 3) (d + 2)) ∷ []
+held_stores s p d = Do (Store p (part_at 0 0 1) d) ∷ []
+
 -- how many temporaries a value takes: a fat pointer three, all else one
 abbrev pub words_in : Shape → ℕ
 words_in (FatShape to) = 3

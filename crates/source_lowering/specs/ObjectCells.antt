@@ -1,6 +1,6 @@
 -- What an object is made of, by the structs that are declared: its cells, where they are placed, and how large it is.
-use Rattle.std.specs.Prelude.{◌≡◌, List, [], ◌∷◌}
-use Rattle.source_meaning.specs.Shapes.{Shape, Layout}
+use Rattle.std.specs.Prelude.{◌≡◌, true, List, [], ◌∷◌}
+use Rattle.source_meaning.specs.Shapes.{Shape, UnionShape, Layout, has_tag}
 use Rattle.source_meaning.specs.Sizes.{Extent, cells_by, struct_cells, extent_by, union_extent, struct_extent}
 use Rattle.source_meaning.specs.Placing.{Placed, placed_by, struct_placed}
 use Rattle.source_lowering.specs.Lowerable.{IsValueShape}
@@ -18,15 +18,19 @@ abbrev pub shapes_in : List Placed → List Shape
 shapes_in [] = []
 shapes_in (p ∷ ps) = p.shape ∷ shapes_in ps
 
--- each cell is a value
-abbrev pub AreValueShapes : List Shape → Type 0
-AreValueShapes [] = Unit {0}
-AreValueShapes (s ∷ ss) = IsValueShape s × AreValueShapes ss
+-- a cell: a word, a fat pointer, or one of these unions
+abbrev pub IsCellShape : List Layout → Shape → Type 0
+IsCellShape unions (UnionShape tag) = (has_tag unions tag ≡ true)
+IsCellShape unions s = IsValueShape s
 
--- the cells of an object are the same, placed and not, and each is a value; the first of them begins with it
+abbrev pub AreCellShapes : List Layout → List Shape → Type 0
+AreCellShapes unions [] = Unit {0}
+AreCellShapes unions (s ∷ ss) = IsCellShape unions s × AreCellShapes unions ss
+
+-- the cells of an object are the same, placed and not, and each is one of a shape that is taken; the first of them begins with it
 pub record HasCells (unions structs : List Layout) (s : Shape) : Type 0 where
   pub shapes : shapes_in (placed_in unions structs s) ≡ cells_in structs s
-  pub values : AreValueShapes (cells_in structs s)
+  pub cells : AreCellShapes unions (cells_in structs s)
   pub first : Placed
   pub others : List Placed
   pub is : placed_in unions structs s ≡ first ∷ others

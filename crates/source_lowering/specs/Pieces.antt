@@ -1,13 +1,13 @@
 -- What expressions are lowered by: names, shapes that are known without a run, variables, conversions, operators, calls.
-use Rattle.std.specs.Prelude.{ℕ, zero, suc, ◌+◌, Bool, true, false, Option, Some, None, List, [], ◌∷◌, ◌++◌, bytes_eq, codes, if◌then◌else◌}
+use Rattle.std.specs.Prelude.{ℕ, zero, suc, ◌+◌, Bool, true, false, Option, Some, None, List, [], ◌∷◌, ◌++◌, bytes_eq, codes, unwrap_or, if◌then◌else◌}
 use Rattle.cyc_words.specs.declared.faults.Kind.TheVariants.{ArrayBounds}
 use Rattle.cyc_tree.specs.declared.expression.Operator.{Operator}
 use Rattle.cyc_tree.specs.declared.expression.Operator.TheVariants as operator
 use Rattle.cyc_tree.specs.declared.expression.Prefix.{Prefix}
 use Rattle.cyc_tree.specs.declared.expression.Prefix.TheVariants as prefix
 use Rattle.cyc_tree.specs.Tree.{Expression, Expressions, NoExpressions, MoreExpressions, Links, NoLinks, MoreLinks, Made, One, Array}
-use Rattle.source_meaning.specs.Shapes.{Shape, Shared, IntShape, UnsignedShape, CharShape, VoidShape, ThinShape, FatShape, HandleShape, StructShape, ArrayShape}
-use Rattle.source_meaning.specs.Shapes.{has_tag, pointee, part_shapes}
+use Rattle.source_meaning.specs.Shapes.{Shape, Shared, IntShape, UnsignedShape, CharShape, VoidShape, ThinShape, FatShape, HandleShape, StructShape, UnionShape, ArrayShape}
+use Rattle.source_meaning.specs.Shapes.{Part, has_tag, parts_of, part_position, pointee, part_shapes}
 use Rattle.source_meaning.specs.Memory.{IntegerType, AsInt, AsUnsigned, AsChar, Scalar, Wide}
 use Rattle.source_meaning.specs.Steps.{Entity, Variable, Fixed, Routine, World}
 use Rattle.source_meaning.specs.Operators.{common, by_type, operator_shape}
@@ -26,6 +26,10 @@ pub use Rattle.source_lowering.specs.Members.{
   null_check,
   check_code,
   bounds_code,
+  tag_load,
+  tag_store,
+  held_loads,
+  held_stores,
   raised,
   reached_code,
   element_code,
@@ -104,6 +108,7 @@ makes_struct w name =
 
 abbrev pub is_made : World → Expression → Bool
 is_made w (Expression.Call name arguments) = makes_struct w name.text
+is_made w (Expression.MakeUnion tag member value) = true
 is_made w (Expression.Grouped at inner) = is_made w inner
 is_made w _ = false
 
@@ -122,6 +127,7 @@ abbrev mutual
   static_shape w names (Expression.Null at) = ThinShape true Shared VoidShape
   static_shape w names (Expression.Variable name) = valued (named_shape w names name.text)
   static_shape w names (Expression.Call name arguments) = call_shape w name.text
+  static_shape w names (Expression.MakeUnion tag member value) = UnionShape tag.text
   static_shape w names (Expression.Grouped at inner) = static_shape w names inner
   static_shape w names (Expression.Suffixed primary suffixes) = suffixed_shape w suffixes (static_shape w names primary)
   static_shape w names (Expression.Prefixed at operator operand) = prefix_shape operator (static_shape w names operand)
@@ -145,6 +151,16 @@ abbrev mutual
   pub linked_shape : World → List Named → Links → Shape → Shape
   linked_shape w names NoLinks left = left
   linked_shape w names (MoreLinks operator operand others) left = linked_shape w names others (operator_shape operator left (static_shape w names operand))
+
+-- ---- members of tagged unions
+
+abbrev pub union_parts : World → Shape → List Part
+union_parts w (UnionShape tag) = parts_of w.unions tag
+union_parts w s = []
+
+-- the number of a member, from 0 on
+abbrev pub member_number : List Part → List ℕ → ℕ
+member_number parts f = unwrap_or (part_position parts f) 0
 
 -- ---- variables
 

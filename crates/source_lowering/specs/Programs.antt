@@ -2,10 +2,11 @@
 use Rattle.std.specs.Prelude.{ℕ, zero, suc, ◌+◌, ◌%◌, Bool, true, false, if◌then◌else◌, Option, ◌^◌, Some, None, List, [], ◌∷◌, ◌++◌, map, slice_get, length}
 use Rattle.std.specs.Prelude.{max, codes, unwrap_or}
 use Rattle.cyc_tree.specs.Tree as tree
-use Rattle.cyc_tree.specs.Tree.{Expression, Initializer, Declaration, Statement, BlockItems, NoItems, Declare, Execute, Initial, Item, Program}
+use Rattle.cyc_tree.specs.Tree.{Expression, Initializer, Declaration, Statement, BlockItems, NoItems, Declare, Execute, Clauses, NoClauses, MoreClauses, Case}
+use Rattle.cyc_tree.specs.Tree.{Default, Initial, Item, Program}
 use Rattle.cyc_words.specs.Words.{difference_of}
-use Rattle.source_meaning.specs.Shapes.{Shape, CharShape, VoidShape, ThinShape, FatShape, HandleShape, StructShape, ArrayShape, Part, part_shapes, written}
-use Rattle.source_meaning.specs.Shapes.{settled}
+use Rattle.source_meaning.specs.Shapes.{Shape, CharShape, VoidShape, ThinShape, FatShape, HandleShape, StructShape, UnionShape, ArrayShape, Part, part_shape}
+use Rattle.source_meaning.specs.Shapes.{part_shapes, written, settled}
 use Rattle.source_meaning.specs.Steps.{Routine, World}
 use Rattle.source_meaning.specs.Memory.{Span, Scalar, Wide}
 use Rattle.source_meaning.specs.Places.{string_at}
@@ -20,12 +21,15 @@ use Rattle.core_meaning.specs.Core.{
   If,
   While,
   Block,
+  Leave,
   Break,
   Continue,
   Return,
   Statements,
   NoStatements,
   MoreStatements,
+  Apply,
+  Equal,
   Constant,
   NullPointer,
   LocalAddress,
@@ -40,7 +44,7 @@ use Rattle.source_lowering.specs.Layouts.{layout_of, local_of, first_part}
 use Rattle.source_lowering.specs.Members.{words_in, all_words}
 use Rattle.source_lowering.specs.Whole.{expression_values, is_made, run_code, run_values, whole_code, whole_values}
 use Rattle.source_lowering.specs.Lowered.{Named, Home, InBlock, InTemporary, number_of, static_shape, all_of, width_of, stored_code, put_local, conversion_code, results_in, place_code}
-use Rattle.source_lowering.specs.Lowered.{expression_code}
+use Rattle.source_lowering.specs.Lowered.{expression_code, union_parts, member_number, tag_load, held_loads}
 pub use Rattle.source_lowering.specs.Temporaries.{last_of, operation_temporaries, statement_temporaries, temporaries_of, statement_passes, passed_by}
 
 -- ---- locals of a block
@@ -95,21 +99,24 @@ unset_code w (FatShape to) d index = begun_code w (FatShape to) d index
 unset_code w (ArrayShape count of) d index = begun_code w (ArrayShape count of) d index
 unset_code w s d index = Do (first_code s d) ∷ Do (Put 0 index (width_of s) d) ∷ []
 
--- a pointer to what a struct begins as: to the object that its initializer names, or to the struct that it makes
+-- a pointer to what a struct or a tagged union begins as: to the object that its initializer names, or to the value that it makes
 abbrev pub source_code : World → List Named → Bool → Expression → (d own : ℕ) → List core.Statement
 source_code w names true e d own = whole_code w names e d own
 source_code w names false e d own = place_code w names e d own
 
--- a struct gets the parts of that object
+-- it gets the parts of that object
 abbrev pub value_code : World → List Named → Shape → Expression → (d index own : ℕ) → List core.Statement
 value_code w names (StructShape tag) e d index own =
     source_code w names (is_made w e) e d own ++ (Do (LocalAddress (d + 1) 0 index) ∷ Do (Copy (d + 1) d (layout_of w (StructShape tag))) ∷ [])
+value_code w names (UnionShape tag) e d index own =
+    source_code w names (is_made w e) e d own ++ (Do (LocalAddress (d + 1) 0 index) ∷ Do (Copy (d + 1) d (layout_of w (UnionShape tag))) ∷ [])
 value_code w names s e d index own =
     expression_code w names e d own ++ (conversion_code w s (static_shape w names e) d ++ put_local s d 0 index)
 
 -- the unnamed values of an initializer
 abbrev pub initial_values : World → List Named → Shape → Expression → List Shape
 initial_values w names (StructShape tag) e = (if is_made w e then whole_values w names e else expression_values w names e)
+initial_values w names (UnionShape tag) e = (if is_made w e then whole_values w names e else expression_values w names e)
 initial_values w names s e = expression_values w names e
 
 -- A region is born; its handle stays in the first free temporary while the region is in scope, and goes to its local.
@@ -159,6 +166,8 @@ abbrev mutual
   statement_values w names (Statement.IfElse at condition body otherwise) =
       expression_values w names condition ++ (statement_values w names body ++ statement_values w names otherwise)
   statement_values w names (Statement.While at condition body) = expression_values w names condition ++ statement_values w names body
+  statement_values w names (Statement.Switch at place clauses) =
+      expression_values w names place ++ (case_values w names (union_parts w (static_shape w names place)) clauses ++ default_values w names clauses)
   statement_values w names (Statement.Return at (Some e)) = expression_values w names e
   statement_values w names _ = []
 
@@ -169,29 +178,47 @@ abbrev mutual
       declaration_values w names d ++ item_values w (named_here (tree.local_of d).text (local_shape d) index ∷ names) (suc index) others
   item_values w names index (Execute s others) = statement_values w names s ++ item_values w names index others
 
+  -- of the clauses of a `switch` on a union of these members, and behind them those of the first `default`; the copy of a member is the first local of its clause
+  pub case_values : World → List Named → List Part → Clauses → List Shape
+  case_values w names parts NoClauses = []
+  case_values w names parts (MoreClauses at (Case f x) body others) =
+      item_values w (named_here x.text (part_shape parts f.text) 0 ∷ outward names) 1 body ++ case_values w names parts others
+  case_values w names parts (MoreClauses at Default body others) = case_values w names parts others
+
+  pub default_values : World → List Named → Clauses → List Shape
+  default_values w names NoClauses = []
+  default_values w names (MoreClauses at (Case f x) body others) = default_values w names others
+  default_values w names (MoreClauses at Default body others) = item_values w (outward names) 0 body
+
 -- ---- statements
 
--- What the code of a statement needs of the regions around it: how many of its function are in scope, whose handles are in the first temporaries, and how many
--- of these were opened within the innermost loop. Its own values come into the temporaries behind.
+-- What the code of a statement needs of the regions around it: how many of its function are in scope, whose handles are in the first temporaries, how many of
+-- these were opened within what a `break` leaves, the innermost loop or `switch`, and how many within the innermost loop, whose turn a `continue` ends. Its own
+-- values come into the temporaries behind.
 pub record RegionsAround : Type 0 where
   pub all : ℕ
-  pub inner : ℕ
+  pub broken : ℕ
+  pub continued : ℕ
 
 -- no region is in scope
 abbrev pub no_regions : RegionsAround
-no_regions = record { all = 0; inner = 0 }
+no_regions = record { all = 0; broken = 0; continued = 0 }
 
 -- within a loop
 abbrev pub in_loop : RegionsAround → RegionsAround
-in_loop h = record { all = h.all; inner = 0 }
+in_loop h = record { all = h.all; broken = 0; continued = 0 }
+
+-- within a `switch`
+abbrev pub in_switch : RegionsAround → RegionsAround
+in_switch h = record h { broken = 0 }
 
 -- behind a declaration
 abbrev pub regions_with : Declaration → RegionsAround → RegionsAround
-regions_with d h = record { all = regions_behind d h.all; inner = regions_behind d h.inner }
+regions_with d h = record { all = regions_behind d h.all; broken = regions_behind d h.broken; continued = regions_behind d h.continued }
 
 abbrev mutual
-  -- The first of its unnamed values has this number. `break` and `continue` free the regions of the innermost loop, and `return` those of the function, when
-  -- the result is there.
+  -- The first of its unnamed values has this number. `break` and `continue` free the regions that were opened within what they leave, and `return` those of the
+  -- function, when the result is there.
   pub statement_code : World → Shape → List Named → RegionsAround → (own : ℕ) → Statement → List core.Statement
   statement_code w result names h own (Statement.Empty at) = []
   statement_code w result names h own (Statement.Block at items) =
@@ -208,8 +235,15 @@ abbrev mutual
   statement_code w result names h own (Statement.While at condition body) =
       While (all_of (expression_code w names condition h.all own)) h.all
       (all_of (statement_code w result names (in_loop h) (own + length (expression_values w names condition)) body)) ∷ []
-  statement_code w result names h own (Statement.Break at) = leaving_code h.all h.inner ++ (Break ∷ [])
-  statement_code w result names h own (Statement.Continue at) = leaving_code h.all h.inner ++ (Continue ∷ [])
+  -- A pointer to the union comes into the first free temporary, and its tag into the next one.
+  statement_code w result names h own (Statement.Switch at place clauses) =
+      let first = own + length (expression_values w names place) in
+      let parts = union_parts w (static_shape w names place) in
+      Leave (all_of (place_code w names place h.all own ++ (tag_load (h.all + 1) h.all ++
+      (cases_code w result names (in_switch h) parts first clauses ++
+      default_code w result names (in_switch h) (first + length (case_values w names parts clauses)) clauses)))) ∷ []
+  statement_code w result names h own (Statement.Break at) = leaving_code h.all h.broken ++ (Break ∷ [])
+  statement_code w result names h own (Statement.Continue at) = leaving_code h.all h.continued ++ (Continue ∷ [])
   statement_code w result names h own (Statement.Return at None) = leaving_code h.all h.all ++ (Return [] ∷ [])
   statement_code w result names h own (Statement.Return at (Some e)) =
       expression_code w names e h.all own ++
@@ -225,6 +259,27 @@ abbrev mutual
       (own + length (declaration_values w names d)) others ++ ending_code d h.all)
   items_code w result names h index own (Execute s others) =
       statement_code w result names h own s ++ items_code w result names h index (own + length (statement_values w names s)) others
+
+  -- The clauses of a `switch` on a union of these members, one after the other: where the tag is the number of its member, the member is copied to the clause's
+  -- first local, its statements are done, and the `switch` is left. The pointer to the union and the tag are in the first free temporaries.
+  pub cases_code : World → Shape → List Named → RegionsAround → List Part → (own : ℕ) → Clauses → List core.Statement
+  cases_code w result names h parts own NoClauses = []
+  cases_code w result names h parts own (MoreClauses at (Case f x) body others) =
+      let s = part_shape parts f.text in
+      let inner = named_here x.text s 0 ∷ outward names in
+      Do (Constant (h.all + 2) (member_number parts f.text)) ∷ Do (Apply Equal (h.all + 2) (h.all + 1) (h.all + 2)) ∷
+      If (h.all + 2)
+      (all_of (Block (locals_of w (s ∷ block_shapes body)) (all_of (held_loads s h.all ++ (put_local s h.all 0 0 ++ items_code w result inner h 1 own body))) ∷
+      Break ∷ [])) NoStatements ∷
+      cases_code w result names h parts (own + length (item_values w inner 1 body)) others
+  cases_code w result names h parts own (MoreClauses at Default body others) = cases_code w result names h parts own others
+
+  -- the first `default` among them, behind all others
+  pub default_code : World → Shape → List Named → RegionsAround → (own : ℕ) → Clauses → List core.Statement
+  default_code w result names h own NoClauses = []
+  default_code w result names h own (MoreClauses at (Case f x) body others) = default_code w result names h own others
+  default_code w result names h own (MoreClauses at Default body others) =
+      Block (locals_of w (block_shapes body)) (all_of (items_code w result (outward names) h 0 own body)) ∷ []
 
 -- ---- functions
 

@@ -1,10 +1,11 @@
 -- The relation between a source's memory and Core's, and when both do the same from there on.
 use Rattle.std.proofs.Common.{◌≡◌, ℕ, suc, ◌+◌, ◌*◌, ◌^◌, ◌<◌, ◌≤◌, ◌⊎◌, List, [], ◌∷◌, length, Bool, true, Option, Some, None}
+use Rattle.std.specs.Prelude.{slice_get}
 use Rattle.cyc_words.specs.Events.{AreBytes, SourceEnding}
 pub use Rattle.source_lowering.specs.Agreeing.{SameEvent, BothVisible, BothCalled, BothReturned, SameEvents, SameOutcome}
 use Rattle.step_trees.specs.Trees.{run}
 use Rattle.source_meaning.specs.Shapes.{Shape, IntShape, UnsignedShape, CharShape, VoidShape, ThinShape, FatShape, HandleShape, KeyShape}
-use Rattle.source_meaning.specs.Shapes.{StructShape, UnionShape, ArrayShape}
+use Rattle.source_meaning.specs.Shapes.{StructShape, UnionShape, ArrayShape, part_shapes, parts_of}
 use Rattle.source_meaning.specs.Memory as source
 use Rattle.source_meaning.specs.Memory.{
   IntegerType,
@@ -15,6 +16,7 @@ use Rattle.source_meaning.specs.Memory.{
   Integer,
   Thin,
   Wide,
+  Tagged,
   HandleOf,
   KeyOf,
   Spot,
@@ -122,7 +124,7 @@ pub record ANull (may_be_null : Bool) (v : Scalar) (cs : List Content) : Type 0 
 
 -- an object of a shape that is taken
 pub record IsTakenObject (w : World) (shape : Shape) : Type 0 where
-  pub object : IsObject w.structs shape
+  pub object : IsObject w.unions w.structs shape
   pub cells : HasCells w.unions w.structs shape
 
 pub record APointer (w : World) (m : source.Memory) (c : core.Memory) (to : Shape) (v : Scalar) (cs : List Content) : Type 0 where
@@ -155,18 +157,34 @@ pub record ABirth (which : ℕ → Scalar) (v : Scalar) (cs : List Content) : Ty
   pub value : v ≡ which birth
   pub shown : cs ≡ Birth birth ∷ []
 
+-- what a union holds
+abbrev pub ShownMember : World → source.Memory → core.Memory → Shape → Scalar → List Content → Type 0
+ShownMember w m c IntShape v cs = AnInteger AsInt (2 ^ 32) v cs
+ShownMember w m c UnsignedShape v cs = AnInteger AsUnsigned (2 ^ 32) v cs
+ShownMember w m c CharShape v cs = AnInteger AsChar 256 v cs
+ShownMember w m c VoidShape v cs = ⊥
+ShownMember w m c (ThinShape may_be_null owner to) v cs = ANull may_be_null v cs ⊎ APointer w m c to v cs
+ShownMember w m c (FatShape to) v cs = AFatNull v cs ⊎ AFat w m c to (size_of w to) v cs
+ShownMember w m c HandleShape v cs = ABirth HandleOf v cs
+ShownMember w m c KeyShape v cs = ABirth KeyOf v cs
+ShownMember w m c (StructShape tag) v cs = ⊥
+ShownMember w m c (UnionShape tag) v cs = ⊥
+ShownMember w m c (ArrayShape count of) v cs = ⊥
+
+-- a union's value: its tag, the words of the member that it holds, and behind them whatever they were
+pub record AUnion (w : World) (m : source.Memory) (c : core.Memory) (tag : List ℕ) (v : Scalar) (cs : List Content) : Type 0 where
+  pub number : ℕ
+  pub shape : Shape
+  pub held : Scalar
+  pub words : List Content
+  pub value : v ≡ Tagged number held
+  pub known : slice_get (part_shapes (parts_of w.unions tag)) number ≡ Some shape
+  pub member : ShownMember w m c shape held words
+  pub shown : cs ≡ Word number ∷ words
+
 abbrev pub Shown : World → source.Memory → core.Memory → Shape → Scalar → List Content → Type 0
-Shown w m c IntShape v cs = AnInteger AsInt (2 ^ 32) v cs
-Shown w m c UnsignedShape v cs = AnInteger AsUnsigned (2 ^ 32) v cs
-Shown w m c CharShape v cs = AnInteger AsChar 256 v cs
-Shown w m c VoidShape v cs = ⊥
-Shown w m c (ThinShape may_be_null owner to) v cs = ANull may_be_null v cs ⊎ APointer w m c to v cs
-Shown w m c (FatShape to) v cs = AFatNull v cs ⊎ AFat w m c to (size_of w to) v cs
-Shown w m c HandleShape v cs = ABirth HandleOf v cs
-Shown w m c KeyShape v cs = ABirth KeyOf v cs
-Shown w m c (StructShape tag) v cs = ⊥
-Shown w m c (UnionShape tag) v cs = ⊥
-Shown w m c (ArrayShape count of) v cs = ⊥
+Shown w m c (UnionShape tag) v cs = AUnion w m c tag v cs
+Shown w m c s v cs = ShownMember w m c s v cs
 
 -- ---- memories agree
 

@@ -1,7 +1,7 @@
--- Expressions that are statements, whose values are dropped: structs that are assigned, made or read, and what is no struct.
+-- Expressions that are statements, whose values are dropped: structs and tagged unions that are assigned, made or read, and what is neither.
 use Rattle.std.specs.Prelude.{ℕ, ◌+◌, List, [], ◌∷◌, ◌++◌, length, if◌then◌else◌}
 use Rattle.cyc_tree.specs.Tree.{Expression}
-use Rattle.source_meaning.specs.Shapes.{Shape, StructShape}
+use Rattle.source_meaning.specs.Shapes.{Shape, StructShape, UnionShape}
 use Rattle.source_meaning.specs.Steps.{World}
 use Rattle.core_meaning.specs.Core.{Copy, Do, Statement}
 use Rattle.source_lowering.specs.Layouts.{layout_of}
@@ -26,6 +26,9 @@ abbrev pub assigned_code : World → List Named → Shape → (place value : Exp
 assigned_code w names (StructShape tag) place value d own =
     whole_code w names value d own ++
     (place_code w names place (d + 1) (own + length (whole_values w names value)) ++ (Do (Copy (d + 1) d (layout_of w (StructShape tag))) ∷ []))
+assigned_code w names (UnionShape tag) place value d own =
+    whole_code w names value d own ++
+    (place_code w names place (d + 1) (own + length (whole_values w names value)) ++ (Do (Copy (d + 1) d (layout_of w (UnionShape tag))) ∷ []))
 assigned_code w names s place value d own = expression_code w names (Expression.Assign place value) d own
 
 abbrev pub assigned_values : World → List Named → Shape → (place value : Expression) → List Shape
@@ -34,6 +37,7 @@ assigned_values w names s place value =
 
 abbrev pub dropped_code : World → List Named → Shape → Expression → (d own : ℕ) → List Statement
 dropped_code w names (StructShape tag) e d own = whole_code w names e d own
+dropped_code w names (UnionShape tag) e d own = whole_code w names e d own
 dropped_code w names s e d own = expression_code w names e d own
 
 abbrev pub dropped_values : World → List Named → Shape → Expression → List Shape

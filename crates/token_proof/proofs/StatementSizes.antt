@@ -3,11 +3,11 @@ use Rattle.std.proofs.Common.{ℕ, ◌+◌, ◌≤◌, length, Some, None, arith
 use Rattle.cyc_lexer.specs.declared.token.Keyword.TheVariants as word
 use Rattle.cyc_lexer.specs.declared.token.Sign.TheVariants as sign
 use Rattle.cyc_tree.specs.Tree as tree
-use Rattle.cyc_tree.specs.Tree.{Expression, Declaration, Pattern, BlockItems, NoItems, Declare, Execute, Clauses, NoClauses, MoreClauses}
+use Rattle.cyc_tree.specs.Tree.{Expression, Declaration, BlockItems, NoItems, Declare, Execute, Clauses, NoClauses, MoreClauses}
 use Rattle.source_grammar.specs.Phrases.{Tokens, KeywordAt, IsSign, InParentheses}
 use Rattle.source_grammar.specs.ExpressionGrammar.{IsExpression}
 use Rattle.source_grammar.specs.StatementGrammar.{IsCount, IsNameInParentheses, IsDeclaration, IsPattern, IsStatement, AreItems, AreClauses}
-use Rattle.source_lowering.specs.Bounds.{tokens_of, declaration_tokens, statement_size, item_size}
+use Rattle.source_lowering.specs.Bounds.{tokens_of, declaration_tokens, statement_size, item_size, clauses_size}
 use Rattle.token_proof.proofs.Shorter.{one_taken, keyword_taken, sign_taken, name_taken, none_taken, one_region_shorter, type_shorter}
 use Rattle.token_proof.proofs.ExpressionSizes.{Takes, in_parentheses, expression_size}
 
@@ -71,10 +71,10 @@ declaration_size (tree.NewKey at region key) from to
 
 -- ---- statements
 
-pattern_shorter : (at : ℕ) (pattern : Pattern) (from to : Tokens) → IsPattern at pattern from to → length to ≤ length from
-pattern_shorter at (tree.Case member name) from to (a, b, c, d, e, f, word, opened, dot, named, gives, is, closed) =
+-- `case {.M = x}` has seven tokens
+named_case : (at : ℕ) (member name : tree.Name) (from to : Tokens) → IsPattern at (tree.Case member name) from to → Takes 7 from to
+named_case at member name from to (a, b, c, d, e, f, word, opened, dot, named, gives, is, closed) =
     omega (arith, one_taken word, sign_taken opened, sign_taken dot, name_taken named, sign_taken gives, name_taken is, sign_taken closed)
-pattern_shorter at tree.Default from to is = omega (arith, one_taken is)
 
 -- an expression in parentheses, as a condition is
 condition_size : (e : Expression) (from to : Tokens) → InParentheses (IsExpression e) from to → Takes (2 + tokens_of e) from to
@@ -82,8 +82,8 @@ condition_size e = in_parentheses (tokens_of e) (IsExpression e) (expression_siz
 
 -- a `switch`, and its clauses
 switched : (at : ℕ) (place : Expression) (clauses : Clauses) (from to : Tokens) → IsStatement (tree.Switch at place clauses) from to
-    → (a : Tokens) × (b : Tokens) × (c : Tokens) × (d : Tokens) × KeywordAt word.Switch at from a × InParentheses (IsExpression place) a b × IsSign sign.LeftBrace b c
-    × AreClauses clauses c d × IsSign sign.RightBrace d to
+    → (a : Tokens) × (b : Tokens) × (c : Tokens) × (d : Tokens) × KeywordAt word.Switch at from a × InParentheses (IsExpression place) a b
+    × IsSign sign.LeftBrace b c × AreClauses clauses c d × IsSign sign.RightBrace d to
 switched at place NoClauses from to is = absurd is
 switched at place (MoreClauses first pattern body others) from to is = is
 
@@ -100,7 +100,7 @@ mutual
   sized (tree.While at condition body) from to (a, b, word, tests, is) = omega (arith, one_taken word, condition_size condition a b tests, sized body b to is)
   sized (tree.Switch at place clauses) from to is =
       let (a, b, c, d, word, chooses, opened, are, closed) = switched at place clauses from to is in
-      omega (arith, one_taken word, condition_size place a b chooses, sign_taken opened, clauses_shorter clauses c d are, sign_taken closed)
+      omega (arith, one_taken word, condition_size place a b chooses, sign_taken opened, clauses_sized clauses c d are, sign_taken closed)
   sized (tree.Break at) from to (a, word, ends) = omega (arith, one_taken word, sign_taken ends)
   sized (tree.Continue at) from to (a, word, ends) = omega (arith, one_taken word, sign_taken ends)
   sized (tree.Return at None) from to (a, word, ends) = omega (arith, one_taken word, sign_taken ends)
@@ -114,7 +114,9 @@ mutual
   items_sized (Declare declaration others) from to (a, is, are) = omega (arith, declaration_size declaration from a is, items_sized others a to are)
   items_sized (Execute statement others) from to (a, is, are) = omega (arith, sized statement from a is, items_sized others a to are)
 
-  clauses_shorter : (clauses : Clauses) (from to : Tokens) → AreClauses clauses from to → length to ≤ length from
-  clauses_shorter NoClauses from to is = none_taken is
-  clauses_shorter (MoreClauses at pattern body others) from to (a, b, c, is, colon, are, follow) =
-      omega (arith, pattern_shorter at pattern from a is, sign_taken colon, items_sized body b c are, clauses_shorter others c to follow)
+  clauses_sized : (clauses : Clauses) (from to : Tokens) → AreClauses clauses from to → Takes (clauses_size clauses) from to
+  clauses_sized NoClauses from to is = omega (arith, none_taken is)
+  clauses_sized (MoreClauses at (tree.Case member name) body others) from to (a, b, c, is, colon, are, follow) =
+      omega (arith, named_case at member name from a is, sign_taken colon, items_sized body b c are, clauses_sized others c to follow)
+  clauses_sized (MoreClauses at tree.Default body others) from to (a, b, c, is, colon, are, follow) =
+      omega (arith, one_taken is, sign_taken colon, items_sized body b c are, clauses_sized others c to follow)

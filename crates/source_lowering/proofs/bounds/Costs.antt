@@ -1,10 +1,14 @@
 -- What code takes: temporaries, words passed to calls, words of locals, operations.
 use Rattle.std.proofs.Common.{◌≡◌, ℕ, suc, ◌+◌, ◌≤◌, List, [], ◌∷◌, ◌++◌, max, arith}
 use Rattle.core_meaning.specs.Core as core
-use Rattle.core_meaning.specs.Core.{Statement, Do, If, While, Raise, Statements, NoStatements, MoreStatements}
+use Rattle.core_meaning.specs.Core.{Statement, Do, If, While, Block, Leave, Raise, Statements, NoStatements, MoreStatements}
+use Rattle.source_meaning.specs.Shapes.{Shape}
+use Rattle.source_meaning.specs.Steps.{World}
 use Rattle.source_lowering.specs.Lowered.{all_of}
+use Rattle.source_lowering.specs.Programs.{locals_of}
 use Rattle.source_lowering.specs.Temporaries.{operation_temporaries, statement_temporaries, temporaries_of, statement_passes, passed_by}
 use Rattle.source_lowering.specs.Bounds.{statement_words, block_words, operation_count, branch_count, statement_operations, operations_of}
+use Rattle.source_lowering.proofs.bounds.LocalWords.{many_words, shapes_words}
 
 pub record Costs (t p l o : ℕ) (code : List Statement) : Type 0 where
   pub temporaries : temporaries_of (all_of code) ≤ t
@@ -117,3 +121,15 @@ while_costs t p d l l' o o' test body h x y =
     let a' = y.temporaries in let b' = y.passes in let e' = y.locals in let f' = y.operations in
     one_costs t p (l + l') (1 + (o + o')) (While (all_of test) d (all_of body)) (omega (arith, h, a, a')) (omega (arith, b, b')) (omega (arith, e, e'))
     (omega (arith, f, f'))
+
+-- ---- blocks, and what a `break` leaves
+
+-- a block's own locals beside those within it
+pub block_costs : (t p l inner o : ℕ) (w : World) (shapes : List Shape) (body : List Statement) → shapes_words w shapes + inner ≤ l → Costs t p inner o body
+    → Costs t p l (1 + o) (Block (locals_of w shapes) (all_of body) ∷ [])
+block_costs t p l inner o w shapes body h x =
+    let a = x.temporaries in let b = x.passes in let e = x.locals in let f = x.operations in let m = many_words w shapes in
+    one_costs t p l (1 + o) (Block (locals_of w shapes) (all_of body)) a b (omega (arith, h, e, m)) (omega (arith, f))
+
+pub leave_costs : (t p l o : ℕ) (body : List Statement) → Costs t p l o body → Costs t p l o (Leave (all_of body) ∷ [])
+leave_costs t p l o body x = one_costs t p l o (Leave (all_of body)) x.temporaries x.passes x.locals x.operations

@@ -2,21 +2,23 @@
 use Rattle.std.proofs.Common.{ℕ, zero, suc, ◌+◌, ◌*◌, ◌≤◌, List, [], ◌∷◌, ◌++◌, arith, max}
 use Rattle.cyc_tree.specs.Tree as tree
 use Rattle.cyc_tree.specs.Tree.{Expression, Initializer, Declaration}
-use Rattle.source_meaning.specs.Shapes.{Shape, ThinShape, FatShape, ArrayShape, HandleShape, StructShape, written, settled}
+use Rattle.source_meaning.specs.Shapes.{Shape, ThinShape, FatShape, ArrayShape, HandleShape, StructShape, UnionShape, written, settled}
 use Rattle.source_meaning.specs.Steps.{World}
 use Rattle.core_meaning.specs.Core as core
-use Rattle.core_meaning.specs.Core.{Do, Clear, LocalAddress, Put, RegionFree, RegionNew}
-use Rattle.source_lowering.specs.Layouts.{local_of}
+use Rattle.core_meaning.specs.Core.{Do, Clear, Copy, LocalAddress, Put, RegionFree, RegionNew}
+use Rattle.source_lowering.specs.Layouts.{layout_of, local_of}
 use Rattle.source_lowering.specs.Lowered.{Named, width_of, put_local, static_shape, conversion_code, expression_code}
 use Rattle.source_lowering.specs.Programs.{local_shape, first_code, begun_code, unset_code, value_code, declaration_code, ending_code, regions_behind}
-use Rattle.source_lowering.specs.Programs.{leaving_code}
-use Rattle.source_lowering.specs.Lowerable.{Takes, TakesValue, TakesDeclaration}
-use Rattle.source_lowering.specs.Bounds.{frame_nodes, declaration_nodes, tokens_of, declaration_tokens, shape_words}
+use Rattle.source_lowering.specs.Programs.{leaving_code, source_code}
+use Rattle.source_lowering.specs.Whole.{is_made}
+use Rattle.source_lowering.specs.Lowerable.{Takes, TakesValue, TakesWhole, TakesDeclaration}
+use Rattle.source_lowering.specs.Bounds.{tokens_of, declaration_tokens, shape_words}
+use Rattle.source_lowering.proofs.bounds.Nodes.{expression_count, declaration_count}
 use Rattle.source_lowering.proofs.bounds.LocalWords.{word_words}
 use Rattle.source_lowering.proofs.bounds.Costs.{Costs, no_costs, both_cost, at_most, does_one, does_then}
 use Rattle.source_lowering.proofs.bounds.ValueCosts.{put_local_costs}
 use Rattle.source_lowering.proofs.bounds.PartCosts.{conversion_costs}
-use Rattle.source_lowering.proofs.bounds.Counted.{two_nodes}
+use Rattle.source_lowering.proofs.bounds.Counted.{one_node}
 use Rattle.source_lowering.proofs.bounds.ExpressionCosts.{expression_costs}
 use Rattle.source_lowering.proofs.bounds.WholeCosts.{source_costs}
 use Rattle.source_lowering.proofs.bounds.Taken.{taken_by}
@@ -49,7 +51,7 @@ unset_costs w s d index t p h = by s
     by of = word of
 
 value_bounded : (w : World) (names : List Named) (s : Shape) (e : Expression) (d index own t p : ℕ) → TakesValue w names s e
-    → max (taken_by names) (d + 2 * frame_nodes e) ≤ t → 2 * frame_nodes e ≤ p → IsDeclared t p (tokens_of e) (value_code w names s e d index own)
+    → max (taken_by names) (d + 4 * expression_count e) ≤ t → 3 * expression_count e ≤ p → IsDeclared t p (tokens_of e) (value_code w names s e d index own)
 value_bounded w names s e d index own t p h f g = by s h
   where
     word : (of : Shape) → Takes w names e → IsDeclared t p (tokens_of e)
@@ -57,7 +59,7 @@ value_bounded w names s e d index own t p h f g = by s h
     word of h =
         let a = expression_costs w names e t p d own h f g in
         let l = a.less in
-        let n = two_nodes e in
+        let n = one_node e in
         record {
           operations = a.operations + (4 + 4);
           costs = both_cost t p 0 a.operations 0 (4 + 4) _ _ a.costs (both_cost t p 0 4 0 4 _ _ (conversion_costs w t p d of (static_shape w names e)
@@ -65,21 +67,26 @@ value_bounded w names s e d index own t p h f g = by s h
           less = omega (arith, l);
         }
 
-    by : (of : Shape) → TakesValue w names of e → IsDeclared t p (tokens_of e) (value_code w names of e d index own)
-    by (StructShape tag) h =
+    whole : (of : Shape) → TakesWhole w names e → IsDeclared t p (tokens_of e)
+        (source_code w names (is_made w e) e d own ++ (Do (LocalAddress (d + 1) 0 index) ∷ Do (Copy (d + 1) d (layout_of w of)) ∷ []))
+    whole of h =
         let a = source_costs w names e t p d own h f g in
         let l = a.less in
-        let n = two_nodes e in
+        let n = one_node e in
         record {
           operations = a.operations + (1 + 1);
           costs = both_cost t p 0 a.operations 0 (1 + 1) _ _ a.costs (both_cost t p 0 1 0 1 (Do (LocalAddress (d + 1) 0 index) ∷ []) _
               (does_one t p _ (omega (arith, f, n))) (does_one t p _ (omega (arith, f, n))));
           less = omega (arith, l);
         }
+
+    by : (of : Shape) → TakesValue w names of e → IsDeclared t p (tokens_of e) (value_code w names of e d index own)
+    by (StructShape tag) h = whole (StructShape tag) h
+    by (UnionShape tag) h = whole (UnionShape tag) h
     by of h = word of h
 
 pub declaration_bounded : (w : World) (names : List Named) (declared : Declaration) (d index own t p : ℕ) → TakesDeclaration w names declared
-    → max (taken_by names) (d + 2 * declaration_nodes declared + 1) ≤ t → 2 * declaration_nodes declared ≤ p
+    → max (taken_by names) (d + 4 * declaration_count declared + 1) ≤ t → 3 * declaration_count declared ≤ p
     → IsDeclared t p (declaration_tokens declared) (declaration_code w names declared d index own)
 declaration_bounded w names (tree.Local of name Initializer.Unset) d index own t p h f g =
     record { operations = 2; costs = unset_costs w (settled (written of)) d index t p (omega (arith, f)); less = omega arith }

@@ -1,5 +1,5 @@
 -- How many words objects of given shapes take.
-use Rattle.std.proofs.Common.{◌≡◌, ◌+◌, ◌*◌, List, [], ◌∷◌, refl, ap, ◌∙◌, arith}
+use Rattle.std.proofs.Common.{◌≡◌, ℕ, ◌+◌, ◌*◌, List, [], ◌∷◌, refl, ap, ◌∙◌, arith}
 use Rattle.source_meaning.specs.Shapes.{
   Shape,
   IntShape,
@@ -19,7 +19,12 @@ use Rattle.source_lowering.specs.Layouts.{extent_of, local_of}
 use Rattle.source_lowering.specs.Members.{words_in}
 use Rattle.source_lowering.specs.Lowerable.{IsWordShape, IsValueShape}
 use Rattle.source_lowering.specs.Programs.{locals_of}
-use Rattle.source_lowering.specs.Bounds.{words_of, shape_words, value_words, local_words}
+use Rattle.source_lowering.specs.Bounds.{words_of, shape_words, local_words}
+
+-- the words of objects of these shapes
+abbrev pub shapes_words : World → List Shape → ℕ
+shapes_words w [] = 0
+shapes_words w (s ∷ ss) = shape_words w s + shapes_words w ss
 
 -- a local has all bytes of its shape
 local_bytes : (w : World) (s : Shape) → (local_of w s).count * (local_of w s).layout.bytes ≡ (extent_of w s).size
@@ -35,7 +40,7 @@ local_bytes w (StructShape tag) = omega arith
 local_bytes w (UnionShape tag) = omega arith
 local_bytes w (ArrayShape count of) = refl
 
-pub many_words : (w : World) (ss : List Shape) → local_words (locals_of w ss) ≡ value_words w ss
+pub many_words : (w : World) (ss : List Shape) → local_words (locals_of w ss) ≡ shapes_words w ss
 many_words w [] = refl
 many_words w (s ∷ ss) =
     ap (λ z. words_of z + local_words (locals_of w ss)) (local_bytes w s) ∙ ap (λ z. shape_words w s + z) (many_words w ss)

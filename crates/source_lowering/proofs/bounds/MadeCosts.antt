@@ -1,19 +1,21 @@
--- What stands around the code of values takes: structs that are copied, members, and the requests of `new` and `rnew`.
+-- What stands around the code of values takes: structs and unions that are copied, members, and the requests of `new` and `rnew`.
 use Rattle.std.proofs.Common.{ℕ, suc, ◌+◌, ◌*◌, ◌≤◌, List, [], ◌∷◌, ◌++◌, arith, length}
-use Rattle.source_meaning.specs.Shapes.{Shape, StructShape}
+use Rattle.source_meaning.specs.Shapes.{Shape, StructShape, UnionShape}
 use Rattle.source_meaning.specs.Steps.{World}
 use Rattle.core_meaning.specs.Core.{Constant, Copy, Do, HeapHandle, Offset, OwnAddress, RegionAlloc, Statement, Add, Apply, Element, LessUnsigned, While}
 use Rattle.source_lowering.specs.Layouts.{layout_of, extent_of}
-use Rattle.source_lowering.specs.Members.{words_in}
-use Rattle.source_lowering.specs.Lowered.{stores_code, copied_code, word_member_code, member_code, request_code, new_code_by, all_of, array_code, element_by, next_number}
+use Rattle.source_lowering.specs.Members.{words_in, tag_store}
+use Rattle.source_lowering.specs.Lowered.{stores_code, copied_code, struct_member_code, word_member_code, member_code, request_code, new_code_by, all_of}
+use Rattle.source_lowering.specs.Lowered.{array_code}
+use Rattle.source_lowering.specs.Lowered.{element_by, next_number, union_code}
 use Rattle.source_lowering.specs.Lowerable.{TakesMember}
 use Rattle.source_lowering.proofs.bounds.Costs.{Costs, both_cost, does_one, does_then, while_costs}
-use Rattle.source_lowering.proofs.bounds.ValueCosts.{words_few, kept_costs}
+use Rattle.source_lowering.proofs.bounds.ValueCosts.{words_few, kept_costs, tag_store_costs, held_stores_costs}
 use Rattle.source_lowering.proofs.bounds.PartCosts.{IsCheap, ArePassed, conversion_costs}
 use Rattle.source_lowering.proofs.bounds.PrefixCosts.{IsPointed}
 use Rattle.source_meaning.specs.Conversions.{cells_of}
 
--- a struct leaves two operations to what is done with it
+-- a struct or a union leaves two operations to what is done with it
 pub record IsWhole (t p n : ℕ) (code : List Statement) : Type 0 where
   pub operations : ℕ
   pub costs : Costs t p 0 operations code
@@ -41,6 +43,24 @@ read_costs w s t p d own n place h a =
       less = omega (arith, l);
     }
 
+-- ---- tagged unions that are made
+
+-- the member's value is in the next temporaries
+pub union_costs : (w : World) (s from : Shape) (t p d own number n : ℕ) (value : List Statement) → d + 1 + 4 ≤ t → IsCheap t p n value
+    → IsWhole t p (5 + n) (Do (OwnAddress d own) ∷ (value ++ union_code w s from number d))
+union_costs w s from t p d own number n value h a =
+    let l = a.less in let few = words_few s in
+    record {
+      operations = 1 + (a.operations + (4 + (2 + 3)));
+      costs = both_cost t p 0 1 0 (a.operations + (4 + (2 + 3))) (Do (OwnAddress d own) ∷ []) _ (does_one t p _ (omega (arith, h)))
+          (both_cost t p 0 a.operations 0 (4 + (2 + 3)) value _ a.costs
+          (both_cost t p 0 4 0 (2 + 3) _ _ (conversion_costs w t p (d + 1) s from h)
+          (both_cost t p 0 2 0 3 (tag_store d (d + 1 + words_in s) number) _
+          (tag_store_costs t p d (d + 1 + words_in s) number (omega (arith, h)) (omega (arith, h, few)))
+          (held_stores_costs s t p d (d + 1) (omega (arith, h)) (omega (arith, h))))));
+      less = omega (arith, l);
+    }
+
 -- ---- members
 
 pub member_costs : (w : World) (s from : Shape) (t p d cells bytes n : ℕ) (whole word : List Statement) (for_whole for_word : Type 0)
@@ -58,8 +78,8 @@ member_costs w s from t p d cells bytes n whole word for_whole for_word takes as
           less = omega (arith, l);
         }
 
-    by : (of : Shape) → TakesMember of for_whole for_word → ArePassed t p (1 + n) (member_code w of from d cells bytes whole word)
-    by (StructShape tag) takes =
+    as_a_whole : (of : Shape) → for_whole → ArePassed t p (1 + n) (whole ++ struct_member_code w of d cells bytes)
+    as_a_whole of takes =
         let a = as_whole takes in let l = a.less in
         record {
           operations = a.operations + (1 + 1);
@@ -67,6 +87,10 @@ member_costs w s from t p d cells bytes n whole word for_whole for_word takes as
               (does_one t p _ (omega (arith, h))) (does_one t p _ (omega (arith, h))));
           less = omega (arith, l);
         }
+
+    by : (of : Shape) → TakesMember of for_whole for_word → ArePassed t p (1 + n) (member_code w of from d cells bytes whole word)
+    by (StructShape tag) takes = as_a_whole (StructShape tag) takes
+    by (UnionShape tag) takes = as_a_whole (UnionShape tag) takes
     by of takes = as_a_word of takes
 
 -- ---- what `new` and `rnew` make
@@ -91,16 +115,20 @@ made_costs w s t p d n whole word for_whole for_word takes as_whole as_word h = 
           less = omega (arith, l);
         }
 
-    by : (of : Shape) → TakesMember of for_whole for_word → IsMade t p n (new_code_by w of d whole word)
-    by (StructShape tag) takes =
+    as_a_whole : (of : Shape) → for_whole → IsMade t p n (whole ++ (request_code w of d (d + 2) ++ (Do (Copy d (d + 1) (layout_of w of)) ∷ [])))
+    as_a_whole of takes =
         let a = as_whole takes in let l = a.less in
         record {
           operations = a.operations + (3 + 1);
           costs = both_cost t p 0 a.operations 0 (3 + 1) _ _ a.costs
-              (both_cost t p 0 3 0 1 _ _ (request_costs w (StructShape tag) t p d (d + 2) (omega (arith, h)) (omega (arith, h)))
-              (does_one t p (Copy d (d + 1) (layout_of w (StructShape tag))) (omega (arith, h))));
+              (both_cost t p 0 3 0 1 _ _ (request_costs w of t p d (d + 2) (omega (arith, h)) (omega (arith, h)))
+              (does_one t p (Copy d (d + 1) (layout_of w of)) (omega (arith, h))));
           less = omega (arith, l);
         }
+
+    by : (of : Shape) → TakesMember of for_whole for_word → IsMade t p n (new_code_by w of d whole word)
+    by (StructShape tag) takes = as_a_whole (StructShape tag) takes
+    by (UnionShape tag) takes = as_a_whole (UnionShape tag) takes
     by of takes = as_a_word of takes
 
 -- the heap's handle comes first
@@ -120,7 +148,8 @@ element_costs : (w : World) (s : Shape) (t p d n : ℕ) (whole word : List State
     → (for_whole → IsWhole t p n whole) → (for_word → IsCheap t p n word) → d + 8 ≤ t → ArePassed t p n (element_by w s d whole word)
 element_costs w s t p d n whole word for_whole for_word takes as_whole as_word h = by s takes
   where
-    as_a_word : (of : Shape) → for_word → ArePassed t p n (word ++ (Do (Element (d + 3 + words_in of) d (d + 2) (length (cells_of w of)) (extent_of w of).size) ∷
+    as_a_word : (of : Shape) → for_word
+        → ArePassed t p n (word ++ (Do (Element (d + 3 + words_in of) d (d + 2) (length (cells_of w of)) (extent_of w of).size) ∷
         stores_code of (d + 3 + words_in of) (d + 3) 0 0))
     as_a_word of takes =
         let a = as_word takes in let l = a.less in let few = words_few of in
@@ -132,16 +161,21 @@ element_costs w s t p d n whole word for_whole for_word takes as_whole as_word h
           less = omega (arith, l);
         }
 
-    by : (of : Shape) → TakesMember of for_whole for_word → ArePassed t p n (element_by w of d whole word)
-    by (StructShape tag) takes =
+    as_a_whole : (of : Shape) → for_whole → ArePassed t p n (whole ++ (Do (Element (d + 4) d (d + 2) (length (cells_of w of)) (extent_of w of).size) ∷
+        Do (Copy (d + 4) (d + 3) (layout_of w of)) ∷ []))
+    as_a_whole of takes =
         let a = as_whole takes in let l = a.less in
         record {
           operations = a.operations + (1 + 1);
           costs = both_cost t p 0 a.operations 0 (1 + 1) _ _ a.costs
-              (does_then t p 1 (Element (d + 4) d (d + 2) (length (cells_of w (StructShape tag))) (extent_of w (StructShape tag)).size) _ (omega (arith, h))
-              (does_one t p (Copy (d + 4) (d + 3) (layout_of w (StructShape tag))) (omega (arith, h))));
+              (does_then t p 1 (Element (d + 4) d (d + 2) (length (cells_of w of)) (extent_of w of).size) _ (omega (arith, h))
+              (does_one t p (Copy (d + 4) (d + 3) (layout_of w of)) (omega (arith, h))));
           less = omega (arith, l);
         }
+
+    by : (of : Shape) → TakesMember of for_whole for_word → ArePassed t p n (element_by w of d whole word)
+    by (StructShape tag) takes = as_a_whole (StructShape tag) takes
+    by (UnionShape tag) takes = as_a_whole (UnionShape tag) takes
     by of takes = as_a_word of takes
 
 -- its number becomes the next one's

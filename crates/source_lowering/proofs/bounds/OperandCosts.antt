@@ -6,7 +6,8 @@ use Rattle.source_meaning.specs.Steps.{World}
 use Rattle.source_meaning.specs.Places.{bound_to}
 use Rattle.core_meaning.specs.Core.{Statement, If, NoStatements}
 use Rattle.source_lowering.specs.Lowered.{Named, local_named, all_of, word_code, truth_code, address_by, call_shape, call_code, argument_words}
-use Rattle.source_lowering.specs.Bounds.{argument_nodes, result_nodes, argument_tokens, tested_tokens, joined_tokens}
+use Rattle.source_lowering.specs.Bounds.{argument_tokens, tested_tokens, joined_tokens}
+use Rattle.source_lowering.proofs.bounds.Nodes.{argument_count, result_count}
 use Rattle.source_lowering.proofs.bounds.Counted.{count_of, many_words, counted_words}
 use Rattle.source_lowering.proofs.bounds.Costs.{Costs, no_costs, both_cost, more_costs, if_costs}
 use Rattle.source_lowering.proofs.bounds.PartCosts.{IsCheap, address_costs, tested_word, truth_costs, call_costs}
@@ -53,7 +54,7 @@ one_cheap t p n o code c h = record { operations = o; costs = c; less = h }
 
 -- a call, behind its arguments
 pub called_cheap : (w : World) (name : List ℕ) (shapes : List Shape) (arguments : Expressions) (code : List Statement) (t p d : ℕ)
-    → d + 2 + 2 * result_nodes (call_shape w name) ≤ t → d + 2 * argument_nodes arguments ≤ t → 2 * argument_nodes arguments ≤ p
+    → d + 1 + 2 * result_count (call_shape w name) ≤ t → d + 4 * argument_count arguments ≤ t → 3 * argument_count arguments ≤ p
     → AreArguments t p arguments code → IsCheap t p (2 + argument_tokens arguments) (code ++ call_code w name (argument_words shapes arguments) d)
 called_cheap w name shapes arguments code t p d result f g a =
     let n = many_words shapes arguments in let k = counted_words shapes arguments in let l = a.less in

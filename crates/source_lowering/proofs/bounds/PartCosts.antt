@@ -10,13 +10,16 @@ use Rattle.source_meaning.specs.Steps.{Entity, Variable, Fixed, World, Routine}
 use Rattle.source_meaning.specs.Calls.{function_of}
 use Rattle.core_meaning.specs.Core as core
 use Rattle.core_meaning.specs.Core.{Statement, Do, Call, Constant, Narrow, Apply, Getchar, Putchar}
-use Rattle.source_lowering.specs.Lowered.{Named, number_of, get_by, put_by, address_by, thinned_code, narrow_code, conversion_code, type_of, applied_to, Home, InBlock, InTemporary, get_home, put_home, home_address}
+use Rattle.source_lowering.specs.Lowered.{Named, number_of, get_by, put_by, address_by, thinned_code, narrow_code, conversion_code, type_of, applied_to, Home}
+use Rattle.source_lowering.specs.Lowered.{InBlock, InTemporary, get_home, put_home, home_address}
 use Rattle.source_lowering.specs.Lowered.{operator_code, turned_code, pointers_code, truth_code, word_code, not_code, result_shape, call_shape, makes_struct}
 use Rattle.source_lowering.specs.Lowered.{from_on, results_in, function_call, call_code}
 use Rattle.source_lowering.specs.Temporaries.{last_of, operation_temporaries}
-use Rattle.source_lowering.specs.Bounds.{operation_count, result_nodes}
+use Rattle.source_lowering.specs.Bounds.{operation_count}
+use Rattle.source_lowering.proofs.bounds.Nodes.{result_count}
 use Rattle.source_lowering.proofs.bounds.Costs.{Costs, one_costs, does_one, does_then, does_few, at_most, nothing}
-use Rattle.source_lowering.proofs.bounds.ValueCosts.{check_costs, to_fat_costs, to_thin_costs, turned_costs, compared_costs, null_costs, moved_costs, local_costs}
+use Rattle.source_lowering.proofs.bounds.ValueCosts.{check_costs, to_fat_costs, to_thin_costs, turned_costs, compared_costs, null_costs, moved_costs}
+use Rattle.source_lowering.proofs.bounds.ValueCosts.{local_costs}
 use Rattle.source_lowering.proofs.bounds.ValueCosts.{global_costs, put_local_costs, put_global_costs}
 use Rattle.source_lowering.proofs.bounds.Taken.{taken_at, taken_found}
 
@@ -129,11 +132,11 @@ from_many : (d n : ℕ) → length (from_on d n) ≡ n
 from_many d zero = refl
 from_many d (suc n) = ap suc (from_many (d + 1) n)
 
-pub results_few : (s : Shape) → result_nodes s ≤ 1
+pub results_few : (s : Shape) → result_count s ≤ 1
 results_few VoidShape = omega arith
 results_few _ = omega arith
 
-pub results_last : (s : Shape) (d : ℕ) → last_of (results_in s d) ≤ d + 1 + 2 * result_nodes s
+pub results_last : (s : Shape) (d : ℕ) → last_of (results_in s d) ≤ d + 1 + 2 * result_count s
 results_last VoidShape d = omega arith
 results_last _ d = omega arith
 
@@ -142,18 +145,18 @@ results_many VoidShape d = omega arith
 results_many _ d = omega arith
 
 -- a struct is a value
-pub made_result : (w : World) (name : List ℕ) → makes_struct w name ≡ true → result_nodes (call_shape w name) ≡ 1
+pub made_result : (w : World) (name : List ℕ) → makes_struct w name ≡ true → result_count (call_shape w name) ≡ 1
 made_result w name is = by (bytes_eq name (codes "getchar")) (bytes_eq name (codes "putchar")) (has_tag w.structs name) is
   where
     by : (reads writes tagged : Bool) → (if reads then false else (if writes then false else tagged)) ≡ true
-        → result_nodes (if reads then IntShape else (if writes then IntShape else (if tagged then StructShape name
+        → result_count (if reads then IntShape else (if writes then IntShape else (if tagged then StructShape name
         else result_shape (function_of w.functions name)))) ≡ 1
     by true writes tagged is = refl
     by false true tagged is = refl
     by false false true is = refl
     by false false false is = absurd (false≢true is)
 
-pub call_costs : (w : World) (name : List ℕ) (t p d count : ℕ) → d + 2 + 2 * result_nodes (call_shape w name) ≤ t → d + count ≤ t → count ≤ p
+pub call_costs : (w : World) (name : List ℕ) (t p d count : ℕ) → d + 1 + 2 * result_count (call_shape w name) ≤ t → d + count ≤ t → count ≤ p
     → Costs t p 0 (4 + count) (call_code w name count d)
 call_costs w name t p d count f g h =
     by (bytes_eq name (codes "getchar")) (bytes_eq name (codes "putchar")) (has_tag w.structs name) (function_of w.functions name) f
@@ -161,7 +164,7 @@ call_costs w name t p d count f g h =
     number : ℕ
     number = number_of w.functions name
 
-    of : (r : Routine) → d + 2 + 2 * result_nodes r.result ≤ t → Costs t p 0 (4 + count) (function_call (Some r) number count d)
+    of : (r : Routine) → d + 1 + 2 * result_count r.result ≤ t → Costs t p 0 (4 + count) (function_call (Some r) number count d)
     of r f =
         let a = results_last r.result d in
         let b = from_last d count in
@@ -171,7 +174,7 @@ call_costs w name t p d count f g h =
         (omega arith) (omega (arith, e, k))
 
     by : (reads writes tagged : Bool) (r : Option Routine)
-        → d + 2 + 2 * result_nodes (if reads then IntShape else (if writes then IntShape else (if tagged then StructShape name else result_shape r))) ≤ t
+        → d + 1 + 2 * result_count (if reads then IntShape else (if writes then IntShape else (if tagged then StructShape name else result_shape r))) ≤ t
         → Costs t p 0 (4 + count) (if reads then Do (Getchar d) ∷ [] else (if writes then Do (Putchar d d) ∷ [] else function_call r number count d))
     by true writes tagged r f = does_few t p (4 + count) (Getchar d) (omega (arith, f)) (omega arith)
     by false true tagged r f = does_few t p (4 + count) (Putchar d d) (omega (arith, f)) (omega arith)

@@ -18,9 +18,9 @@ pub record IsReached (t p n : ℕ) (code : List Statement) : Type 0 where
 
 -- what stands on the left of a suffix, wherever it comes, by its nodes and tokens
 pub record IsLeft (t p m n : ℕ) (left : Left) : Type 0 where
-  pub enough : 2 ≤ m
-  pub pointer : (d : ℕ) → d + 2 * m ≤ t → IsReached t p n (left.pointer d)
-  pub value : (d : ℕ) → d + 2 * m ≤ t → IsCheap t p n (left.value d)
+  pub enough : 1 ≤ m
+  pub pointer : (d : ℕ) → d + 4 * m ≤ t → IsReached t p n (left.pointer d)
+  pub value : (d : ℕ) → d + 4 * m ≤ t → IsCheap t p n (left.value d)
 
 pub more_left : (t p m n m' n' : ℕ) (left : Left) → m ≤ m' → n ≤ n' → IsLeft t p m n left → IsLeft t p m' n' left
 more_left t p m n m' n' left g h one = record {
@@ -32,8 +32,8 @@ more_left t p m n m' n' left g h one = record {
 }
 
 -- a suffix has two tokens at least
-pub member_left : (w : World) (s : Shape) (pointer : ℕ → List Statement) (cells bytes : ℕ) (f : List ℕ) (t p m n : ℕ) → 2 ≤ m
-    → ((d : ℕ) → d + 2 * m ≤ t → ArePassed t p n (pointer d)) → IsLeft t p (m + 2) (n + 2) (member_at w s pointer cells bytes f)
+pub member_left : (w : World) (s : Shape) (pointer : ℕ → List Statement) (cells bytes : ℕ) (f : List ℕ) (t p m n : ℕ) → 1 ≤ m
+    → ((d : ℕ) → d + 4 * m ≤ t → ArePassed t p n (pointer d)) → IsLeft t p (m + 1) (n + 2) (member_at w s pointer cells bytes f)
 member_left w s pointer cells bytes f t p m n enough c = record {
   enough = omega (arith, enough);
   pointer = λ d g. let a = c d (omega (arith, g)) in let l = a.less in record { operations = a.operations; costs = a.costs; less = omega (arith, l) };
@@ -49,14 +49,14 @@ member_left w s pointer cells bytes f t p m n enough c = record {
 
 -- a member of what has a place
 pub dot_left : (w : World) (left : Left) (f : List ℕ) (t p m n : ℕ) → IsLeft t p m n left
-    → IsLeft t p (m + 2) (n + 2) (member_at w left.shape left.pointer left.cells left.bytes f)
+    → IsLeft t p (m + 1) (n + 2) (member_at w left.shape left.pointer left.cells left.bytes f)
 dot_left w left f t p m n one =
     member_left w left.shape left.pointer left.cells left.bytes f t p m n one.enough
     (λ d g. let a = one.pointer d g in let l = a.less in record { operations = a.operations; costs = a.costs; less = omega (arith, l) })
 
 -- a member of what a value leads to
-pub arrow_left : (w : World) (left : Left) (f : List ℕ) (t p m n : ℕ) → 2 ≤ m → ((d : ℕ) → d + 2 * m ≤ t → IsCheap t p n (left.value d))
-    → IsLeft t p (m + 2) (n + 2) (member_behind w left f)
+pub arrow_left : (w : World) (left : Left) (f : List ℕ) (t p m n : ℕ) → 1 ≤ m → ((d : ℕ) → d + 4 * m ≤ t → IsCheap t p n (left.value d))
+    → IsLeft t p (m + 1) (n + 2) (member_behind w left f)
 arrow_left w left f t p m n enough value =
     member_left w (pointee left.shape) (λ d. left.value d ++ reach_code w left.shape d) 0 0 f t p m n enough
     (λ d g. let a = value d g in let l = a.less in record {
@@ -66,9 +66,9 @@ arrow_left w left f t p m n enough value =
     })
 
 -- an element of what a value leads to
-pub element_left : (w : World) (to : Shape) (index value : ℕ → List Statement) (t p m n k j : ℕ) → 2 ≤ m
-    → ((d : ℕ) → d + 2 * k ≤ t → IsCheap t p j (index d)) → ((d : ℕ) → d + 2 * m ≤ t → IsCheap t p n (value d))
-    → IsLeft t p (m + (2 + k)) (n + (2 + j)) (element_at w to index value)
+pub element_left : (w : World) (to : Shape) (index value : ℕ → List Statement) (t p m n k j : ℕ) → 1 ≤ m
+    → ((d : ℕ) → d + 4 * k ≤ t → IsCheap t p j (index d)) → ((d : ℕ) → d + 4 * m ≤ t → IsCheap t p n (value d))
+    → IsLeft t p (m + (1 + k)) (n + (2 + j)) (element_at w to index value)
 element_left w to index value t p m n k j enough indexed valued = record {
   enough = omega (arith, enough);
   pointer = reached;
@@ -82,7 +82,7 @@ element_left w to index value t p m n k j enough indexed valued = record {
       };
 }
   where
-    reached : (d : ℕ) → d + 2 * (m + (2 + k)) ≤ t → IsReached t p (n + (2 + j)) (index d ++ (value (d + 1) ++ index_code w to d))
+    reached : (d : ℕ) → d + 4 * (m + (1 + k)) ≤ t → IsReached t p (n + (2 + j)) (index d ++ (value (d + 1) ++ index_code w to d))
     reached d g =
         let a = indexed d (omega (arith, g)) in let l = a.less in
         let b = valued (d + 1) (omega (arith, g)) in let r = b.less in
@@ -101,7 +101,7 @@ offset_costs t p d zero (suc bytes) h = does_one t p _ (omega (arith, h))
 offset_costs t p d (suc cells) bytes h = does_one t p _ (omega (arith, h))
 
 -- a pointer to what suffixes lead to
-pub pointed_left : (t p m n d : ℕ) (left : Left) → d + 2 * m ≤ t → IsLeft t p m n left → IsPointed t p n (pointer_to left d)
+pub pointed_left : (t p m n d : ℕ) (left : Left) → d + 4 * m ≤ t → IsLeft t p m n left → IsPointed t p n (pointer_to left d)
 pointed_left t p m n d left g one =
     let a = one.pointer d g in let l = a.less in let e = one.enough in
     record {
@@ -112,7 +112,7 @@ pointed_left t p m n d left g one =
     }
 
 -- a value is stored there
-pub stored_left : (t p m n x d : ℕ) (left : Left) → x + 2 * m ≤ t → d + 3 ≤ t → IsLeft t p m n left → IsCheap t p n (store_to left x d)
+pub stored_left : (t p m n x d : ℕ) (left : Left) → x + 4 * m ≤ t → d + 3 ≤ t → IsLeft t p m n left → IsCheap t p n (store_to left x d)
 stored_left t p m n x d left g h one =
     let a = one.pointer x g in let l = a.less in let e = one.enough in
     record {

@@ -11,7 +11,7 @@ use Rattle.core_meaning.specs.Core as core
 use Rattle.core_meaning.specs.Core.{Do, If, Raise, Constant, Apply, LocalAddress, DataAddress, Element, Load, Store, NoStatements, MoreStatements}
 use Rattle.source_lowering.specs.Layouts.{extent_of}
 use Rattle.source_lowering.specs.Members.{all_of, null_check, check_code, words_in, part_at, loads_code, stores_code, bounds_code, raised, reached_code}
-use Rattle.source_lowering.specs.Members.{element_code, reach_code, index_code}
+use Rattle.source_lowering.specs.Members.{element_code, reach_code, index_code, tag_load, tag_store, held_loads, held_stores}
 use Rattle.source_lowering.specs.Lowered.{stored_code, get_local, load_global, put_local, store_global, turned_code, to_fat_code, to_thin_code, compared_code}
 use Rattle.source_lowering.specs.Lowered.{null_code, fat_code, count_code, text_code}
 use Rattle.source_lowering.specs.Temporaries.{operation_temporaries}
@@ -37,6 +37,28 @@ kept_costs (FatShape to) t p x d cells bytes g h =
     (does_then t p 1 (Store x (part_at cells bytes 1) (d + 1)) _ (omega (arith, g, h))
     (does_one t p (Store x (part_at cells bytes 2) (d + 2)) (omega (arith, g, h))))
 kept_costs _ t p x d cells bytes g h = does_few t p 3 _ (omega (arith, g, h)) (omega arith)
+
+-- ---- tagged unions
+
+pub tag_load_costs : (t p d x : ℕ) → suc d ≤ t → suc x ≤ t → Costs t p 0 1 (tag_load d x)
+tag_load_costs t p d x g h = does_one t p (Load d x (part_at 0 0 0)) (omega (arith, g, h))
+
+pub tag_store_costs : (t p x d number : ℕ) → suc x ≤ t → suc d ≤ t → Costs t p 0 2 (tag_store x d number)
+tag_store_costs t p x d number g h = does_then t p 1 (Constant d number) _ h (does_one t p (Store x (part_at 0 0 0) d) (omega (arith, g, h)))
+
+pub held_loads_costs : (s : Shape) (t p d : ℕ) → d + 3 ≤ t → Costs t p 0 3 (held_loads s d)
+held_loads_costs (FatShape to) t p d h =
+    does_then t p 2 (Load (d + 2) d (part_at 0 0 3)) _ (omega (arith, h))
+    (does_then t p 1 (Load (d + 1) d (part_at 0 0 2)) _ (omega (arith, h)) (does_one t p (Load d d (part_at 0 0 1)) (omega (arith, h))))
+held_loads_costs _ t p d h = does_few t p 3 _ (omega (arith, h)) (omega arith)
+
+pub held_stores_costs : (s : Shape) (t p x d : ℕ) → suc x ≤ t → d + 3 ≤ t → Costs t p 0 3 (held_stores s x d)
+held_stores_costs (FatShape to) t p x d g h =
+    does_then t p 2 (Store x (part_at 0 0 1) d) _ (omega (arith, g, h))
+    (does_then t p 1 (Store x (part_at 0 0 2) (d + 1)) _ (omega (arith, g, h)) (does_one t p (Store x (part_at 0 0 3) (d + 2)) (omega (arith, g, h))))
+held_stores_costs _ t p x d g h = does_few t p 3 _ (omega (arith, g, h)) (omega arith)
+
+-- ---- fat pointers
 
 pub bounds_costs : (t p d count : ℕ) → d + 3 ≤ t → Costs t p 0 2 (bounds_code d count)
 bounds_costs t p d count h = does_then t p 1 (Constant (d + 1) count) _ (omega (arith, h)) (does_one t p (Constant (d + 2) 0) (omega (arith, h)))

@@ -1,20 +1,21 @@
--- What the code of initializers and of expressions that are statements takes, structs too.
-use Rattle.std.proofs.Common.{◌≡◌, refl, ℕ, ◌+◌, ◌*◌, ◌≤◌, Bool, true, false, List, length, arith, max}
+-- What the code of initializers and of expressions that are statements takes, structs and unions too.
+use Rattle.std.proofs.Common.{◌≡◌, refl, ℕ, suc, ◌+◌, ◌*◌, ◌≤◌, Bool, true, false, List, [], ◌∷◌, ◌++◌, length, arith, max}
 use Rattle.std.specs.Prelude.{if◌then◌else◌}
 use Rattle.cyc_tree.specs.Tree.{Name, Expression, Expressions}
-use Rattle.source_meaning.specs.Shapes.{Shape, StructShape}
+use Rattle.source_meaning.specs.Shapes.{Shape, StructShape, UnionShape}
 use Rattle.source_meaning.specs.Steps.{World}
-use Rattle.core_meaning.specs.Core.{Copy}
+use Rattle.core_meaning.specs.Core.{Copy, Do}
 use Rattle.source_lowering.specs.Layouts.{layout_of}
-use Rattle.source_lowering.specs.Lowered.{Named, arguments_code, call_parameters, expression_code, static_shape}
+use Rattle.source_lowering.specs.Lowered.{Named, arguments_code, call_parameters, expression_code, place_code, static_shape}
 use Rattle.source_lowering.specs.Programs.{source_code}
 use Rattle.source_lowering.specs.Whole.{makes_struct, is_made, whole_values, whole_code, assigned_code, dropped_code, run_code}
-use Rattle.source_lowering.specs.Lowerable.{Takes, TakesWhole, TakesAssigned, TakesDropped, TakesCalled, TakesRun}
-use Rattle.source_lowering.specs.Bounds.{frame_nodes, run_nodes, tokens_of}
+use Rattle.source_lowering.specs.Lowerable.{Takes, TakesPlace, TakesWhole, TakesAssigned, TakesDropped, TakesCalled, TakesRun}
+use Rattle.source_lowering.specs.Bounds.{tokens_of}
+use Rattle.source_lowering.proofs.bounds.Nodes.{expression_count, run_count}
 use Rattle.source_lowering.proofs.bounds.Costs.{both_cost, does_one}
 use Rattle.source_lowering.proofs.bounds.PartCosts.{ArePassed, made_result}
 use Rattle.source_lowering.proofs.bounds.MadeCosts.{IsWhole}
-use Rattle.source_lowering.proofs.bounds.Counted.{two_nodes}
+use Rattle.source_lowering.proofs.bounds.Counted.{one_node}
 use Rattle.source_lowering.proofs.bounds.ExpressionCosts.{arguments_costs, place_costs, expression_costs, whole_costs}
 use Rattle.source_lowering.proofs.bounds.OperandCosts.{called_cheap}
 use Rattle.source_lowering.proofs.bounds.WholeObjects.{unmade_place}
@@ -22,8 +23,9 @@ use Rattle.source_lowering.proofs.bounds.Taken.{taken_by}
 
 -- ---- initializers
 
--- a struct's initializer
-pub source_costs : (w : World) (names : List Named) (e : Expression) (t p d own : ℕ) → TakesWhole w names e → max (taken_by names) (d + 2 * frame_nodes e) ≤ t → 2 * frame_nodes e ≤ p
+-- the initializer of a struct or a union
+pub source_costs : (w : World) (names : List Named) (e : Expression) (t p d own : ℕ) → TakesWhole w names e
+    → max (taken_by names) (d + 4 * expression_count e) ≤ t → 3 * expression_count e ≤ p
     → IsWhole t p (tokens_of e) (source_code w names (is_made w e) e d own)
 source_costs w names e t p d own h f g = by (is_made w e) refl
   where
@@ -35,45 +37,59 @@ source_costs w names e t p d own h f g = by (is_made w e) refl
 
 -- ---- expressions that are statements
 
-word_run : (w : World) (names : List Named) (e : Expression) (t p d own : ℕ) → Takes w names e → max (taken_by names) (d + 2 * frame_nodes e) ≤ t → 2 * frame_nodes e ≤ p
+word_run : (w : World) (names : List Named) (e : Expression) (t p d own : ℕ) → Takes w names e → max (taken_by names) (d + 4 * expression_count e) ≤ t
+    → 3 * expression_count e ≤ p
     → ArePassed t p (tokens_of e) (expression_code w names e d own)
 word_run w names e t p d own h f g =
     let a = expression_costs w names e t p d own h f g in let l = a.less in
     record { operations = a.operations; costs = a.costs; less = omega (arith, l) }
 
-whole_run : (w : World) (names : List Named) (e : Expression) (t p d own : ℕ) → TakesWhole w names e → max (taken_by names) (d + 2 * frame_nodes e) ≤ t → 2 * frame_nodes e ≤ p
+whole_run : (w : World) (names : List Named) (e : Expression) (t p d own : ℕ) → TakesWhole w names e → max (taken_by names) (d + 4 * expression_count e) ≤ t
+    → 3 * expression_count e ≤ p
     → ArePassed t p (tokens_of e) (whole_code w names e d own)
 whole_run w names e t p d own h f g =
     let a = whole_costs w names e t p d own h f g in let l = a.less in
     record { operations = a.operations; costs = a.costs; less = omega (arith, l) }
 
 assigned_costs : (w : World) (names : List Named) (s : Shape) (place value : Expression) (t p d own : ℕ) → TakesAssigned w names s place value
-    → max (taken_by names) (d + 2 * (frame_nodes place + (1 + frame_nodes value))) ≤ t → 2 * (frame_nodes place + (1 + frame_nodes value)) ≤ p
+    → max (taken_by names) (d + 4 * (expression_count place + expression_count value)) ≤ t → 3 * (expression_count place + expression_count value) ≤ p
     → ArePassed t p (tokens_of place + (1 + tokens_of value)) (assigned_code w names s place value d own)
-assigned_costs w names (StructShape tag) place value t p d own h f g =
-    let n = two_nodes value in
-    let a = whole_costs w names value t p d own h.1.0 (omega (arith, f)) (omega (arith, g)) in
-    let b = place_costs w names place t p (d + 1) (own + length (whole_values w names value)) h.0 (omega (arith, f, n)) (omega (arith, g)) in
-    let l = a.less in let k = b.less in
-    record {
-      operations = a.operations + (b.operations + 1);
-      costs = both_cost t p 0 a.operations 0 (b.operations + 1) _ _ a.costs
-          (both_cost t p 0 b.operations 0 1 _ _ b.costs (does_one t p (Copy (d + 1) d (layout_of w (StructShape tag))) (omega (arith, f, n))));
-      less = omega (arith, l, k);
-    }
-assigned_costs w names _ place value t p d own h f g = word_run w names (Expression.Assign place value) t p d own h f g
+assigned_costs w names s place value t p d own h f g = by s h
+  where
+    as_a_whole : (of : Shape) → TakesPlace w names place → TakesWhole w names value → ArePassed t p (tokens_of place + (1 + tokens_of value))
+        (whole_code w names value d own ++
+        (place_code w names place (d + 1) (own + length (whole_values w names value)) ++ (Do (Copy (d + 1) d (layout_of w of)) ∷ [])))
+    as_a_whole of to from =
+        let n = one_node value in
+        let a = whole_costs w names value t p d own from (omega (arith, f)) (omega (arith, g)) in
+        let b = place_costs w names place t p (d + 1) (own + length (whole_values w names value)) to (omega (arith, f, n)) (omega (arith, g)) in
+        let l = a.less in let k = b.less in
+        record {
+          operations = a.operations + (b.operations + 1);
+          costs = both_cost t p 0 a.operations 0 (b.operations + 1) _ _ a.costs
+              (both_cost t p 0 b.operations 0 1 _ _ b.costs (does_one t p (Copy (d + 1) d (layout_of w of)) (omega (arith, f, n))));
+          less = omega (arith, l, k);
+        }
 
-dropped_costs : (w : World) (names : List Named) (s : Shape) (e : Expression) (t p d own : ℕ) → TakesDropped w names s e → max (taken_by names) (d + 2 * frame_nodes e) ≤ t
-    → 2 * frame_nodes e ≤ p → ArePassed t p (tokens_of e) (dropped_code w names s e d own)
+    by : (of : Shape) → TakesAssigned w names of place value
+        → ArePassed t p (tokens_of place + (1 + tokens_of value)) (assigned_code w names of place value d own)
+    by (StructShape tag) h = as_a_whole (StructShape tag) h.0 h.1.0
+    by (UnionShape tag) h = as_a_whole (UnionShape tag) h.0 h.1.0
+    by _ h = word_run w names (Expression.Assign place value) t p d own h f g
+
+dropped_costs : (w : World) (names : List Named) (s : Shape) (e : Expression) (t p d own : ℕ) → TakesDropped w names s e
+    → max (taken_by names) (d + 4 * expression_count e) ≤ t
+    → 3 * expression_count e ≤ p → ArePassed t p (tokens_of e) (dropped_code w names s e d own)
 dropped_costs w names (StructShape tag) e t p d own h f g = whole_run w names e t p d own h f g
+dropped_costs w names (UnionShape tag) e t p d own h f g = whole_run w names e t p d own h f g
 dropped_costs w names _ e t p d own h f g = word_run w names e t p d own h f g
 
 -- a call may have no value
 call_run : (w : World) (names : List Named) (name : Name) (arguments : Expressions) (t p d own : ℕ)
     → TakesCalled (makes_struct w name.text) (TakesWhole w names (Expression.Call name arguments)) (Takes w names (Expression.Call name arguments))
-    → max (taken_by names) (d + 2 * run_nodes w (Expression.Call name arguments)) ≤ t → 2 * run_nodes w (Expression.Call name arguments) ≤ p
+    → suc d ≤ t → max (taken_by names) (d + 4 * run_count w (Expression.Call name arguments)) ≤ t → 3 * run_count w (Expression.Call name arguments) ≤ p
     → ArePassed t p (tokens_of (Expression.Call name arguments)) (run_code w names (Expression.Call name arguments) d own)
-call_run w names name arguments t p d own h f g = by (makes_struct w name.text) refl h
+call_run w names name arguments t p d own h free f g = by (makes_struct w name.text) refl h
   where
     e : Expression
     e = Expression.Call name arguments
@@ -83,17 +99,17 @@ call_run w names name arguments t p d own h f g = by (makes_struct w name.text) 
     by true is h = let one = made_result w name.text is in whole_run w names e t p d own h (omega (arith, f, one)) (omega (arith, g, one))
     by false is h =
         let a = called_cheap w name.text (call_parameters w name.text) arguments (arguments_code w names (call_parameters w name.text) arguments d own)
-        t p d (omega (arith, f))
-        (omega (arith, f)) (omega (arith, g))
+        t p d (omega (arith, free, f)) (omega (arith, f)) (omega (arith, g))
         (arguments_costs w names (call_parameters w name.text) arguments t p d own h.1 (omega (arith, f)) (omega (arith, g))) in
         let l = a.less in
         record { operations = a.operations; costs = a.costs; less = omega (arith, l) }
 
-pub run_costs : (w : World) (names : List Named) (e : Expression) (t p d own : ℕ) → TakesRun w names e → max (taken_by names) (d + 2 * run_nodes w e) ≤ t → 2 * run_nodes w e ≤ p
+pub run_costs : (w : World) (names : List Named) (e : Expression) (t p d own : ℕ) → TakesRun w names e → suc d ≤ t
+    → max (taken_by names) (d + 4 * run_count w e) ≤ t → 3 * run_count w e ≤ p
     → ArePassed t p (tokens_of e) (run_code w names e d own)
-run_costs w names (Expression.Assign place value) t p d own h f g = assigned_costs w names (static_shape w names place) place value t p d own h f g
-run_costs w names (Expression.Grouped at inner) t p d own h f g =
-    let a = run_costs w names inner t p d own h f g in let l = a.less in
+run_costs w names (Expression.Assign place value) t p d own h free f g = assigned_costs w names (static_shape w names place) place value t p d own h f g
+run_costs w names (Expression.Grouped at inner) t p d own h free f g =
+    let a = run_costs w names inner t p d own h free f g in let l = a.less in
     record { operations = a.operations; costs = a.costs; less = omega (arith, l) }
-run_costs w names (Expression.Call name arguments) t p d own h f g = call_run w names name arguments t p d own h f g
-run_costs w names e t p d own h f g = dropped_costs w names (static_shape w names e) e t p d own h f g
+run_costs w names (Expression.Call name arguments) t p d own h free f g = call_run w names name arguments t p d own h free f g
+run_costs w names e t p d own h free f g = dropped_costs w names (static_shape w names e) e t p d own h f g

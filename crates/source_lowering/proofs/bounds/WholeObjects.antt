@@ -1,4 +1,4 @@
--- The unnamed values of what is taken are structs of the program.
+-- The unnamed values of what is taken are structs and unions of the program.
 use Rattle.std.proofs.Common.{◌≡◌, ℕ, suc, Some, List, [], ◌∷◌, ◌++◌, Bool, true, false, refl, sym, ◌∙◌}
 use Rattle.std.specs.Prelude.{bytes_eq, codes, if◌then◌else◌}
 use Rattle.std.proofs.lemmas.Bool.{false≢true, true≢false}
@@ -22,16 +22,18 @@ use Rattle.cyc_tree.specs.Tree.{
   One,
   Array,
 }
-use Rattle.cyc_tree.specs.Tree.{Initializer, Declaration, Statement, BlockItems, NoItems, Declare, Execute}
-use Rattle.source_meaning.specs.Shapes.{Shape, StructShape, Layout, Part, parts_of, has_tag, written, settled}
+use Rattle.cyc_tree.specs.Tree.{Initializer, Declaration, Statement, BlockItems, NoItems, Declare, Execute, Clauses, NoClauses, MoreClauses, Case, Default}
+use Rattle.source_meaning.specs.Shapes.{Shape, StructShape, UnionShape, Layout, Part, part_shape, parts_of, has_tag, written, settled}
 use Rattle.source_meaning.specs.Steps.{World}
 use Rattle.source_lowering.specs.Lowered.{Named, number_named, static_shape, values_by, expression_values, suffix_values, all_values, link_values, new_values}
+use Rattle.source_lowering.specs.Lowered.{union_parts}
 use Rattle.source_lowering.specs.Whole.{makes_struct, is_made, whole_values, made_values, assigned_values, dropped_values, run_values}
-use Rattle.source_lowering.specs.Programs.{local_shape, named_here, outward, initial_values, declaration_values, statement_values, item_values}
+use Rattle.source_lowering.specs.Programs.{local_shape, named_here, outward, initial_values, declaration_values, statement_values, item_values, case_values}
+use Rattle.source_lowering.specs.Programs.{default_values}
 use Rattle.source_lowering.specs.Lowerable.{
   IsObject,
   AreObjects,
-  IsStructShape,
+  IsWholeShape,
   Takes,
   TakesAll,
   TakesLinks,
@@ -51,6 +53,7 @@ use Rattle.source_lowering.specs.Lowerable.{
   TakesDeclaration,
   TakesStatement,
   TakesItems,
+  TakesClauses,
 }
 use Rattle.source_lowering.proofs.expressions.Indices.{TakesIndices, indices_taken}
 
@@ -65,22 +68,25 @@ made_tag w name h = by (bytes_eq name (codes "getchar")) (bytes_eq name (codes "
     by false true h = absurd (false≢true h)
     by false false h = h
 
-pub struct_object : (structs : List Layout) (s : Shape) → IsStructShape structs s → IsObject structs s
-struct_object structs (StructShape tag) h = h
-struct_object structs _ h = absurd h
+pub struct_object : (unions structs : List Layout) (s : Shape) → IsWholeShape unions structs s → IsObject unions structs s
+struct_object unions structs (StructShape tag) h = h
+struct_object unions structs (UnionShape tag) h = h
+struct_object unions structs _ h = absurd h
 
-both_objects : (structs : List Layout) (ss us : List Shape) → AreObjects structs ss → AreObjects structs us → AreObjects structs (ss ++ us)
-both_objects structs [] us h g = g
-both_objects structs (s ∷ ss) us h g = (h.0, both_objects structs ss us h.1 g)
+both_objects : (unions structs : List Layout) (ss us : List Shape) → AreObjects unions structs ss → AreObjects unions structs us
+    → AreObjects unions structs (ss ++ us)
+both_objects unions structs [] us h g = g
+both_objects unions structs (s ∷ ss) us h g = (h.0, both_objects unions structs ss us h.1 g)
 
 -- the values of a value of a shape
-value_objects : (structs : List Layout) (s : Shape) (whole word : List Shape) (for_whole for_word : Type 0) → TakesMember s for_whole for_word
-    → (for_whole → AreObjects structs whole) → (for_word → AreObjects structs word) → AreObjects structs (values_by s whole word)
-value_objects structs (StructShape tag) whole word for_whole for_word h wholes words = wholes h
-value_objects structs _ whole word for_whole for_word h wholes words = words h
+value_objects : (unions structs : List Layout) (s : Shape) (whole word : List Shape) (for_whole for_word : Type 0) → TakesMember s for_whole for_word
+    → (for_whole → AreObjects unions structs whole) → (for_word → AreObjects unions structs word) → AreObjects unions structs (values_by s whole word)
+value_objects unions structs (StructShape tag) whole word for_whole for_word h wholes words = wholes h
+value_objects unions structs (UnionShape tag) whole word for_whole for_word h wholes words = wholes h
+value_objects unions structs _ whole word for_whole for_word h wholes words = words h
 
 -- what stands on the left of suffixes is taken
-suffixed_objects : (w : World) (names : List Named) (suffixes : Suffixes) (s : Shape) (value place : Type 0) (goal : Type 0)
+pub suffixed_objects : (w : World) (names : List Named) (suffixes : Suffixes) (s : Shape) (value place : Type 0) (goal : Type 0)
     → TakesSuffixes w names suffixes s value place → (value → goal) → (place → goal) → goal
 suffixed_objects w names NoSuffixes s value place goal h by_value by_place = absurd h
 suffixed_objects w names (Index index others) s value place goal h by_value by_place = by_value h.0
@@ -90,17 +96,17 @@ suffixed_objects w names (Arrow f others) s value place goal h by_value by_place
 -- the values of the indices, and then those of what stands on the left
 primary_objects : (w : World) (names : List Named) (primary : Expression) (suffixes : Suffixes)
     → TakesSuffixes w names suffixes (static_shape w names primary) (Takes w names primary) (TakesPlace w names primary)
-    → (TakesIndices w names suffixes → AreObjects w.structs (suffix_values w names suffixes))
-    → (Takes w names primary → AreObjects w.structs (expression_values w names primary))
-    → (TakesPlace w names primary → AreObjects w.structs (expression_values w names primary))
-    → AreObjects w.structs (suffix_values w names suffixes ++ expression_values w names primary)
+    → (TakesIndices w names suffixes → AreObjects w.unions w.structs (suffix_values w names suffixes))
+    → (Takes w names primary → AreObjects w.unions w.structs (expression_values w names primary))
+    → (TakesPlace w names primary → AreObjects w.unions w.structs (expression_values w names primary))
+    → AreObjects w.unions w.structs (suffix_values w names suffixes ++ expression_values w names primary)
 primary_objects w names primary suffixes h indices by_value by_place =
-    both_objects w.structs (suffix_values w names suffixes) (expression_values w names primary)
+    both_objects w.unions w.structs (suffix_values w names suffixes) (expression_values w names primary)
     (indices (indices_taken w names suffixes (static_shape w names primary) (Takes w names primary) (TakesPlace w names primary) h))
     (suffixed_objects w names suffixes (static_shape w names primary) (Takes w names primary) (TakesPlace w names primary)
-    (AreObjects w.structs (expression_values w names primary)) h by_value by_place)
+    (AreObjects w.unions w.structs (expression_values w names primary)) h by_value by_place)
 
-prefixed_objects : (operator : Prefix) (s : Shape) (value place : Type 0) (goal : Type 0) → TakesPrefix operator s value place → (value → goal)
+pub prefixed_objects : (operator : Prefix) (s : Shape) (value place : Type 0) (goal : Type 0) → TakesPrefix operator s value place → (value → goal)
     → (place → goal) → goal
 prefixed_objects prefix.Negate s value place goal h by_value by_place = by_value h
 prefixed_objects prefix.Complement s value place goal h by_value by_place = by_value h
@@ -108,7 +114,7 @@ prefixed_objects prefix.Not s value place goal h by_value by_place = by_value h
 prefixed_objects prefix.Dereference s value place goal h by_value by_place = by_value h.0
 prefixed_objects prefix.AddressOf s value place goal h by_value by_place = by_place h
 
-pointed_objects : (operator : Prefix) (value : Type 0) (goal : Type 0) → TakesPointer operator value → (value → goal) → goal
+pub pointed_objects : (operator : Prefix) (value : Type 0) (goal : Type 0) → TakesPointer operator value → (value → goal) → goal
 pointed_objects prefix.Negate value goal h by_value = absurd h
 pointed_objects prefix.Complement value goal h by_value = absurd h
 pointed_objects prefix.Not value goal h by_value = absurd h
@@ -116,7 +122,7 @@ pointed_objects prefix.Dereference value goal h by_value = by_value h
 pointed_objects prefix.AddressOf value goal h by_value = absurd h
 
 mutual
-  pub expression_objects : (w : World) (names : List Named) (e : Expression) → Takes w names e → AreObjects w.structs (expression_values w names e)
+  pub expression_objects : (w : World) (names : List Named) (e : Expression) → Takes w names e → AreObjects w.unions w.structs (expression_values w names e)
   expression_objects w names (Expression.Call name arguments) h = all_objects w names arguments h.1
   expression_objects w names (Expression.Grouped at inner) h = expression_objects w names inner h
   expression_objects w names (Expression.Suffixed primary suffixes) h =
@@ -124,22 +130,22 @@ mutual
       (λ g. place_objects w names primary g)
   expression_objects w names (Expression.Prefixed at operator operand) h =
       prefixed_objects operator (static_shape w names operand) (Takes w names operand) (TakesPlace w names operand)
-      (AreObjects w.structs (expression_values w names operand)) h (λ g. expression_objects w names operand g) (λ g. place_objects w names operand g)
+      (AreObjects w.unions w.structs (expression_values w names operand)) h (λ g. expression_objects w names operand g) (λ g. place_objects w names operand g)
   expression_objects w names (Expression.New at new) h = new_objects w names new h
   expression_objects w names (Expression.NewIn at handle new) h =
-      both_objects w.structs (expression_values w names handle) (new_values w names new) (expression_objects w names handle h.1.0)
+      both_objects w.unions w.structs (expression_values w names handle) (new_values w names new) (expression_objects w names handle h.1.0)
       (new_objects w names new h.1.1)
   expression_objects w names (Expression.Chain first others) h =
-      both_objects w.structs (expression_values w names first) (link_values w names others) (expression_objects w names first h.0)
+      both_objects w.unions w.structs (expression_values w names first) (link_values w names others) (expression_objects w names first h.0)
       (link_objects w names others h.1)
   expression_objects w names (Expression.AllOf first others) h =
-      both_objects w.structs (expression_values w names first) (all_values w names others) (expression_objects w names first h.0)
+      both_objects w.unions w.structs (expression_values w names first) (all_values w names others) (expression_objects w names first h.0)
       (all_objects w names others h.1)
   expression_objects w names (Expression.AnyOf first others) h =
-      both_objects w.structs (expression_values w names first) (all_values w names others) (expression_objects w names first h.0)
+      both_objects w.unions w.structs (expression_values w names first) (all_values w names others) (expression_objects w names first h.0)
       (all_objects w names others h.1)
   expression_objects w names (Expression.Assign place value) h =
-      both_objects w.structs (expression_values w names value) (expression_values w names place) (expression_objects w names value h.1.0)
+      both_objects w.unions w.structs (expression_values w names value) (expression_values w names place) (expression_objects w names value h.1.0)
       (place_objects w names place h.0)
   expression_objects w names (Expression.Number at value suffix) h = tt
   expression_objects w names (Expression.Character at byte) h = tt
@@ -151,90 +157,93 @@ mutual
   expression_objects w names (Expression.MakeUnion tag f value) h = tt
   expression_objects w names (Expression.NumElts at operand) h = expression_objects w names operand h
 
-  pub place_objects : (w : World) (names : List Named) (e : Expression) → TakesPlace w names e → AreObjects w.structs (expression_values w names e)
+  pub place_objects : (w : World) (names : List Named) (e : Expression) → TakesPlace w names e → AreObjects w.unions w.structs (expression_values w names e)
   place_objects w names (Expression.Variable name) h = tt
   place_objects w names (Expression.Grouped at inner) h = place_objects w names inner h
   place_objects w names (Expression.Suffixed primary suffixes) h =
       primary_objects w names primary suffixes h (λ g. index_objects w names suffixes g) (λ g. expression_objects w names primary g)
       (λ g. place_objects w names primary g)
   place_objects w names (Expression.Prefixed at operator operand) h =
-      pointed_objects operator (Takes w names operand) (AreObjects w.structs (expression_values w names operand)) h
+      pointed_objects operator (Takes w names operand) (AreObjects w.unions w.structs (expression_values w names operand)) h
       (λ g. expression_objects w names operand g)
   place_objects w names _ h = absurd h
 
   index_objects : (w : World) (names : List Named) (suffixes : Suffixes) → TakesIndices w names suffixes
-      → AreObjects w.structs (suffix_values w names suffixes)
+      → AreObjects w.unions w.structs (suffix_values w names suffixes)
   index_objects w names NoSuffixes h = tt
   index_objects w names (Index index others) h =
-      both_objects w.structs (suffix_values w names others) (expression_values w names index) (index_objects w names others h.1)
+      both_objects w.unions w.structs (suffix_values w names others) (expression_values w names index) (index_objects w names others h.1)
       (expression_objects w names index h.0)
   index_objects w names (Dot f others) h = index_objects w names others h
   index_objects w names (Arrow f others) h = index_objects w names others h
 
-  all_objects : (w : World) (names : List Named) (es : Expressions) → TakesAll w names es → AreObjects w.structs (all_values w names es)
+  all_objects : (w : World) (names : List Named) (es : Expressions) → TakesAll w names es → AreObjects w.unions w.structs (all_values w names es)
   all_objects w names NoExpressions h = tt
   all_objects w names (MoreExpressions first others) h =
-      both_objects w.structs (expression_values w names first) (all_values w names others) (expression_objects w names first h.0)
+      both_objects w.unions w.structs (expression_values w names first) (all_values w names others) (expression_objects w names first h.0)
       (all_objects w names others h.1)
 
-  link_objects : (w : World) (names : List Named) (links : Links) → TakesLinks w names links → AreObjects w.structs (link_values w names links)
+  link_objects : (w : World) (names : List Named) (links : Links) → TakesLinks w names links → AreObjects w.unions w.structs (link_values w names links)
   link_objects w names NoLinks h = tt
   link_objects w names (MoreLinks operator operand others) h =
-      both_objects w.structs (expression_values w names operand) (link_values w names others) (expression_objects w names operand h.0)
+      both_objects w.unions w.structs (expression_values w names operand) (link_values w names others) (expression_objects w names operand h.0)
       (link_objects w names others h.1)
 
-  new_objects : (w : World) (names : List Named) (new : Made) → TakesNew w names new → AreObjects w.structs (new_values w names new)
+  new_objects : (w : World) (names : List Named) (new : Made) → TakesNew w names new → AreObjects w.unions w.structs (new_values w names new)
   new_objects w names (One value) h =
-      value_objects w.structs (static_shape w names value) (whole_values w names value) (expression_values w names value) (TakesWhole w names value)
+      value_objects w.unions w.structs (static_shape w names value) (whole_values w names value) (expression_values w names value) (TakesWhole w names value)
       (Takes w names value) h.1 (λ g. whole_objects w names value g) (λ g. expression_objects w names value g)
   new_objects w names (Array index count element) h =
       let inner = number_named index.text 0 ∷ names in
-      both_objects w.structs (expression_values w names count)
+      both_objects w.unions w.structs (expression_values w names count)
       (values_by (static_shape w inner element) (whole_values w inner element) (expression_values w inner element))
       (expression_objects w names count h.0)
-      (value_objects w.structs (static_shape w inner element) (whole_values w inner element) (expression_values w inner element)
+      (value_objects w.unions w.structs (static_shape w inner element) (whole_values w inner element) (expression_values w inner element)
       (TakesWhole w inner element) (Takes w inner element) (h.1 0).1 (λ g. whole_objects w inner element g) (λ g. expression_objects w inner element g))
 
-  pub whole_objects : (w : World) (names : List Named) (e : Expression) → TakesWhole w names e → AreObjects w.structs (whole_values w names e)
+  pub whole_objects : (w : World) (names : List Named) (e : Expression) → TakesWhole w names e → AreObjects w.unions w.structs (whole_values w names e)
   whole_objects w names (Expression.Call name arguments) h =
       (made_tag w name.text h.0, made_objects w names (parts_of w.structs name.text) arguments h.1)
+  whole_objects w names (Expression.MakeUnion tag member value) h = (h.0, expression_objects w names value h.1.1)
   whole_objects w names (Expression.Grouped at inner) h = whole_objects w names inner h
-  whole_objects w names (Expression.Variable name) h = (struct_object w.structs (static_shape w names (Expression.Variable name)) h.1, tt)
+  whole_objects w names (Expression.Variable name) h = (struct_object w.unions w.structs (static_shape w names (Expression.Variable name)) h.1, tt)
   whole_objects w names (Expression.Suffixed primary suffixes) h = (
-    struct_object w.structs (static_shape w names (Expression.Suffixed primary suffixes)) h.1,
+    struct_object w.unions w.structs (static_shape w names (Expression.Suffixed primary suffixes)) h.1,
     primary_objects w names primary suffixes h.0 (λ g. index_objects w names suffixes g) (λ g. expression_objects w names primary g)
         (λ g. place_objects w names primary g),
   )
   whole_objects w names (Expression.Prefixed at operator operand) h = (
-    struct_object w.structs (static_shape w names (Expression.Prefixed at operator operand)) h.1,
-    pointed_objects operator (Takes w names operand) (AreObjects w.structs (expression_values w names operand)) h.0
+    struct_object w.unions w.structs (static_shape w names (Expression.Prefixed at operator operand)) h.1,
+    pointed_objects operator (Takes w names operand) (AreObjects w.unions w.structs (expression_values w names operand)) h.0
         (λ g. expression_objects w names operand g),
   )
   whole_objects w names _ h = absurd h
 
   made_objects : (w : World) (names : List Named) (ps : List Part) (arguments : Expressions) → TakesMade w names ps arguments
-      → AreObjects w.structs (made_values w names ps arguments)
+      → AreObjects w.unions w.structs (made_values w names ps arguments)
   made_objects w names [] arguments h = tt
   made_objects w names (p ∷ ps) NoExpressions h = tt
   made_objects w names (p ∷ ps) (MoreExpressions first others) h =
-      both_objects w.structs (values_by p.shape (whole_values w names first) (expression_values w names first)) (made_values w names ps others)
-      (value_objects w.structs p.shape (whole_values w names first) (expression_values w names first) (TakesWhole w names first) (Takes w names first) h.0
-      (λ g. whole_objects w names first g) (λ g. expression_objects w names first g))
+      both_objects w.unions w.structs (values_by p.shape (whole_values w names first) (expression_values w names first)) (made_values w names ps others)
+      (value_objects w.unions w.structs p.shape (whole_values w names first) (expression_values w names first) (TakesWhole w names first) (Takes w names first)
+      h.0 (λ g. whole_objects w names first g) (λ g. expression_objects w names first g))
       (made_objects w names ps others h.1)
 
 -- what is taken whole and isn't made is a place
 pub unmade_place : (w : World) (names : List Named) (e : Expression) → TakesWhole w names e → is_made w e ≡ false → TakesPlace w names e
 unmade_place w names (Expression.Call name arguments) h is = absurd (true≢false (sym h.0 ∙ is))
+unmade_place w names (Expression.MakeUnion tag member value) h is = absurd (true≢false is)
 unmade_place w names (Expression.Grouped at inner) h is = unmade_place w names inner h is
 unmade_place w names (Expression.Variable name) h is = tt
 unmade_place w names (Expression.Suffixed primary _) h is = h.0
 unmade_place w names (Expression.Prefixed at operator operand) h is = h.0
 unmade_place w names _ h is = absurd h
 
--- of a struct
+-- of a struct or a union
 pub unmade_struct : (w : World) (names : List Named) (e : Expression) → TakesWhole w names e → is_made w e ≡ false
-    → IsStructShape w.structs (static_shape w names e)
+    → IsWholeShape w.unions w.structs (static_shape w names e)
 unmade_struct w names (Expression.Call name arguments) h is = absurd (true≢false (sym h.0 ∙ is))
+unmade_struct w names (Expression.MakeUnion tag member value) h is = absurd (true≢false is)
 unmade_struct w names (Expression.Grouped at inner) h is = unmade_struct w names inner h is
 unmade_struct w names (Expression.Variable name) h is = h.1
 unmade_struct w names (Expression.Suffixed primary _) h is = h.1
@@ -243,72 +252,104 @@ unmade_struct w names _ h is = absurd h
 
 -- ---- statements
 
--- a struct that is assigned, or a word
+-- a struct or a union that is assigned, or a word
 assigned_objects : (w : World) (names : List Named) (s : Shape) (place value : Expression) → TakesAssigned w names s place value
-    → AreObjects w.structs (assigned_values w names s place value)
+    → AreObjects w.unions w.structs (assigned_values w names s place value)
 assigned_objects w names (StructShape tag) place value h =
-    both_objects w.structs (whole_values w names value) (expression_values w names place) (whole_objects w names value h.1.0)
+    both_objects w.unions w.structs (whole_values w names value) (expression_values w names place) (whole_objects w names value h.1.0)
+    (place_objects w names place h.0)
+assigned_objects w names (UnionShape tag) place value h =
+    both_objects w.unions w.structs (whole_values w names value) (expression_values w names place) (whole_objects w names value h.1.0)
     (place_objects w names place h.0)
 assigned_objects w names _ place value h = expression_objects w names (Expression.Assign place value) h
 
 dropped_objects : (w : World) (names : List Named) (s : Shape) (e : Expression) → TakesDropped w names s e
-    → AreObjects w.structs (dropped_values w names s e)
+    → AreObjects w.unions w.structs (dropped_values w names s e)
 dropped_objects w names (StructShape tag) e h = whole_objects w names e h
+dropped_objects w names (UnionShape tag) e h = whole_objects w names e h
 dropped_objects w names _ e h = expression_objects w names e h
 
-called_objects : (structs : List Layout) (made : Bool) (whole word : List Shape) (for_whole for_word : Type 0) → TakesCalled made for_whole for_word
-    → (for_whole → AreObjects structs whole) → (for_word → AreObjects structs word) → AreObjects structs (if made then whole else word)
-called_objects structs true whole word for_whole for_word h wholes words = wholes h
-called_objects structs false whole word for_whole for_word h wholes words = words h
+called_objects : (unions structs : List Layout) (made : Bool) (whole word : List Shape) (for_whole for_word : Type 0) → TakesCalled made for_whole for_word
+    → (for_whole → AreObjects unions structs whole) → (for_word → AreObjects unions structs word) → AreObjects unions structs (if made then whole else word)
+called_objects unions structs true whole word for_whole for_word h wholes words = wholes h
+called_objects unions structs false whole word for_whole for_word h wholes words = words h
 
-run_objects : (w : World) (names : List Named) (e : Expression) → TakesRun w names e → AreObjects w.structs (run_values w names e)
+run_objects : (w : World) (names : List Named) (e : Expression) → TakesRun w names e → AreObjects w.unions w.structs (run_values w names e)
 run_objects w names (Expression.Assign place value) h = assigned_objects w names (static_shape w names place) place value h
 run_objects w names (Expression.Grouped at inner) h = run_objects w names inner h
 run_objects w names (Expression.Call name arguments) h =
     let e = Expression.Call name arguments in
-    called_objects w.structs (makes_struct w name.text) (whole_values w names e) (expression_values w names e) (TakesWhole w names e) (Takes w names e) h
-    (λ k. whole_objects w names e k) (λ k. expression_objects w names e k)
+    called_objects w.unions w.structs (makes_struct w name.text) (whole_values w names e) (expression_values w names e) (TakesWhole w names e) (Takes w names e)
+    h (λ k. whole_objects w names e k) (λ k. expression_objects w names e k)
 run_objects w names e h = dropped_objects w names (static_shape w names e) e h
 
-initial_objects : (w : World) (names : List Named) (s : Shape) (e : Expression) → TakesValue w names s e → AreObjects w.structs (initial_values w names s e)
-initial_objects w names (StructShape tag) e h = by (is_made w e) refl
+initial_objects : (w : World) (names : List Named) (s : Shape) (e : Expression) → TakesValue w names s e
+    → AreObjects w.unions w.structs (initial_values w names s e)
+initial_objects w names s e h = by s h
   where
-    by : (made : Bool) → is_made w e ≡ made → AreObjects w.structs (if made then whole_values w names e else expression_values w names e)
-    by true is = whole_objects w names e h
-    by false is = place_objects w names e (unmade_place w names e h is)
-initial_objects w names _ e h = expression_objects w names e h
+    whole : TakesWhole w names e → (made : Bool) → is_made w e ≡ made
+        → AreObjects w.unions w.structs (if made then whole_values w names e else expression_values w names e)
+    whole h true is = whole_objects w names e h
+    whole h false is = place_objects w names e (unmade_place w names e h is)
 
-declaration_objects : (w : World) (names : List Named) (d : Declaration) → TakesDeclaration w names d → AreObjects w.structs (declaration_values w names d)
+    by : (of : Shape) → TakesValue w names of e → AreObjects w.unions w.structs (initial_values w names of e)
+    by (StructShape tag) h = whole h (is_made w e) refl
+    by (UnionShape tag) h = whole h (is_made w e) refl
+    by _ h = expression_objects w names e h
+
+declaration_objects : (w : World) (names : List Named) (d : Declaration) → TakesDeclaration w names d
+    → AreObjects w.unions w.structs (declaration_values w names d)
 declaration_objects w names (tree.Local of name (Initializer.Value e)) h = initial_objects w names (settled (written of)) e h.1
 declaration_objects w names (tree.Local of name _) h = tt
 declaration_objects w names _ h = tt
 
 mutual
   pub statement_objects : (w : World) (result : Shape) (names : List Named) (s : Statement) → TakesStatement w result names s
-      → AreObjects w.structs (statement_values w names s)
+      → AreObjects w.unions w.structs (statement_values w names s)
   statement_objects w result names (Statement.Block at items) h = item_objects w result (outward names) 0 items h
   statement_objects w result names (Statement.Run e) h = run_objects w names e h
   statement_objects w result names (Statement.If at condition body) h =
-      both_objects w.structs (expression_values w names condition) (statement_values w names body) (expression_objects w names condition h.0)
+      both_objects w.unions w.structs (expression_values w names condition) (statement_values w names body) (expression_objects w names condition h.0)
       (statement_objects w result names body h.1)
   statement_objects w result names (Statement.IfElse at condition body otherwise) h =
-      both_objects w.structs (expression_values w names condition) (statement_values w names body ++ statement_values w names otherwise)
+      both_objects w.unions w.structs (expression_values w names condition) (statement_values w names body ++ statement_values w names otherwise)
       (expression_objects w names condition h.0)
-      (both_objects w.structs (statement_values w names body) (statement_values w names otherwise) (statement_objects w result names body h.1.0)
+      (both_objects w.unions w.structs (statement_values w names body) (statement_values w names otherwise) (statement_objects w result names body h.1.0)
       (statement_objects w result names otherwise h.1.1))
   statement_objects w result names (Statement.While at condition body) h =
-      both_objects w.structs (expression_values w names condition) (statement_values w names body) (expression_objects w names condition h.0)
+      both_objects w.unions w.structs (expression_values w names condition) (statement_values w names body) (expression_objects w names condition h.0)
       (statement_objects w result names body h.1)
+  statement_objects w result names (Statement.Switch at place clauses) h =
+      let parts = union_parts w (static_shape w names place) in
+      both_objects w.unions w.structs (expression_values w names place) (case_values w names parts clauses ++ default_values w names clauses)
+      (place_objects w names place h.0)
+      (both_objects w.unions w.structs (case_values w names parts clauses) (default_values w names clauses)
+      (case_objects w result names parts clauses h.1.1) (default_objects w result names parts clauses h.1.1))
   statement_objects w result names (Statement.Return at (Some e)) h = expression_objects w names e h
   statement_objects w result names _ h = tt
 
   pub item_objects : (w : World) (result : Shape) (names : List Named) (index : ℕ) (items : BlockItems) → TakesItems w result names index items
-      → AreObjects w.structs (item_values w names index items)
+      → AreObjects w.unions w.structs (item_values w names index items)
   item_objects w result names index NoItems h = tt
   item_objects w result names index (Declare d others) h =
       let inside = named_here (tree.local_of d).text (local_shape d) index ∷ names in
-      both_objects w.structs (declaration_values w names d) (item_values w inside (suc index) others) (declaration_objects w names d h.0)
+      both_objects w.unions w.structs (declaration_values w names d) (item_values w inside (suc index) others) (declaration_objects w names d h.0)
       (item_objects w result inside (suc index) others h.1)
   item_objects w result names index (Execute s others) h =
-      both_objects w.structs (statement_values w names s) (item_values w names index others) (statement_objects w result names s h.0)
+      both_objects w.unions w.structs (statement_values w names s) (item_values w names index others) (statement_objects w result names s h.0)
       (item_objects w result names index others h.1)
+
+  case_objects : (w : World) (result : Shape) (names : List Named) (parts : List Part) (clauses : Clauses)
+      → TakesClauses w result names parts clauses → AreObjects w.unions w.structs (case_values w names parts clauses)
+  case_objects w result names parts NoClauses h = tt
+  case_objects w result names parts (MoreClauses at (Case f x) body others) h =
+      let inside = named_here x.text (part_shape parts f.text) 0 ∷ outward names in
+      both_objects w.unions w.structs (item_values w inside 1 body) (case_values w names parts others) (item_objects w result inside 1 body h.1.0)
+      (case_objects w result names parts others h.1.1)
+  case_objects w result names parts (MoreClauses at Default body others) h = case_objects w result names parts others h.1
+
+  default_objects : (w : World) (result : Shape) (names : List Named) (parts : List Part) (clauses : Clauses)
+      → TakesClauses w result names parts clauses → AreObjects w.unions w.structs (default_values w names clauses)
+  default_objects w result names parts NoClauses h = tt
+  default_objects w result names parts (MoreClauses at (Case f x) body others) h = default_objects w result names parts others h.1.1
+  default_objects w result names parts (MoreClauses at Default body others) h = item_objects w result (outward names) 0 body h.0

@@ -20,7 +20,7 @@ use Rattle.core_meaning.specs.Steps.{Config, with_temp, with_memory}
 use Rattle.core_meaning.specs.Operations.{does, are_elements, cleared}
 use Rattle.core_meaning.specs.Meaning as meaning
 use Rattle.core_meaning.proofs.Wholes.{beyond_both}
-use Rattle.source_lowering.specs.Layouts.{layout_of, pieces_of, part_shape_of}
+use Rattle.source_lowering.specs.Layouts.{layout_of, cell_pieces, part_shape_of}
 use Rattle.source_lowering.specs.Lowerable.{IsObject, AreStructs}
 use Rattle.source_lowering.specs.Simulation.{
   region_at,
@@ -176,15 +176,16 @@ array_leads w m c frame index count of has number made =
 
 -- what they hold
 array_shown : (p : Point) (m m1 : source.Memory) (c : Config) (count : ℕ) (of : Shape) (cell : ℕ) (shape : Shape) (v : Scalar)
-    → AreStructs p.world.unions p.world.structs → IsObject p.world.structs of
+    → AreStructs p.world.unions p.world.structs → IsObject p.world.unions p.world.structs of
     → LocalMade p.world c.memory (core.Frame p.frame) p.made (ArrayShape count of)
     → first_array p.world count of cell ≡ Some (record { shape = shape; content = Holds v })
     → IsShown p.world m1 (cleared (layout_of p.world of) count (at (local_spot p.frame p.made)) c.memory) (cell_spot p.frame p.made cell) shape v
 array_shown p m m1 c count of cell shape v structs object made e = record {
-  contents = firsts_of (pieces_of shape);
+  contents = firsts_of (cell_pieces p.world.unions shape);
   shown = first_shown p.world m1 c1 shape v first.is_value first.holds;
-  held = subst (λ z. PartsHold c1 (spot_in (core.Frame p.frame) p.made z) 0 (firsts_of (pieces_of shape))) (sym where_is)
-      (element_holds l (core.Frame p.frame) p.made count (k * l.bytes) c.memory k i 0 parts (placed_at begins.offset shape) (pieces_of shape) begins.others
+  held = subst (λ z. PartsHold c1 (spot_in (core.Frame p.frame) p.made z) 0 (firsts_of (cell_pieces p.world.unions shape))) (sym where_is)
+      (element_holds l (core.Frame p.frame) p.made count (k * l.bytes) c.memory k i 0 parts (placed_at begins.offset shape)
+      (cell_pieces p.world.unions shape) begins.others
       inside.less begins.less begins.is (λ j. ap (slice_get parts) (zero_on j))
       (made_at c.memory (core.Frame p.frame) p.made (k * length l.cells) (k * l.bytes) i l.cells parts (made k inside.less) begins.is));
 }
@@ -208,13 +209,13 @@ array_shown p m m1 c count of cell shape v structs object made e = record {
     i = inside.number
 
     first : IsFirstCell (cells_of p.world of) i shape v
-    first = first_cell_is (cells_of p.world of) i shape v has.values inside.is
+    first = first_cell_is p.world.unions (cells_of p.world of) i shape v has.cells inside.is
 
-    begins : BeginsWith l.cells i shape
+    begins : BeginsWith p.world.unions l.cells i shape
     begins = layout_first p.world of i shape structs object first.here
 
     parts : List PartShape
-    parts = map (part_shape_of (placed_at begins.offset shape)) (pieces_of shape) ++ begins.others
+    parts = map (part_shape_of (placed_at begins.offset shape)) (cell_pieces p.world.unions shape) ++ begins.others
 
     zero_on : (j : ℕ) → 0 + j ≡ j
     zero_on j = omega arith
@@ -226,7 +227,7 @@ array_shown p m m1 c count of cell shape v structs object made e = record {
 
 pub array_begins : (p : Point) (n : ℕ) (scope : Scope) (name : List ℕ) (count : ℕ) (of : Shape) (shapes : List Shape) (then_act : Scope → Act Flow)
     (next : Flow → source.Memory → steps.Step) (m : source.Memory) (c : Config) (rest : Statements) (after : Next)
-    → scope.world ≡ p.world → scope.frame ≡ p.frame → AreStructs p.world.unions p.world.structs → IsObject p.world.structs of
+    → scope.world ≡ p.world → scope.frame ≡ p.frame → AreStructs p.world.unions p.world.structs → IsObject p.world.unions p.world.structs of
     → p.pending ≡ ArrayShape count of ∷ shapes → SameState p m c
     → BeginsIn p (with_local p name (ArrayShape count of) shapes) n m c
     (λ m'. then_act (with_binding scope name (Variable (ArrayShape count of) (local_spot p.frame p.made))) next m') (meaning.statements rest after)

@@ -4,7 +4,7 @@ use Rattle.std.proofs.lemmas.List.{append_assoc, append-nil}
 use Rattle.cyc_tree.specs.declared.expression.Prefix.TheVariants as prefix
 use Rattle.cyc_tree.specs.Tree.{Expression, Expressions, NoExpressions, MoreExpressions, Links, NoLinks, MoreLinks, Suffixes, NoSuffixes, Index, Dot, Arrow}
 use Rattle.cyc_tree.specs.Tree.{Made, One, Array}
-use Rattle.source_meaning.specs.Shapes.{Shape, IntShape, FatShape, StructShape, Part, part_shapes, parts_of, pointee}
+use Rattle.source_meaning.specs.Shapes.{Shape, IntShape, FatShape, StructShape, UnionShape, Part, part_shapes, parts_of, pointee}
 use Rattle.source_meaning.specs.Sizes.{Extent, rounded_up, laid_out, no_extent}
 use Rattle.source_meaning.specs.Steps.{Act, Scope, ◌>>=◌}
 use Rattle.source_meaning.specs.Operators.{operator_shape}
@@ -24,7 +24,7 @@ use Rattle.source_lowering.proofs.Structs.{struct_made as struct_is_made}
 use Rattle.source_lowering.proofs.memory.StructCells.{AllHaveCells}
 use Rattle.source_lowering.proofs.memory.Members.{have_cells}
 use Rattle.source_lowering.specs.Simulation.{keeping}
-use Rattle.source_lowering.proofs.values.Integers.{IsNoStruct, target_taken}
+use Rattle.source_lowering.proofs.values.Integers.{IsOperandShape, target_taken}
 use Rattle.source_lowering.proofs.expressions.Variables.{Agrees}
 use Rattle.source_lowering.proofs.expressions.VariableForms.{variable_agrees, variable_stores}
 use Rattle.source_lowering.proofs.expressions.Counting.{counted_agrees}
@@ -39,20 +39,11 @@ use Rattle.source_lowering.proofs.values.Joined.{AllAs, all_none, all_more, all_
 use Rattle.source_lowering.proofs.expressions.EachCall.{Passed, AllValues, call_values, call_agrees}
 use Rattle.source_lowering.proofs.expressions.Calls.{CallsAs, calls_less, no_arguments, stuck_arguments, more_arguments}
 use Rattle.source_lowering.proofs.expressions.Numbered.{AreNumbered, numbered_first, numbered_after, numbered_one, numbered_more}
-use Rattle.source_lowering.proofs.expressions.ExpressionForms.{
-  IsStored,
-  negate_agrees,
-  complement_agrees,
-  not_agrees,
-  contents_agrees,
-  contents_are,
-  no_shapes,
-  suffixes_value,
-  suffixes_stored,
-  suffixes_placed,
-}
+use Rattle.source_lowering.proofs.expressions.ExpressionForms.{IsStored, negate_agrees, complement_agrees, not_agrees, contents_agrees}
+use Rattle.source_lowering.proofs.expressions.ExpressionForms.{contents_are, no_shapes, suffixes_value, suffixes_stored, suffixes_placed}
 use Rattle.source_lowering.proofs.expressions.WholeForms.{IsWholeAs, whole_place, member_same, call_whole}
 use Rattle.source_lowering.proofs.expressions.MakingStructs.{MembersGo, no_members, more_members, made_whole}
+use Rattle.source_lowering.proofs.expressions.MakingUnions.{union_whole}
 use Rattle.source_lowering.proofs.expressions.Requests.{GivesMaker, heap_agrees, heap_gives, handle_gives, made_agrees}
 use Rattle.source_lowering.proofs.expressions.Homes.{element_shape, element_values, same_element}
 use Rattle.source_lowering.proofs.expressions.MadeArrays.{made_array}
@@ -60,7 +51,7 @@ use Rattle.source_lowering.proofs.expressions.Known.{at_known, known_at, scope_a
 pub use Rattle.source_lowering.proofs.expressions.Known.{Known, place_in, IsKnown, known_keeping, keeping_known, new_by, new_is, new_in_is}
 
 mutual
-  pub named_same : (e : Expression) (scope : Scope) (k : Known) → TakesPlace scope.world k.names e → IsNoStruct (static_shape scope.world k.names e)
+  pub named_same : (e : Expression) (scope : Scope) (k : Known) → TakesPlace scope.world k.names e → IsOperandShape (static_shape scope.world k.names e)
       → IsKnown scope k → (n : ℕ) → CallsAs scope.world k.program n → (d own : ℕ)
       → AreNumbered k.owned own (expression_values scope.world k.names e) → k.kept ≤ own
       → IsStored (place_in scope k) n d (sense e scope) (static_shape scope.world k.names e) (put_code scope.world k.names e d own)
@@ -285,7 +276,8 @@ mutual
   new_same (One value) scope k h known n calls to d own numbered less code handle =
       made_agrees (place_in scope k) n d own to (sense value scope) (static_shape scope.world k.names value) (whole_values scope.world k.names value)
       (expression_values scope.world k.names value) code (whole_code scope.world k.names value (d + 1) own)
-      (expression_code scope.world k.names value (d + 1) own) (TakesWhole scope.world k.names value) (Takes scope.world k.names value) known.world.structs h.0
+      (expression_code scope.world k.names value (d + 1) own) (TakesWhole scope.world k.names value)
+      (Takes scope.world k.names value) known.world.unions known.world.structs h.0
       less h.1 numbered handle (λ g nums. whole_same value scope k g known n calls (d + 1) own nums)
       (λ g nums. expression_same value scope k g known n calls (d + 1) own nums less)
   new_same (Array index count element) scope k h known n calls to d own numbered less code handle =
@@ -328,6 +320,12 @@ mutual
       made.members (have_cells scope.world.unions scope.world.structs parts known.world.structs made.members)
       (subst (λ z. z.size ≤ (extent_of scope.world (StructShape name.text)).size) made.extent (omega arith)) (omega arith)
       (numbered_more k.owned value (StructShape name.text) (made_values scope.world k.names parts arguments) numbered)))
+  whole_same (Expression.MakeUnion tag member held) scope k h known n calls d value numbered =
+      let values = expression_values scope.world k.names held in
+      union_whole (place_in scope k) n d value tag.text member.text (sense held scope) (static_shape scope.world k.names held)
+      (expression_code scope.world k.names held (d + 1) (suc value)) known.world.unions h.0 (numbered_one k.owned value (UnionShape tag.text) values numbered)
+      h.1.0 (expression_same held scope (known_keeping k (suc value)) h.1.1 (keeping_known scope k (suc value) known) n calls (d + 1) (suc value)
+      (numbered_more k.owned value (UnionShape tag.text) values numbered) (omega arith))
   whole_same (Expression.Grouped at inner) scope k h known n calls d value numbered = whole_same inner scope k h known n calls d value numbered
   whole_same (Expression.Variable name) scope k h known n calls d value numbered =
       let s = static_shape scope.world k.names (Expression.Variable name) in
@@ -361,7 +359,8 @@ mutual
   whole_same _ scope k h known n calls d value numbered = absurd h
 
   pub members_same : (es : Expressions) (ps : List Part) (scope : Scope) (k : Known) → TakesMade scope.world k.names ps es → IsKnown scope k → (n : ℕ)
-      → CallsAs scope.world k.program n → (d value cells total : ℕ) (so_far : Extent) (own : ℕ) → AreObjects scope.world.structs (part_shapes ps)
+      → CallsAs scope.world k.program n → (d value cells total : ℕ) (so_far : Extent) (own : ℕ)
+      → AreObjects scope.world.unions scope.world.structs (part_shapes ps)
       → AllHaveCells scope.world.unions scope.world.structs ps → (laid_out (extent_of scope.world) so_far ps).size ≤ total → value < own
       → AreNumbered k.owned own (made_values scope.world k.names ps es)
       → MembersGo (place_in scope k) n d value cells total so_far.size ps (converted_all scope.world (part_shapes ps) (senses es scope))

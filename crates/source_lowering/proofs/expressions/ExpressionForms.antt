@@ -14,7 +14,7 @@ use Rattle.core_meaning.specs.Core.{Statement, Do, Constant}
 use Rattle.source_lowering.specs.Lowered.{Named, prefix_shape, Left, pointer_to, store_to, reach_code, prefix_code, pointed_code, arguments_code}
 use Rattle.source_lowering.specs.Simulation.{Point}
 use Rattle.source_lowering.specs.Members.{words_in, loads_code}
-use Rattle.source_lowering.proofs.values.Integers.{IsTaken, IsNoStruct, value_taken, object_value, object_target}
+use Rattle.source_lowering.proofs.values.Integers.{IsTaken, IsOperandShape, value_taken, object_value, object_target}
 use Rattle.source_lowering.proofs.expressions.Variables.{Agrees, StoresAs}
 use Rattle.source_lowering.proofs.expressions.Forms.{int_agrees, applied_agrees, value_agrees}
 use Rattle.source_lowering.proofs.expressions.Places.{IsPlaced, contents_reached, contents_placed, pointee_taken}
@@ -40,7 +40,7 @@ pub not_agrees : (p : Point) (n d : ℕ) (e : Sense) (shape : Shape) (code here 
 not_agrees p n d e shape code here place one =
     value_agrees p n d IntShape IntShape (tested (inverted (truth e))).look _ refl tt (not_gives p n d e shape code one.taken one.looks)
 
-pub contents_agrees : (p : Point) (n d : ℕ) (e : Sense) (shape : Shape) (above code place : List Statement) → IsNoStruct (pointee shape)
+pub contents_agrees : (p : Point) (n d : ℕ) (e : Sense) (shape : Shape) (above code place : List Statement) → IsOperandShape (pointee shape)
     → Agrees p n d e shape code
     → Agrees p n d (prefixed p.world prefix.Dereference e) (prefix_shape prefix.Dereference shape)
     (prefix_code p.world prefix.Dereference shape d above code place)
@@ -75,19 +75,20 @@ contents_are p n d e shape code one = record {
   target = pointee_taken shape one.taken;
   placed = contents_placed p n d e shape code one;
   value = λ whole s m. refl;
+  look = λ whole s m. refl;
 }
 
 -- ---- suffixes: what they lead to is read, stored to, or has a pointer to it
 
-pub suffixes_value : (p : Point) (n d : ℕ) (e : Sense) (shape : Shape) (left : Left) → left.shape ≡ shape → IsNoStruct shape → MemberAs p n e left
+pub suffixes_value : (p : Point) (n d : ℕ) (e : Sense) (shape : Shape) (left : Left) → left.shape ≡ shape → IsOperandShape shape → MemberAs p n e left
     → Agrees p n d e shape (left.value d)
 suffixes_value p n d e shape left same single one =
-    subst (λ z. Agrees p n d e z (left.value d)) same (one.value (subst IsNoStruct (sym same) single) d)
+    subst (λ z. Agrees p n d e z (left.value d)) same (one.value (subst IsOperandShape (sym same) single) d)
 
-pub suffixes_stored : (p : Point) (n d : ℕ) (e : Sense) (shape : Shape) (left : Left) → left.shape ≡ shape → IsNoStruct shape → MemberAs p n e left
+pub suffixes_stored : (p : Point) (n d : ℕ) (e : Sense) (shape : Shape) (left : Left) → left.shape ≡ shape → IsOperandShape shape → MemberAs p n e left
     → IsStored p n d e shape (store_to left (d + words_in shape) d)
 suffixes_stored p n d e shape left same single one =
-    let is_value = object_value p.world.structs left.shape one.object (subst IsNoStruct (sym same) single) in
+    let is_value = object_value p.world.unions p.world.structs left.shape one.object (subst IsOperandShape (sym same) single) in
     subst (λ z. IsStored p n d e z (store_to left (d + words_in z) d)) same (record {
       shape_is = one.shape_is;
       taken = value_taken left.shape is_value;
@@ -100,7 +101,8 @@ pub suffixes_placed : (p : Point) (n d : ℕ) (e : Sense) (shape : Shape) (left 
 suffixes_placed p n d e shape left same one =
     subst (λ z. IsPlaced p n d e z (pointer_to left d)) same (record {
       shape_is = one.shape_is;
-      target = object_target p.world.structs left.shape one.object;
+      target = object_target p.world.unions p.world.structs left.shape one.object;
       placed = reached_placed p n d left.cells left.bytes left.shape e.place (left.pointer d) (one.reached d);
       value = λ whole s m. one.given s m;
+      look = λ whole s m. one.looked s m;
     })

@@ -3,7 +3,7 @@ use Rattle.std.proofs.Common.{◌≡◌, ℕ, List, [], ◌∷◌, ◌++◌, Boo
 use Rattle.std.specs.Prelude.{bytes_eq, if◌then◌else◌}
 use Rattle.cyc_tree.specs.Tree.{Expression, Expressions, NoExpressions, MoreExpressions, Links, NoLinks, MoreLinks, Suffixes, NoSuffixes, Index, Dot, Arrow}
 use Rattle.cyc_tree.specs.Tree.{Made, One, Array}
-use Rattle.source_meaning.specs.Shapes.{Shape, Shared, StructShape, ThinShape, FatShape, Part, parts_of}
+use Rattle.source_meaning.specs.Shapes.{Shape, Shared, StructShape, UnionShape, ThinShape, FatShape, Part, parts_of}
 use Rattle.source_meaning.specs.Steps.{Entity, World}
 use Rattle.source_meaning.specs.Operators.{operator_shape}
 use Rattle.source_meaning.specs.Places.{bound_to}
@@ -125,6 +125,7 @@ mutual
   same_whole w (Expression.Chain first others) ls ks same = ap (λ z. z ∷ []) (same_shape w (Expression.Chain first others) ls ks same)
   same_whole w (Expression.New at new) ls ks same = ap (λ z. z ∷ []) (same_shape w (Expression.New at new) ls ks same)
   same_whole w (Expression.NewIn at handle new) ls ks same = ap (λ z. z ∷ []) (same_shape w (Expression.NewIn at handle new) ls ks same)
+  same_whole w (Expression.MakeUnion tag member value) ls ks same = ap (λ z. UnionShape tag.text ∷ z) (same_values w value ls ks same)
   same_whole w _ ls ks same = refl
 
   same_members : (w : World) (ps : List Part) (es : Expressions) (ls ks : List Named) → SameNames ls ks → made_values w ls ps es ≡ made_values w ks ps es

@@ -47,7 +47,7 @@ place_in scope k = record {
 pub record IsKnown (scope : Scope) (k : Known) : Type 0 where
   pub world : IsPlainWorld scope.world
   pub locals : AreLocals (scope.frame ∷ k.outer) scope.locals k.names
-  pub words : AreObjectNames scope.world.structs k.names
+  pub words : AreObjectNames scope.world.unions scope.world.structs k.names
 
 -- the same with so many unnamed values that are left as they are
 abbrev pub known_keeping : Known → ℕ → Known
@@ -64,7 +64,7 @@ scope_at scope name i = with_binding scope name (Fixed UnsignedShape (Integer As
 
 -- which is in a temporary, behind the array's pointer and its count
 abbrev pub known_at : Known → List ℕ → ℕ → Known
-known_at k name d = record k { names = number_named name (d + 2) ∷ k.names; regions = record { all = d + 3; inner = k.regions.inner } }
+known_at k name d = record k { names = number_named name (d + 2) ∷ k.names; regions = record k.regions { all = d + 3 } }
 
 pub at_known : (scope : Scope) (k : Known) (name : List ℕ) (d i : ℕ) → i < 2 ^ 32 → IsKnown scope k → IsKnown (scope_at scope name i) (known_at k name d)
 at_known scope k name d i small known = record {

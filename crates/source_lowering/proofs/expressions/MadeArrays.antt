@@ -75,7 +75,7 @@ use Rattle.source_lowering.proofs.expressions.Numbered.{AreNumbered}
 use Rattle.source_lowering.proofs.expressions.Requests.{GivesMaker}
 use Rattle.source_lowering.proofs.expressions.Variables.{Agrees}
 use Rattle.source_lowering.proofs.expressions.WholeForms.{IsWholeAs}
-use Rattle.source_lowering.proofs.expressions.MadeElements.{ArrayAt, ElementAs, array_later, struct_element, value_element}
+use Rattle.source_lowering.proofs.expressions.MadeElements.{ArrayAt, ElementAs, array_later, whole_element, value_element}
 use Rattle.source_lowering.proofs.expressions.MadeLoops.{elements_same, number_place}
 
 -- ---- the block is there
@@ -186,7 +186,8 @@ EachElement p n name d shape element_at each =
 
 -- behind the elements the index is 0
 array_done : (p : Point) (n d count : ℕ) (shape : Shape) (m0 : source.Memory) (c0 : Config) (m : source.Memory) (c : Config) (t : Spot)
-    (s : List Scalar → source.Memory → steps.Step) (k : Config → core_steps.Step) → AreStructs p.world.unions p.world.structs → IsObject p.world.structs shape
+    (s : List Scalar → source.Memory → steps.Step) (k : Config → core_steps.Step) → AreStructs p.world.unions p.world.structs
+    → IsObject p.world.unions p.world.structs shape
     → count < 2 ^ 32 → SameState p m c → GrownAt p m0 c0 m c → AreKept d c0 c → ArrayAt p m c d count shape t
     → GoesOn p n d m0 c0 (FatShape shape) s k → SameAt p n (s (span_at count t ∷ []) m) (k (with_temp (d + 2) (Word 0) c))
 array_done p n d count shape m0 c0 m c t s k structs object few fits later kept there goes =
@@ -216,7 +217,7 @@ array_done p n d count shape m0 c0 m c t s k structs object few fits later kept 
 -- the handle and the count are in temporaries
 array_there : (p : Point) (n : ℕ) (name : List ℕ) (d r count : ℕ) (shape : Shape) (element_at : ℕ → Sense) (each : List Statement) (m0 : source.Memory)
     (c0 : Config) (m : source.Memory) (c : Config) (s : List Scalar → source.Memory → steps.Step) (rest : Statements) (next : Next)
-    → AreStructs p.world.unions p.world.structs → IsObject p.world.structs shape → count < 2 ^ 32 → EachElement p n name d shape element_at each
+    → AreStructs p.world.unions p.world.structs → IsObject p.world.unions p.world.structs shape → count < 2 ^ 32 → EachElement p n name d shape element_at each
     → SameState p m c → GrownAt p m0 c0 m c → AreKept d c0 c → c.temps d ≡ Birth r → c.temps (d + 1) ≡ Word count
     → GoesOn p n d m0 c0 (FatShape shape) s (meaning.statements rest next)
     → SameAt p n (ask (InRegion r) (making.saturated (count * size_of p.world shape)) (blank_array p.world shape count)
@@ -275,12 +276,13 @@ array_there p n name d r count shape element_at each m0 c0 m c s rest next struc
 
 -- the handle comes first, and then the count
 pub array_agrees : (p : Point) (n : ℕ) (name : List ℕ) (d : ℕ) (to : steps.Act Maker) (count : Sense) (element_at : ℕ → Sense) (count_shape shape : Shape)
-    (code count_code each : List Statement) → AreStructs p.world.unions p.world.structs → IsObject p.world.structs shape → (element_at 0).shape ≡ shape
+    (code count_code each : List Statement) → AreStructs p.world.unions p.world.structs → IsObject p.world.unions p.world.structs shape
+    → (element_at 0).shape ≡ shape
     → GivesMaker p n d to code → Agrees p n (d + 1) count count_shape count_code → EachElement p n name d shape element_at each
     → Agrees p n d (array_made p.world to count element_at) (FatShape shape) (code ++ (count_code ++ array_code p.world shape d each))
 array_agrees p n name d to count element_at count_shape shape code count_code each structs object shape_is handle counts one = record {
   shape_is = ap (λ z. FatShape z) shape_is;
-  taken = object_target p.world.structs shape object;
+  taken = object_target p.world.unions p.world.structs shape object;
   looks = gives;
   values = gives;
 }
@@ -327,7 +329,7 @@ array_agrees p n name d to count element_at count_shape shape code count_code ea
 -- by the shape of an element: a struct is evaluated to an unnamed value, and a word to a temporary
 pub made_array : (p : Point) (n : ℕ) (name : List ℕ) (d first : ℕ) (to : steps.Act Maker) (count : Sense) (element_at : ℕ → Sense)
     (count_shape shape : Shape) (whole_values word_values : List Shape) (code count_code whole word : List Statement) (takes_whole takes : Type 0)
-    → AreStructs p.world.unions p.world.structs → IsObject p.world.structs shape → p.kept ≤ first → TakesMember shape takes_whole takes
+    → AreStructs p.world.unions p.world.structs → IsObject p.world.unions p.world.structs shape → p.kept ≤ first → TakesMember shape takes_whole takes
     → AreNumbered p.owned first (values_by shape whole_values word_values) → GivesMaker p n d to code → Agrees p n (d + 1) count count_shape count_code
     → (takes_whole → AreNumbered p.owned first whole_values → (j k : ℕ) → j ≤ n → k < 2 ^ 32
     → IsWholeAs (number_place p name d k) j (d + 3) first (element_at k) shape whole)
@@ -352,12 +354,13 @@ made_array p n name d first to count element_at count_shape shape whole_values w
     value : (z : Shape) → IsValueShape z → ((j k : ℕ) → j ≤ n → k < 2 ^ 32 → Agrees (number_place p name d k) j (d + 3) (element_at k) z word)
         → Agrees p n d (array_made p.world to count element_at) (FatShape z) (code ++ (count_code ++ array_code p.world z d (stored z)))
     value z is_value one =
-        array_agrees p n name d to count element_at count_shape z code count_code (stored z) structs (value_object p.world.structs z is_value)
+        array_agrees p n name d to count element_at count_shape z code count_code (stored z) structs (value_object p.world.unions p.world.structs z is_value)
         (one n 0 (omega arith) none).shape_is handle counts
         (λ j many k below small.
         value_element (number_place p name d k) j d many k z (element_at k) word structs is_value (omega arith) (one j k below small))
 
-    by : (z : Shape) → IsObject p.world.structs z → TakesMember z takes_whole takes → AreNumbered p.owned first (values_by z whole_values word_values)
+    by : (z : Shape) → IsObject p.world.unions p.world.structs z → TakesMember z takes_whole takes
+        → AreNumbered p.owned first (values_by z whole_values word_values)
         → (takes_whole → AreNumbered p.owned first whole_values → (j k : ℕ) → j ≤ n → k < 2 ^ 32
         → IsWholeAs (number_place p name d k) j (d + 3) first (element_at k) z whole)
         → (takes → AreNumbered p.owned first word_values → (j k : ℕ) → j ≤ n → k < 2 ^ 32
@@ -367,7 +370,7 @@ made_array p n name d first to count element_at count_shape shape whole_values w
         array_agrees p n name d to count element_at count_shape (StructShape tag) code count_code
         (element_by p.world (StructShape tag) d whole word) structs o (one n 0 (omega arith) none).shape_is handle counts
         (λ j many k below small.
-        struct_element (number_place p name d k) j d many k first tag (element_at k) whole structs o (omega arith) less (one j k below small))
+        whole_element (number_place p name d k) j d many k first (StructShape tag) (element_at k) whole structs o (omega arith) less (one j k below small))
     by IntShape o t nums as_struct as_word = value IntShape tt (as_word t nums)
     by UnsignedShape o t nums as_struct as_word = value UnsignedShape tt (as_word t nums)
     by CharShape o t nums as_struct as_word = value CharShape tt (as_word t nums)
@@ -376,5 +379,10 @@ made_array p n name d first to count element_at count_shape shape whole_values w
     by VoidShape o t nums as_struct as_word = absurd o
     by (FatShape q) o t nums as_struct as_word = value (FatShape q) o (as_word t nums)
     by KeyShape o t nums as_struct as_word = absurd o
-    by (UnionShape tag) o t nums as_struct as_word = absurd o
+    by (UnionShape tag) o t nums as_struct as_word =
+        let one = as_struct t nums in
+        array_agrees p n name d to count element_at count_shape (UnionShape tag) code count_code
+        (element_by p.world (UnionShape tag) d whole word) structs o (one n 0 (omega arith) none).shape_is handle counts
+        (λ j many k below small.
+        whole_element (number_place p name d k) j d many k first (UnionShape tag) (element_at k) whole structs o (omega arith) less (one j k below small))
     by (ArrayShape many of) o t nums as_struct as_word = absurd o

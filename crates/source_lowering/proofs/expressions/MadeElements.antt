@@ -1,6 +1,6 @@
 -- An element of an array that is being made: its value is evaluated, and stored where the element lies.
 use Rattle.std.proofs.Common.{◌≡◌, ℕ, ◌+◌, ◌*◌, ◌<◌, ◌≤◌, List, [], ◌∷◌, ◌++◌, length, Bool, true, false, Some, refl, sym, ap, ◌∙◌, subst, arith}
-use Rattle.source_meaning.specs.Shapes.{Shape, StructShape}
+use Rattle.source_meaning.specs.Shapes.{Shape}
 use Rattle.source_meaning.specs.Memory as source
 use Rattle.source_meaning.specs.Memory.{Scalar, Spot, is_live}
 use Rattle.source_meaning.specs.Steps as steps
@@ -114,7 +114,8 @@ value_element p n d count i shape e code structs is_value above one = record {
         let x : Content = Pointer (at u) byte in
         let c2 : Config = with_temp q x c1 in
         let leads = there.leads i less in
-        let first = first_part_of p.world c1.memory shape (at u) byte (lies_here p.world shape structs (value_object p.world.structs shape is_value)).cells
+        let first = first_part_of p.world c1.memory shape (at u) byte
+        (lies_here p.world shape structs (value_object p.world.unions p.world.structs shape is_value)).cells
         leads.1 in
         let kept2 : AreKept (d + 3 + words_in shape) c1 c2 = kept_temp q q x c1 c1 (omega arith) (λ k h. refl) in
         subst (λ z. SameAt p n (write_cells u vs (λ w. s) m1) z)
@@ -137,35 +138,32 @@ value_element p n d count i shape e code structs is_value above one = record {
         more : (z : ℕ) → z ≡ z + 0
         more z = omega arith
 
--- ---- a struct
+-- ---- a struct or a union
 
 -- the unnamed value goes to the element's cells
-pub struct_element : (p : Point) (n d count i value : ℕ) (tag : List ℕ) (e : Sense) (code : List Statement) → AreStructs p.world.unions p.world.structs
-    → IsObject p.world.structs (StructShape tag) → p.regions.all ≤ d + 3 → p.kept ≤ value → IsWholeAs p n (d + 3) value e (StructShape tag) code
-    → ElementAs p n d count i (StructShape tag) e.value (code ++ (Do (Element (d + 4) d (d + 2) (length (cells_of p.world (StructShape tag)))
-    (extent_of p.world (StructShape tag)).size) ∷ Do (Copy (d + 4) (d + 3) (layout_of p.world (StructShape tag))) ∷ []))
-struct_element p n d count i value tag e code structs object above kept_value one = record {
+pub whole_element : (p : Point) (n d count i value : ℕ) (shape : Shape) (e : Sense) (code : List Statement) → AreStructs p.world.unions p.world.structs
+    → IsObject p.world.unions p.world.structs shape → p.regions.all ≤ d + 3 → p.kept ≤ value → IsWholeAs p n (d + 3) value e shape code
+    → ElementAs p n d count i shape e.value (code ++ (Do (Element (d + 4) d (d + 2) (length (cells_of p.world shape))
+    (extent_of p.world shape).size) ∷ Do (Copy (d + 4) (d + 3) (layout_of p.world shape)) ∷ []))
+whole_element p n d count i value shape e code structs object above kept_value one = record {
   same = λ m c t s rest next fits there number less goes.
       subst (λ z. SameAt p n (e.value (λ vs. write_cells (element_of p shape t i) vs (λ u. s)) m) (meaning.statements z next c))
       (sym (put_all code stores rest))
       (one.whole.same m c (λ vs. write_cells (element_of p shape t i) vs (λ u. s)) (put stores rest) next fits (record {
         above = above;
         go = λ m1 c1 vs fits1 later1 kept1 from shown1.
-            let same : StructShape one.whole.tag ≡ StructShape tag = sym one.whole.shape_is ∙ one.shape_is in
+            let same : one.whole.shape ≡ shape = sym one.whole.shape_is ∙ one.shape_is in
             let within1 : GrownAt p m c m1 c1 =
             later_less (before_value p value) (within p) m m1 c.memory c1.memory (before_less p p.kept value kept_value) later1 in
             stored m c t s rest next m1 c1 vs fits1 within1 kept1
             (array_later p m c d count shape t m1 c1 within1 (λ k h. kept1 k (over h (omega arith))) there)
-            (kept1 (d + 2) (omega arith) ∙ number) less from (value_made p m1 c1 value shape fits1 (one.whole.numbered ∙ ap (λ z. Some z) same))
+            (kept1 (d + 2) (omega arith) ∙ number) less from (value_made p m1 c1 value shape object fits1 (one.whole.numbered ∙ ap (λ z. Some z) same))
             (subst (λ z. AllShown p.world m1 c1.memory (own_spot p.own value 0) (cells_of p.world z) vs) same shown1) goes;
       }));
 }
   where
-    shape : Shape
-    shape = StructShape tag
-
     layout : Layout
-    layout = layout_of p.world (StructShape tag)
+    layout = layout_of p.world shape
 
     cells : ℕ
     cells = length (cells_of p.world shape)

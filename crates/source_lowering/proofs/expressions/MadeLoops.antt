@@ -48,7 +48,7 @@ abbrev pub number_place : Point → List ℕ → (d k : ℕ) → Point
 number_place p name d k = record p {
   locals = (record { name = name; entity = Fixed UnsignedShape (Integer AsUnsigned k) }) ∷ p.locals;
   names = number_named name (d + 2) ∷ p.names;
-  regions = record { all = d + 3; inner = p.regions.inner };
+  regions = record p.regions { all = d + 3 };
 }
 
 number_fits : (p : Point) (name : List ℕ) (d k : ℕ) (m : source.Memory) (c : Config) → p.regions.all ≤ d → c.temps (d + 2) ≡ Word k → SameState p m c

@@ -3,7 +3,7 @@ use Rattle.std.proofs.Common.{◌≡◌, ℕ, suc, ◌+◌, ◌<◌, List, [], �
 use Rattle.std.specs.Prelude.{nat_le}
 use Rattle.std.proofs.lemmas.Bool.{eq-eqb}
 use Rattle.std.proofs.lemmas.Bool.Decides.{nat_tests}
-use Rattle.source_meaning.specs.Shapes.{Shape, StructShape}
+use Rattle.source_meaning.specs.Shapes.{Shape}
 use Rattle.source_meaning.specs.Memory as source
 use Rattle.source_meaning.specs.Memory.{Scalar, Spot}
 use Rattle.source_meaning.specs.Steps as steps
@@ -19,7 +19,7 @@ use Rattle.core_meaning.specs.Operations.{does, are_laid, same_object, cells_on,
 use Rattle.core_meaning.specs.Meaning as meaning
 use Rattle.source_lowering.specs.Layouts.{Piece, layout_of, pieces_of}
 use Rattle.source_lowering.specs.Lowered.{put, stores_code, conversion_code}
-use Rattle.source_lowering.specs.Lowerable.{IsObject, AreStructs, IsValueShape}
+use Rattle.source_lowering.specs.Lowerable.{IsObject, IsWholeShape, AreStructs, IsValueShape}
 use Rattle.source_lowering.specs.Whole.{struct_member_code, word_member_code}
 use Rattle.source_lowering.specs.Simulation.{at, AreMade, nothing, Grown, Point, SameState, SameAt, Next, AreKept, around, before_value, keeping, AValue}
 use Rattle.source_lowering.specs.Simulation.{contents_in}
@@ -27,7 +27,7 @@ use Rattle.source_lowering.proofs.memory.Keeping.{made_later, later_on, later_le
 use Rattle.source_lowering.proofs.Runs.{put_all}
 use Rattle.source_lowering.proofs.values.Integers.{value_taken}
 use Rattle.source_lowering.proofs.values.AnyValues.{value_given}
-use Rattle.source_lowering.proofs.memory.CellParts.{with_values, all_other, none_written, all_hold, later_put}
+use Rattle.source_lowering.proofs.memory.CellParts.{FitFirst, fit_first, with_values, all_other, none_written, all_hold, later_put}
 use Rattle.source_lowering.proofs.memory.Loading.{stores_does}
 use Rattle.source_lowering.proofs.values.Values.{kept_temp, temp_fits, put_three, over}
 use Rattle.source_lowering.proofs.expressions.Variables.{Agrees}
@@ -35,7 +35,8 @@ use Rattle.source_lowering.proofs.values.Conversions.{converted_gives}
 use Rattle.source_lowering.proofs.memory.Clearing.{laid_there}
 use Rattle.source_lowering.proofs.memory.Copying.{AllShown, copied_later, copied_nowhere, whole_copied}
 use Rattle.source_lowering.proofs.memory.StructCells.{object_cells}
-use Rattle.source_lowering.proofs.memory.Members.{first_part_of, first_reached}
+use Rattle.source_lowering.proofs.memory.ObjectShapes.{whole_object}
+use Rattle.source_lowering.proofs.memory.Members.{cells_pieces, first_part_of, first_reached}
 use Rattle.source_lowering.proofs.memory.SameShapes.{shapes_same}
 use Rattle.source_lowering.proofs.memory.Initialising.{converted_whole}
 use Rattle.source_lowering.proofs.memory.ValueCells.{IsCell, cell_of, shaped_have}
@@ -67,7 +68,7 @@ pub record MemberGoes (p : Point) (n d value cells byte : ℕ) (shape : Shape) (
 
 -- ---- a value
 
-spots_apart : (s : Spot) (own value cells : ℕ) → core.same_spot (at s) (member_spot own value cells) ≡ false
+pub spots_apart : (s : Spot) (own value cells : ℕ) → core.same_spot (at s) (member_spot own value cells) ≡ false
 spots_apart s own value cells = by s.region
   where
     by : (r : source.Region) → core.same_spot (at (record { region = r; object = s.object; cell = s.cell })) (member_spot own value cells) ≡ false
@@ -136,14 +137,14 @@ value_member p n d value cells byte shape e from first is_value one = record {
         (subst (λ z. AllShown p.world m1 c2.memory spot (shape ∷ []) z) (sym v.alone) (
           record {
             contents = xs;
-            fit = fit;
+            fit = subst (λ z. FitFirst z xs) (sym (cells_pieces p.world.unions shape is_value)) (fit_first qs xs fit);
             held = all_hold c1.memory spot (0 + byte) 0 qs xs fit;
             shown = shown_later nothing p.world m1 m1 c1.memory c2.memory shape v.value xs still v.shown;
           },
           tt,
         ))))
 
--- ---- a struct
+-- ---- a struct or a union
 
 member_copied : (c : Config) (d own value cells byte other : ℕ) (l : Layout) (next : Config → core_steps.Step)
     → c.temps d ≡ Pointer (own_spot own value 0) 0 → reaches c.memory (member_spot own value cells) (0 + byte) ≡ true
@@ -167,40 +168,40 @@ cells_before_copied : (own value i cells count : ℕ) → i < cells → cells_on
 cells_before_copied own value i cells count less =
     let no : nat_le (0 + cells) (0 + i) ≡ false = grind (arith, nat_tests, less) in rw (eq-eqb own own refl, eq-eqb value value refl, no) refl
 
-pub struct_member : (p : Point) (n d value cells byte other : ℕ) (tag : List ℕ) (e : Sense) (code : List Statement) → AreStructs p.world.unions p.world.structs
-    → IsObject p.world.structs (StructShape tag) → value < other → IsWhole p n (d + 1) other e code
-    → MemberGoes p n d value cells byte (StructShape tag) (e.value >>= converted p.world (StructShape tag) e.shape)
-    (code ++ struct_member_code p.world (StructShape tag) d cells byte)
-struct_member p n d value cells byte other tag e code structs object after one = record {
+pub whole_member : (p : Point) (n d value cells byte other : ℕ) (shape : Shape) (e : Sense) (code : List Statement) → AreStructs p.world.unions p.world.structs
+    → IsWholeShape p.world.unions p.world.structs shape → value < other → IsWhole p n (d + 1) other e code
+    → MemberGoes p n d value cells byte shape (e.value >>= converted p.world shape e.shape)
+    (code ++ struct_member_code p.world shape d cells byte)
+whole_member p n d value cells byte other shape e code structs whole after one = record {
   same = λ m c s rest next fits temp made goes.
       subst (λ z. SameAt p n (e.value (λ vs. converted p.world shape e.shape vs s) m) (meaning.statements z next c)) (sym (put_all code copies rest))
       (one.same m c (λ vs. converted p.world shape e.shape vs s) (put copies rest) next fits (record {
         above = over goes.above (omega arith);
         go = λ m1 c1 vs fits1 later1 kept1 temp1 shown1.
-            converted_whole p n tag e.shape vs s m1 (meaning.statements (put copies rest) next c1)
+            converted_whole p n shape e.shape vs s m1 (meaning.statements (put copies rest) next c1) whole
             (λ equal.
-            let same : shape ≡ StructShape one.tag = shapes_same shape e.shape equal ∙ one.shape_is in
+            let same : shape ≡ one.shape = shapes_same shape e.shape equal ∙ one.shape_is in
             copy_same m c s rest next goes m1 c1 vs fits1
             (later_less (before_value p other) (before_value p value) m m1 c.memory c1.memory (before_less p value other (omega (arith, after))) later1)
             (λ i j less. later1.owned p.own (member_spot p.own value i) j refl (omega arith, λ f. after)) kept1 (kept1 d (omega arith) ∙ temp) temp1
             (made_later (before_value p other) m m1 c.memory c1.memory (member_spot p.own value cells) (0 + byte) layout.cells later1 made)
             (subst (λ z. AreMade c1.memory (own_spot p.own other 0) 0 (layout_of p.world z).cells) (sym same)
-            (value_made p m1 c1 other (StructShape one.tag) fits1 one.numbered))
+            (value_made p m1 c1 other one.shape one.object fits1 one.numbered))
             (subst (λ z. AllShown p.world m1 c1.memory (own_spot p.own other 0) (cells_of p.world z) vs) (sym same) shown1));
       }));
 }
   where
-    shape : Shape
-    shape = StructShape tag
+    object : IsObject p.world.unions p.world.structs shape
+    object = whole_object p.world.unions p.world.structs shape whole
 
     layout : Layout
-    layout = layout_of p.world (StructShape tag)
+    layout = layout_of p.world shape
 
     copies : List Statement
-    copies = Do (Offset (d + 2) d cells byte) ∷ Do (Copy (d + 2) (d + 1) (layout_of p.world (StructShape tag))) ∷ []
+    copies = Do (Offset (d + 2) d cells byte) ∷ Do (Copy (d + 2) (d + 1) (layout_of p.world shape)) ∷ []
 
     copy_same : (m : source.Memory) (c : Config) (s : List Scalar → source.Memory → steps.Step) (rest : Statements) (next : Next)
-        → MemberGoesOn p n d value cells m c (StructShape tag) s (meaning.statements rest next) → (m1 : source.Memory) (c1 : Config) (vs : List Scalar)
+        → MemberGoesOn p n d value cells m c shape s (meaning.statements rest next) → (m1 : source.Memory) (c1 : Config) (vs : List Scalar)
         → SameState p m1 c1 → Grown (before_value p value) m c.memory m1 c1.memory → AreBefore p value cells c c1 → AreKept (d + 1) c c1
         → c1.temps d ≡ Pointer (own_spot p.own value 0) 0 → c1.temps (d + 1) ≡ Pointer (own_spot p.own other 0) 0
         → AreMade c1.memory (member_spot p.own value cells) (0 + byte) layout.cells → AreMade c1.memory (own_spot p.own other 0) 0 layout.cells

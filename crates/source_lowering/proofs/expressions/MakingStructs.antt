@@ -58,7 +58,8 @@ pub record MembersGo (p : Point) (n d value cells total bytes : ℕ) (ps : List 
     : Type 0 where
   pub same : (m : source.Memory) (c : Config) (s : List (List Scalar) → source.Memory → steps.Step) (rest : Statements) (next : Next) → SameState p m c
       → c.temps d ≡ Pointer (own_spot p.own value 0) 0
-      → AreMade c.memory (member_spot p.own value cells) 0 (padded (extent_of p.world) total (all_placed (placed_of p.world) (extent_of p.world) bytes ps))
+      → AreMade c.memory (member_spot p.own value cells) 0 (padded p.world.unions (extent_of p.world) total
+      (all_placed (placed_of p.world) (extent_of p.world) bytes ps))
       → MembersGoOn p n d value cells m c (all_cells (cells_of p.world) ps) s (meaning.statements rest next)
       → SameAt p n (act s m) (meaning.statements (put code rest) next c)
 
@@ -82,10 +83,11 @@ more_members p n d value cells total so_far part ps act acts code codes have roo
         above = over goes.above (omega arith);
         go = λ m1 c1 vs fits1 later1 before1 kept1 shown1.
             more.same m1 c1 (λ vss. s (vs ∷ vss)) rest next fits1 (kept1 d (omega arith) ∙ temp)
-            (subst (λ z. AreMade c1.memory z 0 (padded (extent_of p.world) total (all_placed (placed_of p.world) (extent_of p.world) next_bytes ps)))
+            (subst (λ z. AreMade c1.memory z 0 (padded p.world.unions (extent_of p.world) total
+            (all_placed (placed_of p.world) (extent_of p.world) next_bytes ps)))
             (beyond_both (own_spot p.own value 0) cells count (cells + count) refl)
             (made_later (before_value p value) m m1 c.memory c1.memory (core.beyond (member_spot p.own value cells) count) 0
-            (padded (extent_of p.world) total (all_placed (placed_of p.world) (extent_of p.world) next_bytes ps)) later1 both.1)) (record {
+            (padded p.world.unions (extent_of p.world) total (all_placed (placed_of p.world) (extent_of p.world) next_bytes ps)) later1 both.1)) (record {
               above = over goes.above (omega arith);
               go = λ m2 c2 vss fits2 later2 before2 kept2 shown2.
                   goes.go m2 c2 (vs ∷ vss) fits2 (later_on (before_value p value) m m1 m2 c.memory c1.memory c2.memory later1 later2)
@@ -110,12 +112,12 @@ more_members p n d value cells total so_far part ps act acts code codes have roo
 
 -- the whole struct
 pub made_whole : (p : Point) (n d value : ℕ) (tag : List ℕ) (es : List Sense) (codes : List Statement) → AreStructs p.world.unions p.world.structs
-    → IsObject p.world.structs (StructShape tag) → slice_get p.owned value ≡ Some (StructShape tag)
+    → IsObject p.world.unions p.world.structs (StructShape tag) → slice_get p.owned value ≡ Some (StructShape tag)
     → MembersGo p n d value 0 (extent_of p.world (StructShape tag)).size 0 (parts_of p.world.structs tag)
     (converted_all p.world (part_shapes (parts_of p.world.structs tag)) es) codes
     → IsWhole p n d value (struct_made p.world tag es) (Do (OwnAddress d value) ∷ codes)
 made_whole p n d value tag es codes structs object numbered members = record {
-  tag = tag;
+  shape = StructShape tag;
   shape_is = refl;
   object = object;
   numbered = numbered;
@@ -125,10 +127,11 @@ made_whole p n d value tag es codes structs object numbered members = record {
       subst (λ z. SameAt p n (converted_all p.world (part_shapes parts) es (λ vss. s (flat vss)) m)
       (meaning.statements (put codes rest) next (with_temp d (Pointer (own_spot z value 0) 0) c))) (sym fits.own)
       (members.same m c1 (λ vss. s (flat vss)) rest next fits1 (put_temp d (Pointer (own_spot p.own value 0) 0) c)
-      (subst (λ z. AreMade c.memory z 0 (padded (extent_of p.world) (extent_of p.world (StructShape tag)).size
+      (subst (λ z. AreMade c.memory z 0 (padded p.world.unions (extent_of p.world) (extent_of p.world (StructShape tag)).size
       (all_placed (placed_of p.world) (extent_of p.world) 0 parts))) (beyond_none (own_spot p.own value 0))
-      (subst (λ z. AreMade c.memory (own_spot p.own value 0) 0 (padded (extent_of p.world) (extent_of p.world (StructShape tag)).size z)) made.placed
-      (value_made p m c value (StructShape tag) fits numbered))) (record {
+      (subst (λ z. AreMade c.memory (own_spot p.own value 0) 0
+      (padded p.world.unions (extent_of p.world) (extent_of p.world (StructShape tag)).size z)) made.placed
+      (value_made p m c value (StructShape tag) object fits numbered))) (record {
         above = over goes.above (omega arith);
         go = λ m2 c2 vss fits2 later2 before2 kept2 shown2.
             goes.go m2 c2 (flat vss) fits2 later2

@@ -12,26 +12,26 @@ use Rattle.source_meaning.specs.Shapes.{IntShape}
 use Rattle.core_meaning.specs.Memory as core
 use Rattle.core_meaning.specs.Memory.{Content, Word}
 use Rattle.source_lowering.specs.Lowered.{Home, InBlock, InTemporary, Named, number_named, local_named, number_of}
-use Rattle.source_lowering.specs.Lowerable.{IsVariable, AreStructs, TakesBody}
+use Rattle.source_lowering.specs.Lowerable.{IsVariable, AreUnions, AreStructs, TakesBody}
 use Rattle.source_lowering.specs.Simulation.{VariableLeads, IsLed, AreLed, StandsFor, IsLocal, AreLocals, HoldsNumber, IsHeld, AreHeld}
 use Rattle.source_lowering.proofs.values.Integers.{IsTaken, IsValueShape}
 use Rattle.source_lowering.proofs.expressions.Making.{local_spot}
 
 -- ---- what is known of the program's names
 
-abbrev pub AreObjectNames : List Layout → List Named → Type 0
-AreObjectNames structs [] = Unit {0}
-AreObjectNames structs (l ∷ ls) = IsVariable structs l.shape × AreObjectNames structs ls
+abbrev pub AreObjectNames : (unions structs : List Layout) → List Named → Type 0
+AreObjectNames unions structs [] = Unit {0}
+AreObjectNames unions structs (l ∷ ls) = IsVariable unions structs l.shape × AreObjectNames unions structs ls
 
-pub record IsGlobal (structs : List Layout) (b : Binding) : Type 0 where
+pub record IsGlobal (unions structs : List Layout) (b : Binding) : Type 0 where
   pub shape : Shape
   pub number : ℕ
   pub is : b.entity ≡ Variable shape (heap_spot number)
-  pub is_variable : IsVariable structs shape
+  pub is_variable : IsVariable unions structs shape
 
-abbrev pub AreGlobals : List Layout → List Binding → Type 0
-AreGlobals structs [] = Unit {0}
-AreGlobals structs (b ∷ bs) = IsGlobal structs b × AreGlobals structs bs
+abbrev pub AreGlobals : (unions structs : List Layout) → List Binding → Type 0
+AreGlobals unions structs [] = Unit {0}
+AreGlobals unions structs (b ∷ bs) = IsGlobal unions structs b × AreGlobals unions structs bs
 
 abbrev pub AreParameters : List Part → Type 0
 AreParameters [] = Unit {0}
@@ -47,16 +47,17 @@ abbrev pub AreRoutines : World → List Routine → Type 0
 AreRoutines w [] = Unit {0}
 AreRoutines w (f ∷ fs) = IsRoutine w f × AreRoutines w fs
 
--- a program of words and structs alone
+-- a program of words, unions and structs alone
 pub record IsPlainWorld (w : World) : Type 0 where
+  pub unions : AreUnions w.unions
   pub structs : AreStructs w.unions w.structs
-  pub globals : AreGlobals w.structs w.globals
+  pub globals : AreGlobals w.unions w.structs w.globals
   pub functions : AreRoutines w w.functions
 
 -- ---- locals
 
 -- a variable of a block
-pub record FoundLocal (structs : List Layout) (blocks : List ℕ) (bs : List Binding) (ls : List Named) (name : List ℕ) : Type 0 where
+pub record FoundLocal (unions structs : List Layout) (blocks : List ℕ) (bs : List Binding) (ls : List Named) (name : List ℕ) : Type 0 where
   pub key : List ℕ
   pub shape : Shape
   pub out : ℕ
@@ -65,7 +66,7 @@ pub record FoundLocal (structs : List Layout) (blocks : List ℕ) (bs : List Bin
   pub found : local_named ls name ≡ Some (record { name = key; shape = shape; home = InBlock out index })
   pub bound : bound_to bs name ≡ Some (Variable shape (local_spot frame index))
   pub in_block : slice_get blocks out ≡ Some frame
-  pub is_variable : IsVariable structs shape
+  pub is_variable : IsVariable unions structs shape
   pub led : (v : World) (m : source.Memory) (c : core.Memory) → AreLed v m c bs → VariableLeads v m c shape (local_spot frame index)
 
 -- the number of an element that is being made
@@ -82,27 +83,28 @@ pub record MissingLocal (bs : List Binding) (ls : List Named) (name : List ℕ) 
   pub found : local_named ls name ≡ None
   pub bound : bound_to bs name ≡ None
 
-abbrev pub Found : (structs : List Layout) (blocks : List ℕ) (bs : List Binding) (ls : List Named) (name : List ℕ) → Type 0
-Found structs blocks bs ls name = FoundLocal structs blocks bs ls name ⊎ (FoundNumber bs ls name ⊎ MissingLocal bs ls name)
+abbrev pub Found : (unions structs : List Layout) (blocks : List ℕ) (bs : List Binding) (ls : List Named) (name : List ℕ) → Type 0
+Found unions structs blocks bs ls name = FoundLocal unions structs blocks bs ls name ⊎ (FoundNumber bs ls name ⊎ MissingLocal bs ls name)
 
 same_word : (e : Entity) (i j : ℕ) → e ≡ Fixed UnsignedShape (Integer AsUnsigned i) → e ≡ Fixed UnsignedShape (Integer AsUnsigned j) → i ≡ j
 same_word e i j f g = let one : Fixed UnsignedShape (Integer AsUnsigned i) ≡ Fixed UnsignedShape (Integer AsUnsigned j) = sym f ∙ g in cc one
 
-pub find_local : (structs : List Layout) (blocks : List ℕ) (bs : List Binding) (ls : List Named) (name : List ℕ) → AreLocals blocks bs ls
-    → AreObjectNames structs ls → Found structs blocks bs ls name
-find_local structs blocks [] [] name all integers = inr (inr (record { found = refl; bound = refl }))
-find_local structs blocks [] (l ∷ ls) name all integers = absurd all
-find_local structs blocks (b ∷ bs) [] name all integers = absurd all
-find_local structs blocks (b ∷ bs) (l ∷ ls) name all integers = by (bytes_eq l.name name) refl (find_local structs blocks bs ls name all.1 integers.1)
+pub find_local : (unions structs : List Layout) (blocks : List ℕ) (bs : List Binding) (ls : List Named) (name : List ℕ) → AreLocals blocks bs ls
+    → AreObjectNames unions structs ls → Found unions structs blocks bs ls name
+find_local unions structs blocks [] [] name all integers = inr (inr (record { found = refl; bound = refl }))
+find_local unions structs blocks [] (l ∷ ls) name all integers = absurd all
+find_local unions structs blocks (b ∷ bs) [] name all integers = absurd all
+find_local unions structs blocks (b ∷ bs) (l ∷ ls) name all integers =
+    by (bytes_eq l.name name) refl (find_local unions structs blocks bs ls name all.1 integers.1)
   where
     one : IsLocal blocks b l
     one = all.0
 
-    other : bytes_eq l.name name ≡ false → Found structs blocks bs ls name → Found structs blocks (b ∷ bs) (l ∷ ls) name
+    other : bytes_eq l.name name ≡ false → Found unions structs blocks bs ls name → Found unions structs blocks (b ∷ bs) (l ∷ ls) name
     other e rest =
         let same : bytes_eq b.name name ≡ false = ap (λ z. bytes_eq z name) one.named ∙ e in
         ⊎_elim
-        (λ (f : FoundLocal structs blocks bs ls name). inl (record {
+        (λ (f : FoundLocal unions structs blocks bs ls name). inl (record {
           key = f.key;
           shape = f.shape;
           out = f.out;
@@ -131,7 +133,7 @@ find_local structs blocks (b ∷ bs) (l ∷ ls) name all integers = by (bytes_eq
         g))
         rest
 
-    here : bytes_eq l.name name ≡ true → (h : Home) → l.home ≡ h → StandsFor blocks b.entity l.shape h → Found structs blocks (b ∷ bs) (l ∷ ls) name
+    here : bytes_eq l.name name ≡ true → (h : Home) → l.home ≡ h → StandsFor blocks b.entity l.shape h → Found unions structs blocks (b ∷ bs) (l ∷ ls) name
     here e (InBlock out index) is stands = inl (record {
       key = l.name;
       shape = l.shape;
@@ -158,28 +160,29 @@ find_local structs blocks (b ∷ bs) (l ∷ ls) name all integers = by (bytes_eq
           g.holds ∙ ap (λ z. Word z) (same_word b.entity g.word stands.word g.is stands.is);
     }))
 
-    by : (t : Bool) → bytes_eq l.name name ≡ t → Found structs blocks bs ls name → Found structs blocks (b ∷ bs) (l ∷ ls) name
+    by : (t : Bool) → bytes_eq l.name name ≡ t → Found unions structs blocks bs ls name → Found unions structs blocks (b ∷ bs) (l ∷ ls) name
     by true e rest = here e l.home refl one.stands
     by false e rest = other e rest
 
 -- ---- globals
 
-pub record FoundGlobal (structs : List Layout) (bs : List Binding) (name : List ℕ) : Type 0 where
+pub record FoundGlobal (unions structs : List Layout) (bs : List Binding) (name : List ℕ) : Type 0 where
   pub shape : Shape
   pub number : ℕ
   pub bound : bound_to bs name ≡ Some (Variable shape (heap_spot number))
-  pub is_variable : IsVariable structs shape
+  pub is_variable : IsVariable unions structs shape
   pub led : (v : World) (m : source.Memory) (c : core.Memory) → AreLed v m c bs → VariableLeads v m c shape (heap_spot number)
 
-pub find_global : (structs : List Layout) (bs : List Binding) (name : List ℕ) → AreGlobals structs bs → FoundGlobal structs bs name ⊎ (bound_to bs name ≡ None)
-find_global structs [] name all = inr refl
-find_global structs (b ∷ bs) name all = by (bytes_eq b.name name) refl (find_global structs bs name all.1)
+pub find_global : (unions structs : List Layout) (bs : List Binding) (name : List ℕ) → AreGlobals unions structs bs
+    → FoundGlobal unions structs bs name ⊎ (bound_to bs name ≡ None)
+find_global unions structs [] name all = inr refl
+find_global unions structs (b ∷ bs) name all = by (bytes_eq b.name name) refl (find_global unions structs bs name all.1)
   where
-    other : bytes_eq b.name name ≡ false → FoundGlobal structs bs name ⊎ (bound_to bs name ≡ None)
-        → FoundGlobal structs (b ∷ bs) name ⊎ (bound_to (b ∷ bs) name ≡ None)
+    other : bytes_eq b.name name ≡ false → FoundGlobal unions structs bs name ⊎ (bound_to bs name ≡ None)
+        → FoundGlobal unions structs (b ∷ bs) name ⊎ (bound_to (b ∷ bs) name ≡ None)
     other e rest =
         ⊎_elim
-        (λ (f : FoundGlobal structs bs name). inl (record {
+        (λ (f : FoundGlobal unions structs bs name). inl (record {
           shape = f.shape;
           number = f.number;
           bound = ap (λ z. if z then Some b.entity else bound_to bs name) e ∙ f.bound;
@@ -189,8 +192,8 @@ find_global structs (b ∷ bs) name all = by (bytes_eq b.name name) refl (find_g
         (λ (f : bound_to bs name ≡ None). inr (ap (λ z. if z then Some b.entity else bound_to bs name) e ∙ f))
         rest
 
-    by : (t : Bool) → bytes_eq b.name name ≡ t → FoundGlobal structs bs name ⊎ (bound_to bs name ≡ None)
-        → FoundGlobal structs (b ∷ bs) name ⊎ (bound_to (b ∷ bs) name ≡ None)
+    by : (t : Bool) → bytes_eq b.name name ≡ t → FoundGlobal unions structs bs name ⊎ (bound_to bs name ≡ None)
+        → FoundGlobal unions structs (b ∷ bs) name ⊎ (bound_to (b ∷ bs) name ≡ None)
     by true e rest = inl (record {
       shape = all.0.shape;
       number = all.0.number;

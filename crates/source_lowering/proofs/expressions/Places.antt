@@ -26,7 +26,7 @@ use Rattle.source_meaning.specs.Memory.{Scalar, Thin, Spot}
 use Rattle.source_meaning.specs.Steps as steps
 use Rattle.source_meaning.specs.Steps.{Variable, give, ◌>>=◌}
 use Rattle.source_meaning.specs.Conversions.{cells_of, one, accessed}
-use Rattle.source_meaning.specs.Values.{take_cells}
+use Rattle.source_meaning.specs.Values.{read_cells, take_cells}
 use Rattle.source_meaning.specs.Places.{Sense, value_sense, entity_sense, bound_to, or_else}
 use Rattle.source_meaning.specs.Programs.{heap_spot}
 use Rattle.core_meaning.specs.Memory as core
@@ -38,7 +38,7 @@ use Rattle.core_meaning.specs.Meaning as meaning
 use Rattle.core_meaning.specs.Operations.{does}
 use Rattle.source_lowering.specs.Lowered.{local_named, shape_by, put, address_by, check_code, reach_code}
 use Rattle.source_lowering.specs.Members.{valued}
-use Rattle.source_lowering.specs.Lowerable.{IsVariable, IsStructShape, AreStructs}
+use Rattle.source_lowering.specs.Lowerable.{IsVariable, IsWholeShape, AreStructs}
 use Rattle.source_lowering.specs.Simulation.{at, IsTakenObject, Leads, VariableLeads, AreLed, Point, SameState, SameAt, Next, AreKept, GrownAt, GivesAs, AreLocals}
 use Rattle.source_lowering.specs.Simulation.{within}
 use Rattle.source_lowering.proofs.memory.Keeping.{later_self}
@@ -71,9 +71,11 @@ pub record IsPlaced (p : Point) (n d : ℕ) (e : Sense) (shape : Shape) (code : 
   pub shape_is : e.shape ≡ shape
   pub target : IsTarget shape
   pub placed : PlacedAs p n d shape e.place code
-  -- a struct's value is read there
-  pub value : IsStructShape p.world.structs shape → (s : List Scalar → source.Memory → steps.Step) (m : source.Memory)
+  -- the value of a struct or a union is read there, and looked at
+  pub value : IsWholeShape p.world.unions p.world.structs shape → (s : List Scalar → source.Memory → steps.Step) (m : source.Memory)
       → e.value s m ≡ e.place (λ t. take_cells (cells_of p.world e.shape) t s) m
+  pub look : IsWholeShape p.world.unions p.world.structs shape → (s : List Scalar → source.Memory → steps.Step) (m : source.Memory)
+      → e.look s m ≡ e.place (λ t. read_cells (length (cells_of p.world e.shape)) t s) m
 
 -- ---- variables
 
@@ -121,46 +123,52 @@ GlobalVariable p shape number =
     (m : source.Memory) (c : core.Memory) → AreLed p.world m c p.world.globals → VariableLeads p.world m c shape (heap_spot number)
 
 -- the name of an array is a value, and no place
-local_variable : (p : Point) (n d out index frame : ℕ) (shape : Shape) → AreStructs p.world.unions p.world.structs → IsVariable p.world.structs shape
+local_variable : (p : Point) (n d out index frame : ℕ) (shape : Shape) → AreStructs p.world.unions p.world.structs
+    → IsVariable p.world.unions p.world.structs shape
     → slice_get (p.frame ∷ p.outer) out ≡ Some frame → LocalVariable p shape frame index
     → IsPlaced p n d (entity_sense p.world (Some (Variable shape (local_spot frame index)))) (valued shape) (Do (LocalAddress d out index) ∷ [])
 local_variable p n d out index frame (ArrayShape count of) structs h block led = record {
   shape_is = refl;
-  target = object_target p.world.structs of h.1;
+  target = object_target p.world.unions p.world.structs of h.1;
   placed = stuck_placed p n d (FatShape of) (Do (LocalAddress d out index) ∷ []);
   value = λ whole s m. absurd whole;
+  look = λ whole s m. absurd whole;
 }
 local_variable p n d out index frame shape structs h block led = record {
   shape_is = refl;
-  target = object_target p.world.structs shape h;
+  target = object_target p.world.unions p.world.structs shape h;
   placed = local_placed p n d out index frame shape (lies_here p.world shape structs h) block led;
   value = λ whole s m. refl;
+  look = λ whole s m. refl;
 }
 
-global_variable : (p : Point) (n d number : ℕ) (shape : Shape) → AreStructs p.world.unions p.world.structs → IsVariable p.world.structs shape
+global_variable : (p : Point) (n d number : ℕ) (shape : Shape) → AreStructs p.world.unions p.world.structs → IsVariable p.world.unions p.world.structs shape
     → GlobalVariable p shape number
     → IsPlaced p n d (entity_sense p.world (Some (Variable shape (heap_spot number)))) (valued shape) (Do (DataAddress d number) ∷ [])
 global_variable p n d number (ArrayShape count of) structs h led = record {
   shape_is = refl;
-  target = object_target p.world.structs of h.1;
+  target = object_target p.world.unions p.world.structs of h.1;
   placed = stuck_placed p n d (FatShape of) (Do (DataAddress d number) ∷ []);
   value = λ whole s m. absurd whole;
+  look = λ whole s m. absurd whole;
 }
 global_variable p n d number shape structs h led = record {
   shape_is = refl;
-  target = object_target p.world.structs shape h;
+  target = object_target p.world.unions p.world.structs shape h;
   placed = global_placed p n d number shape (lies_here p.world shape structs h) led;
   value = λ whole s m. refl;
+  look = λ whole s m. refl;
 }
 
-pub variable_placed : (p : Point) (n d : ℕ) (name : List ℕ) → AreLocals (p.frame ∷ p.outer) p.locals p.names → AreObjectNames p.world.structs p.names
-    → AreGlobals p.world.structs p.world.globals → AreStructs p.world.unions p.world.structs
+pub variable_placed : (p : Point) (n d : ℕ) (name : List ℕ) → AreLocals (p.frame ∷ p.outer) p.locals p.names
+    → AreObjectNames p.world.unions p.world.structs p.names
+    → AreGlobals p.world.unions p.world.structs p.world.globals → AreStructs p.world.unions p.world.structs
     → IsPlaced p n d (entity_sense p.world (or_else (bound_to p.locals name) (bound_to p.world.globals name))) (valued (shape_by (local_named p.names name)
     (bound_to p.world.globals name))) (address_by (local_named p.names name) (bound_to p.world.globals name) d)
 variable_placed p n d name locals words globals structs =
-    ⊎_elim here (λ g. ⊎_elim number missing g) (find_local p.world.structs (p.frame ∷ p.outer) p.locals p.names name locals words)
+    ⊎_elim here (λ g. ⊎_elim number missing g) (find_local p.world.unions p.world.structs (p.frame ∷ p.outer) p.locals p.names name locals words)
   where
-    here : FoundLocal p.world.structs (p.frame ∷ p.outer) p.locals p.names name → IsPlaced p n d (entity_sense p.world
+    here : FoundLocal p.world.unions p.world.structs (p.frame ∷ p.outer) p.locals p.names name → IsPlaced p n d (entity_sense p.world
         (or_else (bound_to p.locals name) (bound_to p.world.globals name))) (valued (shape_by (local_named p.names name) (bound_to p.world.globals name)))
         (address_by (local_named p.names name) (bound_to p.world.globals name) d)
     here f = rw (f.bound, f.found)
@@ -169,18 +177,30 @@ variable_placed p n d name locals words globals structs =
     number : FoundNumber p.locals p.names name → IsPlaced p n d (entity_sense p.world
         (or_else (bound_to p.locals name) (bound_to p.world.globals name))) (valued (shape_by (local_named p.names name) (bound_to p.world.globals name)))
         (address_by (local_named p.names name) (bound_to p.world.globals name) d)
-    number f = rw (f.bound, f.found) (record { shape_is = refl; target = tt; placed = stuck_placed p n d UnsignedShape []; value = λ whole s m. absurd whole })
+    number f = rw (f.bound, f.found) (record {
+      shape_is = refl;
+      target = tt;
+      placed = stuck_placed p n d UnsignedShape [];
+      value = λ whole s m. absurd whole;
+      look = λ whole s m. absurd whole;
+    })
 
     missing : MissingLocal p.locals p.names name → IsPlaced p n d (entity_sense p.world
         (or_else (bound_to p.locals name) (bound_to p.world.globals name))) (valued (shape_by (local_named p.names name) (bound_to p.world.globals name)))
         (address_by (local_named p.names name) (bound_to p.world.globals name) d)
     missing f = rw (f.bound, f.found)
         (⊎_elim
-        (λ (g : FoundGlobal p.world.structs p.world.globals name).
+        (λ (g : FoundGlobal p.world.unions p.world.structs p.world.globals name).
         rw g.bound (global_variable p n d g.number g.shape structs g.is_variable (g.led p.world)))
         (λ (g : bound_to p.world.globals name ≡ None).
-        rw g (record { shape_is = refl; target = tt; placed = stuck_placed p n d VoidShape []; value = λ whole s m. refl }))
-        (find_global p.world.structs p.world.globals name globals))
+        rw g (record {
+          shape_is = refl;
+          target = tt;
+          placed = stuck_placed p n d VoidShape [];
+          value = λ whole s m. absurd whole;
+          look = λ whole s m. absurd whole;
+        }))
+        (find_global p.world.unions p.world.structs p.world.globals name globals))
 
 -- ---- `*e`
 

@@ -106,7 +106,8 @@ reached_placed p n d cells bytes shape act code reached = record {
 
 -- a member lies further on
 pub member_reached : (p : Point) (n d cells bytes : ℕ) (shape : Shape) (f : List ℕ) (act : steps.Act Spot) (code : List Statement)
-    → AreStructs p.world.unions p.world.structs → IsObject p.world.structs (member_shape p.world shape f) → ReachedAs p n d cells bytes shape act code
+    → AreStructs p.world.unions p.world.structs → IsObject p.world.unions p.world.structs (member_shape p.world shape f)
+    → ReachedAs p n d cells bytes shape act code
     → ReachedAs p n d (cells + cells_before (cells_of p.world) (struct_parts p.world shape) f)
     (bytes + bytes_before (extent_of p.world) 0 (struct_parts p.world shape) f) (member_shape p.world shape f)
     (act >>= λ s. give (source.beyond s (cells_before (cells_of p.world) (struct_parts p.world shape) f))) code

@@ -29,7 +29,7 @@ use Rattle.core_meaning.specs.Steps as core_steps
 use Rattle.core_meaning.specs.Steps.{Config, with_temp}
 use Rattle.core_meaning.specs.Meaning as meaning
 use Rattle.source_lowering.specs.Lowered.{new_code_by, put, values_by}
-use Rattle.source_lowering.specs.Lowerable.{AreStructs, IsObject, TakesMember}
+use Rattle.source_lowering.specs.Lowerable.{AreStructs, AreUnions, IsObject, TakesMember}
 use Rattle.source_lowering.specs.Simulation.{AreKept, SameState, GivesAs, GrownAt, Next, Point, SameAt, within}
 use Rattle.source_lowering.proofs.memory.Keeping.{later_self}
 use Rattle.source_lowering.proofs.Runs.{stuck_same, put_all}
@@ -39,7 +39,7 @@ use Rattle.source_lowering.proofs.values.Values.{put_temp, kept_temp, temp_fits,
 use Rattle.source_lowering.proofs.expressions.Variables.{Agrees}
 use Rattle.source_lowering.proofs.expressions.Numbered.{AreNumbered}
 use Rattle.source_lowering.proofs.expressions.WholeForms.{IsWholeAs}
-use Rattle.source_lowering.proofs.expressions.StoredRequests.{MakesAs, made_act, struct_makes, value_makes}
+use Rattle.source_lowering.proofs.expressions.StoredRequests.{MakesAs, made_act, whole_makes, value_makes}
 
 -- the handle of a region is in a temporary
 pub record MakerGoesOn (p : Point) (n d : ℕ) (m0 : source.Memory) (c0 : Config) (s : Maker → source.Memory → steps.Step)
@@ -98,20 +98,21 @@ handle_gives p n d e shape code agrees = record {
 
 -- the handle comes first; a struct is evaluated to an unnamed value, and a word to a temporary
 pub made_agrees : (p : Point) (n d own : ℕ) (to : steps.Act Maker) (e : Sense) (shape : Shape) (whole_values word_values : List Shape)
-    (code whole word : List Statement) (takes_whole takes : Type 0) → AreStructs p.world.unions p.world.structs → IsObject p.world.structs shape → p.kept ≤ own
+    (code whole word : List Statement) (takes_whole takes : Type 0) → AreUnions p.world.unions → AreStructs p.world.unions p.world.structs
+    → IsObject p.world.unions p.world.structs shape → p.kept ≤ own
     → TakesMember shape takes_whole takes → AreNumbered p.owned own (values_by shape whole_values word_values) → GivesMaker p n d to code
     → (takes_whole → AreNumbered p.owned own whole_values → IsWholeAs p n (d + 1) own e shape whole)
     → (takes → AreNumbered p.owned own word_values → Agrees p n (d + 1) e shape word)
     → Agrees p n d (made p.world to Shared e) (ThinShape false Shared shape) (code ++ new_code_by p.world shape d whole word)
-made_agrees p n d own to e shape whole_values word_values code whole word takes_whole takes structs object less h numbered handle structs_as words_as =
+made_agrees p n d own to e shape whole_values word_values code whole word takes_whole takes unions structs object less h numbered handle structs_as words_as =
     by shape object h numbered structs_as words_as
   where
     -- the handle, and then what is made there
-    after : (z : Shape) → IsObject p.world.structs z → e.shape ≡ z → MakesAs p n d z (made_act p.world e) (new_code_by p.world z d whole word)
+    after : (z : Shape) → IsObject p.world.unions p.world.structs z → e.shape ≡ z → MakesAs p n d z (made_act p.world e) (new_code_by p.world z d whole word)
         → Agrees p n d (made p.world to Shared e) (ThinShape false Shared z) (code ++ new_code_by p.world z d whole word)
     after z o shape_is makes = record {
       shape_is = ap (λ x. ThinShape false Shared x) shape_is;
-      taken = (refl, object_target p.world.structs z o);
+      taken = (refl, object_target p.world.unions p.world.structs z o);
       looks = gives;
       values = gives;
     }
@@ -130,24 +131,26 @@ made_agrees p n d own to e shape whole_values word_values code whole word takes_
     goal : Shape → Type 0
     goal z = Agrees p n d (made p.world to Shared e) (ThinShape false Shared z) (code ++ new_code_by p.world z d whole word)
 
-    by : (z : Shape) → IsObject p.world.structs z → TakesMember z takes_whole takes → AreNumbered p.owned own (values_by z whole_values word_values)
+    by : (z : Shape) → IsObject p.world.unions p.world.structs z → TakesMember z takes_whole takes
+        → AreNumbered p.owned own (values_by z whole_values word_values)
         → (takes_whole → AreNumbered p.owned own whole_values → IsWholeAs p n (d + 1) own e z whole)
         → (takes → AreNumbered p.owned own word_values → Agrees p n (d + 1) e z word) → goal z
     by (StructShape tag) o t nums as_struct as_word =
-        let one = as_struct t nums in after (StructShape tag) o one.shape_is (struct_makes p n d own tag e whole structs o less one)
+        let one = as_struct t nums in after (StructShape tag) o one.shape_is (whole_makes p n d own (StructShape tag) e whole unions structs o less one)
     by IntShape o t nums as_struct as_word =
-        let one = as_word t nums in after IntShape o one.shape_is (value_makes p n d IntShape e word structs tt one)
+        let one = as_word t nums in after IntShape o one.shape_is (value_makes p n d IntShape e word unions structs tt one)
     by UnsignedShape o t nums as_struct as_word =
-        let one = as_word t nums in after UnsignedShape o one.shape_is (value_makes p n d UnsignedShape e word structs tt one)
+        let one = as_word t nums in after UnsignedShape o one.shape_is (value_makes p n d UnsignedShape e word unions structs tt one)
     by CharShape o t nums as_struct as_word =
-        let one = as_word t nums in after CharShape o one.shape_is (value_makes p n d CharShape e word structs tt one)
+        let one = as_word t nums in after CharShape o one.shape_is (value_makes p n d CharShape e word unions structs tt one)
     by (ThinShape b owner q) o t nums as_struct as_word =
-        let one = as_word t nums in after (ThinShape b owner q) o one.shape_is (value_makes p n d (ThinShape b owner q) e word structs o one)
+        let one = as_word t nums in after (ThinShape b owner q) o one.shape_is (value_makes p n d (ThinShape b owner q) e word unions structs o one)
     by HandleShape o t nums as_struct as_word =
-        let one = as_word t nums in after HandleShape o one.shape_is (value_makes p n d HandleShape e word structs tt one)
+        let one = as_word t nums in after HandleShape o one.shape_is (value_makes p n d HandleShape e word unions structs tt one)
     by VoidShape o t nums as_struct as_word = absurd o
     by (FatShape q) o t nums as_struct as_word =
-        let one = as_word t nums in after (FatShape q) o one.shape_is (value_makes p n d (FatShape q) e word structs o one)
+        let one = as_word t nums in after (FatShape q) o one.shape_is (value_makes p n d (FatShape q) e word unions structs o one)
     by KeyShape o t nums as_struct as_word = absurd o
-    by (UnionShape tag) o t nums as_struct as_word = absurd o
+    by (UnionShape tag) o t nums as_struct as_word =
+        let one = as_struct t nums in after (UnionShape tag) o one.shape_is (whole_makes p n d own (UnionShape tag) e whole unions structs o less one)
     by (ArrayShape count of) o t nums as_struct as_word = absurd o

@@ -1,7 +1,7 @@
--- A value that was evaluated is stored to a block that is asked for: a value of one cell to that, and a struct by a copy of its unnamed value.
+-- A value that was evaluated is stored to a block that is asked for: a value of one cell to that, and a struct or a union by a copy of its unnamed value.
 use Rattle.std.proofs.Common.{◌≡◌, ℕ, ◌+◌, ◌<◌, ◌≤◌, inl, inr, List, [], ◌∷◌, ◌++◌, Bool, true, false, nat_eq, Some, refl, sym, ap, ◌∙◌, subst, arith}
 use Rattle.std.specs.Prelude.{◌&&◌, if◌then◌else◌, slice_get}
-use Rattle.source_meaning.specs.Shapes.{Shape, Shared, StructShape, ThinShape}
+use Rattle.source_meaning.specs.Shapes.{Shape, Shared, ThinShape}
 use Rattle.source_meaning.specs.Memory as source
 use Rattle.source_meaning.specs.Memory.{Holds, Scalar, Spot, Thin, blank_object, is_live, next_spot}
 use Rattle.source_meaning.specs.Steps as steps
@@ -21,7 +21,7 @@ use Rattle.core_meaning.proofs.Wholes.{beyond_none}
 use Rattle.source_lowering.specs.Layouts.{layout_of, pieces_of}
 use Rattle.source_lowering.specs.Members.{words_in}
 use Rattle.source_lowering.specs.Lowered.{put, request_code, stores_code}
-use Rattle.source_lowering.specs.Lowerable.{AreStructs, IsObject, IsValueShape}
+use Rattle.source_lowering.specs.Lowerable.{AreStructs, AreUnions, IsObject, IsValueShape}
 use Rattle.source_lowering.specs.Simulation.{
   AValue,
   SameMemory,
@@ -112,7 +112,7 @@ asked_kept w m c0 c d e r shape above kept k less =
 -- the pointer is given on
 pointer_given : (p : Point) (n d : ℕ) (m0 : source.Memory) (c0 : Config) (shape : Shape) (m : source.Memory) (c : Config) (t : Spot)
     (s : List Scalar → source.Memory → steps.Step) (k : Config → core_steps.Step) → AreStructs p.world.unions p.world.structs
-    → IsObject p.world.structs shape → SameState p m c → GrownAt p m0 c0 m c → AreKept d c0 c → c.temps d ≡ Pointer (at t) 0
+    → IsObject p.world.unions p.world.structs shape → SameState p m c → GrownAt p m0 c0 m c → AreKept d c0 c → c.temps d ≡ Pointer (at t) 0
     → Leads p.world m c.memory shape t 0 → GoesOn p n d m0 c0 (ThinShape false Shared shape) s k → SameAt p n (s (Thin (Some t) ∷ []) m) (k c)
 pointer_given p n d m0 c0 shape m c t s k structs object fits later kept temp leads goes =
     goes.go m c (Thin (Some t) ∷ []) fits later kept (inl (record {
@@ -137,14 +137,15 @@ asked_contents w m c d e r shape s below = between_contents s (d + 1) c (asked w
     (λ k above less. asked_between w m c d e r k shape (omega (arith, above)) (omega (arith, less, below)))
 
 value_there_stored : (p : Point) (n d e r : ℕ) (shape : Shape) (m0 : source.Memory) (c0 : Config) (m : source.Memory) (c : Config) (vs : List Scalar)
-    (s : List Scalar → source.Memory → steps.Step) (rest : Statements) (next : Next) → AreStructs p.world.unions p.world.structs → IsValueShape shape
+    (s : List Scalar → source.Memory → steps.Step) (rest : Statements) (next : Next) → AreUnions p.world.unions → AreStructs p.world.unions p.world.structs
+    → IsValueShape shape
     → d + 1 + words_in shape ≤ e → SameState p m c → GrownAt p m0 c0 m c → AreKept d c0 c → c.temps d ≡ Birth r
     → AValue p.world m c.memory shape vs (contents_in (d + 1) shape c.temps)
     → GoesOn p n d m0 c0 (ThinShape false Shared shape) s (meaning.statements rest next)
     → SameAt p n (stored_act p.world shape (InRegion r) vs s m)
     (meaning.statements (put (request_code p.world shape d e) (put (stores_code shape d (d + 1) 0 0) rest)) next c)
-value_there_stored p n d e r shape m0 c0 m c vs s rest next structs is_value below fits later kept temp v goes =
-    request_same p.world p.program n d e r shape m c write (put (stores_code shape d (d + 1) 0 0) rest) next structs object fits.agree above temp
+value_there_stored p n d e r shape m0 c0 m c vs s rest next unions structs is_value below fits later kept temp v goes =
+    request_same p.world p.program n d e r shape m c write (put (stores_code shape d (d + 1) 0 0) rest) next unions structs object fits.agree above temp
     (subst (λ z. SameAt p n (write_cells t z (λ u. s (Thin (Some t) ∷ [])) m1) step) (sym v.alone)
     (cell_writes p.world p.program n shape m1 c1.memory t 0 v.value xs (λ u. s (Thin (Some t) ∷ [])) step
     (cell_of p.world shape is_value) fits1.agree leads1 shown1 done))
@@ -152,8 +153,8 @@ value_there_stored p n d e r shape m0 c0 m c vs s rest next structs is_value bel
     above : d < e
     above = omega (arith, below)
 
-    object : IsObject p.world.structs shape
-    object = value_object p.world.structs shape is_value
+    object : IsObject p.world.unions p.world.structs shape
+    object = value_object p.world.unions p.world.structs shape is_value
 
     t : Spot
     t = new_spot m r
@@ -204,10 +205,12 @@ value_there_stored p n d e r shape m0 c0 m c vs s rest next structs is_value bel
         (leads_later (within p) p.world m1 m2 c1.memory c2.memory shape t 0 (o.later (within p)) leads1) goes)
 
 -- a value is evaluated, and goes to the block's one cell
-pub value_makes : (p : Point) (n d : ℕ) (shape : Shape) (e : Sense) (code : List Statement) → AreStructs p.world.unions p.world.structs → IsValueShape shape
+pub value_makes : (p : Point) (n d : ℕ) (shape : Shape) (e : Sense) (code : List Statement) → AreUnions p.world.unions
+    → AreStructs p.world.unions p.world.structs
+    → IsValueShape shape
     → Agrees p n (d + 1) e shape code
     → MakesAs p n d shape (made_act p.world e) (code ++ (request_code p.world shape d (d + 1 + words_in shape) ++ stores_code shape d (d + 1) 0 0))
-value_makes p n d shape e code structs is_value one = record {
+value_makes p n d shape e code unions structs is_value one = record {
   same = λ m0 c0 m c r s rest next fits later kept temp goes.
       subst (λ z. SameAt p n (e.value (λ vs. stored_act p.world e.shape (InRegion r) vs s) m) (meaning.statements z next c))
       (sym (put_three code asks stores rest))
@@ -215,7 +218,7 @@ value_makes p n d shape e code structs is_value one = record {
         above = over goes.above (omega arith);
         go = λ m1 c1 vs fits1 later1 kept1 given1.
             subst (λ z. SameAt p n (stored_act p.world z (InRegion r) vs s m1) (meaning.statements (put asks (put stores rest)) next c1)) (sym one.shape_is)
-            (value_there_stored p n d (d + 1 + words_in shape) r shape m0 c0 m1 c1 vs s rest next structs is_value (omega arith) fits1
+            (value_there_stored p n d (d + 1 + words_in shape) r shape m0 c0 m1 c1 vs s rest next unions structs is_value (omega arith) fits1
             (later_on (within p) m0 m m1 c0.memory c.memory c1.memory later later1) (λ k h. kept1 k (omega (arith, h)) ∙ kept k h)
             (kept1 d (omega arith) ∙ temp) (value_given p.world m1 c1.memory shape vs (contents_in (d + 1) shape c1.temps) is_value given1) goes);
       }));
@@ -227,7 +230,7 @@ value_makes p n d shape e code structs is_value one = record {
     stores : List Statement
     stores = stores_code shape d (d + 1) 0 0
 
--- ---- a struct
+-- ---- a struct or a union
 
 -- nothing is stored to what is made: it holds no value yet
 held_elsewhere : (w : World) (m : source.Memory) (r : ℕ) (shape : Shape) (u : Spot) (of : Shape) (v : Scalar)
@@ -259,22 +262,20 @@ value_there : (c : Config) (d own value : ℕ) (t : core.Spot) (l : Layout) (nex
 value_there c d own value t l next temp from live other laid laid_from apart = rw (temp, from, live, laid, other, laid_from, apart) refl
 
 -- a pointer to the unnamed value is in the temporary after that of the handle
-struct_stored : (p : Point) (n d value r : ℕ) (tag : List ℕ) (m0 : source.Memory) (c0 : Config) (m : source.Memory) (c : Config) (vs : List Scalar)
-    (s : List Scalar → source.Memory → steps.Step) (rest : Statements) (next : Next) → AreStructs p.world.unions p.world.structs
-    → IsObject p.world.structs (StructShape tag) → slice_get p.owned value ≡ Some (StructShape tag) → SameState p m c → GrownAt p m0 c0 m c → AreKept d c0 c
+whole_stored : (p : Point) (n d value r : ℕ) (shape : Shape) (m0 : source.Memory) (c0 : Config) (m : source.Memory) (c : Config) (vs : List Scalar)
+    (s : List Scalar → source.Memory → steps.Step) (rest : Statements) (next : Next) → AreUnions p.world.unions → AreStructs p.world.unions p.world.structs
+    → IsObject p.world.unions p.world.structs shape → slice_get p.owned value ≡ Some shape → SameState p m c → GrownAt p m0 c0 m c → AreKept d c0 c
     → c.temps d ≡ Birth r → c.temps (d + 1) ≡ Pointer (own_spot p.own value 0) 0
-    → AllShown p.world m c.memory (own_spot p.own value 0) (cells_of p.world (StructShape tag)) vs
-    → GoesOn p n d m0 c0 (ThinShape false Shared (StructShape tag)) s (meaning.statements rest next)
-    → SameAt p n (stored_act p.world (StructShape tag) (InRegion r) vs s m)
-    (meaning.statements (put (request_code p.world (StructShape tag) d (d + 2))
-    (put (Do (Copy d (d + 1) (layout_of p.world (StructShape tag))) ∷ []) rest)) next c)
-struct_stored p n d value r tag m0 c0 m c vs s rest next structs object numbered fits later kept temp from shown goes = by (is_live m (source.Born r)) refl
+    → AllShown p.world m c.memory (own_spot p.own value 0) (cells_of p.world shape) vs
+    → GoesOn p n d m0 c0 (ThinShape false Shared shape) s (meaning.statements rest next)
+    → SameAt p n (stored_act p.world shape (InRegion r) vs s m)
+    (meaning.statements (put (request_code p.world shape d (d + 2))
+    (put (Do (Copy d (d + 1) (layout_of p.world shape)) ∷ []) rest)) next c)
+whole_stored p n d value r shape m0 c0 m c vs s rest next unions structs object numbered fits later kept temp from shown goes =
+    by (is_live m (source.Born r)) refl
   where
-    shape : Shape
-    shape = StructShape tag
-
     layout : Layout
-    layout = layout_of p.world (StructShape tag)
+    layout = layout_of p.world shape
 
     stores : List Statement
     stores = Do (Copy d (d + 1) layout) ∷ []
@@ -286,10 +287,10 @@ struct_stored p n d value r tag m0 c0 m c vs s rest next structs object numbered
     t = new_spot m r
 
     m1 : source.Memory
-    m1 = source_granted p.world m r (StructShape tag)
+    m1 = source_granted p.world m r shape
 
     c1 : Config
-    c1 = asked p.world m c d (d + 2) r (StructShape tag)
+    c1 = asked p.world m c d (d + 2) r shape
 
     c2 : Config
     c2 = with_memory (copied layout (at t) own c1.memory) c1
@@ -300,7 +301,7 @@ struct_stored p n d value r tag m0 c0 m c vs s rest next structs object numbered
     later1 : GrownAt p m c m1 c1
     later1 = block_granted_later (within p) p.world m c.memory r shape fits.agree
 
-    leads1 : Leads p.world m1 c1.memory (StructShape tag) t 0
+    leads1 : Leads p.world m1 c1.memory shape t 0
     leads1 = granted_leads p.world m c.memory r shape fits.agree
 
     later2 : GrownAt p m1 c1 m1 c2
@@ -309,10 +310,10 @@ struct_stored p n d value r tag m0 c0 m c vs s rest next structs object numbered
     fits2 : SameState p m1 c2
     fits2 = fits_later p m1 m1 c1 c2 fits1 (copied_agree p.world m c1.memory r shape layout own fits1.agree) later2 refl (λ k less. refl)
 
-    leads2 : Leads p.world m1 c2.memory (StructShape tag) t 0
+    leads2 : Leads p.world m1 c2.memory shape t 0
     leads2 = leads_later (within p) p.world m1 m1 c1.memory c2.memory shape t 0 later2 leads1
 
-    shown2 : AllShown p.world m1 c2.memory (at t) (cells_of p.world (StructShape tag)) vs
+    shown2 : AllShown p.world m1 c2.memory (at t) (cells_of p.world shape) vs
     shown2 = whole_copied p.world m1 c1.memory (at t) own 0 shape vs structs object leads1.1
         (all_shown_kept (within p) p.world m m1 c.memory c1.memory own (cells_of p.world shape) vs later1 (λ i j less. refl) shown)
 
@@ -326,7 +327,7 @@ struct_stored p n d value r tag m0 c0 m c vs s rest next structs object numbered
         (sym (value_there c1 d p.own value (at t) layout (meaning.statements rest next) there
         (asked_between p.world m c d (d + 2) r (d + 1) shape (omega arith) (omega arith) ∙ from)
         (sym (fits.agree.live (source.Born r)) ∙ live) fits1.stands (laid_there c1.memory (at t) 0 layout.cells leads1.1)
-        (laid_there c1.memory own 0 layout.cells (value_made p m1 c1 value shape fits1 numbered)) (own_apart t p.own value 0)))
+        (laid_there c1.memory own 0 layout.cells (value_made p m1 c1 value shape object fits1 numbered)) (own_apart t p.own value 0)))
         (write_all p.world p.program n (within p) (cells_of p.world shape) vs m1 c2.memory t (λ u. s (Thin (Some t) ∷ []))
         (meaning.statements rest next c2) live fits2.agree leads2.0 shown2
         (λ m2 agree2 more.
@@ -337,19 +338,21 @@ struct_stored p n d value r tag m0 c0 m c vs s rest next structs object numbered
         (asked_kept p.world m c0 c d (d + 2) r shape (omega arith) kept) there
         (leads_later (within p) p.world m1 m2 c2.memory c2.memory shape t 0 more leads2) goes))
 
-    by : (b : Bool) → is_live m (source.Born r) ≡ b → SameAt p n (stored_act p.world (StructShape tag) (InRegion r) vs s m)
-        (meaning.statements (put (request_code p.world (StructShape tag) d (d + 2))
-        (put (Do (Copy d (d + 1) (layout_of p.world (StructShape tag))) ∷ []) rest)) next c)
+    by : (b : Bool) → is_live m (source.Born r) ≡ b → SameAt p n (stored_act p.world shape (InRegion r) vs s m)
+        (meaning.statements (put (request_code p.world shape d (d + 2))
+        (put (Do (Copy d (d + 1) (layout_of p.world shape)) ∷ []) rest)) next c)
     by false e = rw e (stuck_same p.world p.program n _)
-    by true e = request_same p.world p.program n d (d + 2) r shape m c (λ u. write_cells u vs (λ z. s (Thin (Some u) ∷ []))) (put stores rest) next structs
+    by true e =
+        request_same p.world p.program n d (d + 2) r shape m c (λ u. write_cells u vs (λ z. s (Thin (Some u) ∷ []))) (put stores rest) next unions structs
         object fits.agree (omega arith) temp (stored e)
 
--- a struct is evaluated to an unnamed value, which goes to the block's cells
-pub struct_makes : (p : Point) (n d value : ℕ) (tag : List ℕ) (e : Sense) (code : List Statement) → AreStructs p.world.unions p.world.structs
-    → IsObject p.world.structs (StructShape tag) → p.kept ≤ value → IsWholeAs p n (d + 1) value e (StructShape tag) code
-    → MakesAs p n d (StructShape tag) (made_act p.world e)
-    (code ++ (request_code p.world (StructShape tag) d (d + 2) ++ (Do (Copy d (d + 1) (layout_of p.world (StructShape tag))) ∷ [])))
-struct_makes p n d value tag e code structs object less one = record {
+-- a struct or a union is evaluated to an unnamed value, which goes to the block's cells
+pub whole_makes : (p : Point) (n d value : ℕ) (shape : Shape) (e : Sense) (code : List Statement) → AreUnions p.world.unions
+    → AreStructs p.world.unions p.world.structs
+    → IsObject p.world.unions p.world.structs shape → p.kept ≤ value → IsWholeAs p n (d + 1) value e shape code
+    → MakesAs p n d shape (made_act p.world e)
+    (code ++ (request_code p.world shape d (d + 2) ++ (Do (Copy d (d + 1) (layout_of p.world shape)) ∷ [])))
+whole_makes p n d value shape e code unions structs object less one = record {
   same = λ m0 c0 m c r s rest next fits later kept temp goes.
       subst (λ z. SameAt p n (e.value (λ vs. stored_act p.world e.shape (InRegion r) vs s) m) (meaning.statements z next c))
       (sym (put_three code (request_code p.world shape d (d + 2)) stores rest))
@@ -357,20 +360,17 @@ struct_makes p n d value tag e code structs object less one = record {
       (put (request_code p.world shape d (d + 2)) (put stores rest)) next fits (record {
         above = over goes.above (omega arith);
         go = λ m1 c1 vs fits1 later1 kept1 from shown1.
-            let same : StructShape one.whole.tag ≡ StructShape tag = sym one.whole.shape_is ∙ one.shape_is in
+            let same : one.whole.shape ≡ shape = sym one.whole.shape_is ∙ one.shape_is in
             let within1 : GrownAt p m c m1 c1 =
             later_less (before_value p value) (within p) m m1 c.memory c1.memory (before_less p p.kept value less) later1 in
             subst (λ z. SameAt p n (stored_act p.world z (InRegion r) vs s m1)
             (meaning.statements (put (request_code p.world shape d (d + 2)) (put stores rest)) next c1)) (sym one.shape_is)
-            (struct_stored p n d value r tag m0 c0 m1 c1 vs s rest next structs object (one.whole.numbered ∙ ap (λ z. Some z) same) fits1
+            (whole_stored p n d value r shape m0 c0 m1 c1 vs s rest next unions structs object (one.whole.numbered ∙ ap (λ z. Some z) same) fits1
             (later_on (within p) m0 m m1 c0.memory c.memory c1.memory later within1) (λ k h. kept1 k (omega (arith, h)) ∙ kept k h)
             (kept1 d (omega arith) ∙ temp) from
             (subst (λ z. AllShown p.world m1 c1.memory (own_spot p.own value 0) (cells_of p.world z) vs) same shown1) goes);
       }));
 }
   where
-    shape : Shape
-    shape = StructShape tag
-
     stores : List Statement
-    stores = Do (Copy d (d + 1) (layout_of p.world (StructShape tag))) ∷ []
+    stores = Do (Copy d (d + 1) (layout_of p.world shape)) ∷ []

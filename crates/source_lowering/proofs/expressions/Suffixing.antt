@@ -8,7 +8,7 @@ use Rattle.source_meaning.specs.Memory.{Scalar}
 use Rattle.source_meaning.specs.Steps as steps
 use Rattle.source_meaning.specs.Steps.{World, Scope, give, ◌>>=◌}
 use Rattle.source_meaning.specs.Conversions.{cells_of, one, integer, accessed}
-use Rattle.source_meaning.specs.Values.{take_cells}
+use Rattle.source_meaning.specs.Values.{read_cells, take_cells}
 use Rattle.source_meaning.specs.Places.{Sense, place_sense, struct_parts, contents, indexed, indexed_span, member}
 use Rattle.source_meaning.specs.Expressions.{sense, suffixed}
 use Rattle.core_meaning.specs.Core.{Statement}
@@ -29,7 +29,7 @@ use Rattle.source_lowering.specs.Lowered.{
   suffixed_code,
 }
 use Rattle.source_lowering.specs.Members.{index_code}
-use Rattle.source_lowering.specs.Lowerable.{IsObject, IsNoStruct, AreStructs, TakesMembers, TakesSuffixes}
+use Rattle.source_lowering.specs.Lowerable.{IsObject, IsOperandShape, AreStructs, TakesMembers, TakesSuffixes}
 use Rattle.source_lowering.specs.Simulation.{Point}
 use Rattle.source_lowering.proofs.values.Integers.{object_value}
 use Rattle.source_lowering.proofs.expressions.Variables.{Agrees}
@@ -44,15 +44,17 @@ use Rattle.source_lowering.proofs.expressions.Subscripts.{indexed_placed}
 -- what suffixes lead to, and what stands for it in each temporary
 pub record MemberAs (p : Point) (n : ℕ) (e : Sense) (left : Left) : Type 0 where
   pub shape_is : e.shape ≡ left.shape
-  pub object : IsObject p.world.structs left.shape
+  pub object : IsObject p.world.unions p.world.structs left.shape
   pub reached : (d : ℕ) → ReachedAs p n d left.cells left.bytes left.shape e.place (left.pointer d)
-  pub value : IsNoStruct left.shape → (d : ℕ) → Agrees p n d e left.shape (left.value d)
+  pub value : IsOperandShape left.shape → (d : ℕ) → Agrees p n d e left.shape (left.value d)
   pub given : (s : List Scalar → source.Memory → steps.Step) (m : source.Memory) → e.value s m ≡ e.place (λ t. take_cells (cells_of p.world e.shape) t s) m
+  pub looked : (s : List Scalar → source.Memory → steps.Step) (m : source.Memory)
+      → e.look s m ≡ e.place (λ t. read_cells (length (cells_of p.world e.shape)) t s) m
 
 -- `e.f`
 pub dot_same : (p : Point) (n cells bytes : ℕ) (e : Sense) (shape : Shape) (f : List ℕ) (pointer : ℕ → List Statement)
     → AreStructs p.world.unions p.world.structs → e.shape ≡ shape → ((d : ℕ) → ReachedAs p n d cells bytes shape e.place (pointer d))
-    → IsObject p.world.structs (member_shape p.world shape f)
+    → IsObject p.world.unions p.world.structs (member_shape p.world shape f)
     → MemberAs p n (member p.world e f) (member_at p.world shape pointer cells bytes f)
 dot_same p n cells bytes e shape f pointer structs same reached object =
     subst (λ z. MemberAs p n (place_sense p.world (part_shape (struct_parts p.world z) f)
@@ -63,8 +65,9 @@ dot_same p n cells bytes e shape f pointer structs same reached object =
       object = object;
       reached = here;
       value = λ single d. reached_value p n d _ _ (member_shape p.world shape f) _ (pointer d)
-          (object_value p.world.structs (member_shape p.world shape f) object single) (here d);
+          (object_value p.world.unions p.world.structs (member_shape p.world shape f) object single) (here d);
       given = λ s m. refl;
+      looked = λ s m. refl;
     })
   where
     here : (d : ℕ) → ReachedAs p n d (cells + cells_before (cells_of p.world) (struct_parts p.world shape) f)
@@ -74,7 +77,7 @@ dot_same p n cells bytes e shape f pointer structs same reached object =
 
 -- `e->f`
 pub arrow_same : (p : Point) (n : ℕ) (e : Sense) (left : Left) (f : List ℕ) → AreStructs p.world.unions p.world.structs
-    → ((d : ℕ) → Agrees p n d e left.shape (left.value d)) → IsObject p.world.structs (member_shape p.world (pointee left.shape) f)
+    → ((d : ℕ) → Agrees p n d e left.shape (left.value d)) → IsObject p.world.unions p.world.structs (member_shape p.world (pointee left.shape) f)
     → MemberAs p n (member p.world (contents p.world e) f) (member_behind p.world left f)
 arrow_same p n e left f structs agrees object =
     dot_same p n 0 0 (contents p.world e) (pointee left.shape) f (λ d. left.value d ++ reach_code p.world left.shape d) structs
@@ -84,7 +87,7 @@ arrow_same p n e left f structs agrees object =
 
 -- `a[b]`
 pub element_same : (p : Point) (n : ℕ) (a b : Sense) (sa sb : Shape) (ca cb : ℕ → List Statement) → ((d : ℕ) → Agrees p n d a sa (ca d))
-    → ((d : ℕ) → Agrees p n d b sb (cb d)) → IsObject p.world.structs (pointee sa)
+    → ((d : ℕ) → Agrees p n d b sb (cb d)) → IsObject p.world.unions p.world.structs (pointee sa)
     → MemberAs p n (indexed p.world a b) (element_at p.world (pointee sa) cb ca)
 element_same p n a b sa sb ca cb x y object =
     subst (λ z. MemberAs p n (place_sense p.world (pointee z)
@@ -95,8 +98,9 @@ element_same p n a b sa sb ca cb x y object =
       object = object;
       reached = here;
       value = λ single d. reached_value p n d 0 0 (pointee sa) _ (cb d ++ (ca (d + 1) ++ index_code p.world (pointee sa) d))
-          (object_value p.world.structs (pointee sa) object single) (here d);
+          (object_value p.world.unions p.world.structs (pointee sa) object single) (here d);
       given = λ s m. refl;
+      looked = λ s m. refl;
     })
   where
     here : (d : ℕ) → ReachedAs p n d 0 0 (pointee sa)

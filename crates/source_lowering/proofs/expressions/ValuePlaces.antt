@@ -30,7 +30,7 @@ use Rattle.core_meaning.specs.Meaning as meaning
 use Rattle.source_lowering.specs.Layouts.{pieces_of}
 use Rattle.source_lowering.specs.Members.{loads_code, stores_code, words_in}
 use Rattle.source_lowering.specs.Lowered.{put}
-use Rattle.source_lowering.specs.Lowerable.{IsTarget, IsValueShape, IsNoStruct}
+use Rattle.source_lowering.specs.Lowerable.{IsTarget, IsValueShape, IsOperandShape}
 use Rattle.source_lowering.specs.Simulation.{
   at,
   Leads,
@@ -62,7 +62,7 @@ use Rattle.source_lowering.proofs.expressions.Reaching.{ReachedAs}
 
 -- ---- temporaries
 
-contents_fits : (p : Point) (m : source.Memory) (c : Config) (d : ℕ) (xs : List Content) → SameState p m c
+pub contents_fits : (p : Point) (m : source.Memory) (c : Config) (d : ℕ) (xs : List Content) → SameState p m c
     → p.regions.all ≤ d → SameState p m (with_contents d xs c)
 contents_fits p m c d xs f above = record {
   agree = f.agree;
@@ -188,7 +188,7 @@ nothing_read p n d cells bytes act code loads reads reached = record {
       }));
 }
 
-pub target_read : (p : Point) (n d cells bytes : ℕ) (shape : Shape) (act : steps.Act Spot) (code : List Statement) → IsTarget shape → IsNoStruct shape
+pub target_read : (p : Point) (n d cells bytes : ℕ) (shape : Shape) (act : steps.Act Spot) (code : List Statement) → IsTarget shape → IsOperandShape shape
     → ReachedAs p n d cells bytes shape act code → Agrees p n d (place_sense p.world shape act) shape (code ++ loads_code shape d cells bytes)
 target_read p n d cells bytes IntShape act code h g reached = reached_value p n d cells bytes IntShape act code tt reached
 target_read p n d cells bytes UnsignedShape act code h g reached = reached_value p n d cells bytes UnsignedShape act code tt reached
@@ -204,7 +204,7 @@ target_read p n d cells bytes (FatShape to) act code h g reached = reached_value
 target_read p n d cells bytes HandleShape act code h g reached = reached_value p n d cells bytes HandleShape act code tt reached
 target_read p n d cells bytes KeyShape act code h g reached = absurd h
 target_read p n d cells bytes (StructShape tag) act code h g reached = absurd g
-target_read p n d cells bytes (UnionShape tag) act code h g reached = absurd h
+target_read p n d cells bytes (UnionShape tag) act code h g reached = absurd g
 target_read p n d cells bytes (ArrayShape count of) act code h g reached = absurd h
 
 nothing_stored : (p : Point) (n d e cells bytes : ℕ) (act : steps.Act Spot) (code stores : List Statement)
@@ -219,7 +219,7 @@ nothing_stored p n d e cells bytes act code stores below reached = record {
       }));
 }
 
-pub target_stored : (p : Point) (n d cells bytes : ℕ) (shape : Shape) (act : steps.Act Spot) (code : List Statement) → IsTarget shape → IsNoStruct shape
+pub target_stored : (p : Point) (n d cells bytes : ℕ) (shape : Shape) (act : steps.Act Spot) (code : List Statement) → IsTarget shape → IsOperandShape shape
     → ReachedAs p n (d + words_in shape) cells bytes shape act code
     → StoresAs p n d shape act (code ++ stores_code shape (d + words_in shape) d cells bytes)
 target_stored p n d cells bytes IntShape act code h g reached = value_stored p n d cells bytes IntShape act code tt reached
@@ -232,5 +232,5 @@ target_stored p n d cells bytes (FatShape to) act code h g reached = value_store
 target_stored p n d cells bytes HandleShape act code h g reached = value_stored p n d cells bytes HandleShape act code tt reached
 target_stored p n d cells bytes KeyShape act code h g reached = absurd h
 target_stored p n d cells bytes (StructShape tag) act code h g reached = absurd g
-target_stored p n d cells bytes (UnionShape tag) act code h g reached = absurd h
+target_stored p n d cells bytes (UnionShape tag) act code h g reached = absurd g
 target_stored p n d cells bytes (ArrayShape count of) act code h g reached = absurd h

@@ -31,7 +31,7 @@ use Rattle.core_meaning.specs.Steps.{Config, with_temp}
 use Rattle.core_meaning.specs.Meaning as meaning
 use Rattle.source_lowering.specs.Members.{loads_code, bounds_code, words_in, valued}
 use Rattle.source_lowering.specs.Lowered.{put, local_named, shape_by, get_local, load_global, put_local, store_global, get_by, put_by}
-use Rattle.source_lowering.specs.Lowerable.{IsValueShape, IsObject, IsVariable, IsNoStruct, AreStructs}
+use Rattle.source_lowering.specs.Lowerable.{IsValueShape, IsObject, IsVariable, IsOperandShape, AreStructs}
 use Rattle.source_lowering.specs.Simulation.{at, IsTakenObject, Leads, AreLed, Point, SameState, SameAt, Next, AreKept, GrownAt, AreLocals, GoesOn, GivesAs, within}
 use Rattle.source_lowering.specs.Simulation.{LeadsAll}
 use Rattle.source_lowering.proofs.memory.Keeping.{later_self}
@@ -204,43 +204,44 @@ place_value p n d shape spot code is_value gives = record {
 }
 
 -- the name of an array is a fat pointer to its first element
-array_value : (p : Point) (n d count : ℕ) (of : Shape) (spot : Spot) (code : List Statement) → IsObject p.world.structs of
+array_value : (p : Point) (n d count : ℕ) (of : Shape) (spot : Spot) (code : List Statement) → IsObject p.world.unions p.world.structs of
     → GivesAs p n d (FatShape of) (give (span_at count spot ∷ [])) code
     → Agrees p n d (entity_sense p.world (Some (Variable (ArrayShape count of) spot))) (FatShape of) code
 array_value p n d count of spot code object gives =
-    record { shape_is = refl; taken = object_target p.world.structs of object; looks = gives; values = gives }
+    record { shape_is = refl; taken = object_target p.world.unions p.world.structs of object; looks = gives; values = gives }
 
-local_agrees : (p : Point) (n d out index frame : ℕ) (shape : Shape) → AreStructs p.world.unions p.world.structs → IsVariable p.world.structs shape
-    → IsNoStruct (valued shape) → slice_get (p.frame ∷ p.outer) out ≡ Some frame → LocalVariable p shape frame index
+local_agrees : (p : Point) (n d out index frame : ℕ) (shape : Shape) → AreStructs p.world.unions p.world.structs
+    → IsVariable p.world.unions p.world.structs shape
+    → IsOperandShape (valued shape) → slice_get (p.frame ∷ p.outer) out ≡ Some frame → LocalVariable p shape frame index
     → Agrees p n d (entity_sense p.world (Some (Variable shape (local_spot frame index)))) (valued shape) (get_local shape d out index)
 local_agrees p n d out index frame (ArrayShape count of) structs h single block led =
     array_value p n d count of (local_spot frame index) (get_local (ArrayShape count of) d out index) h.1
     (array_local p n d out index frame count of h.0 (lies_here p.world of structs h.1) block led)
 local_agrees p n d out index frame s structs h single block led =
-    let value : IsValueShape s = object_value p.world.structs s h single in
+    let value : IsValueShape s = object_value p.world.unions p.world.structs s h single in
     place_value p n d s (local_spot frame index) (get_local s d out index) value
     (local_read p n d out index frame s value (lies_here p.world s structs h) block led)
 
-global_agrees : (p : Point) (n d number : ℕ) (shape : Shape) → AreStructs p.world.unions p.world.structs → IsVariable p.world.structs shape
-    → IsNoStruct (valued shape) → GlobalVariable p shape number
+global_agrees : (p : Point) (n d number : ℕ) (shape : Shape) → AreStructs p.world.unions p.world.structs → IsVariable p.world.unions p.world.structs shape
+    → IsOperandShape (valued shape) → GlobalVariable p shape number
     → Agrees p n d (entity_sense p.world (Some (Variable shape (heap_spot number)))) (valued shape) (load_global shape d number)
 global_agrees p n d number (ArrayShape count of) structs h single led =
     array_value p n d count of (heap_spot number) (load_global (ArrayShape count of) d number) h.1
     (array_global p n d number count of h.0 (lies_here p.world of structs h.1) led)
 global_agrees p n d number s structs h single led =
-    let value : IsValueShape s = object_value p.world.structs s h single in
+    let value : IsValueShape s = object_value p.world.unions p.world.structs s h single in
     place_value p n d s (heap_spot number) (load_global s d number) value (global_read p n d number s value (lies_here p.world s structs h) led)
 
 -- lowering knows a name's shape
-local_single : (p : Point) {name : List ℕ} (f : FoundLocal p.world.structs (p.frame ∷ p.outer) p.locals p.names name)
-    → IsNoStruct (valued (shape_by (local_named p.names name) (bound_to p.world.globals name))) → IsNoStruct (valued f.shape)
-local_single p {name} f single = subst (λ z. IsNoStruct (valued (shape_by z (bound_to p.world.globals name)))) f.found single
+local_single : (p : Point) {name : List ℕ} (f : FoundLocal p.world.unions p.world.structs (p.frame ∷ p.outer) p.locals p.names name)
+    → IsOperandShape (valued (shape_by (local_named p.names name) (bound_to p.world.globals name))) → IsOperandShape (valued f.shape)
+local_single p {name} f single = subst (λ z. IsOperandShape (valued (shape_by z (bound_to p.world.globals name)))) f.found single
 
-global_single : (p : Point) {name : List ℕ} → local_named p.names name ≡ None → (g : FoundGlobal p.world.structs p.world.globals name)
-    → IsNoStruct (valued (shape_by (local_named p.names name) (bound_to p.world.globals name))) → IsNoStruct (valued g.shape)
+global_single : (p : Point) {name : List ℕ} → local_named p.names name ≡ None → (g : FoundGlobal p.world.unions p.world.structs p.world.globals name)
+    → IsOperandShape (valued (shape_by (local_named p.names name) (bound_to p.world.globals name))) → IsOperandShape (valued g.shape)
 global_single p {name} none g single =
-    subst (λ z. IsNoStruct (valued (shape_by None z))) g.bound
-    (subst (λ z. IsNoStruct (valued (shape_by z (bound_to p.world.globals name)))) none single)
+    subst (λ z. IsOperandShape (valued (shape_by None z))) g.bound
+    (subst (λ z. IsOperandShape (valued (shape_by z (bound_to p.world.globals name)))) none single)
 
 -- the number of an element is read from its temporary
 number_agrees : (p : Point) (n d : ℕ) {name : List ℕ} (f : FoundNumber p.locals p.names name)
@@ -259,15 +260,17 @@ number_agrees p n d f = record { shape_is = refl; taken = tt; looks = gives; val
           })) goes;
     }
 
-pub variable_agrees : (p : Point) (n d : ℕ) (name : List ℕ) → AreLocals (p.frame ∷ p.outer) p.locals p.names → AreObjectNames p.world.structs p.names
-    → AreGlobals p.world.structs p.world.globals → AreStructs p.world.unions p.world.structs
-    → IsNoStruct (valued (shape_by (local_named p.names name) (bound_to p.world.globals name)))
+pub variable_agrees : (p : Point) (n d : ℕ) (name : List ℕ) → AreLocals (p.frame ∷ p.outer) p.locals p.names
+    → AreObjectNames p.world.unions p.world.structs p.names
+    → AreGlobals p.world.unions p.world.structs p.world.globals → AreStructs p.world.unions p.world.structs
+    → IsOperandShape (valued (shape_by (local_named p.names name) (bound_to p.world.globals name)))
     → Agrees p n d (entity_sense p.world (or_else (bound_to p.locals name) (bound_to p.world.globals name))) (valued (shape_by (local_named p.names name)
     (bound_to p.world.globals name))) (get_by (local_named p.names name) (bound_to p.world.globals name) d)
 variable_agrees p n d name locals objects globals structs single =
-    ⊎_elim here (λ g. ⊎_elim number missing g) (find_local p.world.structs (p.frame ∷ p.outer) p.locals p.names name locals objects)
+    ⊎_elim here (λ g. ⊎_elim number missing g) (find_local p.world.unions p.world.structs (p.frame ∷ p.outer) p.locals p.names name locals objects)
   where
-    here : FoundLocal p.world.structs (p.frame ∷ p.outer) p.locals p.names name → Agrees p n d (entity_sense p.world (or_else (bound_to p.locals name)
+    here : FoundLocal p.world.unions p.world.structs (p.frame ∷ p.outer) p.locals p.names name
+        → Agrees p n d (entity_sense p.world (or_else (bound_to p.locals name)
         (bound_to p.world.globals name))) (valued (shape_by (local_named p.names name) (bound_to p.world.globals name)))
         (get_by (local_named p.names name) (bound_to p.world.globals name) d)
     here f = rw (f.bound, f.found)
@@ -281,10 +284,10 @@ variable_agrees p n d name locals objects globals structs single =
         (valued (shape_by (local_named p.names name) (bound_to p.world.globals name))) (get_by (local_named p.names name) (bound_to p.world.globals name) d)
     missing f = rw (f.bound, f.found)
         (⊎_elim
-        (λ (g : FoundGlobal p.world.structs p.world.globals name).
+        (λ (g : FoundGlobal p.world.unions p.world.structs p.world.globals name).
         rw g.bound (global_agrees p n d g.number g.shape structs g.is_variable (global_single p f.found g single) (g.led p.world)))
         (λ (g : bound_to p.world.globals name ≡ None). rw g (stuck_agrees p n d []))
-        (find_global p.world.structs p.world.globals name globals))
+        (find_global p.world.unions p.world.structs p.world.globals name globals))
 
 -- ---- a name is assigned to
 
@@ -292,30 +295,32 @@ stuck_stores : (p : Point) (n d : ℕ) (shape : Shape) (code : List Statement) �
 stuck_stores p n d shape code = record { same = λ m0 c0 m c vs s rest next fits later kept given goes. stuck_same p.world p.program n _ }
 
 -- an array isn't assigned to
-local_stores : (p : Point) (n d out index frame : ℕ) (shape : Shape) → AreStructs p.world.unions p.world.structs → IsVariable p.world.structs shape
-    → IsNoStruct (valued shape) → slice_get (p.frame ∷ p.outer) out ≡ Some frame → LocalVariable p shape frame index
+local_stores : (p : Point) (n d out index frame : ℕ) (shape : Shape) → AreStructs p.world.unions p.world.structs
+    → IsVariable p.world.unions p.world.structs shape
+    → IsOperandShape (valued shape) → slice_get (p.frame ∷ p.outer) out ≡ Some frame → LocalVariable p shape frame index
     → StoresAs p n d (valued shape) (entity_sense p.world (Some (Variable shape (local_spot frame index)))).place (put_local shape d out index)
 local_stores p n d out index frame (ArrayShape count of) structs h single block led =
     stuck_stores p n d (FatShape of) (put_local (ArrayShape count of) d out index)
 local_stores p n d out index frame s structs h single block led =
-    local_stored p n d out index frame s (object_value p.world.structs s h single) (lies_here p.world s structs h) block led
+    local_stored p n d out index frame s (object_value p.world.unions p.world.structs s h single) (lies_here p.world s structs h) block led
 
-global_stores : (p : Point) (n d number : ℕ) (shape : Shape) → AreStructs p.world.unions p.world.structs → IsVariable p.world.structs shape
-    → IsNoStruct (valued shape) → GlobalVariable p shape number
+global_stores : (p : Point) (n d number : ℕ) (shape : Shape) → AreStructs p.world.unions p.world.structs → IsVariable p.world.unions p.world.structs shape
+    → IsOperandShape (valued shape) → GlobalVariable p shape number
     → StoresAs p n d (valued shape) (entity_sense p.world (Some (Variable shape (heap_spot number)))).place (store_global shape d number)
 global_stores p n d number (ArrayShape count of) structs h single led = stuck_stores p n d (FatShape of) (store_global (ArrayShape count of) d number)
 global_stores p n d number s structs h single led =
-    global_stored p n d number s (object_value p.world.structs s h single) (lies_here p.world s structs h) led
+    global_stored p n d number s (object_value p.world.unions p.world.structs s h single) (lies_here p.world s structs h) led
 
-pub variable_stores : (p : Point) (n d : ℕ) (name : List ℕ) → AreLocals (p.frame ∷ p.outer) p.locals p.names → AreObjectNames p.world.structs p.names
-    → AreGlobals p.world.structs p.world.globals → AreStructs p.world.unions p.world.structs
-    → IsNoStruct (valued (shape_by (local_named p.names name) (bound_to p.world.globals name)))
+pub variable_stores : (p : Point) (n d : ℕ) (name : List ℕ) → AreLocals (p.frame ∷ p.outer) p.locals p.names
+    → AreObjectNames p.world.unions p.world.structs p.names
+    → AreGlobals p.world.unions p.world.structs p.world.globals → AreStructs p.world.unions p.world.structs
+    → IsOperandShape (valued (shape_by (local_named p.names name) (bound_to p.world.globals name)))
     → StoresAs p n d (valued (shape_by (local_named p.names name) (bound_to p.world.globals name))) (entity_sense p.world
     (or_else (bound_to p.locals name) (bound_to p.world.globals name))).place (put_by (local_named p.names name) (bound_to p.world.globals name) d)
 variable_stores p n d name locals objects globals structs single =
-    ⊎_elim here (λ g. ⊎_elim number missing g) (find_local p.world.structs (p.frame ∷ p.outer) p.locals p.names name locals objects)
+    ⊎_elim here (λ g. ⊎_elim number missing g) (find_local p.world.unions p.world.structs (p.frame ∷ p.outer) p.locals p.names name locals objects)
   where
-    here : FoundLocal p.world.structs (p.frame ∷ p.outer) p.locals p.names name
+    here : FoundLocal p.world.unions p.world.structs (p.frame ∷ p.outer) p.locals p.names name
         → StoresAs p n d (valued (shape_by (local_named p.names name) (bound_to p.world.globals name)))
         (entity_sense p.world (or_else (bound_to p.locals name) (bound_to p.world.globals name))).place (put_by (local_named p.names name)
         (bound_to p.world.globals name) d)
@@ -332,7 +337,7 @@ variable_stores p n d name locals objects globals structs single =
         (bound_to p.world.globals name) d)
     missing f = rw (f.bound, f.found)
         (⊎_elim
-        (λ (g : FoundGlobal p.world.structs p.world.globals name).
+        (λ (g : FoundGlobal p.world.unions p.world.structs p.world.globals name).
         rw g.bound (global_stores p n d g.number g.shape structs g.is_variable (global_single p f.found g single) (g.led p.world)))
         (λ (g : bound_to p.world.globals name ≡ None). rw g (stuck_stores p n d VoidShape []))
-        (find_global p.world.structs p.world.globals name globals))
+        (find_global p.world.unions p.world.structs p.world.globals name globals))

@@ -1,4 +1,4 @@
--- Forms of expressions that are structs.
+-- Forms of expressions that are structs or unions.
 use Rattle.std.proofs.Common.{◌≡◌, ℕ, suc, ◌+◌, ◌<◌, List, ◌++◌, Bool, true, false, Some, refl, sym, ap, ◌∙◌}
 use Rattle.std.specs.Prelude.{slice_get, bytes_eq, codes, if◌then◌else◌}
 use Rattle.std.proofs.lemmas.Bool.{false≢true}
@@ -23,14 +23,14 @@ use Rattle.source_meaning.specs.Places.{Sense}
 use Rattle.source_meaning.specs.Calls.{struct_made, call_sense}
 use Rattle.core_meaning.specs.Core.{Statement}
 use Rattle.source_lowering.specs.Lowered.{call_shape, values_by}
-use Rattle.source_lowering.specs.Lowerable.{IsObject, AreStructs, IsStructShape, TakesMember}
+use Rattle.source_lowering.specs.Lowerable.{IsObject, AreStructs, IsWholeShape, TakesMember}
 use Rattle.source_lowering.specs.Whole.{makes_struct, copied_code, member_code}
 use Rattle.source_lowering.specs.Simulation.{Point, keeping}
 use Rattle.source_lowering.proofs.expressions.Variables.{Agrees}
 use Rattle.source_lowering.proofs.expressions.Places.{IsPlaced}
 use Rattle.source_lowering.proofs.expressions.Numbered.{AreNumbered}
 use Rattle.source_lowering.proofs.expressions.Wholes.{IsWhole, place_whole}
-use Rattle.source_lowering.proofs.expressions.MakingMembers.{MemberGoes, value_member, struct_member}
+use Rattle.source_lowering.proofs.expressions.MakingMembers.{MemberGoes, value_member, whole_member}
 
 -- ---- a place
 
@@ -40,26 +40,16 @@ pub record IsWholeAs (p : Point) (n d value : ℕ) (e : Sense) (shape : Shape) (
   pub shape_is : e.shape ≡ shape
 
 pub whole_place : (p : Point) (n d value : ℕ) (e : Sense) (from : Shape) (code : List Statement) → AreStructs p.world.unions p.world.structs
-    → IsStructShape p.world.structs from → slice_get p.owned value ≡ Some from → IsPlaced (keeping p value) n d e from code
+    → IsWholeShape p.world.unions p.world.structs from → slice_get p.owned value ≡ Some from → IsPlaced (keeping p value) n d e from code
     → IsWholeAs p n d value e from (code ++ copied_code p.world from d value)
-whole_place p n d value e (StructShape tag) code structs is numbered one =
-    record { whole = place_whole p n d value e tag code structs is numbered one; shape_is = one.shape_is }
-whole_place p n d value e IntShape code structs is numbered one = absurd is
-whole_place p n d value e UnsignedShape code structs is numbered one = absurd is
-whole_place p n d value e CharShape code structs is numbered one = absurd is
-whole_place p n d value e VoidShape code structs is numbered one = absurd is
-whole_place p n d value e (ThinShape may_be_null owner to) code structs is numbered one = absurd is
-whole_place p n d value e (FatShape to) code structs is numbered one = absurd is
-whole_place p n d value e HandleShape code structs is numbered one = absurd is
-whole_place p n d value e KeyShape code structs is numbered one = absurd is
-whole_place p n d value e (UnionShape tag) code structs is numbered one = absurd is
-whole_place p n d value e (ArrayShape count of) code structs is numbered one = absurd is
+whole_place p n d value e from code structs is numbered one =
+    record { whole = place_whole p n d value e from code structs is numbered one; shape_is = one.shape_is }
 
 -- ---- a member
 
 -- a struct's value is an unnamed one, and a word is evaluated while the value around it stays as it is
 pub member_same : (p : Point) (n d value cells byte own : ℕ) (s : Shape) (e : Sense) (from : Shape) (wholes words : List Shape) (whole word : List Statement)
-    (takes_whole takes : Type 0) → AreStructs p.world.unions p.world.structs → IsObject p.world.structs s → value < own
+    (takes_whole takes : Type 0) → AreStructs p.world.unions p.world.structs → IsObject p.world.unions p.world.structs s → value < own
     → TakesMember s takes_whole takes → AreNumbered p.owned own (values_by s wholes words)
     → (takes_whole → AreNumbered p.owned own wholes → IsWhole p n (d + 1) own e whole)
     → (takes → AreNumbered p.owned own words → Agrees (keeping p (suc value)) n (d + 1) e from word)
@@ -70,8 +60,8 @@ member_same p n d value cells byte own s e from wholes words whole word takes_wh
     goal : Shape → Type 0
     goal z = MemberGoes p n d value cells byte z (e.value >>= converted p.world z e.shape) (member_code p.world z from d cells byte whole word)
 
-    by : (z : Shape) → IsObject p.world.structs z → TakesMember z takes_whole takes → AreNumbered p.owned own (values_by z wholes words) → goal z
-    by (StructShape tag) o t nums = struct_member p n d value cells byte own tag e whole structs o less (structs_as t nums)
+    by : (z : Shape) → IsObject p.world.unions p.world.structs z → TakesMember z takes_whole takes → AreNumbered p.owned own (values_by z wholes words) → goal z
+    by (StructShape tag) o t nums = whole_member p n d value cells byte own (StructShape tag) e whole structs o less (structs_as t nums)
     by IntShape o t nums = value_member p n d value cells byte IntShape e from word tt (words_as t nums)
     by UnsignedShape o t nums = value_member p n d value cells byte UnsignedShape e from word tt (words_as t nums)
     by CharShape o t nums = value_member p n d value cells byte CharShape e from word tt (words_as t nums)
@@ -80,7 +70,7 @@ member_same p n d value cells byte own s e from wholes words whole word takes_wh
     by VoidShape o t nums = absurd o
     by (FatShape to) o t nums = value_member p n d value cells byte (FatShape to) e from word o (words_as t nums)
     by KeyShape o t nums = absurd o
-    by (UnionShape tag) o t nums = absurd o
+    by (UnionShape tag) o t nums = whole_member p n d value cells byte own (UnionShape tag) e whole structs o less (structs_as t nums)
     by (ArrayShape count of) o t nums = absurd o
 
 -- what has a struct's name is no other call

@@ -1,9 +1,9 @@
--- Structs as values: an unnamed value of the function gets what a place holds, and is then where a temporary points.
+-- Structs and unions as values: an unnamed value of the function gets what a place holds, and is then where a temporary points.
 use Rattle.std.proofs.Common.{◌≡◌, ℕ, suc, ◌+◌, ◌≤◌, List, [], ◌∷◌, ◌++◌, true, false, nat_eq, Option, Some, None, refl, sym, ap, ◌∙◌, subst, arith}
 use Rattle.std.specs.Prelude.{slice_get}
 use Rattle.std.proofs.lemmas.Bool.{eq-eqb}
 use Rattle.std.proofs.lemmas.Bool.Decides.{nat_tests}
-use Rattle.source_meaning.specs.Shapes.{Shape, StructShape}
+use Rattle.source_meaning.specs.Shapes.{Shape}
 use Rattle.source_meaning.specs.Memory as source
 use Rattle.source_meaning.specs.Memory.{Holds, Scalar, Spot}
 use Rattle.source_meaning.specs.Steps as steps
@@ -20,9 +20,10 @@ use Rattle.core_meaning.specs.Operations.{does, are_laid, same_object, copied}
 use Rattle.core_meaning.specs.Meaning as meaning
 use Rattle.source_lowering.specs.Layouts.{layout_of}
 use Rattle.source_lowering.specs.Lowered.{put}
-use Rattle.source_lowering.specs.Lowerable.{IsObject, AreStructs}
+use Rattle.source_lowering.specs.Lowerable.{IsObject, IsWholeShape, AreStructs}
 use Rattle.source_lowering.specs.Whole.{copied_code}
 use Rattle.source_lowering.proofs.memory.StructCells.{shapes_in}
+use Rattle.source_lowering.proofs.memory.ObjectShapes.{object_made, whole_object}
 use Rattle.source_lowering.specs.Simulation.{
   at,
   AreMade,
@@ -54,7 +55,7 @@ use Rattle.source_lowering.proofs.expressions.Places.{IsPlaced}
 abbrev pub own_spot : ℕ → ℕ → ℕ → core.Spot
 own_spot own value cell = record { region = core.Own own; object = value; cell = cell }
 
--- A struct is an unnamed value to which there is a pointer in a temporary; temporaries below it, and values before it, are as they were.
+-- A struct or a union is an unnamed value to which there is a pointer in a temporary; temporaries below it, and values before it, are as they were.
 pub record WholeGoesOn (p : Point) (n d value : ℕ) (m0 : source.Memory) (c0 : Config) (shape : Shape) (s : List Scalar → source.Memory → steps.Step)
     (k : Config → core_steps.Step) : Type 0 where
   pub above : p.regions.all ≤ d
@@ -62,14 +63,14 @@ pub record WholeGoesOn (p : Point) (n d value : ℕ) (m0 : source.Memory) (c0 : 
       → c.temps d ≡ Pointer (own_spot p.own value 0) 0 → AllShown p.world m c.memory (own_spot p.own value 0) (cells_of p.world shape) vs
       → SameAt p n (s vs m) (k c)
 
--- an expression gives a struct, and its code that value
+-- an expression gives a struct or a union, and its code that value
 pub record IsWhole (p : Point) (n d value : ℕ) (e : Sense) (code : List Statement) : Type 0 where
-  pub tag : List ℕ
-  pub shape_is : e.shape ≡ StructShape tag
-  pub object : IsObject p.world.structs (StructShape tag)
-  pub numbered : slice_get p.owned value ≡ Some (StructShape tag)
+  pub shape : Shape
+  pub shape_is : e.shape ≡ shape
+  pub object : IsObject p.world.unions p.world.structs shape
+  pub numbered : slice_get p.owned value ≡ Some shape
   pub same : (m : source.Memory) (c : Config) (s : List Scalar → source.Memory → steps.Step) (rest : Statements) (next : Next) → SameState p m c
-      → WholeGoesOn p n d value m c (StructShape tag) s (meaning.statements rest next) → SameAt p n (e.value s m) (meaning.statements (put code rest) next c)
+      → WholeGoesOn p n d value m c shape s (meaning.statements rest next) → SameAt p n (e.value s m) (meaning.statements (put code rest) next c)
 
 -- ---- bounds
 
@@ -192,12 +193,13 @@ pending_at w c r index (suc i) (x ∷ ss) s h e =
     let next : suc index + i ≡ index + suc i = omega arith in
     subst (λ z. LocalMade w c r z s) next (pending_at w c r (suc index) i ss s h.1 e)
 
-pub value_made : (p : Point) (m : source.Memory) (c : Config) (value : ℕ) (shape : Shape) → SameState p m c → slice_get p.owned value ≡ Some shape
-    → LocalMade p.world c.memory (core.Own p.own) value shape
-value_made p m c value shape fits e =
+pub value_made : (p : Point) (m : source.Memory) (c : Config) (value : ℕ) (shape : Shape) → IsObject p.world.unions p.world.structs shape → SameState p m c
+    → slice_get p.owned value ≡ Some shape → AreMade c.memory (own_spot p.own value 0) 0 (layout_of p.world shape).cells
+value_made p m c value shape object fits e =
     let none : 0 + value ≡ value = omega arith in
-    subst (λ z. LocalMade p.world c.memory (core.Own p.own) z shape) none
-    (pending_at p.world c.memory (core.Own p.own) 0 value p.owned shape fits.owned e)
+    object_made p.world.unions p.world.structs p.world c.memory (core.Own p.own) value shape object
+    (subst (λ z. LocalMade p.world c.memory (core.Own p.own) z shape) none
+    (pending_at p.world c.memory (core.Own p.own) 0 value p.owned shape fits.owned e))
 
 -- ---- what a place holds is copied there
 
@@ -213,17 +215,17 @@ value_copied c d own value byte t l next is temp live other laid laid_t apart =
     let there : nat_eq d (d + 1) ≡ false = grind (arith, nat_tests) in
     rw (is, here, there, temp, live, laid, other, laid_t, apart) refl
 
-pub place_whole : (p : Point) (n d value : ℕ) (e : Sense) (tag : List ℕ) (code : List Statement) → AreStructs p.world.unions p.world.structs
-    → IsObject p.world.structs (StructShape tag) → slice_get p.owned value ≡ Some (StructShape tag) → IsPlaced (keeping p value) n d e (StructShape tag) code
-    → IsWhole p n d value e (code ++ copied_code p.world (StructShape tag) d value)
-place_whole p n d value e tag code structs object numbered one = record {
-  tag = tag;
+pub place_whole : (p : Point) (n d value : ℕ) (e : Sense) (shape : Shape) (code : List Statement) → AreStructs p.world.unions p.world.structs
+    → IsWholeShape p.world.unions p.world.structs shape → slice_get p.owned value ≡ Some shape → IsPlaced (keeping p value) n d e shape code
+    → IsWhole p n d value e (code ++ copied_code p.world shape d value)
+place_whole p n d value e shape code structs whole numbered one = record {
+  shape = shape;
   shape_is = one.shape_is;
   object = object;
   numbered = numbered;
   same = λ m c s rest next fits goes.
       subst (λ z. SameAt p n (e.value s m) (meaning.statements z next c)) (sym (put_all code (copied_code p.world shape d value) rest))
-      (subst (λ z. SameAt p n z (meaning.statements (put code (put (copied_code p.world shape d value) rest)) next c)) (sym (one.value object s m))
+      (subst (λ z. SameAt p n z (meaning.statements (put code (put (copied_code p.world shape d value) rest)) next c)) (sym (one.value whole s m))
       (subst (λ z. SameAt p n (e.place (λ t. take_cells (cells_of p.world z) t s) m)
       (meaning.statements (put code (put (copied_code p.world shape d value) rest)) next c)) (sym one.shape_is)
       (one.placed.same m c (λ t. take_cells (cells_of p.world shape) t s) (put (copied_code p.world shape d value) rest) next
@@ -234,32 +236,32 @@ place_whole p n d value e tag code structs object numbered one = record {
             let has = lies.cells in
             let cells : cells_of p.world shape ≡ has.first.shape ∷ shapes_in has.others = sym has.shapes ∙ ap shapes_in has.is in
             subst (λ z. SameAt p n z (meaning.statements (put (copied_code p.world shape d value) rest) next c1))
-            (sym (whole_taken (cells_of p.world shape) t s m1 has.values))
+            (sym (whole_taken p.world.unions (cells_of p.world shape) t s m1 has.cells))
             (read_all p.world p.program n (cells_of p.world shape) m1 t s (meaning.statements (put (copied_code p.world shape d value) rest) next c1) leads.0
             (λ vs held live.
             copy_same m c s rest next goes m1 c1 t byte vs fits1 later1 kept1 temp leads.1
-            (held_shown p.world m1 c1.memory t (cells_of p.world shape) vs fits1.agree has.values held)
+            (held_shown p.world m1 c1.memory t (cells_of p.world shape) vs fits1.agree has.cells held)
             (sym (fits1.agree.live t.region) ∙ subst (λ z. IsLiveFor m1 t z) cells live)));
       }))));
 }
   where
-    shape : Shape
-    shape = StructShape tag
-
     layout : Layout
-    layout = layout_of p.world (StructShape tag)
+    layout = layout_of p.world shape
+
+    object : IsObject p.world.unions p.world.structs shape
+    object = whole_object p.world.unions p.world.structs shape whole
 
     spot : core.Spot
     spot = own_spot p.own value 0
 
     copy_same : (m : source.Memory) (c : Config) (s : List Scalar → source.Memory → steps.Step) (rest : Statements) (next : Next)
-        → WholeGoesOn p n d value m c (StructShape tag) s (meaning.statements rest next) → (m1 : source.Memory) (c1 : Config) (t : Spot) (byte : ℕ)
+        → WholeGoesOn p n d value m c shape s (meaning.statements rest next) → (m1 : source.Memory) (c1 : Config) (t : Spot) (byte : ℕ)
         (vs : List Scalar) → SameState p m1 c1 → Grown (before_value p value) m c.memory m1 c1.memory → AreKept d c c1 → c1.temps d ≡ Pointer (at t) byte
         → AreMade c1.memory (at t) byte layout.cells → AllShown p.world m1 c1.memory (at t) (cells_of p.world shape) vs
         → core.is_live (c1.memory.standing (at t).region) ≡ true
         → SameAt p n (s vs m1) (meaning.statements (put (copied_code p.world shape d value) rest) next c1)
     copy_same m c s rest next goes m1 c1 t byte vs fits1 later1 kept1 temp made held live =
-        let here = value_made p m1 c1 value shape fits1 numbered in
+        let here = value_made p m1 c1 value shape object fits1 numbered in
         let middle : Config = with_memory (copied layout spot (at t) c1.memory) (with_temp (d + 1) (Pointer spot 0) c1) in
         let c2 : Config = with_temp d (Pointer spot 0) middle in
         let copies = copied_later (before_value p value) m1 c1.memory layout spot (at t) (own_free p value value 0 (omega arith)) in

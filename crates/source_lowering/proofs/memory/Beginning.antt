@@ -32,7 +32,7 @@ use Rattle.core_meaning.specs.Steps.{Config, with_temp, with_memory}
 use Rattle.core_meaning.specs.Operations.{does, fitting, are_elements, cleared}
 use Rattle.core_meaning.specs.Meaning as meaning
 use Rattle.source_lowering.specs.Lowered.{width_of, put}
-use Rattle.source_lowering.specs.Layouts.{first_part, layout_of, pieces_of, part_shape_of}
+use Rattle.source_lowering.specs.Layouts.{first_part, layout_of, cell_pieces, part_shape_of}
 use Rattle.source_lowering.specs.Programs.{first_code, unset_code}
 use Rattle.source_lowering.specs.Taken.{HasFirst}
 use Rattle.source_lowering.specs.Lowerable.{IsObject, AreStructs, HasBeginning}
@@ -45,10 +45,10 @@ use Rattle.source_lowering.proofs.values.Integers.{IsWordShape, word_value, valu
 use Rattle.source_lowering.proofs.memory.Cells.{IsPlain, plain_of}
 use Rattle.source_lowering.proofs.expressions.Making.{local_spot, cell_spot, m_made, grown_later, ahead_later, agree_ahead}
 use Rattle.source_lowering.proofs.values.Values.{kept_temp, put_temp}
-use Rattle.source_lowering.proofs.memory.StructCells.{AreValueShapes, object_cells}
+use Rattle.source_lowering.proofs.memory.StructCells.{AreCellShapes, value_cell, object_cells}
 use Rattle.source_lowering.proofs.memory.Clearing.{element_there, cleared_later, agree_cleared, layout_first, made_at, placed_at, cleared_holds}
 use Rattle.source_lowering.proofs.memory.CellParts.{firsts_of}
-use Rattle.source_lowering.proofs.memory.Members.{word_pieces}
+use Rattle.source_lowering.proofs.memory.Members.{word_pieces, cells_pieces}
 use Rattle.source_lowering.proofs.memory.ObjectShapes.{object_made}
 use Rattle.source_lowering.proofs.statements.Declaring.{with_local, part_to_come, local_fits, part_with, put_here}
 use Rattle.source_lowering.proofs.memory.FirstCells.{first_shown, first_cell_is}
@@ -78,16 +78,17 @@ first_of (ArrayShape count of) word h = absurd h
 -- ---- a local without an initializer
 
 -- where Core's parts begin so, the source makes the object
-begins_fits : (p : Point) (m : source.Memory) (c : Config) (name : List ℕ) (shape : Shape) (shapes : List Shape) → AreValueShapes (cells_of p.world shape)
-    → IsObject p.world.structs shape → p.pending ≡ shape ∷ shapes → SameState p m c
+begins_fits : (p : Point) (m : source.Memory) (c : Config) (name : List ℕ) (shape : Shape) (shapes : List Shape)
+    → AreCellShapes p.world.unions (cells_of p.world shape)
+    → IsObject p.world.unions p.world.structs shape → p.pending ≡ shape ∷ shapes → SameState p m c
     → ((cell : ℕ) (of : Shape) → slice_get (cells_of p.world shape) cell ≡ Some of
-    → PartsHold c.memory (at (cell_spot p.frame p.made cell)) 0 (firsts_of (pieces_of of)))
+    → PartsHold c.memory (at (cell_spot p.frame p.made cell)) 0 (firsts_of (cell_pieces p.world.unions of)))
     → SameState (with_local p name shape shapes) (m_made m p.frame (first_object p.world shape)) c
 begins_fits p m c name shape shapes values object pending fits held =
     local_fits p m c name shape shapes source.first_content object pending fits
     (λ cell of v e.
-    let o = first_cell_is (cells_of p.world shape) cell of v values e in
-    record { contents = firsts_of (pieces_of of); shown = first_shown p.world m c.memory of v o.is_value o.holds; held = held cell of o.here })
+    let o = first_cell_is p.world.unions (cells_of p.world shape) cell of v values e in
+    record { contents = firsts_of (cell_pieces p.world.unions of); shown = first_shown p.world m c.memory of v o.is_value o.holds; held = held cell of o.here })
 
 -- where Core's code goes on from there
 pub declared_by : (p : Point) (n : ℕ) (scope : Scope) (name : List ℕ) (shape : Shape) (o : World → Object) (then_act : Scope → Act Flow)
@@ -140,8 +141,8 @@ word_begins p n scope name shape shapes then_act next m c rest after world frame
     plain : IsPlain p.world shape (width_of shape)
     plain = plain_of p.world shape is_word
 
-    object : IsObject p.world.structs shape
-    object = value_object p.world.structs shape (word_value shape is_word)
+    object : IsObject p.world.unions p.world.structs shape
+    object = value_object p.world.unions p.world.structs shape (word_value shape is_word)
 
     first : IsFirst shape
     first = first_of shape is_word begins
@@ -174,14 +175,15 @@ word_begins p n scope name shape shapes then_act next m c rest after world frame
     fits1 = fits_later p m m c c1 fits agree1 (later1 (within p)) refl
         (kept_temp p.regions.all p.regions.all first.content c c (omega arith) (λ k less. refl))
 
-    values : AreValueShapes (cells_of p.world shape)
-    values = subst AreValueShapes (sym plain.cells) (word_value shape is_word, tt)
+    values : AreCellShapes p.world.unions (cells_of p.world shape)
+    values = subst (AreCellShapes p.world.unions) (sym plain.cells) (value_cell p.world.unions shape (word_value shape is_word), tt)
 
     only : (cell : ℕ) (of : Shape) → slice_get (shape ∷ []) cell ≡ Some of
-        → PartsHold c1.memory (at (cell_spot p.frame p.made cell)) 0 (firsts_of (pieces_of of))
+        → PartsHold c1.memory (at (cell_spot p.frame p.made cell)) 0 (firsts_of (cell_pieces p.world.unions of))
     only zero of e =
         subst (λ z. PartsHold c1.memory (at spot) 0 z)
-        (ap (λ z. z ∷ []) (sym first.part) ∙ sym (ap firsts_of (word_pieces shape is_word)) ∙ ap (λ z. firsts_of (pieces_of z)) (some_is shape of e))
+        (ap (λ z. z ∷ []) (sym first.part) ∙ sym (ap firsts_of (cells_pieces p.world.unions shape (word_value shape is_word) ∙ word_pieces shape is_word)) ∙
+        ap (λ z. firsts_of (cell_pieces p.world.unions z)) (some_is shape of e))
         ((part_with (width_of shape) first.content, (rw (spot_self (at spot)) refl, refl)), tt)
       where
         some_is : (s z : Shape) → Some s ≡ Some z → s ≡ z
@@ -216,7 +218,8 @@ cleared_at c d index frame outer l next block live there = rw (block, eq-eqb d d
 -- a struct, and a fat pointer
 pub object_begins : (p : Point) (n : ℕ) (scope : Scope) (name : List ℕ) (shape : Shape) (shapes : List Shape) (then_act : Scope → Act Flow)
     (next : Flow → source.Memory → steps.Step) (m : source.Memory) (c : Config) (rest : Statements) (after : Next)
-    → scope.world ≡ p.world → scope.frame ≡ p.frame → AreStructs p.world.unions p.world.structs → IsObject p.world.structs shape → p.pending ≡ shape ∷ shapes
+    → scope.world ≡ p.world → scope.frame ≡ p.frame → AreStructs p.world.unions p.world.structs → IsObject p.world.unions p.world.structs shape
+    → p.pending ≡ shape ∷ shapes
     → SameState p m c → BeginsIn p (with_local p name shape shapes) n m c
     (λ m'. then_act (with_binding scope name (Variable shape (local_spot p.frame p.made))) next m') (meaning.statements rest after)
     → SameAt p n (declared scope name shape (first_object scope.world shape) then_act next m) (meaning.statements
@@ -238,7 +241,7 @@ object_begins p n scope name shape shapes then_act next m c rest after world fra
     all = subst (λ z. ArePending p.world c.memory (core.Frame p.frame) p.made z) pending fits.pending
 
     made : AreMade c.memory (at spot) 0 layout.cells
-    made = object_made p.world.structs p.world c.memory (core.Frame p.frame) p.made shape object all.0
+    made = object_made p.world.unions p.world.structs p.world c.memory (core.Frame p.frame) p.made shape object all.0
 
     c1 : Config
     c1 = with_memory (cleared layout 1 (at spot) c.memory) (with_temp p.regions.all (Pointer (at spot) 0) c)
@@ -253,15 +256,16 @@ object_begins p n scope name shape shapes then_act next m c rest after world fra
     fits1 = fits_later p m m c c1 fits agree1 (later1 (within p)) refl
         (kept_temp p.regions.all p.regions.all (Pointer (at spot) 0) c c (omega arith) (λ k less. refl))
 
-    values : AreValueShapes (cells_of p.world shape)
-    values = (object_cells p.world.unions p.world.structs shape structs object).values
+    values : AreCellShapes p.world.unions (cells_of p.world shape)
+    values = (object_cells p.world.unions p.world.structs shape structs object).cells
 
     held : (cell : ℕ) (of : Shape) → slice_get (cells_of p.world shape) cell ≡ Some of
-        → PartsHold c1.memory (at (cell_spot p.frame p.made cell)) 0 (firsts_of (pieces_of of))
+        → PartsHold c1.memory (at (cell_spot p.frame p.made cell)) 0 (firsts_of (cell_pieces p.world.unions of))
     held cell of e =
         let first = layout_first p.world shape cell of structs object e in
-        let parts : List PartShape = map (part_shape_of (placed_at first.offset of)) (pieces_of of) ++ first.others in
-        cleared_holds layout (core.Frame p.frame) p.made 0 c.memory cell 0 parts (placed_at first.offset of) (pieces_of of) first.others first.less first.is
+        let parts : List PartShape = map (part_shape_of (placed_at first.offset of)) (cell_pieces p.world.unions of) ++ first.others in
+        cleared_holds layout (core.Frame p.frame) p.made 0 c.memory cell 0 parts (placed_at first.offset of)
+        (cell_pieces p.world.unions of) first.others first.less first.is
         (λ i. ap (slice_get parts) (zero_on i))
         (subst (λ z. AreShaped c.memory (at (cell_spot p.frame p.made z)) 0 0 parts) (zero_on cell)
         (made_at c.memory (core.Frame p.frame) p.made 0 0 cell layout.cells parts made first.is))
@@ -283,7 +287,8 @@ object_begins p n scope name shape shapes then_act next m c rest after world fra
 -- whichever
 pub declared_same : (p : Point) (n : ℕ) (scope : Scope) (name : List ℕ) (shape : Shape) (shapes : List Shape) (then_act : Scope → Act Flow)
     (next : Flow → source.Memory → steps.Step) (m : source.Memory) (c : Config) (rest : Statements) (after : Next)
-    → scope.world ≡ p.world → scope.frame ≡ p.frame → AreStructs p.world.unions p.world.structs → IsObject p.world.structs shape → HasBeginning shape
+    → scope.world ≡ p.world → scope.frame ≡ p.frame → AreStructs p.world.unions p.world.structs → IsObject p.world.unions p.world.structs shape
+    → HasBeginning shape
     → p.pending ≡ shape ∷ shapes → SameState p m c
     → BeginsIn p (with_local p name shape shapes) n m c (λ m'. then_act (with_binding scope name (Variable shape (local_spot p.frame p.made))) next m')
     (meaning.statements rest after)
@@ -305,5 +310,5 @@ declared_same p n scope name (FatShape to) shapes then_act next m c rest after w
     object_begins p n scope name (FatShape to) shapes then_act next m c rest after world frame structs object pending fits goes
 declared_same p n scope name HandleShape shapes then_act next m c rest after world frame structs object begins pending fits goes = absurd begins
 declared_same p n scope name KeyShape shapes then_act next m c rest after world frame structs object begins pending fits goes = absurd object
-declared_same p n scope name (UnionShape tag) shapes then_act next m c rest after world frame structs object begins pending fits goes = absurd object
+declared_same p n scope name (UnionShape tag) shapes then_act next m c rest after world frame structs object begins pending fits goes = absurd begins
 declared_same p n scope name (ArrayShape count of) shapes then_act next m c rest after world frame structs object begins pending fits goes = absurd object

@@ -38,6 +38,18 @@ FitPieces [] (x ∷ xs) = ⊥
 FitPieces (q ∷ qs) [] = ⊥
 FitPieces (q ∷ qs) (x ∷ xs) = (fitting q.width x ≡ x) × FitPieces qs xs
 
+-- so do those that are in the first of them; the others are free
+abbrev pub FitFirst : List Piece → List Content → Type 0
+FitFirst qs [] = Unit {0}
+FitFirst [] (x ∷ xs) = ⊥
+FitFirst (q ∷ qs) (x ∷ xs) = (fitting q.width x ≡ x) × FitFirst qs xs
+
+pub fit_first : (qs : List Piece) (xs : List Content) → FitPieces qs xs → FitFirst qs xs
+fit_first [] [] h = tt
+fit_first [] (x ∷ xs) h = absurd h
+fit_first (q ∷ qs) [] h = absurd h
+fit_first (q ∷ qs) (x ∷ xs) h = (h.0, fit_first qs xs h.1)
+
 -- what they hold first
 abbrev pub firsts_of : List Piece → List Content
 firsts_of [] = []
@@ -126,12 +138,12 @@ all_kept c t byte j (q ∷ qs) (y ∷ ys) (x ∷ xs) h u i offset width one =
     record { content = more.content; is = more.is }
 
 -- the parts hold what was written
-pub all_hold : (c : core.Memory) (t : core.Spot) (byte j : ℕ) (qs : List Piece) (xs : List Content) → FitPieces qs xs
+pub first_hold : (c : core.Memory) (t : core.Spot) (byte j : ℕ) (qs : List Piece) (xs : List Content) → FitFirst qs xs
     → PartsHold (record c { parts = all_written c.parts t byte j qs xs }) t j xs
-all_hold c t byte j [] [] fits = tt
-all_hold c t byte j [] (x ∷ xs) fits = absurd fits
-all_hold c t byte j (q ∷ qs) [] fits = absurd fits
-all_hold c t byte j (q ∷ qs) (x ∷ xs) fits = (
+first_hold c t byte j [] [] fits = tt
+first_hold c t byte j [] (x ∷ xs) fits = absurd fits
+first_hold c t byte j (q ∷ qs) [] fits = tt
+first_hold c t byte j (q ∷ qs) (x ∷ xs) fits = (
   (
     part_of byte q x,
     (
@@ -139,8 +151,12 @@ all_hold c t byte j (q ∷ qs) (x ∷ xs) fits = (
       refl,
     ),
   ),
-  all_hold (with_part c t j (part_of byte q x)) t byte (suc j) qs xs fits.1,
+  first_hold (with_part c t j (part_of byte q x)) t byte (suc j) qs xs fits.1,
 )
+
+pub all_hold : (c : core.Memory) (t : core.Spot) (byte j : ℕ) (qs : List Piece) (xs : List Content) → FitPieces qs xs
+    → PartsHold (record c { parts = all_written c.parts t byte j qs xs }) t j xs
+all_hold c t byte j qs xs fits = first_hold c t byte j qs xs (fit_first qs xs fits)
 
 -- those of other cells hold what they held
 pub held_apart : (c : core.Memory) (ps : Parts) (t : core.Spot) (j : ℕ) (cs : List Content) → ((i : ℕ) → ps t i ≡ c.parts t i) → PartsHold c t j cs

@@ -151,7 +151,7 @@ plain_of w (UnionShape tag) h = absurd h
 plain_of w (ArrayShape count of) h = absurd h
 
 -- an object is a local of one element
-pub object_local : (w : World) (shape : Shape) → IsObject w.structs shape → local_of w shape ≡ record { layout = layout_of w shape; count = 1 }
+pub object_local : (w : World) (shape : Shape) → IsObject w.unions w.structs shape → local_of w shape ≡ record { layout = layout_of w shape; count = 1 }
 object_local w (StructShape tag) h = refl
 object_local w IntShape h = refl
 object_local w UnsignedShape h = refl
@@ -161,7 +161,7 @@ object_local w (ThinShape may_be_null owner to) h = refl
 object_local w (FatShape to) h = refl
 object_local w HandleShape h = refl
 object_local w KeyShape h = absurd h
-object_local w (UnionShape tag) h = absurd h
+object_local w (UnionShape tag) h = refl
 object_local w (ArrayShape count of) h = absurd h
 
 -- the one cell of a plain place, and its one part

@@ -31,7 +31,7 @@ use Rattle.std.proofs.Math.Nat.{mod-eq_of_lt}
 use Rattle.std.proofs.lemmas.Bool.{eqb-true, eq-eqb, and_parts}
 use Rattle.std.proofs.lemmas.Bool.Decides.{nat_tests}
 use Rattle.std.proofs.lemmas.Option.{none-some}
-use Rattle.source_meaning.specs.Shapes.{Shape}
+use Rattle.source_meaning.specs.Shapes.{Shape, Layout as ShapeLayout}
 use Rattle.source_meaning.specs.Sizes.{Extent}
 use Rattle.source_meaning.specs.Placing.{Placed}
 use Rattle.source_meaning.specs.Memory as source
@@ -54,7 +54,7 @@ use Rattle.core_meaning.specs.Operations.{
   cleared,
 }
 use Rattle.core_meaning.proofs.Spots.{region_self}
-use Rattle.source_lowering.specs.Layouts.{Piece, pieces_of, part_shape_of, padding, next_at, padded, layout_of, placed_of, extent_of}
+use Rattle.source_lowering.specs.Layouts.{Piece, cell_pieces, part_shape_of, padding, next_at, padded, layout_of, placed_of, extent_of}
 use Rattle.source_lowering.specs.Lowerable.{IsObject, AreStructs}
 use Rattle.source_lowering.proofs.memory.StructCells.{shapes_in, object_cells}
 use Rattle.source_lowering.specs.Simulation.{region_at, at, PartIs, AreShaped, AreMade, PartsHold, SameMemory, Bound, nothing, IsFree, Grown}
@@ -226,38 +226,39 @@ agree_cleared w m c k index l count a made = record {
 abbrev pub placed_at : ℕ → Shape → Placed
 placed_at offset shape = record { offset = offset; shape = shape }
 
--- a cell begins with its value's parts
-pub record BeginsWith (xss : List (List PartShape)) (k : ℕ) (shape : Shape) : Type 0 where
+-- a cell begins with its own parts
+pub record BeginsWith (unions : List ShapeLayout) (xss : List (List PartShape)) (k : ℕ) (shape : Shape) : Type 0 where
   pub others : List PartShape
   pub offset : ℕ
-  pub is : slice_get xss k ≡ Some (map (part_shape_of (placed_at offset shape)) (pieces_of shape) ++ others)
+  pub is : slice_get xss k ≡ Some (map (part_shape_of (placed_at offset shape)) (cell_pieces unions shape) ++ others)
   pub less : k < length xss
 
-padded_first : (extent : Shape → Extent) (bytes : ℕ) (ps : List Placed) (k : ℕ) (shape : Shape) → slice_get (shapes_in ps) k ≡ Some shape
-    → BeginsWith (padded extent bytes ps) k shape
-padded_first extent bytes [] k shape e = absurd (cc e)
-padded_first extent bytes (p ∷ ps) Rattle.std.proofs.Common.zero shape e =
+padded_first : (unions : List ShapeLayout) (extent : Shape → Extent) (bytes : ℕ) (ps : List Placed) (k : ℕ) (shape : Shape)
+    → slice_get (shapes_in ps) k ≡ Some shape
+    → BeginsWith unions (padded unions extent bytes ps) k shape
+padded_first unions extent bytes [] k shape e = absurd (cc e)
+padded_first unions extent bytes (p ∷ ps) Rattle.std.proofs.Common.zero shape e =
     let end : ℕ = p.offset + (extent p.shape).size in
     let pad : List PartShape = padding end (next_at bytes ps - end) in
     let same : p.shape ≡ shape = some_is p.shape shape e in
     record {
       others = pad;
       offset = p.offset;
-      is = ap (λ z. Some (map (part_shape_of (placed_at p.offset z)) (pieces_of z) ++ pad)) same;
+      is = ap (λ z. Some (map (part_shape_of (placed_at p.offset z)) (cell_pieces unions z) ++ pad)) same;
       less = omega arith;
     }
   where
     some_is : (s z : Shape) → Some s ≡ Some z → s ≡ z
     some_is s z f = cc f
-padded_first extent bytes (p ∷ ps) (suc k) shape e =
-    let more = padded_first extent bytes ps k shape e in
+padded_first unions extent bytes (p ∷ ps) (suc k) shape e =
+    let more = padded_first unions extent bytes ps k shape e in
     record { others = more.others; offset = more.offset; is = more.is; less = let f = more.less in omega (arith, f) }
 
-pub layout_first : (w : World) (s : Shape) (k : ℕ) (shape : Shape) → AreStructs w.unions w.structs → IsObject w.structs s
-    → slice_get (cells_of w s) k ≡ Some shape → BeginsWith (layout_of w s).cells k shape
+pub layout_first : (w : World) (s : Shape) (k : ℕ) (shape : Shape) → AreStructs w.unions w.structs → IsObject w.unions w.structs s
+    → slice_get (cells_of w s) k ≡ Some shape → BeginsWith w.unions (layout_of w s).cells k shape
 layout_first w s k shape structs object e =
     let has = object_cells w.unions w.structs s structs object in
-    padded_first (extent_of w) (extent_of w s).size (placed_of w s) k shape (ap (λ z. slice_get z k) has.shapes ∙ e)
+    padded_first w.unions (extent_of w) (extent_of w s).size (placed_of w s) k shape (ap (λ z. slice_get z k) has.shapes ∙ e)
 
 -- the parts of a made object's cell
 pub made_at : (c : core.Memory) (r : core.Region) (index cell b k : ℕ) (xss : List (List PartShape)) (xs : List PartShape)

@@ -1,28 +1,15 @@
--- A struct's object is copied to a local: the source reads all cells and writes them one by one, and Core copies the object's parts at once.
+-- An object is copied: the source reads all cells and writes them one by one, and Core copies the object's parts at once.
 use Rattle.std.proofs.Common.{◌≡◌, ℕ, suc, ◌+◌, ◌<◌, List, [], ◌∷◌, length, Bool, true, false, not, nat_eq, Option, Some, None, refl, sym, ap, ◌∙◌, subst}
 use Rattle.std.proofs.Common.{arith, ◌++◌}
 use Rattle.std.specs.Prelude.{◌&&◌, ◌-◌, if◌then◌else◌, nat_lt, nat_le, slice_get, map}
 use Rattle.std.proofs.lemmas.Bool.{eq-eqb}
 use Rattle.std.proofs.lemmas.Bool.Decides.{nat_tests}
-use Rattle.source_meaning.specs.Shapes.{
-  Shape,
-  IntShape,
-  UnsignedShape,
-  CharShape,
-  VoidShape,
-  ThinShape,
-  FatShape,
-  HandleShape,
-  KeyShape,
-  StructShape,
-  UnionShape,
-  ArrayShape,
-}
+use Rattle.source_meaning.specs.Shapes.{Shape}
 use Rattle.source_meaning.specs.Memory as source
-use Rattle.source_meaning.specs.Memory.{Scalar, Spot, Holds, is_live, is_of, is_moved, any_moved}
+use Rattle.source_meaning.specs.Memory.{Scalar, Spot, Holds, is_live, is_of}
 use Rattle.source_meaning.specs.Steps as steps
 use Rattle.source_meaning.specs.Steps.{World, check}
-use Rattle.source_meaning.specs.Values.{read_cells, take_cells, write_cells, put_content, value_held, is_lent}
+use Rattle.source_meaning.specs.Values.{write_cells, put_content, is_lent}
 use Rattle.core_meaning.specs.Memory as core
 use Rattle.core_meaning.specs.Memory.{Part, PartShape, Layout, Content}
 use Rattle.core_meaning.specs.Core.{Program}
@@ -31,86 +18,26 @@ use Rattle.core_meaning.specs.Operations.{same_object, cells_on, part_of, on_fro
 use Rattle.core_meaning.proofs.Spots.{region_self}
 use Rattle.core_meaning.proofs.Wholes.{beyond_none, beyond_both}
 use Rattle.source_meaning.specs.Conversions.{cells_of}
-use Rattle.source_lowering.specs.Layouts.{layout_of, Piece, pieces_of, part_shape_of}
+use Rattle.source_lowering.specs.Layouts.{layout_of, Piece, cell_pieces, part_shape_of}
 use Rattle.source_lowering.specs.Lowerable.{IsObject, AreStructs}
-use Rattle.source_lowering.proofs.memory.StructCells.{AreValueShapes}
+use Rattle.source_lowering.specs.ObjectCells.{AreCellShapes}
 use Rattle.source_lowering.specs.Simulation.{at, HasShape, PartIs, AreCells, AreMade, PartsHold, Shown, SameMemory, Bound, nothing, IsFree, Grown, Same, AreShaped}
 use Rattle.source_lowering.proofs.memory.Keeping.{named_free, free_nothing, free_object, later_self, later_on, shown_later, m_written}
 use Rattle.source_lowering.proofs.Runs.{stuck_same}
+pub use Rattle.source_lowering.proofs.memory.ObjectReads.{whole_taken, AllHeld, IsLiveFor, read_all}
 use Rattle.source_lowering.proofs.expressions.Making.{cell_spot}
-use Rattle.source_lowering.proofs.memory.CellParts.{FitPieces, agree_shown, later_shown}
-use Rattle.source_lowering.proofs.memory.ValueCells.{cell_of}
-use Rattle.source_lowering.proofs.values.Integers.{IsValueShape}
+use Rattle.source_lowering.proofs.memory.CellParts.{FitFirst, agree_shown, later_shown}
+use Rattle.source_lowering.proofs.memory.UnionCells.{shown_fits}
 use Rattle.source_meaning.specs.Placing.{Placed}
 use Rattle.source_lowering.proofs.expressions.ElementsMade.{here_on, further_on}
 use Rattle.source_lowering.proofs.memory.Clearing.{held_still, new_object, layout_first, made_at, placed_at}
-
--- ---- the source reads an object
-
-owner_still : (s : Shape) → IsValueShape s → is_moved s ≡ false
-owner_still IntShape h = refl
-owner_still UnsignedShape h = refl
-owner_still CharShape h = refl
-owner_still VoidShape h = absurd h
-owner_still (ThinShape b owner to) h = ap source.is_alone h.0
-owner_still (FatShape to) h = refl
-owner_still HandleShape h = refl
-owner_still KeyShape h = absurd h
-owner_still (StructShape tag) h = absurd h
-owner_still (UnionShape tag) h = absurd h
-owner_still (ArrayShape count of) h = absurd h
-
-none_moved : (xs : List Shape) → AreValueShapes xs → any_moved xs ≡ false
-none_moved [] h = refl
-none_moved (x ∷ xs) h = ap (λ b. if b then true else any_moved xs) (owner_still x h.0) ∙ none_moved xs h.1
-
--- an object of words is copied as it is looked at
-pub whole_taken : (xs : List Shape) (t : Spot) (s : List Scalar → source.Memory → steps.Step) (m : source.Memory) → AreValueShapes xs
-    → take_cells xs t s m ≡ read_cells (length xs) t s m
-whole_taken xs t s m h = rw (none_moved xs h) refl
-
--- what the cells from a spot on hold
-abbrev pub AllHeld : source.Memory → Spot → List Shape → List Scalar → Type 0
-AllHeld m s [] [] = Unit {0}
-AllHeld m s (x ∷ xs) (v ∷ vs) = (m.cells s ≡ Some (record { shape = x; content = Holds v })) × AllHeld m (source.beyond s 1) xs vs
-AllHeld m s [] (v ∷ vs) = ⊥
-AllHeld m s (x ∷ xs) [] = ⊥
-
--- and that their region is live, if there are any
-abbrev pub IsLiveFor : source.Memory → Spot → List Shape → Type 0
-IsLiveFor m s [] = Unit {0}
-IsLiveFor m s (x ∷ xs) = (is_live m s.region ≡ true)
-
-pub read_all : (w : World) (fs : Program) (n : ℕ) (xs : List Shape) (m : source.Memory) (t : Spot) (s : List Scalar → source.Memory → steps.Step)
-    (k : core_steps.Step) → AreCells m t xs → ((vs : List Scalar) → AllHeld m t xs vs → IsLiveFor m t xs → Same w fs n (s vs m) k)
-    → Same w fs n (read_cells (length xs) t s m) k
-read_all w fs n [] m t s k cells go = go [] tt tt
-read_all w fs n (x ∷ xs) m t s k cells go = by (is_live m t.region) refl
-    (λ v live is. read_all w fs n xs m (source.beyond t 1) (λ vs. s (v ∷ vs)) k cells.1 (λ vs held rest. go (v ∷ vs) (is, held) live))
-  where
-    after : Scalar → source.Memory → steps.Step
-    after v = read_cells (length xs) (source.beyond t 1) (λ vs. s (v ∷ vs))
-
-    held : (is_live m t.region ≡ true) → (y : source.Content) → m.cells t ≡ Some (record { shape = x; content = y })
-        → ((v : Scalar) → is_live m t.region ≡ true → m.cells t ≡ Some (record { shape = x; content = Holds v }) → Same w fs n (after v m) k)
-        → Same w fs n (value_held y after m) k
-    held live source.Blank is next = stuck_same w fs n k
-    held live source.Gone is next = stuck_same w fs n k
-    held live (source.Lent x) is next = stuck_same w fs n k
-    held live (Holds v) is next = next v live is
-
-    by : (b : Bool) → is_live m t.region ≡ b
-        → ((v : Scalar) → is_live m t.region ≡ true → m.cells t ≡ Some (record { shape = x; content = Holds v }) → Same w fs n (after v m) k)
-        → Same w fs n (read_cells (suc (length xs)) t s m) k
-    by false e next = rw e (stuck_same w fs n k)
-    by true e next = rw (e, cells.0.is) (held e cells.0.content cells.0.is next)
 
 -- ---- the source writes what Core's parts show already
 
 -- a cell's parts show a value
 pub record IsCellShown (w : World) (m : source.Memory) (c : core.Memory) (t : core.Spot) (shape : Shape) (v : Scalar) : Type 0 where
   pub contents : List Content
-  pub fit : FitPieces (pieces_of shape) contents
+  pub fit : FitFirst (cell_pieces w.unions shape) contents
   pub held : PartsHold c t 0 contents
   pub shown : Shown w m c shape v contents
 
@@ -144,7 +71,8 @@ pub all_shown_later : (b : Bound) (w : World) (m m' : source.Memory) (c : core.M
 all_shown_later b w m m' c t xs vs l h = all_shown_kept b w m m' c c t xs vs l (λ i j less. refl) h
 
 -- what the source's cells hold is shown
-pub held_shown : (w : World) (m : source.Memory) (c : core.Memory) (s : Spot) (xs : List Shape) (vs : List Scalar) → SameMemory w m c → AreValueShapes xs
+pub held_shown : (w : World) (m : source.Memory) (c : core.Memory) (s : Spot) (xs : List Shape) (vs : List Scalar) → SameMemory w m c
+    → AreCellShapes w.unions xs
     → AllHeld m s xs vs → AllShown w m c (at s) xs vs
 held_shown w m c s [] [] a values h = tt
 held_shown w m c s [] (v ∷ vs) a values h = absurd h
@@ -153,7 +81,7 @@ held_shown w m c s (x ∷ xs) (v ∷ vs) a values h =
     let here = a.cells s x v h.0 in (
       record {
         contents = here.contents;
-        fit = (cell_of w x values.0).fit m c v here.contents here.shown;
+        fit = shown_fits w m c x v here.contents values.0 here.shown;
         held = here.held;
         shown = here.shown;
       },
@@ -283,7 +211,7 @@ copied_here l to from c k j xs x p q less is shape part there = rw (part, here, 
 copied_holds : (l : Layout) (to from : core.Spot) (c : core.Memory) (byte k j : ℕ) (xs : List PartShape) (p : Placed) (qs : List Piece)
     (others : List PartShape) (cs : List Content) → k < length l.cells → slice_get l.cells k ≡ Some xs
     → ((i : ℕ) → slice_get xs (j + i) ≡ slice_get (map (part_shape_of p) qs ++ others) i)
-    → AreShaped c (core.beyond to k) byte j (map (part_shape_of p) qs ++ others) → FitPieces qs cs → PartsHold c (core.beyond from k) j cs
+    → AreShaped c (core.beyond to k) byte j (map (part_shape_of p) qs ++ others) → FitFirst qs cs → PartsHold c (core.beyond from k) j cs
     → PartsHold (copied l to from c) (core.beyond to k) j cs
 copied_holds l to from c byte k j xs p qs others [] less is same shaped fit held = tt
 copied_holds l to from c byte k j xs p [] others (x ∷ cs) less is same shaped fit held = absurd fit
@@ -341,7 +269,7 @@ agree_copied w m c k index from l a made = record {
 
 -- the copied parts show what those that they come from do
 pub all_copied : (w : World) (m : source.Memory) (c : core.Memory) (to from : core.Spot) (byte : ℕ) (shape : Shape) (k : ℕ) (xs : List Shape)
-    (vs : List Scalar) → AreStructs w.unions w.structs → IsObject w.structs shape → AreMade c to byte (layout_of w shape).cells
+    (vs : List Scalar) → AreStructs w.unions w.structs → IsObject w.unions w.structs shape → AreMade c to byte (layout_of w shape).cells
     → ((i : ℕ) → slice_get (cells_of w shape) (k + i) ≡ slice_get xs i) → AllShown w m c (core.beyond from k) xs vs
     → AllShown w m (copied (layout_of w shape) to from c) (core.beyond to k) xs vs
 all_copied w m c to from byte shape k [] [] structs object made same held = tt
@@ -372,11 +300,12 @@ all_copied w m c to from byte shape k (x ∷ xs) (v ∷ vs) structs object made 
     one : IsCellShown w m c' (core.beyond to k) x v
     one =
         let first = layout_first w shape k x structs object (ap (slice_get (cells_of w shape)) (no_more k) ∙ same 0) in
-        let parts : List PartShape = map (part_shape_of (placed_at first.offset x)) (pieces_of x) ++ first.others in
+        let parts : List PartShape = map (part_shape_of (placed_at first.offset x)) (cell_pieces w.unions x) ++ first.others in
         record {
           contents = held.0.contents;
           fit = held.0.fit;
-          held = copied_holds layout to from c byte k 0 parts (placed_at first.offset x) (pieces_of x) first.others held.0.contents first.less first.is
+          held = copied_holds layout to from c byte k 0 parts (placed_at first.offset x)
+              (cell_pieces w.unions x) first.others held.0.contents first.less first.is
               (λ i. ap (slice_get parts) (zero_on i)) (made_at c to.region to.object to.cell byte k layout.cells parts made first.is) held.0.fit held.0.held;
           shown = shown_later nothing w m m c c' x v held.0.contents (copied_later nothing m c layout to from (free_nothing to)) held.0.shown;
         }
@@ -386,7 +315,8 @@ all_copied w m c to from byte shape k (x ∷ xs) (v ∷ vs) structs object made 
 
 -- an object as a whole
 pub whole_copied : (w : World) (m : source.Memory) (c : core.Memory) (to from : core.Spot) (byte : ℕ) (shape : Shape) (vs : List Scalar)
-    → AreStructs w.unions w.structs → IsObject w.structs shape → AreMade c to byte (layout_of w shape).cells → AllShown w m c from (cells_of w shape) vs
+    → AreStructs w.unions w.structs → IsObject w.unions w.structs shape → AreMade c to byte (layout_of w shape).cells
+    → AllShown w m c from (cells_of w shape) vs
     → AllShown w m (copied (layout_of w shape) to from c) to (cells_of w shape) vs
 whole_copied w m c to from byte shape vs structs object made held =
     subst (λ z. AllShown w m (copied (layout_of w shape) to from c) z (cells_of w shape) vs) (sym (beyond_none to))

@@ -1,12 +1,27 @@
--- A struct's local whose initializer is a place: the object there is copied to it.
+-- A struct's or a union's local whose initializer is a place: the object there is copied to it.
 use Rattle.std.proofs.Common.{◌≡◌, ℕ, ◌+◌, List, [], ◌∷◌, Bool, true, false, nat_eq, refl, sym, ap, ◌∙◌, subst, arith, eq-eqb}
 use Rattle.std.proofs.lemmas.Bool.Decides.{nat_tests}
-use Rattle.source_meaning.specs.Shapes.{Shape, StructShape, same_shape}
+use Rattle.source_meaning.specs.Shapes.{
+  Shape,
+  IntShape,
+  UnsignedShape,
+  CharShape,
+  VoidShape,
+  ThinShape,
+  FatShape,
+  HandleShape,
+  KeyShape,
+  StructShape,
+  UnionShape,
+  ArrayShape,
+  Layout as ShapeLayout,
+  same_shape,
+}
 use Rattle.source_meaning.specs.Memory as source
 use Rattle.source_meaning.specs.Memory.{Scalar, Spot, is_live, with_object, blank_object}
 use Rattle.source_meaning.specs.Steps as steps
-use Rattle.source_meaning.specs.Steps.{World, Variable, Scope, Flow, Act, check}
-use Rattle.source_meaning.specs.Conversions.{cells_of, converted}
+use Rattle.source_meaning.specs.Steps.{World, Variable, Scope, Flow, Act, give, ◌>>◌, check}
+use Rattle.source_meaning.specs.Conversions.{cells_of, converted, converted_scalar}
 use Rattle.source_meaning.specs.Values.{write_cells, take_cells}
 use Rattle.source_meaning.specs.Places.{Sense, with_binding}
 use Rattle.source_meaning.specs.Regions.{local_with, initialised}
@@ -19,8 +34,9 @@ use Rattle.core_meaning.specs.Operations.{does, are_laid, same_object, copied}
 use Rattle.core_meaning.specs.Meaning as meaning
 use Rattle.source_lowering.specs.Layouts.{layout_of}
 use Rattle.source_lowering.specs.Lowered.{put}
-use Rattle.source_lowering.specs.Lowerable.{IsObject, IsStructShape, AreStructs}
+use Rattle.source_lowering.specs.Lowerable.{IsObject, IsWholeShape, AreStructs}
 use Rattle.source_lowering.proofs.memory.StructCells.{shapes_in}
+use Rattle.source_lowering.proofs.memory.ObjectShapes.{object_made, whole_object}
 use Rattle.source_lowering.specs.Simulation.{at, HasShape, AreCells, AreMade, ArePending, SameMemory, Grown, Point, SameState, SameAt, Next, Bound, around, within}
 use Rattle.source_lowering.proofs.memory.Keeping.{later_on, fits_later, named_free, later_items, blocks_of}
 use Rattle.source_lowering.proofs.Runs.{stuck_same}
@@ -60,32 +76,32 @@ copy_does c d index frame byte outer t l next block temp live other laid laid_t 
 abbrev pub copy_code : Point → Layout → List Statement
 copy_code p l = Do (LocalAddress (p.regions.all + 1) 0 p.made) ∷ Do (Copy (p.regions.all + 1) p.regions.all l) ∷ []
 
--- a struct's local, whose value is that of an object
-pub struct_with_same : (p : Point) (n : ℕ) (scope : Scope) (name tag : List ℕ) (shapes : List Shape) (t : core.Spot) (byte : ℕ) (vs : List Scalar)
+-- such a local, whose value is that of an object
+pub whole_with_same : (p : Point) (n : ℕ) (scope : Scope) (name : List ℕ) (shape : Shape) (shapes : List Shape) (t : core.Spot) (byte : ℕ) (vs : List Scalar)
     (then_act : Scope → Act Flow) (next : Flow → source.Memory → steps.Step) (m : source.Memory) (c : Config) (rest : Statements) (after : Next)
-    → scope.world ≡ p.world → scope.frame ≡ p.frame → AreStructs p.world.unions p.world.structs → IsObject p.world.structs (StructShape tag)
-    → p.pending ≡ StructShape tag ∷ shapes → SameState p m c → c.temps p.regions.all ≡ Pointer t byte
-    → AreMade c.memory t byte (layout_of p.world (StructShape tag)).cells
-    → AllShown p.world m c.memory t (cells_of p.world (StructShape tag)) vs → core.is_live (c.memory.standing t.region) ≡ true
+    → scope.world ≡ p.world → scope.frame ≡ p.frame → AreStructs p.world.unions p.world.structs → IsWholeShape p.world.unions p.world.structs shape
+    → p.pending ≡ shape ∷ shapes → SameState p m c → c.temps p.regions.all ≡ Pointer t byte
+    → AreMade c.memory t byte (layout_of p.world shape).cells
+    → AllShown p.world m c.memory t (cells_of p.world shape) vs → core.is_live (c.memory.standing t.region) ≡ true
     → same_object (at (local_spot p.frame p.made)) t ≡ false
-    → BeginsIn p (with_local p name (StructShape tag) shapes) n m c
-    (λ m'. then_act (with_binding scope name (Variable (StructShape tag) (local_spot p.frame p.made))) next m') (meaning.statements rest after)
-    → SameAt p n (local_with scope name (StructShape tag) vs then_act next m) (meaning.statements
-    (put (copy_code p (layout_of p.world (StructShape tag))) rest) after c)
-struct_with_same p n scope name tag shapes t byte vs then_act next m c rest after world frame structs object pending fits temp made held live apart goes =
+    → BeginsIn p (with_local p name shape shapes) n m c
+    (λ m'. then_act (with_binding scope name (Variable shape (local_spot p.frame p.made))) next m') (meaning.statements rest after)
+    → SameAt p n (local_with scope name shape vs then_act next m) (meaning.statements
+    (put (copy_code p (layout_of p.world shape)) rest) after c)
+whole_with_same p n scope name shape shapes t byte vs then_act next m c rest after world frame structs whole pending fits temp made held live apart goes =
     subst (λ z. SameAt p n (begun z scope.frame (next_of scope.frame)) code) (sym world)
     (subst (λ z. SameAt p n (begun p.world z (next_of z)) code) (sym frame)
     (by (is_live m (source.Frame p.frame)) refl))
   where
-    shape : Shape
-    shape = StructShape tag
+    object : IsObject p.world.unions p.world.structs shape
+    object = whole_object p.world.unions p.world.structs shape whole
 
     layout : Layout
-    layout = layout_of p.world (StructShape tag)
+    layout = layout_of p.world shape
 
     code : core_steps.Step
     code = meaning.statements
-        (put (copy_code p (layout_of p.world (StructShape tag))) rest) after c
+        (put (copy_code p (layout_of p.world shape)) rest) after c
 
     next_of : ℕ → Spot
     next_of f = record { region = source.Frame f; object = m.objects (source.Frame f); cell = 0 }
@@ -105,6 +121,9 @@ struct_with_same p n scope name tag shapes t byte vs then_act next m c rest afte
 
     all : ArePending p.world c.memory (core.Frame p.frame) p.made (shape ∷ shapes)
     all = subst (λ z. ArePending p.world c.memory (core.Frame p.frame) p.made z) pending fits.pending
+
+    here_made : AreMade c.memory (at spot) 0 layout.cells
+    here_made = object_made p.world.unions p.world.structs p.world c.memory (core.Frame p.frame) p.made shape object all.0
 
     c1 : Config
     c1 = with_memory (copied layout (at spot) t c.memory) (with_temp (p.regions.all + 1) (Pointer (at spot) 0) c)
@@ -131,7 +150,7 @@ struct_with_same p n scope name tag shapes t byte vs then_act next m c rest afte
 
     shown : AllShown p.world m1 c1.memory (at spot) (cells_of p.world shape) vs
     shown = all_shown_later (around p p.frame) p.world m m1 c1.memory (at spot) (cells_of p.world shape) vs later2
-        (whole_copied p.world m c.memory (at spot) t 0 shape vs structs object all.0 held)
+        (whole_copied p.world m c.memory (at spot) t 0 shape vs structs object here_made held)
 
     writes : is_live m (source.Frame p.frame) ≡ true
         → SameAt p n (write_cells spot vs (λ u. then_act (with_binding scope name (Variable shape spot)) next) m1) code
@@ -139,7 +158,7 @@ struct_with_same p n scope name tag shapes t byte vs then_act next m c rest afte
         subst (λ z. SameAt p n (write_cells spot vs (λ u. then_act (with_binding scope name (Variable shape spot)) next) m1) z)
         (sym (copy_does c p.regions.all p.made p.frame byte p.outer t layout (meaning.statements rest after) fits.blocks temp
         (sym (fits.agree.live (source.Frame p.frame)) ∙ here) live
-        (laid_there c.memory (at spot) 0 layout.cells all.0) (laid_there c.memory t byte layout.cells made) apart))
+        (laid_there c.memory (at spot) 0 layout.cells here_made) (laid_there c.memory t byte layout.cells made) apart))
         (write_all p.world p.program n (within p) (cells_of p.world shape) vs m1 c1.memory spot
         (λ u. then_act (with_binding scope name (Variable shape spot)) next) (meaning.statements rest after c1) here fits2.agree
         (cells_here m p.frame p.made (λ s. source.Blank) (cells_of p.world shape) fits.made) shown
@@ -157,52 +176,74 @@ struct_with_same p n scope name tag shapes t byte vs then_act next m c rest afte
         (λ u. then_act (with_binding scope name (Variable shape (record { region = source.Frame p.frame; object = z; cell = 0 }))) next)
         (with_object m (source.Frame p.frame) (blank_object (cells_of p.world shape)))) code) (sym fits.made) (writes e))
 
--- what comes after a struct's initializer was converted: equal shapes, or the source is stuck
-pub converted_whole : (p : Point) (n : ℕ) (tag : List ℕ) (from : Shape) (vs : List Scalar) (s : List Scalar → source.Memory → steps.Step) (m : source.Memory)
-    (k : core_steps.Step) → (same_shape (StructShape tag) from ≡ true → SameAt p n (s vs m) k) → SameAt p n (converted p.world (StructShape tag) from vs s m) k
-converted_whole p n tag from vs s m k go = by vs (same_shape (StructShape tag) from) refl go
+-- a struct or a union becomes one of an equal shape alone
+scalar_whole : (w : World) (unions structs : List ShapeLayout) (shape from : Shape) (v : Scalar) → IsWholeShape unions structs shape
+    → converted_scalar w shape from v ≡ (check (same_shape shape from) >> give v)
+scalar_whole w unions structs (StructShape tag) from v h = refl
+scalar_whole w unions structs (UnionShape tag) from v h = refl
+scalar_whole w unions structs IntShape from v h = absurd h
+scalar_whole w unions structs UnsignedShape from v h = absurd h
+scalar_whole w unions structs CharShape from v h = absurd h
+scalar_whole w unions structs VoidShape from v h = absurd h
+scalar_whole w unions structs (ThinShape b owner to) from v h = absurd h
+scalar_whole w unions structs (FatShape to) from v h = absurd h
+scalar_whole w unions structs HandleShape from v h = absurd h
+scalar_whole w unions structs KeyShape from v h = absurd h
+scalar_whole w unions structs (ArrayShape count of) from v h = absurd h
+
+-- what comes after its initializer was converted: equal shapes, or the source is stuck
+pub converted_whole : (p : Point) (n : ℕ) (shape from : Shape) (vs : List Scalar) (s : List Scalar → source.Memory → steps.Step) (m : source.Memory)
+    (k : core_steps.Step) → IsWholeShape p.world.unions p.world.structs shape → (same_shape shape from ≡ true → SameAt p n (s vs m) k)
+    → SameAt p n (converted p.world shape from vs s m) k
+converted_whole p n shape from vs s m k whole go = by vs (same_shape shape from) refl go
   where
-    by : (us : List Scalar) (b : Bool) → same_shape (StructShape tag) from ≡ b → (same_shape (StructShape tag) from ≡ true → SameAt p n (s us m) k)
-        → SameAt p n (converted p.world (StructShape tag) from us s m) k
+    one : (v : Scalar) (b : Bool) → same_shape shape from ≡ b → (same_shape shape from ≡ true → SameAt p n (s (v ∷ []) m) k)
+        → SameAt p n ((check (same_shape shape from) >> give v) (λ u. s (u ∷ [])) m) k
+    one v false e go = rw e (stuck_same p.world p.program n k)
+    one v true e go = rw e (go e)
+
+    by : (us : List Scalar) (b : Bool) → same_shape shape from ≡ b → (same_shape shape from ≡ true → SameAt p n (s us m) k)
+        → SameAt p n (converted p.world shape from us s m) k
     by [] false e go = rw e (stuck_same p.world p.program n k)
     by [] true e go = rw e (go e)
-    by (v ∷ []) false e go = rw e (stuck_same p.world p.program n k)
-    by (v ∷ []) true e go = rw e (go e)
+    by (v ∷ []) b e go =
+        subst (λ (z : Act Scalar). SameAt p n (z (λ u. s (u ∷ [])) m) k) (sym (scalar_whole p.world p.world.unions p.world.structs shape from v whole))
+        (one v b e go)
     by (v ∷ u ∷ us) false e go = rw e (stuck_same p.world p.program n k)
     by (v ∷ u ∷ us) true e go = rw e (go e)
 
--- a struct's local with an initializer that names an object
-pub placed_begins : (p : Point) (n : ℕ) (scope : Scope) (name tag : List ℕ) (shapes : List Shape) (e : Sense) (from : Shape) (code : List Statement)
+-- such a local with an initializer that names an object
+pub placed_begins : (p : Point) (n : ℕ) (scope : Scope) (name : List ℕ) (shape : Shape) (shapes : List Shape) (e : Sense) (from : Shape) (code : List Statement)
     (then_act : Scope → Act Flow) (next : Flow → source.Memory → steps.Step) (m : source.Memory) (c : Config) (rest : Statements) (after : Next)
-    → scope.world ≡ p.world → scope.frame ≡ p.frame → AreStructs p.world.unions p.world.structs → IsObject p.world.structs (StructShape tag)
-    → p.pending ≡ StructShape tag ∷ shapes → SameState p m c → IsPlaced p n p.regions.all e from code
-    → IsStructShape p.world.structs from
-    → BeginsIn p (with_local p name (StructShape tag) shapes) n m c
-    (λ m'. then_act (with_binding scope name (Variable (StructShape tag) (local_spot p.frame p.made))) next m') (meaning.statements rest after)
-    → SameAt p n (initialised scope name (StructShape tag) e then_act next m) (meaning.statements (put code
-    (put (copy_code p (layout_of p.world (StructShape tag))) rest)) after c)
-placed_begins p n scope name tag shapes e from code then_act next m c rest after world frame structs object pending fits one is goes =
+    → scope.world ≡ p.world → scope.frame ≡ p.frame → AreStructs p.world.unions p.world.structs → IsWholeShape p.world.unions p.world.structs shape
+    → p.pending ≡ shape ∷ shapes → SameState p m c → IsPlaced p n p.regions.all e from code
+    → IsWholeShape p.world.unions p.world.structs from
+    → BeginsIn p (with_local p name shape shapes) n m c
+    (λ m'. then_act (with_binding scope name (Variable shape (local_spot p.frame p.made))) next m') (meaning.statements rest after)
+    → SameAt p n (initialised scope name shape e then_act next m) (meaning.statements (put code
+    (put (copy_code p (layout_of p.world shape)) rest)) after c)
+placed_begins p n scope name shape shapes e from code then_act next m c rest after world frame structs is_whole pending fits one is goes =
     subst (λ z. SameAt p n z whole) (sym (one.value is convert m))
     (subst (λ z. SameAt p n (e.place (λ t. take_cells (cells_of p.world z) t convert) m) whole) (sym one.shape_is)
     (one.placed.same m c (λ t. take_cells (cells_of p.world from) t convert)
-    (put (copy_code p (layout_of p.world (StructShape tag))) rest) after fits (record {
+    (put (copy_code p (layout_of p.world shape)) rest) after fits (record {
       above = omega arith;
       go = λ m1 c1 t byte fits1 later1 kept1 temp lies leads.
           let has = lies.cells in
-          subst (λ z. SameAt p n z (meaning.statements copies after c1)) (sym (whole_taken (cells_of p.world from) t convert m1 has.values))
+          subst (λ z. SameAt p n z (meaning.statements copies after c1)) (sym (whole_taken p.world.unions (cells_of p.world from) t convert m1 has.cells))
           (read_all p.world p.program n (cells_of p.world from) m1 t convert (meaning.statements copies after c1) leads.0
           (λ vs held live.
-          subst (λ z. SameAt p n (converted z (StructShape tag) e.shape vs (λ us. local_with scope name (StructShape tag) us then_act next) m1)
+          subst (λ z. SameAt p n (converted z shape e.shape vs (λ us. local_with scope name shape us then_act next) m1)
           (meaning.statements copies after c1)) (sym world)
-          (converted_whole p n tag e.shape vs (λ us. local_with scope name (StructShape tag) us then_act next) m1 (meaning.statements copies after c1)
+          (converted_whole p n shape e.shape vs (λ us. local_with scope name shape us then_act next) m1 (meaning.statements copies after c1) is_whole
           (λ equal.
-          let same : StructShape tag ≡ from = shapes_same (StructShape tag) e.shape equal ∙ one.shape_is in
+          let same : shape ≡ from = shapes_same shape e.shape equal ∙ one.shape_is in
           let cells : cells_of p.world from ≡ has.first.shape ∷ shapes_in has.others = sym has.shapes ∙ ap shapes_in has.is in
           let here : HasShape m1 t has.first.shape = (subst (λ z. AreCells m1 t z) cells leads.0).0 in
-          struct_with_same p n scope name tag shapes (at t) byte vs then_act next m1 c1 rest after world frame structs object pending fits1 temp
+          whole_with_same p n scope name shape shapes (at t) byte vs then_act next m1 c1 rest after world frame structs is_whole pending fits1 temp
           (subst (λ z. AreMade c1.memory (at t) byte (layout_of p.world z).cells) (sym same) leads.1)
           (subst (λ z. AllShown p.world m1 c1.memory (at t) (cells_of p.world z) vs) (sym same)
-          (held_shown p.world m1 c1.memory t (cells_of p.world from) vs fits1.agree has.values held))
+          (held_shown p.world m1 c1.memory t (cells_of p.world from) vs fits1.agree has.cells held))
           (sym (fits1.agree.live t.region) ∙ subst (λ z. IsLiveFor m1 t z) cells live)
           (object_apart p.world m1 c1.memory p.frame p.made t _ fits1.agree fits1.made here.is)
           (record {
@@ -213,10 +254,10 @@ placed_begins p n scope name tag shapes e from code then_act next m c rest after
     })))
   where
     copies : Statements
-    copies = put (copy_code p (layout_of p.world (StructShape tag))) rest
+    copies = put (copy_code p (layout_of p.world shape)) rest
 
     whole : core_steps.Step
     whole = meaning.statements (put code copies) after c
 
     convert : List Scalar → source.Memory → steps.Step
-    convert vs = converted scope.world (StructShape tag) e.shape vs (λ us. local_with scope name (StructShape tag) us then_act next)
+    convert vs = converted scope.world shape e.shape vs (λ us. local_with scope name shape us then_act next)

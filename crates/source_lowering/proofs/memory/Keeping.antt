@@ -28,6 +28,7 @@ pub use Rattle.source_lowering.proofs.memory.Lasting.{
   within_items,
   made_later,
   leads_later,
+  member_later,
   shown_later,
   led_later,
   all_led_later,

@@ -37,6 +37,7 @@ use Rattle.source_lowering.specs.Simulation.{
   APointer,
   AFat,
   Shown,
+  ShownMember,
   SameMemory,
   Bound,
   nothing,
@@ -186,13 +187,14 @@ leads_later b w m m' c c' shape s byte l h = (
   made_later b m m' c c' (at s) byte (layout_of w shape).cells l h.1,
 )
 
-pub shown_later : (b : Bound) (w : World) (m m' : source.Memory) (c c' : core.Memory) (shape : Shape) (v : Scalar) (cs : List Content) → Grown b m c m' c'
-    → Shown w m c shape v cs → Shown w m' c' shape v cs
-shown_later b w m m' c c' IntShape v cs l h = h
-shown_later b w m m' c c' UnsignedShape v cs l h = h
-shown_later b w m m' c c' CharShape v cs l h = h
-shown_later b w m m' c c' VoidShape v cs l h = h
-shown_later b w m m' c c' (ThinShape n o to) v cs l h =
+-- what a union holds is shown later, too
+pub member_later : (b : Bound) (w : World) (m m' : source.Memory) (c c' : core.Memory) (shape : Shape) (v : Scalar) (cs : List Content) → Grown b m c m' c'
+    → ShownMember w m c shape v cs → ShownMember w m' c' shape v cs
+member_later b w m m' c c' IntShape v cs l h = h
+member_later b w m m' c c' UnsignedShape v cs l h = h
+member_later b w m m' c c' CharShape v cs l h = h
+member_later b w m m' c c' VoidShape v cs l h = h
+member_later b w m m' c c' (ThinShape n o to) v cs l h =
     ⊎_elim (λ x. inl x) (λ (p : APointer w m c to v cs). inr (record {
       spot = p.spot;
       byte = p.byte;
@@ -201,7 +203,7 @@ shown_later b w m m' c c' (ThinShape n o to) v cs l h =
       lies = p.lies;
       leads = leads_later b w m m' c c' to p.spot p.byte l p.leads;
     })) h
-shown_later b w m m' c c' (FatShape to) v cs l h =
+member_later b w m m' c c' (FatShape to) v cs l h =
     ⊎_elim (λ x. inl x) (λ (p : AFat w m c to (size_of w to) v cs). inr (record {
       span = p.span;
       byte = p.byte;
@@ -212,11 +214,34 @@ shown_later b w m m' c c' (FatShape to) v cs l h =
       lies = p.lies;
       leads = λ k less. leads_later b w m m' c c' to _ _ l (p.leads k less);
     })) h
-shown_later b w m m' c c' HandleShape v cs l h = h
-shown_later b w m m' c c' KeyShape v cs l h = h
-shown_later b w m m' c c' (StructShape tag) v cs l h = h
-shown_later b w m m' c c' (UnionShape tag) v cs l h = h
-shown_later b w m m' c c' (ArrayShape count of) v cs l h = h
+member_later b w m m' c c' HandleShape v cs l h = h
+member_later b w m m' c c' KeyShape v cs l h = h
+member_later b w m m' c c' (StructShape tag) v cs l h = h
+member_later b w m m' c c' (UnionShape tag) v cs l h = h
+member_later b w m m' c c' (ArrayShape count of) v cs l h = h
+
+pub shown_later : (b : Bound) (w : World) (m m' : source.Memory) (c c' : core.Memory) (shape : Shape) (v : Scalar) (cs : List Content) → Grown b m c m' c'
+    → Shown w m c shape v cs → Shown w m' c' shape v cs
+shown_later b w m m' c c' IntShape v cs l h = member_later b w m m' c c' IntShape v cs l h
+shown_later b w m m' c c' UnsignedShape v cs l h = member_later b w m m' c c' UnsignedShape v cs l h
+shown_later b w m m' c c' CharShape v cs l h = member_later b w m m' c c' CharShape v cs l h
+shown_later b w m m' c c' VoidShape v cs l h = member_later b w m m' c c' VoidShape v cs l h
+shown_later b w m m' c c' (ThinShape n o to) v cs l h = member_later b w m m' c c' (ThinShape n o to) v cs l h
+shown_later b w m m' c c' (FatShape to) v cs l h = member_later b w m m' c c' (FatShape to) v cs l h
+shown_later b w m m' c c' HandleShape v cs l h = member_later b w m m' c c' HandleShape v cs l h
+shown_later b w m m' c c' KeyShape v cs l h = member_later b w m m' c c' KeyShape v cs l h
+shown_later b w m m' c c' (StructShape tag) v cs l h = member_later b w m m' c c' (StructShape tag) v cs l h
+shown_later b w m m' c c' (UnionShape tag) v cs l h = record {
+  number = h.number;
+  shape = h.shape;
+  held = h.held;
+  words = h.words;
+  value = h.value;
+  known = h.known;
+  member = member_later b w m m' c c' h.shape h.held h.words l h.member;
+  shown = h.shown;
+}
+shown_later b w m m' c c' (ArrayShape count of) v cs l h = member_later b w m m' c c' (ArrayShape count of) v cs l h
 
 variable_later : (b : Bound) (w : World) (m m' : source.Memory) (c c' : core.Memory) (shape : Shape) (s : Spot) → Grown b m c m' c'
     → VariableLeads w m c shape s → VariableLeads w m' c' shape s

@@ -99,7 +99,7 @@ contents_are (ArrayShape count of) h d xs c fit = absurd h
 -- ---- loads
 
 -- a part that lies so far on
-part_loaded : (c : Config) (t p cells bytes part width offset byte : ℕ) (spot : core.Spot) (x : Content) (next : Config → core_steps.Step)
+pub part_loaded : (c : Config) (t p cells bytes part width offset byte : ℕ) (spot : core.Spot) (x : Content) (next : Config → core_steps.Step)
     → c.temps p ≡ Pointer spot byte → core.is_live (c.memory.standing spot.region) ≡ true
     → c.memory.parts (core.beyond spot cells) part ≡ Some (record { offset = offset; width = width; content = x }) → offset ≡ byte + bytes
     → does (Load t p (record { cells = cells; bytes = bytes; part = part; width = width })) next c ≡ next (with_temp t x c)
@@ -167,7 +167,7 @@ loads_does (ArrayShape count of) h c d cells bytes byte spot xs rest next temp l
 
 -- ---- stores
 
-part_stored : (c : Config) (p t cells bytes part width offset byte : ℕ) (spot : core.Spot) (old x : Content) (next : Config → core_steps.Step)
+pub part_stored : (c : Config) (p t cells bytes part width offset byte : ℕ) (spot : core.Spot) (old x : Content) (next : Config → core_steps.Step)
     → c.temps p ≡ Pointer spot byte → core.is_live (c.memory.standing spot.region) ≡ true
     → c.memory.parts (core.beyond spot cells) part ≡ Some (record { offset = offset; width = width; content = old }) → offset ≡ byte + bytes
     → fitting width (c.temps t) ≡ x

@@ -1,10 +1,10 @@
 -- Parts of cells that lie so many bytes on.
 use Rattle.std.proofs.Common.{◌≡◌, ℕ, zero, suc, ◌+◌, ◌-◌, ◌≤◌, List, [], ◌∷◌, ◌++◌, map, refl, subst, arith}
-use Rattle.source_meaning.specs.Shapes.{Shape}
+use Rattle.source_meaning.specs.Shapes.{Shape, Layout}
 use Rattle.source_meaning.specs.Sizes.{Extent}
 use Rattle.source_meaning.specs.Placing.{Placed, moved}
 use Rattle.core_meaning.specs.Memory as core
-use Rattle.source_lowering.specs.Layouts.{Piece, pieces_of, part_shape_of, padding, next_at, padded}
+use Rattle.source_lowering.specs.Layouts.{Piece, cell_pieces, part_shape_of, padding, next_at, padded}
 use Rattle.source_lowering.specs.Simulation.{PartIs, AreShaped, AreMade}
 
 -- parts that lie so many bytes on in another list, which may have more
@@ -50,14 +50,14 @@ pub next_moved : (size bytes a : ℕ) (ps qs : List Placed) → a + size ≤ nex
 next_moved size bytes a [] qs h = h
 next_moved size bytes a (p ∷ ps) qs h = omega arith
 
-pub padded_moved : (extent : Shape → Extent) (size bytes a : ℕ) (ps qs : List Placed) → a + size ≤ next_at bytes qs
-    → AllMoved a (padded extent size ps) (padded extent bytes (map (moved a) ps ++ qs))
-padded_moved extent size bytes a [] qs h = tt
-padded_moved extent size bytes a (p ∷ ps) qs h =
+pub padded_moved : (unions : List Layout) (extent : Shape → Extent) (size bytes a : ℕ) (ps qs : List Placed) → a + size ≤ next_at bytes qs
+    → AllMoved a (padded unions extent size ps) (padded unions extent bytes (map (moved a) ps ++ qs))
+padded_moved unions extent size bytes a [] qs h = tt
+padded_moved unions extent size bytes a (p ∷ ps) qs h =
     let more = next_moved size bytes a ps qs h in
     let end : ℕ = p.offset + (extent p.shape).size in
     let far : ℕ = a + p.offset + (extent p.shape).size in (
-      pieces_moved a p (pieces_of p.shape) (padding end (next_at size ps - end)) (padding far (next_at bytes (map (moved a) ps ++ qs) - far))
+      pieces_moved a p (cell_pieces unions p.shape) (padding end (next_at size ps - end)) (padding far (next_at bytes (map (moved a) ps ++ qs) - far))
           (padding_moved a end far (next_at size ps - end) (next_at bytes (map (moved a) ps ++ qs) - far) (omega arith) (omega (arith, more))),
-      padded_moved extent size bytes a ps qs h,
+      padded_moved unions extent size bytes a ps qs h,
     )

@@ -17,14 +17,16 @@ use Rattle.source_meaning.specs.Shapes.{
   ArrayShape,
   Part,
   Layout,
+  parts_of,
   part_shapes,
   has_tag,
 }
 use Rattle.source_meaning.specs.Sizes.{Extent, rounded_up, laid_out, no_extent, struct_extent}
 use Rattle.source_meaning.specs.Placing.{Placed, moved, all_placed, struct_placed}
-use Rattle.source_lowering.specs.Layouts.{next_at}
+use Rattle.source_lowering.specs.Layouts.{has_fat, next_at}
 use Rattle.source_lowering.specs.Lowered.{width_of}
-use Rattle.source_lowering.specs.Lowerable.{IsObject, AreObjects, IsStruct, AreStructs}
+use Rattle.source_lowering.specs.Lowerable.{IsObject, AreObjects, AreUnions, IsStruct, AreStructs}
+use Rattle.source_lowering.proofs.UnionSizes.{union_bytes, union_size}
 use Rattle.source_lowering.proofs.Structs.{placed_in, extent_in}
 use Rattle.source_lowering.proofs.memory.StructCells.{AllHaveCells}
 use Rattle.source_lowering.proofs.memory.Members.{next_after, have_cells}
@@ -32,15 +34,16 @@ use Rattle.source_lowering.proofs.memory.MovedParts.{next_moved}
 
 -- ---- cells one after the other
 
--- how many bytes a value takes: a fat pointer three words
-abbrev pub bytes_taken : Shape → ℕ
-bytes_taken (FatShape to) = 12
-bytes_taken s = width_of s
+-- how many bytes a cell takes: a fat pointer three words, a union its tag and the words of its largest member
+abbrev pub bytes_taken : List Layout → Shape → ℕ
+bytes_taken unions (FatShape to) = 12
+bytes_taken unions (UnionShape tag) = union_bytes (has_fat (parts_of unions tag))
+bytes_taken unions s = width_of s
 
 -- each ends where the next begins, or before, the last within so many bytes
-abbrev pub AreOrdered : ℕ → List Placed → Type 0
-AreOrdered end [] = Unit {0}
-AreOrdered end (p ∷ ps) = (p.offset + bytes_taken p.shape ≤ next_at end ps) × AreOrdered end ps
+abbrev pub AreOrdered : List Layout → ℕ → List Placed → Type 0
+AreOrdered unions end [] = Unit {0}
+AreOrdered unions end (p ∷ ps) = (p.offset + bytes_taken unions p.shape ≤ next_at end ps) × AreOrdered unions end ps
 
 -- a word lies at a multiple of 4, in an object that is aligned to 4
 abbrev pub AreEven : ℕ → List Placed → Type 0
@@ -53,7 +56,7 @@ pub record HasAlign (e : Extent) : Type 0 where
   pub even : e.align ≡ 4 → e.size % 4 ≡ 0
 
 pub record IsOrdered (unions structs : List Layout) (s : Shape) : Type 0 where
-  pub ordered : AreOrdered (extent_in unions structs s).size (placed_in unions structs s)
+  pub ordered : AreOrdered unions (extent_in unions structs s).size (placed_in unions structs s)
   pub aligned : HasAlign (extent_in unions structs s)
   pub even : AreEven (extent_in unions structs s).align (placed_in unions structs s)
 
@@ -61,23 +64,24 @@ abbrev AllOrdered : List Layout → List Layout → List Part → Type 0
 AllOrdered unions structs [] = Unit {0}
 AllOrdered unions structs (p ∷ ps) = IsOrdered unions structs p.shape × AllOrdered unions structs ps
 
-ordered_moved : (size bytes a : ℕ) (ps qs : List Placed) → AreOrdered size ps → a + size ≤ next_at bytes qs → AreOrdered bytes qs
-    → AreOrdered bytes (map (moved a) ps ++ qs)
-ordered_moved size bytes a [] qs h room others = others
-ordered_moved size bytes a (p ∷ ps) qs h room others =
+ordered_moved : (unions : List Layout) (size bytes a : ℕ) (ps qs : List Placed) → AreOrdered unions size ps → a + size ≤ next_at bytes qs
+    → AreOrdered unions bytes qs
+    → AreOrdered unions bytes (map (moved a) ps ++ qs)
+ordered_moved unions size bytes a [] qs h room others = others
+ordered_moved unions size bytes a (p ∷ ps) qs h room others =
     let more = next_moved size bytes a ps qs room in
     let one = h.0 in
-    (omega (arith, more, one), ordered_moved size bytes a ps qs h.1 room others)
+    (omega (arith, more, one), ordered_moved unions size bytes a ps qs h.1 room others)
 
 parts_ordered : (unions structs : List Layout) (bytes : ℕ) (so_far : Extent) (ps : List Part) → AllOrdered unions structs ps → AllHaveCells unions structs ps
     → (laid_out (extent_in unions structs) so_far ps).size ≤ bytes
-    → AreOrdered bytes (all_placed (placed_in unions structs) (extent_in unions structs) so_far.size ps)
+    → AreOrdered unions bytes (all_placed (placed_in unions structs) (extent_in unions structs) so_far.size ps)
 parts_ordered unions structs bytes so_far [] h cells room = tt
 parts_ordered unions structs bytes so_far (p ∷ ps) h cells room =
     let e = extent_in unions structs p.shape in
     let a = rounded_up so_far.size e.align in
     let next : Extent = record { size = a + e.size; align = max so_far.align e.align } in
-    ordered_moved e.size bytes a (placed_in unions structs p.shape) _ h.0.ordered (next_after unions structs bytes next ps cells.1 room)
+    ordered_moved unions e.size bytes a (placed_in unions structs p.shape) _ h.0.ordered (next_after unions structs bytes next ps cells.1 room)
     (parts_ordered unions structs bytes next ps h.1 cells.1 room)
 
 -- ---- alignment
@@ -145,54 +149,66 @@ parts_even unions structs final so_far (p ∷ ps) h all same =
 -- ---- objects
 
 word_ordered : (unions structs : List Layout) (s : Shape) → placed_in unions structs s ≡ (record { offset = 0; shape = s }) ∷ []
-    → (extent_in unions structs s).size ≡ 4 → (extent_in unions structs s).align ≡ 4 → bytes_taken s ≡ 4 → IsOrdered unions structs s
+    → (extent_in unions structs s).size ≡ 4 → (extent_in unions structs s).align ≡ 4 → bytes_taken unions s ≡ 4 → IsOrdered unions structs s
 word_ordered unions structs s placed size align width = record {
-  ordered = subst (λ z. AreOrdered (extent_in unions structs s).size z) (sym placed) (omega (arith, size, width), tt);
+  ordered = subst (λ z. AreOrdered unions (extent_in unions structs s).size z) (sym placed) (omega (arith, size, width), tt);
   aligned = record { one = inr align; even = λ e. ap (λ z. z % 4) size };
   even = subst (λ z. AreEven (extent_in unions structs s).align z) (sym placed) (inr (refl, align), tt);
 }
 
-object_by : (unions structs : List Layout) (s : Shape) → ((tag : List ℕ) → has_tag structs tag ≡ true → IsOrdered unions structs (StructShape tag))
-    → IsObject structs s → IsOrdered unions structs s
-object_by unions structs (StructShape tag) all o = all tag o
-object_by unions structs IntShape all o = word_ordered unions structs IntShape refl refl refl refl
-object_by unions structs UnsignedShape all o = word_ordered unions structs UnsignedShape refl refl refl refl
-object_by unions structs CharShape all o = record {
+object_by : (unions structs : List Layout) (s : Shape) → AreUnions unions
+    → ((tag : List ℕ) → has_tag structs tag ≡ true → IsOrdered unions structs (StructShape tag))
+    → IsObject unions structs s → IsOrdered unions structs s
+object_by unions structs (StructShape tag) us all o = all tag o
+object_by unions structs IntShape us all o = word_ordered unions structs IntShape refl refl refl refl
+object_by unions structs UnsignedShape us all o = word_ordered unions structs UnsignedShape refl refl refl refl
+object_by unions structs CharShape us all o = record {
   ordered = (omega arith, tt);
   aligned = record { one = inl refl; even = λ e. absurd (omega (arith, e)) };
   even = (inl refl, tt);
 }
-object_by unions structs VoidShape all o = absurd o
-object_by unions structs (ThinShape b owner to) all o = word_ordered unions structs (ThinShape b owner to) refl refl refl refl
-object_by unions structs (FatShape to) all o = record {
+object_by unions structs VoidShape us all o = absurd o
+object_by unions structs (ThinShape b owner to) us all o = word_ordered unions structs (ThinShape b owner to) refl refl refl refl
+object_by unions structs (FatShape to) us all o = record {
   ordered = (omega arith, tt);
   aligned = record { one = inr refl; even = λ e. refl };
   even = (inr (refl, refl), tt);
 }
-object_by unions structs HandleShape all o = word_ordered unions structs HandleShape refl refl refl refl
-object_by unions structs KeyShape all o = absurd o
-object_by unions structs (UnionShape tag) all o = absurd o
-object_by unions structs (ArrayShape count of) all o = absurd o
+object_by unions structs HandleShape us all o = word_ordered unions structs HandleShape refl refl refl refl
+object_by unions structs KeyShape us all o = absurd o
+object_by unions structs (UnionShape tag) us all o =
+    let size = union_size unions tag us o in
+    record {
+      ordered = (subst (λ z. 0 + union_bytes (has_fat (parts_of unions tag)) ≤ z) (sym size) (omega arith), tt);
+      aligned = record { one = inr refl; even = λ e. ap (λ z. z % 4) size ∙ by (has_fat (parts_of unions tag)) };
+      even = (inr (refl, refl), tt);
+    }
+  where
+    by : (b : Bool) → union_bytes b % 4 ≡ 0
+    by true = refl
+    by false = refl
+object_by unions structs (ArrayShape count of) us all o = absurd o
 
-members_by : (unions structs : List Layout) (ps : List Part) → ((tag : List ℕ) → has_tag structs tag ≡ true → IsOrdered unions structs (StructShape tag))
-    → AreObjects structs (part_shapes ps) → AllOrdered unions structs ps
-members_by unions structs [] all h = tt
-members_by unions structs (p ∷ ps) all h = (object_by unions structs p.shape all h.0, members_by unions structs ps all h.1)
+members_by : (unions structs : List Layout) (ps : List Part) → AreUnions unions
+    → ((tag : List ℕ) → has_tag structs tag ≡ true → IsOrdered unions structs (StructShape tag))
+    → AreObjects unions structs (part_shapes ps) → AllOrdered unions structs ps
+members_by unions structs [] us all h = tt
+members_by unions structs (p ∷ ps) us all h = (object_by unions structs p.shape us all h.0, members_by unions structs ps us all h.1)
 
 -- a struct, as it is placed and as large as it is
 struct_as : (unions structs : List Layout) (tag : List ℕ) (placed : List Placed) (extent : Extent) → struct_placed unions structs tag ≡ placed
-    → struct_extent unions structs tag ≡ extent → AreOrdered extent.size placed → HasAlign extent → AreEven extent.align placed
+    → struct_extent unions structs tag ≡ extent → AreOrdered unions extent.size placed → HasAlign extent → AreEven extent.align placed
     → IsOrdered unions structs (StructShape tag)
 struct_as unions structs tag placed extent p e ordered aligned even = record {
-  ordered = subst (λ z. AreOrdered z.size (struct_placed unions structs tag)) (sym e) (subst (λ z. AreOrdered extent.size z) (sym p) ordered);
+  ordered = subst (λ z. AreOrdered unions z.size (struct_placed unions structs tag)) (sym e) (subst (λ z. AreOrdered unions extent.size z) (sym p) ordered);
   aligned = subst HasAlign (sym e) aligned;
   even = subst (λ z. AreEven z.align (struct_placed unions structs tag)) (sym e) (subst (λ z. AreEven extent.align z) (sym p) even);
 }
 
-struct_ordered : (unions structs : List Layout) → AreStructs unions structs → (tag : List ℕ) → has_tag structs tag ≡ true
+struct_ordered : (unions structs : List Layout) → AreUnions unions → AreStructs unions structs → (tag : List ℕ) → has_tag structs tag ≡ true
     → IsOrdered unions structs (StructShape tag)
-struct_ordered unions [] h tag o = absurd (false≢true o)
-struct_ordered unions (l ∷ earlier) h tag o = by (bytes_eq l.tag tag) refl (λ t e. struct_ordered unions earlier h.1 t e)
+struct_ordered unions [] us h tag o = absurd (false≢true o)
+struct_ordered unions (l ∷ earlier) us h tag o = by (bytes_eq l.tag tag) refl (λ t e. struct_ordered unions earlier us h.1 t e)
   where
     one : IsStruct unions earlier l
     one = h.0
@@ -203,7 +219,7 @@ struct_ordered unions (l ∷ earlier) h tag o = by (bytes_eq l.tag tag) refl (λ
     by : (b : Bool) → bytes_eq l.tag tag ≡ b → ((t : List ℕ) → has_tag earlier t ≡ true → IsOrdered unions earlier (StructShape t))
         → IsOrdered unions (l ∷ earlier) (StructShape tag)
     by true e all =
-        let members = members_by unions earlier l.parts all one.members in
+        let members = members_by unions earlier l.parts us all one.members in
         struct_as unions (l ∷ earlier) tag (all_placed (placed_in unions earlier) (extent_in unions earlier) 0 l.parts) extent
         (ap (λ b. if b then all_placed (placed_in unions earlier) (extent_in unions earlier) 0 l.parts else struct_placed unions earlier tag) e)
         (ap (λ b. if b then laid_out (extent_in unions earlier) (no_extent tag) l.parts else struct_extent unions earlier tag) e)
@@ -217,5 +233,6 @@ struct_ordered unions (l ∷ earlier) h tag o = by (bytes_eq l.tag tag) refl (λ
         (ap (λ b. if b then laid_out (extent_in unions earlier) (no_extent tag) l.parts else struct_extent unions earlier tag) e)
         more.ordered more.aligned more.even
 
-pub object_ordered : (unions structs : List Layout) (s : Shape) → AreStructs unions structs → IsObject structs s → IsOrdered unions structs s
-object_ordered unions structs s h o = object_by unions structs s (λ tag e. struct_ordered unions structs h tag e) o
+pub object_ordered : (unions structs : List Layout) (s : Shape) → AreUnions unions → AreStructs unions structs → IsObject unions structs s
+    → IsOrdered unions structs s
+object_ordered unions structs s us h o = object_by unions structs s us (λ tag e. struct_ordered unions structs us h tag e) o

@@ -1,4 +1,4 @@
--- The cells of objects: as many, placed and not, each a value; the first begins the object.
+-- The cells of objects: as many, placed and not, each a value or a union; the first begins the object.
 use Rattle.std.proofs.Common.{◌≡◌, ℕ, suc, ◌+◌, List, [], ◌∷◌, ◌++◌, map, length, Bool, true, false, refl, sym, ap, ◌∙◌, subst, arith}
 use Rattle.std.specs.Prelude.{bytes_eq, if◌then◌else◌}
 use Rattle.std.proofs.lemmas.Bool.{false≢true}
@@ -22,12 +22,26 @@ use Rattle.source_meaning.specs.Shapes.{
 }
 use Rattle.source_meaning.specs.Sizes.{rounded_up, all_cells, struct_cells}
 use Rattle.source_meaning.specs.Placing.{Placed, moved, all_placed, struct_placed}
-use Rattle.source_lowering.specs.Lowerable.{IsObject, AreObjects, HasMember, IsStruct, AreStructs}
+use Rattle.source_lowering.specs.Lowerable.{IsValueShape, IsObject, AreObjects, HasMember, IsStruct, AreStructs}
 use Rattle.source_lowering.specs.ObjectCells.{cells_in, placed_in, extent_in}
-pub use Rattle.source_lowering.specs.ObjectCells.{shapes_in, AreValueShapes, HasCells}
+pub use Rattle.source_lowering.specs.ObjectCells.{shapes_in, IsCellShape, AreCellShapes, HasCells}
 use Rattle.source_lowering.proofs.Structs.{rounded_zero}
 
 -- ---- cells
+
+-- a value is a cell
+pub value_cell : (unions : List Layout) (s : Shape) → IsValueShape s → IsCellShape unions s
+value_cell unions IntShape h = tt
+value_cell unions UnsignedShape h = tt
+value_cell unions CharShape h = tt
+value_cell unions VoidShape h = h
+value_cell unions (ThinShape may_be_null owner to) h = h
+value_cell unions (FatShape to) h = h
+value_cell unions HandleShape h = tt
+value_cell unions KeyShape h = h
+value_cell unions (StructShape tag) h = h
+value_cell unions (UnionShape tag) h = absurd h
+value_cell unions (ArrayShape count of) h = h
 
 shapes_both : (ps qs : List Placed) → shapes_in (ps ++ qs) ≡ shapes_in ps ++ shapes_in qs
 shapes_both [] qs = refl
@@ -41,20 +55,20 @@ pub shapes_count : (ps : List Placed) → length (shapes_in ps) ≡ length ps
 shapes_count [] = refl
 shapes_count (p ∷ ps) = ap suc (shapes_count ps)
 
-values_both : (ss ts : List Shape) → AreValueShapes ss → AreValueShapes ts → AreValueShapes (ss ++ ts)
-values_both [] ts h g = g
-values_both (s ∷ ss) ts h g = (h.0, values_both ss ts h.1 g)
+values_both : (unions : List Layout) (ss ts : List Shape) → AreCellShapes unions ss → AreCellShapes unions ts → AreCellShapes unions (ss ++ ts)
+values_both unions [] ts h g = g
+values_both unions (s ∷ ss) ts h g = (h.0, values_both unions ss ts h.1 g)
 
 -- a struct's
 record HaveCells (unions structs : List Layout) (so_far : ℕ) (ps : List Part) : Type 0 where
   shapes : shapes_in (all_placed (placed_in unions structs) (extent_in unions structs) so_far ps) ≡ all_cells (cells_in structs) ps
-  values : AreValueShapes (all_cells (cells_in structs) ps)
+  values : AreCellShapes unions (all_cells (cells_in structs) ps)
 
-value_cells : (unions structs : List Layout) (s : Shape) → AreValueShapes (s ∷ []) → placed_in unions structs s ≡ (record { offset = 0; shape = s }) ∷ []
+value_cells : (unions structs : List Layout) (s : Shape) → AreCellShapes unions (s ∷ []) → placed_in unions structs s ≡ (record { offset = 0; shape = s }) ∷ []
     → cells_in structs s ≡ s ∷ [] → HasCells unions structs s
 value_cells unions structs s word placed cells = record {
   shapes = ap shapes_in placed ∙ sym cells;
-  values = subst AreValueShapes (sym cells) word;
+  cells = subst (AreCellShapes unions) (sym cells) word;
   first = record { offset = 0; shape = s };
   others = [];
   is = placed;
@@ -77,7 +91,7 @@ parts_cells unions structs so_far (p ∷ ps) h =
       shapes = shapes_both (map (moved at) (placed_in unions structs p.shape)) others ∙
           ap (λ z. z ++ shapes_in others) (shapes_moved at (placed_in unions structs p.shape) ∙ one.shapes) ∙
           ap (λ z. cells_in structs p.shape ++ z) more.shapes;
-      values = values_both (cells_in structs p.shape) (all_cells (cells_in structs) ps) one.values more.values;
+      values = values_both unions (cells_in structs p.shape) (all_cells (cells_in structs) ps) one.cells more.values;
     }
 
 -- the first member begins the struct
@@ -105,7 +119,7 @@ begun unions structs (p ∷ ps) h cells =
 
 -- an object, where each struct has cells
 object_by : (unions structs : List Layout) (s : Shape) → ((tag : List ℕ) → has_tag structs tag ≡ true → HasCells unions structs (StructShape tag))
-    → IsObject structs s → HasCells unions structs s
+    → IsObject unions structs s → HasCells unions structs s
 object_by unions structs (StructShape tag) all o = all tag o
 object_by unions structs IntShape all o = value_cells unions structs IntShape (tt, tt) refl refl
 object_by unions structs UnsignedShape all o = value_cells unions structs UnsignedShape (tt, tt) refl refl
@@ -115,11 +129,11 @@ object_by unions structs (ThinShape may_be_null owner to) all o = value_cells un
 object_by unions structs (FatShape to) all o = value_cells unions structs (FatShape to) (o, tt) refl refl
 object_by unions structs HandleShape all o = value_cells unions structs HandleShape (tt, tt) refl refl
 object_by unions structs KeyShape all o = absurd o
-object_by unions structs (UnionShape tag) all o = absurd o
+object_by unions structs (UnionShape tag) all o = value_cells unions structs (UnionShape tag) (o, tt) refl refl
 object_by unions structs (ArrayShape count of) all o = absurd o
 
 members_by : (unions structs : List Layout) (ps : List Part) → ((tag : List ℕ) → has_tag structs tag ≡ true → HasCells unions structs (StructShape tag))
-    → AreObjects structs (part_shapes ps) → AllHaveCells unions structs ps
+    → AreObjects unions structs (part_shapes ps) → AllHaveCells unions structs ps
 members_by unions structs [] all h = tt
 members_by unions structs (p ∷ ps) all h = (object_by unions structs p.shape all h.0, members_by unions structs ps all h.1)
 
@@ -135,7 +149,7 @@ parts_struct unions earlier l tag e some members =
     ap (λ b. if b then all_placed (placed_in unions earlier) (extent_in unions earlier) 0 l.parts else struct_placed unions earlier tag) e in
     record {
       shapes = ap shapes_in placed ∙ all.shapes ∙ sym cells;
-      values = subst AreValueShapes (sym cells) all.values;
+      cells = subst (AreCellShapes unions) (sym cells) all.values;
       first = first.first;
       others = first.others;
       is = placed ∙ first.is;
@@ -151,7 +165,7 @@ struct_still unions earlier l tag e one =
     ap (λ b. if b then all_placed (placed_in unions earlier) (extent_in unions earlier) 0 l.parts else struct_placed unions earlier tag) e in
     record {
       shapes = ap shapes_in placed ∙ one.shapes ∙ sym cells;
-      values = subst AreValueShapes (sym cells) one.values;
+      cells = subst (AreCellShapes unions) (sym cells) one.cells;
       first = one.first;
       others = one.others;
       is = placed ∙ one.is;
@@ -171,5 +185,5 @@ struct_has unions (l ∷ earlier) h tag o = by (bytes_eq l.tag tag) refl (λ t e
     by true e all = parts_struct unions earlier l tag e one.some (members_by unions earlier l.parts all one.members)
     by false e all = struct_still unions earlier l tag e (all tag (sym (ap (λ b. if b then true else has_tag earlier tag) e) ∙ o))
 
-pub object_cells : (unions structs : List Layout) (s : Shape) → AreStructs unions structs → IsObject structs s → HasCells unions structs s
+pub object_cells : (unions structs : List Layout) (s : Shape) → AreStructs unions structs → IsObject unions structs s → HasCells unions structs s
 object_cells unions structs s h o = object_by unions structs s (λ tag e. struct_has unions structs h tag e) o

@@ -78,7 +78,7 @@ use Rattle.source_lowering.proofs.memory.Cells.{IsPlain, plain_of}
 
 -- ---- shapes of values
 
-abbrev alone : Shape → Placed
+abbrev pub alone : Shape → Placed
 alone shape = record { offset = 0; shape = shape }
 
 -- a value has one cell, and what stands for it fits the parts of its shape

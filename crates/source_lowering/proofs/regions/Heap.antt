@@ -67,7 +67,7 @@ beyond_data (d ∷ ds) (suc i) cell j h = beyond_data ds i cell j (omega (arith,
 data_count : (w : World) (items : List Item) (ss : List Literal) → TakesProgram w items → length (heap_objects w items ss) ≡ length (heap_data w items ss)
 data_count w [] ss h = length-map ss string_object ∙ sym (length-map ss (string_datum w))
 data_count w (tree.StructItem s ∷ items) ss h = data_count w items ss h.1
-data_count w (tree.UnionItem u ∷ items) ss h = absurd h.0
+data_count w (tree.UnionItem u ∷ items) ss h = data_count w items ss h.1
 data_count w (tree.FunctionItem f ∷ items) ss h = data_count w items ss h.1
 data_count w (tree.GlobalItem g ∷ items) ss h = ap suc (data_count w items ss h.1)
 
@@ -241,7 +241,7 @@ word_contents w x (StructShape tag) h = refl
 word_contents w x (UnionShape tag) h = refl
 word_contents w x (ArrayShape count of) h = refl
 
-is_stored : (w : World) (c : core.Memory) (initial : Initial) (s : Shape) (ds : List Datum) (k : ℕ) → TakesGlobal s initial → IsObject w.structs s
+is_stored : (w : World) (c : core.Memory) (initial : Initial) (s : Shape) (ds : List Datum) (k : ℕ) → TakesGlobal s initial → IsObject w.unions w.structs s
     → ((j : ℕ) → c.parts (at (heap_spot k)) j ≡ datum_parts (global_datum w initial (global_shape initial s) ∷ ds) 0 0 j) → IsStored w c initial s k
 is_stored w c Initial.Unset s ds k h object e = tt
 is_stored w c (Initial.Elements count) s ds k h object e = tt
@@ -302,10 +302,10 @@ stored_from : (w : World) (c : core.Memory) (items : List Item) (ss : List Liter
     → AreStored w c items k
 stored_from w c [] ss k h e = tt
 stored_from w c (tree.StructItem s ∷ items) ss k h e = stored_from w c items ss k h.1 e
-stored_from w c (tree.UnionItem u ∷ items) ss k h e = absurd h.0
+stored_from w c (tree.UnionItem u ∷ items) ss k h e = stored_from w c items ss k h.1 e
 stored_from w c (tree.FunctionItem f ∷ items) ss k h e = stored_from w c items ss k h.1 e
 stored_from w c (tree.GlobalItem g ∷ items) ss k h e = (
-  is_stored w c g.initial (settled (written g.of)) (heap_data w items ss) k h.0.1 (object_settled w.structs g.of h.0.0)
+  is_stored w c g.initial (settled (written g.of)) (heap_data w items ss) k h.0.1 (object_settled w.unions w.structs g.of h.0.0)
       (λ j. ap (λ z. c.parts (spot_in (core.Born 0) z 0) j) (no_more k) ∙ e 0 0 j),
   stored_from w c items ss (suc k) h.1 (λ i cell j. ap (λ z. c.parts (spot_in (core.Born 0) z cell) j) (one_on k i) ∙ e (suc i) cell j),
 )
@@ -317,16 +317,17 @@ pub heap_stored : (w : World) (items : List Item) (ss : List Literal) → TakesP
 heap_stored w items ss h = stored_from w (first_memory (heap_data w items ss)) items ss 0 h (heap_present w items ss)
 
 -- an object's cells, whatever they hold
-object_led : (w : World) (m : source.Memory) (c : core.Memory) (s : Shape) (k : ℕ) (content : Shape → source.Content) → IsObject w.structs s
+object_led : (w : World) (m : source.Memory) (c : core.Memory) (s : Shape) (k : ℕ) (content : Shape → source.Content) → IsObject w.unions w.structs s
     → ((cell : ℕ) → m.cells (spot_of (source.Born 0) k cell) ≡ slice_get (map (cell_with content) (cells_of w s)) cell)
     → LocalMade w c (core.Born 0) k s → VariableLeads w m c s (heap_spot k)
-object_led w m c s k content object here made = leads_object w.structs w m c s (heap_spot k) object (
+object_led w m c s k content object here made = leads_object w.unions w.structs w m c s (heap_spot k) object (
   cells_from m (source.Born 0) k 0 content (cells_of w s) (λ i. here (0 + i) ∙ ap (slice_get (map (cell_with content) (cells_of w s))) (none_on i)),
-  object_made w.structs w c (core.Born 0) k s object made,
+  object_made w.unions w.structs w c (core.Born 0) k s object made,
 )
 
 -- a global leads to what it is: an array, or one object
-global_led : (w : World) (m : source.Memory) (c : core.Memory) (initial : Initial) (s : Shape) (k : ℕ) → AreStructs w.unions w.structs → IsObject w.structs s
+global_led : (w : World) (m : source.Memory) (c : core.Memory) (initial : Initial) (s : Shape) (k : ℕ) → AreStructs w.unions w.structs
+    → IsObject w.unions w.structs s
     → ((cell : ℕ) → m.cells (spot_of (source.Born 0) k cell) ≡ global_object w initial s cell) → LocalMade w c (core.Born 0) k (global_shape initial s)
     → VariableLeads w m c (global_shape initial s) (heap_spot k)
 global_led w m c Initial.Unset s k structs object here made = object_led w m c s k source.first_content object here made
@@ -342,10 +343,10 @@ led_from : (w : World) (m : source.Memory) (c : core.Memory) (items : List Item)
     → TakesProgram w items → AreLaid w m items ss k → ArePresent w c items ss k → AreLed w m c (globals_from items k)
 led_from w m c [] ss k structs h e present = tt
 led_from w m c (tree.StructItem s ∷ items) ss k structs h e present = led_from w m c items ss k structs h.1 e present
-led_from w m c (tree.UnionItem u ∷ items) ss k structs h e present = absurd h.0
+led_from w m c (tree.UnionItem u ∷ items) ss k structs h e present = led_from w m c items ss k structs h.1 e present
 led_from w m c (tree.FunctionItem f ∷ items) ss k structs h e present = led_from w m c items ss k structs h.1 e present
 led_from w m c (tree.GlobalItem g ∷ items) ss k structs h e present = (
-  global_led w m c g.initial s k structs (object_settled w.structs g.of h.0.0)
+  global_led w m c g.initial s k structs (object_settled w.unions w.structs g.of h.0.0)
       (λ cell. ap (λ z. m.cells (spot_of (source.Born 0) z cell)) (no_more k) ∙ e 0 cell)
       (global_made w g.initial (global_shape g.initial s) (heap_data w items ss) c k
       (λ cell j. ap (λ z. c.parts (spot_in (core.Born 0) z cell) j) (no_more k) ∙ present 0 cell j)),

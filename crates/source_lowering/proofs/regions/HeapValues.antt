@@ -29,21 +29,21 @@ use Rattle.core_meaning.specs.Memory as core
 use Rattle.core_meaning.specs.Memory.{Content, Part, Layout}
 use Rattle.core_meaning.specs.Core.{Datum}
 use Rattle.core_meaning.specs.Meaning.{datum_parts}
-use Rattle.source_lowering.specs.Layouts.{layout_of, first_part, Piece, pieces_of, part_shape_of}
+use Rattle.source_lowering.specs.Layouts.{layout_of, first_part, Piece, cell_pieces, part_shape_of}
 use Rattle.source_lowering.specs.Lowered.{width_of}
 use Rattle.source_lowering.specs.Programs.{datum_of, first_content, global_datum, data_of, begun_datum, string_datum}
 use Rattle.source_lowering.specs.Taken.{IsNullable, IsString, TakesConstant}
-use Rattle.source_lowering.specs.Lowerable.{IsObject, AreStructs, TakesGlobal, TakesProgram}
+use Rattle.source_lowering.specs.Lowerable.{IsObject, AreStructs, HasBeginning, TakesGlobal, TakesProgram}
 use Rattle.source_lowering.specs.Simulation.{Shown, HoldsFrom}
 use Rattle.source_lowering.proofs.values.Integers.{IsWordShape, IsValueShape, word_value, integer_word}
 use Rattle.source_lowering.proofs.memory.Cells.{plain_of}
-use Rattle.source_lowering.proofs.memory.StructCells.{object_cells, HasCells}
+use Rattle.source_lowering.proofs.memory.StructCells.{value_cell, object_cells, HasCells}
 use Rattle.source_lowering.proofs.expressions.Making.{cell_with}
 use Rattle.source_lowering.proofs.memory.Clearing.{BeginsWith, layout_first, placed_at}
 use Rattle.source_lowering.proofs.statements.Declaring.{blank_holds}
 use Rattle.source_lowering.proofs.memory.FirstCells.{IsFirstCell, first_cell_is, first_shown}
 use Rattle.source_lowering.proofs.memory.CellParts.{firsts_of}
-use Rattle.source_lowering.proofs.memory.Members.{word_pieces, layout_count}
+use Rattle.source_lowering.proofs.memory.Members.{word_pieces, cells_pieces, layout_count}
 use Rattle.source_lowering.proofs.expressions.ElementsMade.{here_on, further_on, element_blank, element_cell, cell_number}
 use Rattle.source_lowering.proofs.expressions.ArrayCells.{InElement, in_element}
 use Rattle.source_meaning.specs.Statements.{first_array}
@@ -74,19 +74,19 @@ datum_is w (ArrayShape count of) x ds h = absurd h
 -- ---- the source's object
 
 -- what is given a constant is a value
-pub constant_is_value : (w : World) (c : tree.Constant) (s : Shape) → TakesConstant s c → IsObject w.structs s → IsValueShape s
+pub constant_is_value : (w : World) (c : tree.Constant) (s : Shape) → TakesConstant s c → IsObject w.unions w.structs s → IsValueShape s
 constant_is_value w (tree.Number place value suffix) s h object = word_value s (integer_word s h)
 constant_is_value w (tree.Negative place value suffix) s h object = word_value s (integer_word s h)
 constant_is_value w (tree.Character place byte) s h object = word_value s (integer_word s h)
 constant_is_value w (tree.Text place bytes) s h object = string_is_value s h object
   where
-    string_is_value : (z : Shape) → IsString z → IsObject w.structs z → IsValueShape z
+    string_is_value : (z : Shape) → IsString z → IsObject w.unions w.structs z → IsValueShape z
     string_is_value (ThinShape true owner CharShape) g o = o
     string_is_value (FatShape CharShape) g o = o
     string_is_value _ g o = absurd g
 constant_is_value w (tree.Null place) s h object = nullable_value s h object
   where
-    nullable_value : (z : Shape) → IsNullable z → IsObject w.structs z → IsValueShape z
+    nullable_value : (z : Shape) → IsNullable z → IsObject w.unions w.structs z → IsValueShape z
     nullable_value (ThinShape true owner to) g o = o
     nullable_value (FatShape to) g o = o
     nullable_value (ThinShape false owner to) g o = absurd g
@@ -106,7 +106,7 @@ constant_is_value w (tree.Null place) s h object = nullable_value s h object
 word_global : (w : World) (s : Shape) (ds : List Datum) (cell : ℕ) (shape : Shape) (v : Scalar) → IsWordShape s
     → slice_get (map (cell_with source.first_content) (cells_of w s)) cell ≡ Some (cell_of shape (Holds v))
     → IsHeapValue w (datum_of w s (first_part s) ∷ ds) 0 cell shape v
-word_global w s ds cell shape v is_word e = at_cell cell (first_cell_is (s ∷ []) cell shape v (word_value s is_word, tt)
+word_global w s ds cell shape v is_word e = at_cell cell (first_cell_is w.unions (s ∷ []) cell shape v (value_cell w.unions s (word_value s is_word), tt)
     (ap (λ z. slice_get (map (cell_with source.first_content) z) cell) (sym (plain_of w s is_word).cells) ∙ e))
   where
     some_is : (x y : Shape) → Some x ≡ Some y → x ≡ y
@@ -120,17 +120,18 @@ word_global w s ds cell shape v is_word e = at_cell cell (first_cell_is (s ∷ [
       contents = first_part s ∷ [];
       held = ((part_of (width_of s) (first_part s), (datum_is w s (first_part s) ds is_word, refl)), tt);
       shown = λ m c.
-          subst (λ z. Shown w m c shape v z) (ap (λ z. firsts_of (pieces_of z)) (sym (some_is s shape o.here)) ∙ ap firsts_of (word_pieces s is_word))
+          subst (λ z. Shown w m c shape v z) (ap (λ z. firsts_of (cell_pieces w.unions z)) (sym (some_is s shape o.here)) ∙
+          ap firsts_of (cells_pieces w.unions s (word_value s is_word) ∙ word_pieces s is_word))
           (first_shown w m c shape v o.is_value o.holds);
     }
     at_cell (suc k) o = absurd (no_shape o.here)
 
 -- or what begins as its layout does, of so many elements: the parts of a cell of one
-begun_holds : (w : World) (s : Shape) (count k i : ℕ) (ds : List Datum) (shape : Shape) → AreStructs w.unions w.structs → IsObject w.structs s
+begun_holds : (w : World) (s : Shape) (count k i : ℕ) (ds : List Datum) (shape : Shape) → AreStructs w.unions w.structs → IsObject w.unions w.structs s
     → slice_get (cells_of w s) i ≡ Some shape → k < count
     → HoldsFrom (datum_parts (begun_datum (record { layout = layout_of w s; count = count }) ∷ ds) 0 (element_cell (layout_of w s) k i)) 0
-    (firsts_of (pieces_of shape))
-begun_holds w s count k i ds shape structs object here less = holds 0 (pieces_of shape) (λ n. ap (slice_get parts) (zero_on n))
+    (firsts_of (cell_pieces w.unions shape))
+begun_holds w s count k i ds shape structs object here less = holds 0 (cell_pieces w.unions shape) (λ n. ap (slice_get parts) (zero_on n))
   where
     layout : Layout
     layout = layout_of w s
@@ -138,11 +139,11 @@ begun_holds w s count k i ds shape structs object here less = holds 0 (pieces_of
     cell : ℕ
     cell = element_cell layout k i
 
-    first : BeginsWith layout.cells i shape
+    first : BeginsWith w.unions layout.cells i shape
     first = layout_first w s i shape structs object here
 
     parts : List core.PartShape
-    parts = map (part_shape_of (placed_at first.offset shape)) (pieces_of shape) ++ first.others
+    parts = map (part_shape_of (placed_at first.offset shape)) (cell_pieces w.unions shape) ++ first.others
 
     zero_on : (n : ℕ) → 0 + n ≡ n
     zero_on n = omega arith
@@ -167,29 +168,31 @@ begun_holds w s count k i ds shape structs object here less = holds 0 (pieces_of
           holds (suc j) qs (further_on parts more j x same),
         )
 
-begun_value : (w : World) (s : Shape) (ds : List Datum) (cell : ℕ) (shape : Shape) (v : Scalar) → AreStructs w.unions w.structs → IsObject w.structs s
+begun_value : (w : World) (s : Shape) (ds : List Datum) (cell : ℕ) (shape : Shape) (v : Scalar) → AreStructs w.unions w.structs → IsObject w.unions w.structs s
     → slice_get (map (cell_with source.first_content) (cells_of w s)) cell ≡ Some (cell_of shape (Holds v))
     → IsHeapValue w (begun_datum (record { layout = layout_of w s; count = 1 }) ∷ ds) 0 cell shape v
 begun_value w s ds cell shape v structs object e = record {
-  contents = firsts_of (pieces_of shape);
-  held = subst (λ z. HoldsFrom (datum_parts (begun_datum (record { layout = layout_of w s; count = 1 }) ∷ ds) 0 z) 0 (firsts_of (pieces_of shape))) same
+  contents = firsts_of (cell_pieces w.unions shape);
+  held = subst (λ z. HoldsFrom (datum_parts (begun_datum (record { layout = layout_of w s; count = 1 }) ∷ ds) 0 z) 0
+      (firsts_of (cell_pieces w.unions shape))) same
       (begun_holds w s 1 0 cell ds shape structs object o.here (omega arith));
   shown = λ m c. first_shown w m c shape v o.is_value o.holds;
 }
   where
     o : IsFirstCell (cells_of w s) cell shape v
-    o = first_cell_is (cells_of w s) cell shape v (object_cells w.unions w.structs s structs object).values e
+    o = first_cell_is w.unions (cells_of w s) cell shape v (object_cells w.unions w.structs s structs object).cells e
 
     same : 0 * length (layout_of w s).cells + cell ≡ cell
     same = omega arith
 
 -- an array
 pub array_value : (w : World) (of : Shape) (count : ℕ) (ds : List Datum) (cell : ℕ) (shape : Shape) (v : Scalar) → AreStructs w.unions w.structs
-    → IsObject w.structs of → first_array w count of cell ≡ Some (cell_of shape (Holds v))
+    → IsObject w.unions w.structs of → first_array w count of cell ≡ Some (cell_of shape (Holds v))
     → IsHeapValue w (begun_datum (record { layout = layout_of w of; count = count }) ∷ ds) 0 cell shape v
 array_value w of count ds cell shape v structs object e = record {
-  contents = firsts_of (pieces_of shape);
-  held = subst (λ z. HoldsFrom (datum_parts (begun_datum (record { layout = layout_of w of; count = count }) ∷ ds) 0 z) 0 (firsts_of (pieces_of shape)))
+  contents = firsts_of (cell_pieces w.unions shape);
+  held = subst (λ z. HoldsFrom (datum_parts (begun_datum (record { layout = layout_of w of; count = count }) ∷ ds) 0 z) 0
+      (firsts_of (cell_pieces w.unions shape)))
       (sym where_is) (begun_holds w of count inside.element inside.number ds shape structs object o.here inside.less);
   shown = λ m c. first_shown w m c shape v o.is_value o.holds;
 }
@@ -201,31 +204,32 @@ array_value w of count ds cell shape v structs object e = record {
     inside = in_element count cell (map first_cell (cells_of w of)) (cell_of shape (Holds v)) e
 
     o : IsFirstCell (cells_of w of) inside.number shape v
-    o = first_cell_is (cells_of w of) inside.number shape v has.values inside.is
+    o = first_cell_is w.unions (cells_of w of) inside.number shape v has.cells inside.is
 
     where_is : cell ≡ element_cell (layout_of w of) inside.element inside.number
     where_is = inside.cell_is ∙
         ap (λ z. inside.element * z + inside.number) (length-map (cells_of w of) first_cell ∙ sym (layout_count w of has))
 
-unset_value : (w : World) (s : Shape) (ds : List Datum) (cell : ℕ) (shape : Shape) (v : Scalar) → AreStructs w.unions w.structs → IsObject w.structs s
+unset_value : (w : World) (s : Shape) (ds : List Datum) (cell : ℕ) (shape : Shape) (v : Scalar) → AreStructs w.unions w.structs → HasBeginning s
+    → IsObject w.unions w.structs s
     → slice_get (map (cell_with source.first_content) (cells_of w s)) cell ≡ Some (cell_of shape (Holds v))
     → IsHeapValue w (global_datum w Initial.Unset s ∷ ds) 0 cell shape v
-unset_value w (StructShape tag) ds cell shape v structs object e = begun_value w (StructShape tag) ds cell shape v structs object e
-unset_value w IntShape ds cell shape v structs object e = word_global w IntShape ds cell shape v tt e
-unset_value w UnsignedShape ds cell shape v structs object e = word_global w UnsignedShape ds cell shape v tt e
-unset_value w CharShape ds cell shape v structs object e = word_global w CharShape ds cell shape v tt e
-unset_value w (ThinShape b owner to) ds cell shape v structs object e = word_global w (ThinShape b owner to) ds cell shape v object e
-unset_value w VoidShape ds cell shape v structs object e = absurd object
-unset_value w (FatShape to) ds cell shape v structs object e = begun_value w (FatShape to) ds cell shape v structs object e
-unset_value w HandleShape ds cell shape v structs object e = word_global w HandleShape ds cell shape v tt e
-unset_value w KeyShape ds cell shape v structs object e = absurd object
-unset_value w (UnionShape tag) ds cell shape v structs object e = absurd object
-unset_value w (ArrayShape count of) ds cell shape v structs object e = absurd object
+unset_value w (StructShape tag) ds cell shape v structs begins object e = begun_value w (StructShape tag) ds cell shape v structs object e
+unset_value w IntShape ds cell shape v structs begins object e = word_global w IntShape ds cell shape v tt e
+unset_value w UnsignedShape ds cell shape v structs begins object e = word_global w UnsignedShape ds cell shape v tt e
+unset_value w CharShape ds cell shape v structs begins object e = word_global w CharShape ds cell shape v tt e
+unset_value w (ThinShape b owner to) ds cell shape v structs begins object e = word_global w (ThinShape b owner to) ds cell shape v object e
+unset_value w VoidShape ds cell shape v structs begins object e = absurd object
+unset_value w (FatShape to) ds cell shape v structs begins object e = begun_value w (FatShape to) ds cell shape v structs object e
+unset_value w HandleShape ds cell shape v structs begins object e = word_global w HandleShape ds cell shape v tt e
+unset_value w KeyShape ds cell shape v structs begins object e = absurd object
+unset_value w (UnionShape tag) ds cell shape v structs begins object e = absurd begins
+unset_value w (ArrayShape count of) ds cell shape v structs begins object e = absurd object
 
 global_value : (w : World) (initial : Initial) (s : Shape) (ds : List Datum) (cell : ℕ) (shape : Shape) (v : Scalar) → AreStructs w.unions w.structs
-    → TakesGlobal s initial → IsObject w.structs s → global_object w initial s cell ≡ Some (cell_of shape (Holds v))
+    → TakesGlobal s initial → IsObject w.unions w.structs s → global_object w initial s cell ≡ Some (cell_of shape (Holds v))
     → IsHeapValue w (global_datum w initial (global_shape initial s) ∷ ds) 0 cell shape v
-global_value w Initial.Unset s ds cell shape v structs h object e = unset_value w s ds cell shape v structs object e
+global_value w Initial.Unset s ds cell shape v structs h object e = unset_value w s ds cell shape v structs h object e
 global_value w (Initial.Elements count) s ds cell shape v structs h object e = array_value w s count ds cell shape v structs object e
 global_value w (Initial.Given c) s ds cell shape v structs h object e = absurd (blank_holds (cells_of w s) cell shape v e)
 
@@ -241,10 +245,10 @@ pub heap_value : (w : World) (items : List Item) (ss : List Literal) (i cell : �
     → IsHeapValue w (heap_data w items ss) i cell shape v
 heap_value w [] ss i cell shape v structs h e = string_value w ss i cell shape v e
 heap_value w (tree.StructItem s ∷ items) ss i cell shape v structs h e = heap_value w items ss i cell shape v structs h.1 e
-heap_value w (tree.UnionItem u ∷ items) ss i cell shape v structs h e = absurd h.0
+heap_value w (tree.UnionItem u ∷ items) ss i cell shape v structs h e = heap_value w items ss i cell shape v structs h.1 e
 heap_value w (tree.FunctionItem f ∷ items) ss i cell shape v structs h e = heap_value w items ss i cell shape v structs h.1 e
 heap_value w (tree.GlobalItem g ∷ items) ss zero cell shape v structs h e =
-    global_value w g.initial (settled (written g.of)) (heap_data w items ss) cell shape v structs h.0.1 (object_settled w.structs g.of h.0.0) e
+    global_value w g.initial (settled (written g.of)) (heap_data w items ss) cell shape v structs h.0.1 (object_settled w.unions w.structs g.of h.0.0) e
 heap_value w (tree.GlobalItem g ∷ items) ss (suc i) cell shape v structs h e =
     let one = heap_value w items ss i cell shape v structs h.1 e in
     record { contents = one.contents; held = one.held; shown = one.shown }

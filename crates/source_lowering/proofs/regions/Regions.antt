@@ -21,7 +21,7 @@ use Rattle.core_meaning.specs.Meaning as meaning
 use Rattle.core_meaning.specs.Operations.{born, saturated, does}
 use Rattle.source_lowering.specs.Layouts.{layout_of}
 use Rattle.source_lowering.specs.Lowered.{put, request_code}
-use Rattle.source_lowering.specs.Lowerable.{IsObject, AreStructs}
+use Rattle.source_lowering.specs.Lowerable.{IsObject, AreUnions, AreStructs}
 use Rattle.source_lowering.proofs.Structs.{object_small}
 use Rattle.source_lowering.specs.Simulation.{region_at, at, BothVisible, Leads, IsLexical, SameMemory, Bound, nothing, Grown, Same, Next}
 use Rattle.source_lowering.proofs.memory.Keeping.{shown_later, held_same, ended_later, ended_agree}
@@ -169,9 +169,10 @@ granted_leads w m c d s a = (
 -- ---- it is asked for
 
 -- both ask for as many bytes
-pub request_size : (w : World) (s : Shape) → AreStructs w.unions w.structs → IsObject w.structs s → saturated (1 * (layout_of w s).bytes) ≡ size_of w s
-request_size w s structs object =
-    let small : size_of w s ≤ 4096 = object_small w.unions w.structs s structs object in
+pub request_size : (w : World) (s : Shape) → AreUnions w.unions → AreStructs w.unions w.structs → IsObject w.unions w.structs s
+    → saturated (1 * (layout_of w s).bytes) ≡ size_of w s
+request_size w s unions structs object =
+    let small : size_of w s ≤ 4096 = object_small w.unions w.structs s unions structs object in
     let one : 1 * size_of w s ≡ size_of w s = omega arith in
     let less : nat_lt (size_of w s) (2 ^ 32) ≡ true = grind (arith, nat_tests, small) in
     ap saturated one ∙ ap (λ b. if b then size_of w s else 2 ^ 32 - 1) less
@@ -184,11 +185,12 @@ requested w d e r shape c rest next less temp live = rw (other_temp e d (Word 1)
 
 -- a block is asked for in the region of a handle that is in a temporary, which gets a pointer to it; the source is stuck where the region isn't live
 pub request_same : (w : World) (fs : Program) (n d e r : ℕ) (shape : Shape) (m : source.Memory) (c : Config) (s : Spot → source.Memory → steps.Step)
-    (rest : Statements) (next : Next) → AreStructs w.unions w.structs → IsObject w.structs shape → SameMemory w m c.memory → d < e → c.temps d ≡ Birth r
+    (rest : Statements) (next : Next) → AreUnions w.unions → AreStructs w.unions w.structs → IsObject w.unions w.structs shape → SameMemory w m c.memory
+    → d < e → c.temps d ≡ Birth r
     → Same w fs n (s (next_spot m (source.Born r)) (source_granted w m r shape)) (meaning.statements rest next
     (with_temp d (Pointer (at (next_spot m (source.Born r))) 0) (with_memory (core_granted w c.memory r shape) (with_temp e (Word 1) c))))
     → Same w fs n (ask (InRegion r) (size_of w shape) (blank_object (cells_of w shape)) s m) (meaning.statements (put (request_code w shape d e) rest) next c)
-request_same w fs n d e r shape m c s rest next structs object a less temp go = by (is_live m (source.Born r)) refl
+request_same w fs n d e r shape m c s rest next unions structs object a less temp go = by (is_live m (source.Born r)) refl
   where
     after : core_steps.Step
     after = meaning.statements (put (request_code w shape d e) rest) next c
@@ -197,6 +199,6 @@ request_same w fs n d e r shape m c s rest next structs object a less temp go = 
     by false f = rw f (stuck_same w fs n after)
     by true f =
         let live : core.is_live (c.memory.standing (core.Born r)) ≡ true = sym (a.live (source.Born r)) ∙ f in
-        rw (f, requested w d e r shape c rest next less temp live, request_size w shape structs object, sym (granted_spot w m c.memory r a))
+        rw (f, requested w d e r shape c rest next less temp live, request_size w shape unions structs object, sym (granted_spot w m c.memory r a))
         (says_same w fs n _ _ (make_object (source.Born r) (blank_object (cells_of w shape)) s m) _ (BothVisible (events.RegionAlloc r (size_of w shape)))
         (rw f go))

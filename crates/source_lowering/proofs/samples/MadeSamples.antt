@@ -21,24 +21,24 @@ use Rattle.source_lowering.specs.Lowerable.{GivesWord, IsLowerable}
 use Rattle.source_lowering.specs.Programs.{program_code}
 use Rattle.source_lowering.proofs.samples.Samples.{member}
 
-abbrev fat : List tree.Pointer
+abbrev pub fat : List tree.Pointer
 fat = pointer Fat None ∷ []
 
 -- e * f, and e + f
 abbrev times : Expression → Expression → Expression
 times e f = Expression.Chain e (MoreLinks Multiply f NoLinks)
 
-abbrev plus : Expression → Expression → Expression
+abbrev pub plus : Expression → Expression → Expression
 plus e f = Expression.Chain e (MoreLinks Add f NoLinks)
 
-abbrev at_index : Expression → Expression → Expression
+abbrev pub at_index : Expression → Expression → Expression
 at_index e i = Expression.Suffixed e (Index i NoSuffixes)
 
 -- new {for i < n : e}
-abbrev array : Name → Expression → Expression → Expression
+abbrev pub array : Name → Expression → Expression → Expression
 array i n e = Expression.New 0 (Array i n e)
 
-abbrev declared : TypeName → Name → Expression → tree.Declaration
+abbrev pub declared : TypeName → Name → Expression → tree.Declaration
 declared of name e = tree.Local of name (Initializer.Value e)
 
 -- struct pair { int a; int b; };
@@ -70,7 +70,7 @@ made_forms =
 abbrev w : World
 w = world_of made_forms
 
-abbrev word_layout : Layout
+abbrev pub word_layout : Layout
 word_layout = record { cells = (record { offset = 0; width = 4; first = Word 0 } ∷ []) ∷ []; bytes = 4 }
 
 abbrev at_once : Distance
@@ -152,6 +152,7 @@ made_forms_taken = record {
       tt,
     ),
   );
+  unions = tt;
   structs = (record { new = refl; some = tt; members = (tt, (tt, tt)); small = omega arith }, tt);
   strings = tt;
 }

@@ -93,6 +93,7 @@ all_forms_taken = record {
       ),
     ),
   );
+  unions = tt;
   structs = tt;
   strings = tt;
 }
@@ -279,6 +280,7 @@ struct_forms_taken = record {
       ),
     ),
   );
+  unions = tt;
   structs = (
     record { new = refl; some = tt; members = (refl, ((refl, tt), (tt, tt))); small = omega arith },
     (record { new = refl; some = tt; members = (tt, (tt, tt)); small = omega arith }, tt),

@@ -69,6 +69,7 @@ text_forms_taken = record {
       ),
     ),
   );
+  unions = tt;
   structs = tt;
   strings = (omega arith, (omega arith, (omega arith, (omega arith, tt))));
 }

@@ -227,6 +227,7 @@ whole_forms_taken = record {
       ),
     ),
   );
+  unions = tt;
   structs = (
     record { new = refl; some = tt; members = (tt, (refl, tt)); small = omega arith },
     (record { new = refl; some = tt; members = (tt, (tt, tt)); small = omega arith }, tt),

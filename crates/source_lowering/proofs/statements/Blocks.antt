@@ -11,14 +11,14 @@ use Rattle.source_meaning.specs.Regions.{in_block}
 use Rattle.core_meaning.specs.Memory as core
 use Rattle.core_meaning.specs.Memory.{Content, is_lexical, with_standing}
 use Rattle.core_meaning.specs.Operations.{says}
-use Rattle.core_meaning.specs.Core.{Program, Statement, Block, NoStatements}
+use Rattle.core_meaning.specs.Core.{Program, Statement, Block, Statements, NoStatements}
 use Rattle.core_meaning.specs.Steps as core_steps
 use Rattle.core_meaning.specs.Steps.{Config, checked, with_memory}
 use Rattle.core_meaning.specs.Meaning as meaning
-use Rattle.source_lowering.specs.Lowered.{Home, InBlock, InTemporary, Named, all_of}
+use Rattle.source_lowering.specs.Lowered.{Home, InBlock, InTemporary, Named, all_of, put}
 use Rattle.source_lowering.specs.Programs.{RegionsAround, further_out, locals_of, outward}
-use Rattle.source_lowering.specs.Simulation.{ArePending, SameMemory, Bound, nothing, Grown, StandsFor, AreLocals, AreLed, AreHeld, HasStatics, Point, SameState, Same}
-use Rattle.source_lowering.specs.Simulation.{AValue, around, Next}
+use Rattle.source_lowering.specs.Simulation.{ArePending, SameMemory, Bound, nothing, Grown, StandsFor, AreLocals, AreLed, AreHeld, HasStatics, Point, SameState}
+use Rattle.source_lowering.specs.Simulation.{AValue, around, Next, Same, SameAt}
 use Rattle.source_lowering.proofs.memory.Held.{numbers_outward}
 use Rattle.source_lowering.proofs.memory.Keeping.{later_on, later_less, all_led_later, statics_later, pending_later, same_own, left_later, agree_left}
 use Rattle.source_lowering.proofs.expressions.Names.{AreObjectNames}
@@ -42,9 +42,9 @@ locals_outward k blocks (b ∷ bs) (l ∷ ls) h = (
   locals_outward k blocks bs ls h.1,
 )
 
-pub objects_outward : (structs : List Layout) (ls : List Named) → AreObjectNames structs ls → AreObjectNames structs (outward ls)
-objects_outward structs [] h = tt
-objects_outward structs (l ∷ ls) h = (h.0, objects_outward structs ls h.1)
+pub objects_outward : (unions structs : List Layout) (ls : List Named) → AreObjectNames unions structs ls → AreObjectNames unions structs (outward ls)
+objects_outward unions structs [] h = tt
+objects_outward unions structs (l ∷ ls) h = (h.0, objects_outward unions structs ls h.1)
 
 -- ---- results
 
@@ -155,11 +155,11 @@ pub ways_out : (w : World) (fs : Program) (n : ℕ) (h : RegionsAround) (b : Bou
 ways_out w fs n h b shapes m c result next after agree less ways = record {
   falls = λ m' c' o. ways.falls (gone m') (out c') (on m' c' o);
   breaks = λ m' c' o.
-      subst (λ z. Same w fs n (next steps.Breaks (gone m')) z) (sym (freed_out h.all h.inner (after core_steps.Breaks) c.memory.activations c.blocks c'))
+      subst (λ z. Same w fs n (next steps.Breaks (gone m')) z) (sym (freed_out h.all h.broken (after core_steps.Breaks) c.memory.activations c.blocks c'))
       (ways.breaks (gone m') (out c') (on m' c' o));
   continues = λ m' c' o.
       subst (λ z. Same w fs n (next steps.Continues (gone m')) z)
-      (sym (freed_out h.all h.inner (after core_steps.Continues) c.memory.activations c.blocks c')) (ways.continues (gone m') (out c') (on m' c' o));
+      (sym (freed_out h.all h.continued (after core_steps.Continues) c.memory.activations c.blocks c')) (ways.continues (gone m') (out c') (on m' c' o));
   returns = λ m' c' vs xs o r.
       subst (λ z. Same w fs n (next (steps.Returns vs) (gone m')) z)
       (sym (freed_out h.all h.all (after (core_steps.Returns xs)) c.memory.activations c.blocks c'))
@@ -190,6 +190,25 @@ ways_out w fs n h b shapes m c result next after agree less ways = record {
       kept = o.kept;
     }
 
+-- a block, whose body does the same where it is entered
+pub block_from : (p : Point) (n : ℕ) (result : Shape) (shapes : List Shape) (body : ℕ → Act Flow) (code : List Statement) (m : source.Memory) (c : Config)
+    (next : Flow → source.Memory → steps.Step) (rest : Statements) (after : Next) → SameState p m c
+    → WaysOn p.world p.program n p.regions (around p (suc p.frame)) m c result next (meaning.statements rest after) after
+    → ((then_next : Flow → source.Memory → steps.Step) (then_after : Next) → SameState (at_start p.world p.program p.locals (outward p.names) m.activations
+    (p.frame ∷ p.outer) shapes p.own p.owned p.kept p.regions) (source_in m) (meaning.in_block (locals_of p.world shapes) c)
+    → WaysOn p.world p.program n p.regions (inside_of (around p (suc p.frame)) m) (source_in m) (meaning.in_block (locals_of p.world shapes) c) result then_next
+    (then_after core_steps.Falls) then_after
+    → SameAt p n (body m.activations then_next (source_in m)) (meaning.statements (all_of code) then_after (meaning.in_block (locals_of p.world shapes) c)))
+    → SameAt p n (in_block body next m) (meaning.statements (put (Block (locals_of p.world shapes) (all_of code) ∷ []) rest) after c)
+block_from p n result shapes body code m c next rest after fits ways runs =
+    let inner : Next = λ exit. meaning.falls_to exit (meaning.statements rest after) after in
+    runs (next_out next m.activations) (after_out inner c)
+    (entered_fits p.world p.program p.locals (outward p.names) (p.frame ∷ p.outer) shapes m c p.own p.owned p.kept p.regions fits.agree fits.blocks
+    (record { is = fits.own; called = fits.called; stands = fits.stands; values = fits.owned }) fits.locals
+    (numbers_outward p.regions.all c.temps p.locals p.names fits.held) fits.statics)
+    (ways_out p.world p.program n p.regions (around p (suc p.frame)) shapes m c result next inner fits.agree (let b = fits.begun in omega (arith, b))
+    (record { falls = ways.falls; breaks = ways.breaks; continues = ways.continues; returns = ways.returns }))
+
 -- a block does the same as its code, where its items do in each activation
 pub block_same : (p : Point) (n : ℕ) (result : Shape) (shapes : List Shape) (body : ℕ → Act Flow) (code : List Statement)
     → ((k : ℕ) → RunsAs (at_start p.world p.program p.locals (outward p.names) k (p.frame ∷ p.outer) shapes p.own p.owned p.kept p.regions) n k result
@@ -197,11 +216,7 @@ pub block_same : (p : Point) (n : ℕ) (result : Shape) (shapes : List Shape) (b
     → RunsAs p n (suc p.frame) result (in_block body) (Block (locals_of p.world shapes) (all_of code) ∷ [])
 block_same p n result shapes body code runs = record {
   same = λ m c next rest after fits ways.
-      let inner : Next = λ exit. meaning.falls_to exit (meaning.statements rest after) after in
-      (runs m.activations).same (source_in m) (meaning.in_block (locals_of p.world shapes) c) (next_out next m.activations) NoStatements (after_out inner c)
-      (entered_fits p.world p.program p.locals (outward p.names) (p.frame ∷ p.outer) shapes m c p.own p.owned p.kept p.regions fits.agree fits.blocks
-      (record { is = fits.own; called = fits.called; stands = fits.stands; values = fits.owned }) fits.locals
-      (numbers_outward p.regions.all c.temps p.locals p.names fits.held) fits.statics)
-      (ways_out p.world p.program n p.regions (around p (suc p.frame)) shapes m c result next inner fits.agree (let b = fits.begun in omega (arith, b))
-      (record { falls = ways.falls; breaks = ways.breaks; continues = ways.continues; returns = ways.returns }));
+      block_from p n result shapes body code m c next rest after fits ways (λ then_next then_after inside out.
+      (runs m.activations).same (source_in m) (meaning.in_block (locals_of p.world shapes) c) then_next NoStatements then_after inside
+      (record { falls = out.falls; breaks = out.breaks; continues = out.continues; returns = out.returns }));
 }

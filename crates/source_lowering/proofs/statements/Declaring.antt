@@ -98,14 +98,15 @@ with_local p name shape pending = record {
 }
 
 -- the part of the local to come
-pub part_to_come : (p : Point) (m : source.Memory) (c : Config) (shape : Shape) (shapes : List Shape) → IsObject p.world.structs shape
-    → IsPlain p.world shape (width_of shape) → p.pending ≡ shape ∷ shapes → SameState p m c → PartIs c.memory (at (local_spot p.frame p.made)) 0 0 (width_of shape)
+pub part_to_come : (p : Point) (m : source.Memory) (c : Config) (shape : Shape) (shapes : List Shape) → IsObject p.world.unions p.world.structs shape
+    → IsPlain p.world shape (width_of shape) → p.pending ≡ shape ∷ shapes → SameState p m c
+    → PartIs c.memory (at (local_spot p.frame p.made)) 0 0 (width_of shape)
 part_to_come p m c shape shapes object plain e fits =
     let all : ArePending p.world c.memory (core.Frame p.frame) p.made (shape ∷ shapes) =
     subst (λ z. ArePending p.world c.memory (core.Frame p.frame) p.made z) e fits.pending in
     let one : AreMade c.memory (at (local_spot p.frame p.made)) 0 (((record { offset = 0; width = width_of shape; first = first_part shape }) ∷ []) ∷ []) =
     subst (λ z. AreMade c.memory (at (local_spot p.frame p.made)) 0 z) plain.layout
-    (object_made p.world.structs p.world c.memory (core.Frame p.frame) p.made shape object all.0) in
+    (object_made p.world.unions p.world.structs p.world c.memory (core.Frame p.frame) p.made shape object all.0) in
     one.0.0
 
 -- the object of a local, with contents by the shapes of its cells
@@ -138,7 +139,7 @@ object_fits p m c name shape shapes o e fits leads shown =
     }
 
 pub local_fits : (p : Point) (m : source.Memory) (c : Config) (name : List ℕ) (shape : Shape) (shapes : List Shape) (g : Shape → source.Content)
-    → IsObject p.world.structs shape → p.pending ≡ shape ∷ shapes → SameState p m c
+    → IsObject p.world.unions p.world.structs shape → p.pending ≡ shape ∷ shapes → SameState p m c
     → ((cell : ℕ) (of : Shape) (v : Scalar) → object_with p.world g shape cell ≡ Some (record { shape = of; content = Holds v })
     → IsShown p.world m c.memory (cell_spot p.frame p.made cell) of v)
     → SameState (with_local p name shape shapes) (m_made m p.frame (object_with p.world g shape)) c
@@ -147,9 +148,9 @@ local_fits p m c name shape shapes g object e fits shown =
     let all : ArePending p.world c.memory (core.Frame p.frame) p.made (shape ∷ shapes) =
     subst (λ z. ArePending p.world c.memory (core.Frame p.frame) p.made z) e fits.pending in
     object_fits p m c name shape shapes o e fits
-    (leads_object p.world.structs p.world (m_made m p.frame o) c.memory shape (local_spot p.frame p.made) object (
+    (leads_object p.world.unions p.world.structs p.world (m_made m p.frame o) c.memory shape (local_spot p.frame p.made) object (
       cells_here m p.frame p.made g (cells_of p.world shape) fits.made,
-      object_made p.world.structs p.world c.memory (core.Frame p.frame) p.made shape object all.0,
+      object_made p.world.unions p.world.structs p.world c.memory (core.Frame p.frame) p.made shape object all.0,
     )) shown
 
 -- what comes after a declaration: the temporaries below one stay
@@ -295,8 +296,8 @@ local_with_same p n address d scope name shape shapes vs then_act next m c rest 
     begun : World → ℕ → Spot → steps.Step
     begun w f spot = check (is_live m (source.Frame f)) (λ u m'. written w f spot) m
 
-    object : IsObject p.world.structs shape
-    object = value_object p.world.structs shape is_value
+    object : IsObject p.world.unions p.world.structs shape
+    object = value_object p.world.unions p.world.structs shape is_value
 
     q : Point
     q = with_local p name shape shapes
@@ -336,7 +337,7 @@ local_with_same p n address d scope name shape shapes vs then_act next m c rest 
         subst (λ z. SameAt p n (write_cells spot z (λ u. then_act (with_binding scope name (Variable shape spot)) next) m1) code) (sym v.alone)
         (cell_writes p.world p.program n shape m1 c.memory spot 0 v.value xs (λ u. then_act
         (with_binding scope name (Variable shape spot)) next) code (cell_of p.world shape is_value) fits1.agree
-        (object_leads p.world.structs p.world m1 c.memory shape spot object fits1.locals.0) shown1 stored)
+        (object_leads p.world.unions p.world.structs p.world m1 c.memory shape spot object fits1.locals.0) shown1 stored)
 
     by : (b : Bool) → is_live m (source.Frame p.frame) ≡ b → SameAt p n (begun p.world p.frame (next_of p.frame)) code
     by false e = rw e (stuck_same p.world p.program n code)

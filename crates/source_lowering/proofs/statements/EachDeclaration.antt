@@ -31,12 +31,12 @@ use Rattle.source_lowering.specs.Layouts.{layout_of}
 use Rattle.source_lowering.specs.Lowered.{Named, put, put_local, conversion_code, static_shape, place_code, expression_code}
 use Rattle.source_lowering.specs.Members.{words_in}
 use Rattle.source_lowering.specs.Programs.{local_shape, named_here, unset_code, value_code, declaration_code}
-use Rattle.source_lowering.specs.Lowerable.{IsTarget, IsObject, IsVariable, IsStructShape, IsObjectType, HasBeginning, Takes, TakesPlace, TakesValue}
+use Rattle.source_lowering.specs.Lowerable.{IsTarget, IsObject, IsVariable, IsWholeShape, IsObjectType, HasBeginning, Takes, TakesPlace, TakesValue}
 use Rattle.source_lowering.specs.Lowerable.{TakesDeclaration}
 use Rattle.source_lowering.specs.Simulation.{Point, SameAt, around, contents_in}
 use Rattle.source_lowering.proofs.memory.Keeping.{less_self, later_on, later_items, blocks_of}
 use Rattle.source_lowering.proofs.Runs.{put_all}
-use Rattle.source_lowering.proofs.values.Integers.{IsTaken, IsValueShape, value_taken, taken_target}
+use Rattle.source_lowering.proofs.values.Integers.{IsTaken, IsValueShape, object_target, value_taken, taken_target}
 use Rattle.source_lowering.proofs.values.AnyValues.{value_given}
 use Rattle.source_lowering.proofs.statements.WrittenTypes.{type_settles, object_settled}
 use Rattle.source_lowering.proofs.values.Values.{put_three}
@@ -71,7 +71,7 @@ known_more k name shape pending =
 abbrev pub scope_more : Scope → Known → List ℕ → Shape → Scope
 scope_more scope k name shape = with_binding scope name (Variable shape (local_spot scope.frame k.made))
 
-pub known_still : (scope : Scope) (k : Known) (name : List ℕ) (shape : Shape) (pending : List Shape) → IsVariable scope.world.structs shape
+pub known_still : (scope : Scope) (k : Known) (name : List ℕ) (shape : Shape) (pending : List Shape) → IsVariable scope.world.unions scope.world.structs shape
     → IsKnown scope k
     → IsKnown (scope_more scope k name shape) (known_more k name shape pending)
 known_still scope k name shape pending object known = record {
@@ -81,7 +81,7 @@ known_still scope k name shape pending object known = record {
 }
 
 unset_same : (n : ℕ) (scope : Scope) (k : Known) (result : Shape) (name : List ℕ) (shape : Shape) (shapes : List Shape) (then_act : Scope → Act Flow)
-    (others : List core.Statement) → IsKnown scope k → IsObject scope.world.structs shape → HasBeginning shape → k.pending ≡ shape ∷ shapes
+    (others : List core.Statement) → IsKnown scope k → IsObject scope.world.unions scope.world.structs shape → HasBeginning shape → k.pending ≡ shape ∷ shapes
     → RunsAs (place_in (scope_more scope k name shape) (known_more k name shape shapes)) n scope.frame result (then_act (scope_more scope k name shape)) others
     → RunsAs (place_in scope k) n scope.frame result (declared scope name shape (meaning_of.first_object scope.world shape) then_act)
     (unset_code scope.world shape k.regions.all k.made ++ others)
@@ -101,7 +101,7 @@ unset_same n scope k result name shape shapes then_act others known object begin
 
 -- an array
 array_same : (n : ℕ) (scope : Scope) (k : Known) (result : Shape) (name : List ℕ) (count : ℕ) (of : Shape) (shapes : List Shape)
-    (then_act : Scope → Act Flow) (others : List core.Statement) → IsKnown scope k → IsObject scope.world.structs of
+    (then_act : Scope → Act Flow) (others : List core.Statement) → IsKnown scope k → IsObject scope.world.unions scope.world.structs of
     → k.pending ≡ ArrayShape count of ∷ shapes
     → RunsAs (place_in (scope_more scope k name (ArrayShape count of)) (known_more k name (ArrayShape count of) shapes)) n scope.frame result
     (then_act (scope_more scope k name (ArrayShape count of))) others
@@ -162,7 +162,7 @@ value_same n scope k result name shape shapes e from first then_act others is_va
 
 -- a local with an initializer: a value is put there, and a struct's object is copied
 value_initialised : (n : ℕ) (scope : Scope) (k : Known) (result : Shape) (name : List ℕ) (of : TypeName) (shape : Shape) (e : Expression)
-    (value : ℕ) (shapes : List Shape) (then_act : Scope → Act Flow) (others : List core.Statement) → IsObjectType scope.world.structs of
+    (value : ℕ) (shapes : List Shape) (then_act : Scope → Act Flow) (others : List core.Statement) → IsObjectType scope.world.unions scope.world.structs of
     → settled (written of) ≡ shape → IsValueShape shape → Takes scope.world k.names e
     → AreNumbered k.owned value (expression_values scope.world k.names e) → k.kept ≤ value → IsKnown scope k → CallsAs scope.world k.program n
     → k.pending ≡ shape ∷ shapes
@@ -175,34 +175,34 @@ value_initialised n scope k result name of shape e value shapes then_act others 
     subst (λ z. RunsAs (place_in scope k) n scope.frame result (initialised scope name z (sense e scope) then_act)
     ((expression_code scope.world k.names e k.regions.all value ++
     (conversion_code scope.world shape (static_shape scope.world k.names e) k.regions.all ++ put_local shape k.regions.all 0 k.made)) ++ others))
-    (sym (type_settles scope.world.structs of type (sense e scope).shape (taken_target (sense e scope).shape
+    (sym (type_settles scope.world.unions scope.world.structs of type (sense e scope).shape (taken_target (sense e scope).shape
     (subst (λ z. IsTaken z) (sym one.shape_is) one.taken)) ∙ is))
     (value_same n scope k result name shape shapes (sense e scope) (static_shape scope.world k.names e)
     (expression_code scope.world k.names e k.regions.all value) then_act others is_value pending one more)
 
-place_initialised : (n : ℕ) (scope : Scope) (k : Known) (result : Shape) (name tag : List ℕ) (of : TypeName) (e : Expression)
-    (value : ℕ) (shapes : List Shape) (then_act : Scope → Act Flow) (others : List core.Statement) → IsObjectType scope.world.structs of
-    → settled (written of) ≡ StructShape tag → IsObject scope.world.structs (StructShape tag) → TakesPlace scope.world k.names e
-    → IsStructShape scope.world.structs (static_shape scope.world k.names e)
+place_initialised : (n : ℕ) (scope : Scope) (k : Known) (result : Shape) (name : List ℕ) (shape : Shape) (of : TypeName) (e : Expression)
+    (value : ℕ) (shapes : List Shape) (then_act : Scope → Act Flow) (others : List core.Statement) → IsObjectType scope.world.unions scope.world.structs of
+    → settled (written of) ≡ shape → IsWholeShape scope.world.unions scope.world.structs shape → TakesPlace scope.world k.names e
+    → IsWholeShape scope.world.unions scope.world.structs (static_shape scope.world k.names e)
     → AreNumbered k.owned value (expression_values scope.world k.names e) → k.kept ≤ value → IsKnown scope k → CallsAs scope.world k.program n
-    → k.pending ≡ StructShape tag ∷ shapes
-    → RunsAs (place_in (scope_more scope k name (StructShape tag)) (known_more k name (StructShape tag) shapes)) n scope.frame result
-    (then_act (scope_more scope k name (StructShape tag))) others
+    → k.pending ≡ shape ∷ shapes
+    → RunsAs (place_in (scope_more scope k name shape) (known_more k name shape shapes)) n scope.frame result
+    (then_act (scope_more scope k name shape)) others
     → RunsAs (place_in scope k) n scope.frame result (initialised scope name (settled_by (written of) (sense e scope).shape) (sense e scope) then_act)
-    ((place_code scope.world k.names e k.regions.all value ++ copy_code (place_in scope k) (layout_of scope.world (StructShape tag))) ++ others)
-place_initialised n scope k result name tag of e value shapes then_act others type is object h whole numbered less known calls pending more =
+    ((place_code scope.world k.names e k.regions.all value ++ copy_code (place_in scope k) (layout_of scope.world shape)) ++ others)
+place_initialised n scope k result name shape of e value shapes then_act others type is is_whole h whole numbered less known calls pending more =
     let one = place_same e scope k h known n calls k.regions.all value numbered less in
     subst (λ z. RunsAs (place_in scope k) n scope.frame result (initialised scope name z (sense e scope) then_act)
     ((place_code scope.world k.names e k.regions.all value ++ copies) ++ others))
-    (sym (type_settles scope.world.structs of type (sense e scope).shape (subst (λ z. IsTarget z) (sym one.shape_is) one.target) ∙ is))
+    (sym (type_settles scope.world.unions scope.world.structs of type (sense e scope).shape (subst (λ z. IsTarget z) (sym one.shape_is) one.target) ∙ is))
     (record {
       same = λ m c next rest after fits ways.
-          subst (λ z. SameAt (place_in scope k) n (initialised scope name (StructShape tag) (sense e scope) then_act next m) (meaning.statements z after c))
+          subst (λ z. SameAt (place_in scope k) n (initialised scope name shape (sense e scope) then_act next m) (meaning.statements z after c))
           (sym (put_all (place_code scope.world k.names e k.regions.all value ++ copies) others rest ∙
           put_all (place_code scope.world k.names e k.regions.all value) copies (put others rest)))
-          (placed_begins (place_in scope k) n scope name tag shapes (sense e scope) (static_shape scope.world k.names e)
+          (placed_begins (place_in scope k) n scope name shape shapes (sense e scope) (static_shape scope.world k.names e)
           (place_code scope.world k.names e k.regions.all value) then_act next m c (put others rest)
-          after refl refl known.world.structs object pending fits one whole
+          after refl refl known.world.structs is_whole pending fits one whole
           (record {
             go = λ m2 c2 fits2 later2 blocks2 kept2.
                 more.same m2 c2 next rest after fits2
@@ -212,30 +212,31 @@ place_initialised n scope k result name tag of e value shapes then_act others ty
     })
   where
     copies : List core.Statement
-    copies = copy_code (place_in scope k) (layout_of scope.world (StructShape tag))
+    copies = copy_code (place_in scope k) (layout_of scope.world shape)
 
--- a struct that is made
-made_initialised : (n : ℕ) (scope : Scope) (k : Known) (result : Shape) (name tag : List ℕ) (of : TypeName) (e : Expression) (value : ℕ)
-    (shapes : List Shape) (then_act : Scope → Act Flow) (others : List core.Statement) → IsObjectType scope.world.structs of
-    → settled (written of) ≡ StructShape tag → IsObject scope.world.structs (StructShape tag) → TakesWhole scope.world k.names e
+-- a struct or a union that is made
+made_initialised : (n : ℕ) (scope : Scope) (k : Known) (result : Shape) (name : List ℕ) (shape : Shape) (of : TypeName) (e : Expression) (value : ℕ)
+    (shapes : List Shape) (then_act : Scope → Act Flow) (others : List core.Statement) → IsObjectType scope.world.unions scope.world.structs of
+    → settled (written of) ≡ shape → IsWholeShape scope.world.unions scope.world.structs shape → TakesWhole scope.world k.names e
     → AreNumbered k.owned value (whole_values scope.world k.names e) → k.kept ≤ value → IsKnown scope k → CallsAs scope.world k.program n
-    → k.pending ≡ StructShape tag ∷ shapes
-    → RunsAs (place_in (scope_more scope k name (StructShape tag)) (known_more k name (StructShape tag) shapes)) n scope.frame result
-    (then_act (scope_more scope k name (StructShape tag))) others
+    → k.pending ≡ shape ∷ shapes
+    → RunsAs (place_in (scope_more scope k name shape) (known_more k name shape shapes)) n scope.frame result
+    (then_act (scope_more scope k name shape)) others
     → RunsAs (place_in scope k) n scope.frame result (initialised scope name (settled_by (written of) (sense e scope).shape) (sense e scope) then_act)
-    ((whole_code scope.world k.names e k.regions.all value ++ copy_code (place_in scope k) (layout_of scope.world (StructShape tag))) ++ others)
-made_initialised n scope k result name tag of e value shapes then_act others type is object h numbered less known calls pending more =
+    ((whole_code scope.world k.names e k.regions.all value ++ copy_code (place_in scope k) (layout_of scope.world shape)) ++ others)
+made_initialised n scope k result name shape of e value shapes then_act others type is is_whole h numbered less known calls pending more =
     let one = (whole_same e scope k h known n calls k.regions.all value numbered).whole in
     subst (λ z. RunsAs (place_in scope k) n scope.frame result (initialised scope name z (sense e scope) then_act)
     ((whole_code scope.world k.names e k.regions.all value ++ copies) ++ others))
-    (sym (type_settles scope.world.structs of type (sense e scope).shape (subst (λ z. IsTarget z) (sym one.shape_is) tt) ∙ is))
+    (sym (type_settles scope.world.unions scope.world.structs of type (sense e scope).shape (subst (λ z. IsTarget z) (sym one.shape_is)
+    (object_target scope.world.unions scope.world.structs one.shape one.object)) ∙ is))
     (record {
       same = λ m c next rest after fits ways.
-          subst (λ z. SameAt (place_in scope k) n (initialised scope name (StructShape tag) (sense e scope) then_act next m) (meaning.statements z after c))
+          subst (λ z. SameAt (place_in scope k) n (initialised scope name shape (sense e scope) then_act next m) (meaning.statements z after c))
           (sym (put_all (whole_code scope.world k.names e k.regions.all value ++ copies) others rest ∙
           put_all (whole_code scope.world k.names e k.regions.all value) copies (put others rest)))
-          (whole_begins (place_in scope k) n value scope name tag shapes (sense e scope) (whole_code scope.world k.names e k.regions.all value)
-          then_act next m c (put others rest) after refl refl known.world.structs object pending fits one
+          (whole_begins (place_in scope k) n value scope name shape shapes (sense e scope) (whole_code scope.world k.names e k.regions.all value)
+          then_act next m c (put others rest) after refl refl known.world.structs is_whole pending fits one
           (record {
             go = λ m2 c2 fits2 later2 blocks2 kept2.
                 more.same m2 c2 next rest after fits2
@@ -245,22 +246,22 @@ made_initialised n scope k result name tag of e value shapes then_act others typ
     })
   where
     copies : List core.Statement
-    copies = copy_code (place_in scope k) (layout_of scope.world (StructShape tag))
+    copies = copy_code (place_in scope k) (layout_of scope.world shape)
 
-struct_initialised : (n : ℕ) (scope : Scope) (k : Known) (result : Shape) (name tag : List ℕ) (of : TypeName) (e : Expression) (value : ℕ)
-    (shapes : List Shape) (then_act : Scope → Act Flow) (others : List core.Statement) → IsObjectType scope.world.structs of
-    → settled (written of) ≡ StructShape tag → IsObject scope.world.structs (StructShape tag) → TakesWhole scope.world k.names e
-    → AreNumbered k.owned value (initial_values scope.world k.names (StructShape tag) e) → k.kept ≤ value → IsKnown scope k → CallsAs scope.world k.program n
-    → k.pending ≡ StructShape tag ∷ shapes
-    → RunsAs (place_in (scope_more scope k name (StructShape tag)) (known_more k name (StructShape tag) shapes)) n scope.frame result
-    (then_act (scope_more scope k name (StructShape tag))) others
+whole_initialised : (n : ℕ) (scope : Scope) (k : Known) (result : Shape) (name : List ℕ) (shape : Shape) (of : TypeName) (e : Expression) (value : ℕ)
+    (shapes : List Shape) (then_act : Scope → Act Flow) (others : List core.Statement) → IsObjectType scope.world.unions scope.world.structs of
+    → settled (written of) ≡ shape → IsWholeShape scope.world.unions scope.world.structs shape → TakesWhole scope.world k.names e
+    → AreNumbered k.owned value (if is_made scope.world e then whole_values scope.world k.names e else expression_values scope.world k.names e)
+    → k.kept ≤ value → IsKnown scope k → CallsAs scope.world k.program n → k.pending ≡ shape ∷ shapes
+    → RunsAs (place_in (scope_more scope k name shape) (known_more k name shape shapes)) n scope.frame result
+    (then_act (scope_more scope k name shape)) others
     → RunsAs (place_in scope k) n scope.frame result (initialised scope name (settled_by (written of) (sense e scope).shape) (sense e scope) then_act)
-    (value_code scope.world k.names (StructShape tag) e k.regions.all k.made value ++ others)
-struct_initialised n scope k result name tag of e value shapes then_act others type is object h numbered less known calls pending more =
+    ((source_code scope.world k.names (is_made scope.world e) e k.regions.all value ++ copy_code (place_in scope k) (layout_of scope.world shape)) ++ others)
+whole_initialised n scope k result name shape of e value shapes then_act others type is is_whole h numbered less known calls pending more =
     by (is_made scope.world e) refl
   where
     copies : List core.Statement
-    copies = copy_code (place_in scope k) (layout_of scope.world (StructShape tag))
+    copies = copy_code (place_in scope k) (layout_of scope.world shape)
 
     goal : Bool → Type 0
     goal b = RunsAs (place_in scope k) n scope.frame result (initialised scope name (settled_by (written of) (sense e scope).shape) (sense e scope) then_act)
@@ -269,19 +270,19 @@ struct_initialised n scope k result name tag of e value shapes then_act others t
     by : (b : Bool) → is_made scope.world e ≡ b → goal (is_made scope.world e)
     by true made =
         subst goal (sym made)
-        (made_initialised n scope k result name tag of e value shapes then_act others type is object h
+        (made_initialised n scope k result name shape of e value shapes then_act others type is is_whole h
         (subst (λ z. AreNumbered k.owned value (if z then whole_values scope.world k.names e else expression_values scope.world k.names e))
         made numbered) less known calls
         pending more)
     by false made =
         subst goal (sym made)
-        (place_initialised n scope k result name tag of e value shapes then_act others type is object (unmade_place scope.world k.names e h made)
+        (place_initialised n scope k result name shape of e value shapes then_act others type is is_whole (unmade_place scope.world k.names e h made)
         (unmade_struct scope.world k.names e h made)
         (subst (λ z. AreNumbered k.owned value (if z then whole_values scope.world k.names e else expression_values scope.world k.names e)) made numbered) less
         known calls pending more)
 
 initialised_same : (n : ℕ) (scope : Scope) (k : Known) (result : Shape) (name : List ℕ) (of : TypeName) (e : Expression) (value : ℕ)
-    (shapes : List Shape) (then_act : Scope → Act Flow) (others : List core.Statement) → IsObjectType scope.world.structs of
+    (shapes : List Shape) (then_act : Scope → Act Flow) (others : List core.Statement) → IsObjectType scope.world.unions scope.world.structs of
     → TakesValue scope.world k.names (settled (written of)) e
     → AreNumbered k.owned value (initial_values scope.world k.names (settled (written of)) e) → k.kept ≤ value → IsKnown scope k
     → CallsAs scope.world k.program n
@@ -291,18 +292,20 @@ initialised_same : (n : ℕ) (scope : Scope) (k : Known) (result : Shape) (name 
     → RunsAs (place_in scope k) n scope.frame result (initialised scope name (settled_by (written of) (sense e scope).shape) (sense e scope) then_act)
     (value_code scope.world k.names (settled (written of)) e k.regions.all k.made value ++ others)
 initialised_same n scope k result name of e value shapes then_act others type h numbered less known calls pending more =
-    by (settled (written of)) refl (object_settled scope.world.structs of type) h numbered pending more
+    by (settled (written of)) refl (object_settled scope.world.unions scope.world.structs of type) h numbered pending more
   where
     goal : Shape → Type 0
     goal s = RunsAs (place_in scope k) n scope.frame result (initialised scope name (settled_by (written of) (sense e scope).shape) (sense e scope) then_act)
         (value_code scope.world k.names s e k.regions.all k.made value ++ others)
 
-    by : (s : Shape) → settled (written of) ≡ s → IsObject scope.world.structs s → TakesValue scope.world k.names s e
+    by : (s : Shape) → settled (written of) ≡ s → IsObject scope.world.unions scope.world.structs s → TakesValue scope.world k.names s e
         → AreNumbered k.owned value (initial_values scope.world k.names s e) → k.pending ≡ s ∷ shapes
         → RunsAs (place_in (scope_more scope k name s) (known_more k name s shapes)) n scope.frame result (then_act (scope_more scope k name s)) others
         → goal s
     by (StructShape tag) is object takes numbers first on =
-        struct_initialised n scope k result name tag of e value shapes then_act others type is object takes numbers less known calls first on
+        whole_initialised n scope k result name (StructShape tag) of e value shapes then_act others type is object takes numbers less known calls first on
+    by (UnionShape tag) is object takes numbers first on =
+        whole_initialised n scope k result name (UnionShape tag) of e value shapes then_act others type is object takes numbers less known calls first on
     by IntShape is object takes numbers first on =
         value_initialised n scope k result name of IntShape e value shapes then_act others type is tt takes numbers less known calls first on
     by UnsignedShape is object takes numbers first on =
@@ -317,14 +320,14 @@ initialised_same n scope k result name of e value shapes then_act others type h 
     by HandleShape is object takes numbers first on =
         value_initialised n scope k result name of HandleShape e value shapes then_act others type is tt takes numbers less known calls first on
     by KeyShape is object takes numbers first on = absurd object
-    by (UnionShape tag) is object takes numbers first on = absurd object
     by (ArrayShape count from) is object takes numbers first on = absurd object
 
 -- the place behind a declaration, as lowering knows it
 abbrev pub known_behind : Known → Declaration → List Shape → Known
 known_behind k d pending = record (known_more k (tree.local_of d).text (local_shape d) pending) { regions = regions_with d k.regions }
 
-pub known_next : (scope : Scope) (k : Known) (d : Declaration) (pending : List Shape) → IsVariable scope.world.structs (local_shape d) → IsKnown scope k
+pub known_next : (scope : Scope) (k : Known) (d : Declaration) (pending : List Shape) → IsVariable scope.world.unions scope.world.structs (local_shape d)
+    → IsKnown scope k
     → IsKnown (scope_more scope k (tree.local_of d).text (local_shape d)) (known_behind k d pending)
 known_next scope k d pending object known =
     let still = known_still scope k (tree.local_of d).text (local_shape d) pending object known in
@@ -341,12 +344,14 @@ declaration_same n (tree.Local of name Initializer.Unset) value scope k result s
     subst (λ z. RunsAs (place_in scope k) n scope.frame result (declared scope name.text (settled (written of))
     (meaning_of.first_object scope.world (settled (written of))) then_act) (unset_code scope.world (settled (written of)) k.regions.all k.made ++ z))
     (sym (append-nil others))
-    (unset_same n scope k result name.text (settled (written of)) shapes then_act others known (object_settled scope.world.structs of h.0) h.1 pending more)
+    (unset_same n scope k result name.text (settled (written of)) shapes then_act others known
+    (object_settled scope.world.unions scope.world.structs of h.0) h.1 pending more)
 declaration_same n (tree.Local of name (Initializer.Elements count)) value scope k result shapes then_act others h numbered less known calls pending more =
     subst (λ z. RunsAs (place_in scope k) n scope.frame result (declared scope name.text (ArrayShape count (settled (written of)))
     (meaning_of.first_array scope.world count (settled (written of))) then_act)
     (unset_code scope.world (ArrayShape count (settled (written of))) k.regions.all k.made ++ z)) (sym (append-nil others))
-    (array_same n scope k result name.text count (settled (written of)) shapes then_act others known (object_settled scope.world.structs of h.0) pending more)
+    (array_same n scope k result name.text count (settled (written of)) shapes then_act others known
+    (object_settled scope.world.unions scope.world.structs of h.0) pending more)
 declaration_same n (tree.Local of name (Initializer.Value e)) value scope k result shapes then_act others h numbered less known calls pending more =
     subst (λ z. RunsAs (place_in scope k) n scope.frame result
     (initialised scope name.text (settled_by (written of) (sense e scope).shape) (sense e scope) then_act)
@@ -359,10 +364,12 @@ declaration_same n (tree.Alias at region of alias pointer) value scope k result 
 declaration_same n (tree.NewKey at region key) value scope k result shapes then_act others h numbered less known calls pending more = absurd h
 
 -- a local is an object, or an array
-pub shape_object : (w : World) (names : List Named) (d : Declaration) → TakesDeclaration w names d → IsVariable w.structs (local_shape d)
-shape_object w names (tree.Local of name Initializer.Unset) h = object_named w.structs (settled (written of)) (object_settled w.structs of h.0)
-shape_object w names (tree.Local of name (Initializer.Elements count)) h = (h.1.0, object_settled w.structs of h.0)
-shape_object w names (tree.Local of name (Initializer.Value e)) h = object_named w.structs (settled (written of)) (object_settled w.structs of h.0)
+pub shape_object : (w : World) (names : List Named) (d : Declaration) → TakesDeclaration w names d → IsVariable w.unions w.structs (local_shape d)
+shape_object w names (tree.Local of name Initializer.Unset) h =
+    object_named w.unions w.structs (settled (written of)) (object_settled w.unions w.structs of h.0)
+shape_object w names (tree.Local of name (Initializer.Elements count)) h = (h.1.0, object_settled w.unions w.structs of h.0)
+shape_object w names (tree.Local of name (Initializer.Value e)) h =
+    object_named w.unions w.structs (settled (written of)) (object_settled w.unions w.structs of h.0)
 shape_object w names (tree.Region at region handle) h = tt
 shape_object w names (tree.Open at region handle key) h = absurd h
 shape_object w names (tree.Alias at region of alias pointer) h = absurd h

@@ -1,5 +1,5 @@
 -- Each expression that is a statement does the same as its code.
-use Rattle.std.proofs.Common.{◌≡◌, ℕ, suc, ◌+◌, ◌<◌, ◌≤◌, List, length, Bool, true, false, refl, subst, arith}
+use Rattle.std.proofs.Common.{◌≡◌, ℕ, suc, ◌+◌, ◌<◌, ◌≤◌, List, [], ◌∷◌, ◌++◌, length, Bool, true, false, refl, subst, arith}
 use Rattle.std.specs.Prelude.{if◌then◌else◌}
 use Rattle.cyc_tree.specs.Tree.{Expression}
 use Rattle.source_meaning.specs.Shapes.{
@@ -19,9 +19,10 @@ use Rattle.source_meaning.specs.Shapes.{
 use Rattle.source_meaning.specs.Steps as steps
 use Rattle.source_meaning.specs.Steps.{World, Scope, give, ◌>>=◌}
 use Rattle.source_meaning.specs.Expressions.{sense}
-use Rattle.core_meaning.specs.Core.{Statement}
+use Rattle.core_meaning.specs.Core.{Statement, Do, Copy}
+use Rattle.source_lowering.specs.Layouts.{layout_of}
 use Rattle.source_lowering.specs.Lowered.{Named, static_shape, place_code, expression_code}
-use Rattle.source_lowering.specs.Lowerable.{Takes, TakesWhole, TakesAssigned, TakesDropped, TakesCalled, TakesRun}
+use Rattle.source_lowering.specs.Lowerable.{IsWholeShape, Takes, TakesPlace, TakesWhole, TakesAssigned, TakesDropped, TakesCalled, TakesRun}
 use Rattle.source_lowering.specs.Whole.{makes_struct, expression_values, whole_values, whole_code, assigned_code, assigned_values, dropped_code, dropped_values}
 use Rattle.source_lowering.specs.Whole.{run_code, run_values}
 use Rattle.source_lowering.proofs.expressions.Calls.{CallsAs}
@@ -42,10 +43,10 @@ word_run e own scope k h numbered less known n calls =
     run_same (place_in scope k) n scope.result (sense e scope) (static_shape scope.world k.names e) (expression_code scope.world k.names e k.regions.all own)
     (expression_same e scope k h known n calls k.regions.all own numbered less).values
 
-struct_run : (e : Expression) (own : ℕ) (scope : Scope) (k : Known) → TakesWhole scope.world k.names e
+whole_run : (e : Expression) (own : ℕ) (scope : Scope) (k : Known) → TakesWhole scope.world k.names e
     → AreNumbered k.owned own (whole_values scope.world k.names e) → k.kept ≤ own → IsKnown scope k → (n : ℕ) → CallsAs scope.world k.program n
     → RunsTo scope k n e (whole_code scope.world k.names e k.regions.all own)
-struct_run e own scope k h numbered less known n calls =
+whole_run e own scope k h numbered less known n calls =
     whole_dropped (place_in scope k) n own scope.result (sense e scope) (whole_code scope.world k.names e k.regions.all own)
     (whole_same e scope k h known n calls k.regions.all own numbered).whole
 
@@ -53,7 +54,8 @@ struct_run e own scope k h numbered less known n calls =
 dropped_run : (s : Shape) (e : Expression) (own : ℕ) (scope : Scope) (k : Known) → TakesDropped scope.world k.names s e
     → AreNumbered k.owned own (dropped_values scope.world k.names s e) → k.kept ≤ own → IsKnown scope k → (n : ℕ) → CallsAs scope.world k.program n
     → RunsTo scope k n e (dropped_code scope.world k.names s e k.regions.all own)
-dropped_run (StructShape tag) e own scope k h numbered less known n calls = struct_run e own scope k h numbered less known n calls
+dropped_run (StructShape tag) e own scope k h numbered less known n calls = whole_run e own scope k h numbered less known n calls
+dropped_run (UnionShape tag) e own scope k h numbered less known n calls = whole_run e own scope k h numbered less known n calls
 dropped_run IntShape e own scope k h numbered less known n calls = word_run e own scope k h numbered less known n calls
 dropped_run UnsignedShape e own scope k h numbered less known n calls = word_run e own scope k h numbered less known n calls
 dropped_run CharShape e own scope k h numbered less known n calls = word_run e own scope k h numbered less known n calls
@@ -62,17 +64,37 @@ dropped_run (ThinShape may_be_null owner to) e own scope k h numbered less known
 dropped_run (FatShape to) e own scope k h numbered less known n calls = word_run e own scope k h numbered less known n calls
 dropped_run HandleShape e own scope k h numbered less known n calls = word_run e own scope k h numbered less known n calls
 dropped_run KeyShape e own scope k h numbered less known n calls = word_run e own scope k h numbered less known n calls
-dropped_run (UnionShape tag) e own scope k h numbered less known n calls = word_run e own scope k h numbered less known n calls
 dropped_run (ArrayShape count of) e own scope k h numbered less known n calls = word_run e own scope k h numbered less known n calls
 
--- a struct has a value of its own
+-- a struct or a union has a value of its own
 whole_some : (w : World) (names : List Named) (e : Expression) → TakesWhole w names e → 0 < length (whole_values w names e)
 whole_some w names (Expression.Call name arguments) h = omega arith
+whole_some w names (Expression.MakeUnion tag member value) h = omega arith
 whole_some w names (Expression.Grouped at inner) h = whole_some w names inner h
 whole_some w names (Expression.Variable name) h = omega arith
 whole_some w names (Expression.Suffixed primary _) h = omega arith
 whole_some w names (Expression.Prefixed at operator operand) h = omega arith
 whole_some w names _ h = absurd h
+
+-- a struct or a union that is assigned
+assigned_whole : (s : Shape) (place value : Expression) (own : ℕ) (scope : Scope) (k : Known) → static_shape scope.world k.names place ≡ s
+    → TakesPlace scope.world k.names place → TakesWhole scope.world k.names value → IsWholeShape scope.world.unions scope.world.structs s
+    → AreNumbered k.owned own (whole_values scope.world k.names value ++ expression_values scope.world k.names place) → k.kept ≤ own → IsKnown scope k → (n : ℕ)
+    → CallsAs scope.world k.program n → RunsTo scope k n (Expression.Assign place value)
+    (whole_code scope.world k.names value k.regions.all own ++ (place_code scope.world k.names place (k.regions.all + 1)
+    (own + length (whole_values scope.world k.names value)) ++ (Do (Copy (k.regions.all + 1) k.regions.all (layout_of scope.world s)) ∷ [])))
+assigned_whole shape place value own scope k is takes takes_value whole numbered less known n calls =
+    let values = whole_values scope.world k.names value in
+    let behind = own + length values in
+    whole_assigned (place_in scope k) n own scope.result (sense place scope) (sense value scope) shape (whole_code scope.world k.names value k.regions.all own)
+    (place_code scope.world k.names place (k.regions.all + 1) behind) known.world.structs whole
+    (whole_same value scope k takes_value known n calls k.regions.all own
+    (numbered_first k.owned own values (expression_values scope.world k.names place) numbered)).whole
+    (subst (λ z. IsPlaced (keeping (place_in scope k) (suc own)) n (k.regions.all + 1) (sense place scope) z
+    (place_code scope.world k.names place (k.regions.all + 1) behind)) is
+    (place_same place scope (known_keeping k (suc own)) takes (keeping_known scope k (suc own) known) n calls (k.regions.all + 1) behind
+    (numbered_after k.owned own values (expression_values scope.world k.names place) numbered)
+    (let some = whole_some scope.world k.names value takes_value in omega (arith, some))))
 
 -- what is assigned
 assigned_run : (s : Shape) (place value : Expression) (own : ℕ) (scope : Scope) (k : Known) → static_shape scope.world k.names place ≡ s
@@ -80,17 +102,9 @@ assigned_run : (s : Shape) (place value : Expression) (own : ℕ) (scope : Scope
     → IsKnown scope k → (n : ℕ)
     → CallsAs scope.world k.program n → RunsTo scope k n (Expression.Assign place value) (assigned_code scope.world k.names s place value k.regions.all own)
 assigned_run (StructShape tag) place value own scope k is h numbered less known n calls =
-    let values = whole_values scope.world k.names value in
-    let behind = own + length values in
-    whole_assigned (place_in scope k) n own scope.result (sense place scope) (sense value scope) tag (whole_code scope.world k.names value k.regions.all own)
-    (place_code scope.world k.names place (k.regions.all + 1) behind) known.world.structs h.1.1
-    (whole_same value scope k h.1.0 known n calls k.regions.all own
-    (numbered_first k.owned own values (expression_values scope.world k.names place) numbered)).whole
-    (subst (λ z. IsPlaced (keeping (place_in scope k) (suc own)) n (k.regions.all + 1) (sense place scope) z
-    (place_code scope.world k.names place (k.regions.all + 1) behind)) is
-    (place_same place scope (known_keeping k (suc own)) h.0 (keeping_known scope k (suc own) known) n calls (k.regions.all + 1) behind
-    (numbered_after k.owned own values (expression_values scope.world k.names place) numbered)
-    (let some = whole_some scope.world k.names value h.1.0 in omega (arith, some))))
+    assigned_whole (StructShape tag) place value own scope k is h.0 h.1.0 h.1.1 numbered less known n calls
+assigned_run (UnionShape tag) place value own scope k is h numbered less known n calls =
+    assigned_whole (UnionShape tag) place value own scope k is h.0 h.1.0 h.1.1 numbered less known n calls
 assigned_run IntShape place value own scope k is h numbered less known n calls =
     word_run (Expression.Assign place value) own scope k h numbered less known n calls
 assigned_run UnsignedShape place value own scope k is h numbered less known n calls =
@@ -107,8 +121,6 @@ assigned_run HandleShape place value own scope k is h numbered less known n call
     word_run (Expression.Assign place value) own scope k h numbered less known n calls
 assigned_run KeyShape place value own scope k is h numbered less known n calls =
     word_run (Expression.Assign place value) own scope k h numbered less known n calls
-assigned_run (UnionShape tag) place value own scope k is h numbered less known n calls =
-    word_run (Expression.Assign place value) own scope k h numbered less known n calls
 assigned_run (ArrayShape count of) place value own scope k is h numbered less known n calls =
     word_run (Expression.Assign place value) own scope k h numbered less known n calls
 
@@ -117,7 +129,7 @@ called_run : (b : Bool) (e : Expression) (own : ℕ) (scope : Scope) (k : Known)
     → AreNumbered k.owned own (if b then whole_values scope.world k.names e else expression_values scope.world k.names e) → k.kept ≤ own → IsKnown scope k
     → (n : ℕ) → CallsAs scope.world k.program n
     → RunsTo scope k n e (if b then whole_code scope.world k.names e k.regions.all own else expression_code scope.world k.names e k.regions.all own)
-called_run true e own scope k h numbered less known n calls = struct_run e own scope k h numbered less known n calls
+called_run true e own scope k h numbered less known n calls = whole_run e own scope k h numbered less known n calls
 called_run false e own scope k h numbered less known n calls = word_run e own scope k h numbered less known n calls
 
 pub run_statement : (e : Expression) (own : ℕ) (scope : Scope) (k : Known) → TakesRun scope.world k.names e

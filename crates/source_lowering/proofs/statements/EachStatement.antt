@@ -1,8 +1,29 @@
 -- Each statement that is taken, each block's items, and a function's body with its arguments do the same as their code.
-use Rattle.std.proofs.Common.{◌≡◌, ℕ, suc, ◌+◌, ◌≤◌, List, [], ◌∷◌, ◌++◌, length, Some, None, refl, sym, ap, ◌∙◌, subst, arith}
+use Rattle.std.proofs.Common.{◌≡◌, ℕ, suc, ◌+◌, ◌≤◌, List, [], ◌∷◌, ◌++◌, length, true, Some, None, refl, sym, ap, ◌∙◌, subst, arith}
+use Rattle.std.specs.Prelude.{if◌then◌else◌, unwrap_or}
 use Rattle.cyc_tree.specs.Tree as tree
-use Rattle.cyc_tree.specs.Tree.{Statement, BlockItems, NoItems, Declare, Execute}
-use Rattle.source_meaning.specs.Shapes.{Shape, Part, part_shapes}
+use Rattle.cyc_tree.specs.Tree.{Statement, BlockItems, NoItems, Declare, Execute, Clauses, NoClauses, MoreClauses, Case, Default}
+use Rattle.source_meaning.specs.Shapes.{
+  Shape,
+  IntShape,
+  UnsignedShape,
+  CharShape,
+  VoidShape,
+  ThinShape,
+  FatShape,
+  HandleShape,
+  KeyShape,
+  StructShape,
+  UnionShape,
+  ArrayShape,
+  Part,
+  Layout,
+  has_tag,
+  parts_of,
+  part_shape,
+  part_shapes,
+}
+use Rattle.source_meaning.specs.Regions.{in_block, local_with}
 use Rattle.source_meaning.specs.Memory as source
 use Rattle.source_meaning.specs.Memory.{Scalar}
 use Rattle.source_meaning.specs.Steps as steps
@@ -13,23 +34,26 @@ use Rattle.source_meaning.specs.Programs.{with_arguments}
 use Rattle.core_meaning.specs.Memory as core_memory
 use Rattle.core_meaning.specs.Memory.{Content}
 use Rattle.core_meaning.specs.Core as core
-use Rattle.core_meaning.specs.Core.{Program, Statements}
+use Rattle.core_meaning.specs.Core.{Block, Leave, Break, Statements}
 use Rattle.core_meaning.specs.Steps.{Config}
 use Rattle.core_meaning.specs.Meaning as meaning
-use Rattle.source_lowering.specs.Lowered.{put, stored_code, static_shape, expression_code}
+use Rattle.source_lowering.specs.Lowered.{put, put_local, all_of, stored_code, static_shape, union_parts, expression_code, place_code}
 use Rattle.source_lowering.specs.Programs.{local_shape, block_shapes, outward, named_here, statement_code, items_code, parameter_names, parameters_code}
-use Rattle.source_lowering.specs.Lowerable.{TakesStatement, TakesItems}
+use Rattle.source_lowering.specs.Lowerable.{IsUnionShape, IsWholeShape, TakesStatement, TakesItems, TakesClauses}
 use Rattle.source_lowering.specs.Simulation.{Grown, SameState, SameAt, Next, AreKept, AValue, around, Bound, contents_in}
 use Rattle.source_lowering.proofs.memory.Keeping.{less_self}
 use Rattle.source_lowering.proofs.Runs.{stuck_same}
 use Rattle.source_lowering.proofs.values.Integers.{IsTaken, value_object}
 use Rattle.source_lowering.proofs.expressions.Names.{AreParameters}
 use Rattle.source_lowering.proofs.expressions.Calls.{AllGiven, CallsAs, calls_less}
-use Rattle.source_lowering.specs.Members.{words_in, all_words}
+use Rattle.source_lowering.specs.Members.{words_in, all_words, tag_load, held_loads}
 use Rattle.source_lowering.proofs.values.Values.{value_later, kept_contents}
 use Rattle.source_lowering.proofs.Runs.{put_all}
 use Rattle.std.proofs.lemmas.List.{append_assoc}
-use Rattle.source_lowering.proofs.expressions.EachExpression.{Known, place_in, IsKnown, expression_same}
+use Rattle.source_lowering.proofs.UnionSizes.{union_of}
+use Rattle.source_lowering.proofs.expressions.Places.{PlacedAs}
+use Rattle.source_lowering.proofs.expressions.UnionMembers.{part_found, union_few, value_at}
+use Rattle.source_lowering.proofs.expressions.EachExpression.{Known, place_in, IsKnown, expression_same, place_same}
 use Rattle.source_lowering.proofs.statements.Statements.{
   WaysOn,
   RunsAs,
@@ -45,12 +69,15 @@ use Rattle.source_lowering.proofs.statements.Statements.{
 }
 use Rattle.source_lowering.proofs.statements.Declaring.{local_with_same}
 use Rattle.source_lowering.proofs.statements.Blocks.{locals_outward, objects_outward, block_same}
-use Rattle.source_lowering.specs.Programs.{in_loop, regions_with, declaration_values, statement_values, item_values}
+use Rattle.source_lowering.specs.Programs.{in_loop, in_switch, locals_of, regions_with, cases_code, default_code, declaration_values, statement_values}
+use Rattle.source_lowering.specs.Programs.{item_values, case_values, default_values}
 use Rattle.source_lowering.specs.Whole.{expression_values}
 use Rattle.source_lowering.proofs.expressions.Numbered.{AreNumbered, numbered_first, numbered_after}
 use Rattle.source_lowering.proofs.memory.ObjectShapes.{object_named}
 use Rattle.source_lowering.proofs.statements.EachDeclaration.{known_more, known_behind, scope_more, known_still, known_next, declaration_same, shape_object}
 use Rattle.source_lowering.proofs.statements.EachRun.{run_statement}
+use Rattle.source_lowering.proofs.statements.Clauses.{CasesAs, chosen, held_of, test_code, no_cases, case_more, none_chosen}
+use Rattle.source_lowering.proofs.statements.Switching.{switch_same}
 
 -- ---- statements
 
@@ -63,7 +90,7 @@ known_in_block : (scope : Scope) (k : Known) (frame : ℕ) (shapes : List Shape)
 known_in_block scope k frame shapes known = record {
   world = known.world;
   locals = locals_outward frame (scope.frame ∷ k.outer) scope.locals k.names known.locals;
-  words = objects_outward scope.world.structs k.names known.words;
+  words = objects_outward scope.world.unions scope.world.structs k.names known.words;
 }
 
 -- within a loop
@@ -72,6 +99,49 @@ known_looped k = record k { regions = in_loop k.regions }
 
 known_in_loop : (scope : Scope) (k : Known) → IsKnown scope k → IsKnown scope (known_looped k)
 known_in_loop scope k known = record { world = known.world; locals = known.locals; words = known.words }
+
+-- within a `switch`
+abbrev pub known_switched : Known → Known
+known_switched k = record k { regions = in_switch k.regions }
+
+known_in_switch : (scope : Scope) (k : Known) → IsKnown scope k → IsKnown scope (known_switched k)
+known_in_switch scope k known = record { world = known.world; locals = known.locals; words = known.words }
+
+-- which union the place of a `switch` is
+record IsUnionNamed (unions : List Layout) (s : Shape) : Type 0 where
+  tag : List ℕ
+  is : s ≡ UnionShape tag
+  known : has_tag unions tag ≡ true
+
+union_named : (unions : List Layout) (s : Shape) → IsUnionShape unions s → IsUnionNamed unions s
+union_named unions (UnionShape tag) h = record { tag = tag; is = refl; known = h }
+union_named unions IntShape h = absurd h
+union_named unions UnsignedShape h = absurd h
+union_named unions CharShape h = absurd h
+union_named unions VoidShape h = absurd h
+union_named unions (ThinShape may_be_null owner to) h = absurd h
+union_named unions (FatShape to) h = absurd h
+union_named unions HandleShape h = absurd h
+union_named unions KeyShape h = absurd h
+union_named unions (StructShape tag) h = absurd h
+union_named unions (ArrayShape count of) h = absurd h
+
+union_whole : (unions structs : List Layout) (s : Shape) → IsUnionShape unions s → IsWholeShape unions structs s
+union_whole unions structs (UnionShape tag) h = h
+union_whole unions structs IntShape h = absurd h
+union_whole unions structs UnsignedShape h = absurd h
+union_whole unions structs CharShape h = absurd h
+union_whole unions structs VoidShape h = absurd h
+union_whole unions structs (ThinShape may_be_null owner to) h = absurd h
+union_whole unions structs (FatShape to) h = absurd h
+union_whole unions structs HandleShape h = absurd h
+union_whole unions structs KeyShape h = absurd h
+union_whole unions structs (StructShape tag) h = absurd h
+union_whole unions structs (ArrayShape count of) h = absurd h
+
+-- in a clause's block, behind the copy of the member
+abbrev known_bound : Scope → Known → List ℕ → Shape → List Shape → Known
+known_bound scope k name shape shapes = known_more (known_inside scope k (shape ∷ shapes)) name shape shapes
 
 mutual
   pub statement_same : (s : Statement) (own : ℕ) (scope : Scope) (k : Known) → TakesStatement scope.world scope.result k.names s
@@ -122,7 +192,35 @@ mutual
       (numbered_first k.owned own tested values numbered) less)
       (λ j below. statement_same body first scope (known_looped k) h.1 (numbered_after k.owned own tested values numbered) (omega (arith, less))
       (known_in_loop scope k known) result j (calls_less scope.world k.program n j below calls))
-  statement_same (Statement.Switch at place _) own scope k h numbered less known result n calls = absurd h
+  statement_same (Statement.Switch at place clauses) own scope k h numbered less known result n calls =
+      let w = scope.world in
+      let shape = static_shape w k.names place in
+      let union = union_named w.unions shape h.1.0 in
+      let parts : union_parts w shape ≡ parts_of w.unions union.tag = ap (union_parts w) union.is in
+      let first = own + length (expression_values w k.names place) in
+      let one = place_same place scope k h.0 known n calls k.regions.all own
+      (numbered_first k.owned own (expression_values w k.names place) (case_values w k.names (union_parts w shape) clauses ++ default_values w k.names clauses)
+      numbered) less in
+      let behind = subst (λ z. AreNumbered k.owned first (case_values w k.names z clauses ++ default_values w k.names clauses)) parts
+      (numbered_after k.owned own (expression_values w k.names place) (case_values w k.names (union_parts w shape) clauses ++ default_values w k.names clauses)
+      numbered) in
+      let takes = subst (λ z. TakesClauses w scope.result k.names z clauses) parts h.1.1 in
+      let cases = case_values w k.names (parts_of w.unions union.tag) clauses in
+      subst (λ z. RunsAs (place_in scope k) n (suc scope.frame) scope.result (meaning_of.statement (Statement.Switch at place clauses) scope)
+      (Leave (all_of (place_code w k.names place k.regions.all own ++ (tag_load (k.regions.all + 1) k.regions.all ++
+      (cases_code w scope.result k.names (in_switch k.regions) z first clauses ++
+      default_code w scope.result k.names (in_switch k.regions) (first + length (case_values w k.names z clauses)) clauses)))) ∷ [])) (sym parts)
+      (switch_same (place_in scope k) n scope.result union.tag (sense place scope) (place_code w k.names place k.regions.all own)
+      (cases_code w scope.result k.names (in_switch k.regions) (parts_of w.unions union.tag) first clauses)
+      (default_code w scope.result k.names (in_switch k.regions) (first + length cases) clauses)
+      (λ held. meaning_of.case_for clauses held scope) (meaning_of.default_for clauses scope) known.world.unions union.known (one.shape_is ∙ union.is)
+      (subst (λ z. PlacedAs (place_in scope k) n k.regions.all z (sense place scope).place (place_code w k.names place k.regions.all own)) union.is one.placed)
+      (one.look (union_whole w.unions w.structs shape h.1.0))
+      (cases_same clauses first scope (known_switched k) union.tag takes
+      (numbered_first k.owned first cases (default_values w k.names clauses) behind) (omega (arith, less)) (known_in_switch scope k known) result union.known n
+      calls)
+      (default_same clauses (first + length cases) scope (known_switched k) (parts_of w.unions union.tag) takes
+      (numbered_after k.owned first cases (default_values w k.names clauses) behind) (omega (arith, less)) (known_in_switch scope k known) result n calls))
   statement_same (Statement.Break at) own scope k h numbered less known result n calls = breaks_same (place_in scope k) n (suc scope.frame) scope.result
   statement_same (Statement.Continue at) own scope k h numbered less known result n calls = continues_same (place_in scope k) n (suc scope.frame) scope.result
   statement_same (Statement.Return at None) own scope k h numbered less known result n calls =
@@ -156,6 +254,58 @@ mutual
       (statement_same s own scope k h.0 (numbered_first k.owned own (statement_values scope.world k.names s) values numbered) less known result n calls)
       (items_same others after scope k h.1 (numbered_after k.owned own (statement_values scope.world k.names s) values numbered) (omega (arith, less)) known
       result n calls pending)
+
+  cases_same : (clauses : Clauses) (own : ℕ) (scope : Scope) (k : Known) (tag : List ℕ)
+      → TakesClauses scope.world scope.result k.names (parts_of scope.world.unions tag) clauses
+      → AreNumbered k.owned own (case_values scope.world k.names (parts_of scope.world.unions tag) clauses) → k.kept ≤ own → IsKnown scope k
+      → IsTaken scope.result → has_tag scope.world.unions tag ≡ true → (n : ℕ) → CallsAs scope.world k.program n
+      → CasesAs (place_in scope k) n scope.result tag (λ number v. meaning_of.case_for clauses (held_of scope.world tag number v) scope)
+      (cases_code scope.world scope.result k.names k.regions (parts_of scope.world.unions tag) own clauses)
+  cases_same NoClauses own scope k tag h numbered less known result is n calls = no_cases (place_in scope k) n scope.result tag
+  cases_same (MoreClauses at (Case f x) body others) own scope k tag h numbered less known result is n calls =
+      let w = scope.world in
+      let parts = parts_of w.unions tag in
+      let s = part_shape parts f.text in
+      let found = part_found parts f.text h.0.number h.0.is in
+      let is_value = value_at (part_shapes parts) h.0.number s (union_of w.unions tag known.world.unions is).members found.shape in
+      let values = item_values w (named_here x.text s 0 ∷ outward k.names) 1 body in
+      let after = own + length values in
+      let below = found.below in
+      let few = union_few w.unions tag known.world.unions in
+      subst (λ z. CasesAs (place_in scope k) n scope.result tag (λ number v. if meaning_of.is_position z number then
+      Some (in_block (λ frame. local_with (record scope { frame = frame }) x.text s (v ∷ []) (meaning_of.block_items body))) else
+      meaning_of.case_for others (held_of w tag number v) scope) (test_code k.regions.all (unwrap_or z 0)
+      (all_of (Block (locals_of w (s ∷ block_shapes body)) (all_of (held_loads s k.regions.all ++ (put_local s k.regions.all 0 0 ++
+      items_code w scope.result (named_here x.text s 0 ∷ outward k.names) k.regions 1 own body))) ∷ Break ∷ [])) ++
+      cases_code w scope.result k.names k.regions parts after others)) (sym h.0.is)
+      (case_more (place_in scope k) n scope.result scope x.text tag h.0.number s (block_shapes body) (meaning_of.block_items body)
+      (λ number v. meaning_of.case_for others (held_of w tag number v) scope)
+      (items_code w scope.result (named_here x.text s 0 ∷ outward k.names) k.regions 1 own body)
+      (cases_code w scope.result k.names k.regions parts after others) refl known.world.unions is_value found.shape (omega (arith, below, few))
+      (λ frame. items_same body own (scope_more (record scope { frame = frame }) (known_inside scope k (s ∷ block_shapes body)) x.text s)
+      (known_bound scope k x.text s (block_shapes body)) h.1.0
+      (numbered_first k.owned own values (case_values w k.names parts others) numbered) less
+      (known_still (record scope { frame = frame }) (known_inside scope k (s ∷ block_shapes body)) x.text s (block_shapes body)
+      (object_named w.unions w.structs s (value_object w.unions w.structs s is_value)) (known_in_block scope k frame (s ∷ block_shapes body) known)) result n
+      calls refl)
+      (cases_same others after scope k tag h.1.1 (numbered_after k.owned own values (case_values w k.names parts others) numbered) (omega (arith, less)) known
+      result is n calls))
+  cases_same (MoreClauses at Default body others) own scope k tag h numbered less known result is n calls =
+      cases_same others own scope k tag h.1 numbered less known result is n calls
+
+  default_same : (clauses : Clauses) (own : ℕ) (scope : Scope) (k : Known) (parts : List Part)
+      → TakesClauses scope.world scope.result k.names parts clauses → AreNumbered k.owned own (default_values scope.world k.names clauses) → k.kept ≤ own
+      → IsKnown scope k → IsTaken scope.result → (n : ℕ) → CallsAs scope.world k.program n
+      → RunsAs (place_in scope k) n (suc scope.frame) scope.result (chosen (meaning_of.default_for clauses scope))
+      (default_code scope.world scope.result k.names k.regions own clauses)
+  default_same NoClauses own scope k parts h numbered less known result n calls = none_chosen (place_in scope k) n (suc scope.frame) scope.result
+  default_same (MoreClauses at (Case f x) body others) own scope k parts h numbered less known result n calls =
+      default_same others own scope k parts h.1.1 numbered less known result n calls
+  default_same (MoreClauses at Default body others) own scope k parts h numbered less known result n calls =
+      block_same (place_in scope k) n scope.result (block_shapes body) (λ frame. meaning_of.block_items body (record scope { frame = frame }))
+      (items_code scope.world scope.result (outward k.names) k.regions 0 own body)
+      (λ frame. items_same body own (record scope { frame = frame }) (known_inside scope k (block_shapes body)) h.0 numbered less
+      (known_in_block scope k frame (block_shapes body) known) result n calls refl)
 
 -- ---- a function's body, whose arguments are in the first temporaries
 
@@ -215,7 +365,8 @@ body_same (p ∷ ps) items scope k total n t free (vs ∷ vss) values h numbered
       above = regions;
       go = λ m2 c2 fits2 later2 temps2 blocks2.
           body_same ps items (scope_more scope k p.name p.shape) more total n (t + words_in p.shape) free vss values.1 h numbered less
-          (known_still scope k p.name p.shape shapes (object_named scope.world.structs p.shape (value_object scope.world.structs p.shape values.0)) known)
+          (known_still scope k p.name p.shape shapes (object_named scope.world.unions scope.world.structs p.shape
+          (value_object scope.world.unions scope.world.structs p.shape values.0)) known)
           result calls (omega (arith, sum)) (omega (arith, below)) regions refl m2 c2 next rest after fits2
           (given_later (around (place_in scope k) scope.frame) scope.world m m2 c.memory c2.memory (part_shapes ps) vss (t + words_in p.shape) c2.temps later2
           (given_kept scope.world m c.memory (part_shapes ps) vss (t + words_in p.shape) free c c2 (omega (arith, below)) temps2 given.1))

@@ -29,7 +29,7 @@ use Rattle.source_lowering.proofs.statements.Blocks.{result_later}
 
 -- one region more
 abbrev pub one_more : RegionsAround → RegionsAround
-one_more h = record { all = suc h.all; inner = suc h.inner }
+one_more h = record { all = suc h.all; broken = suc h.broken; continued = suc h.continued }
 
 -- the place in a region's scope
 abbrev pub in_scope_of : Point → List ℕ → List Shape → Point
@@ -71,10 +71,10 @@ ways_freed p n r result m0 m c0 c next rest after positive temp onward ways = re
       region_freed_same p.world p.program n d r m' c' (λ u. next steps.Falls) (meaning.statements rest after) o.agree positive (held c' o.kept)
       (ways.falls (source_freed m' r) (out c') (on m' c' o));
   breaks = λ m' c' o.
-      region_freed_same p.world p.program n d r m' c' (λ u. next steps.Breaks) (freed d p.regions.inner (after core_steps.Breaks)) o.agree positive
+      region_freed_same p.world p.program n d r m' c' (λ u. next steps.Breaks) (freed d p.regions.broken (after core_steps.Breaks)) o.agree positive
       (held c' o.kept) (ways.breaks (source_freed m' r) (out c') (on m' c' o));
   continues = λ m' c' o.
-      region_freed_same p.world p.program n d r m' c' (λ u. next steps.Continues) (freed d p.regions.inner (after core_steps.Continues)) o.agree positive
+      region_freed_same p.world p.program n d r m' c' (λ u. next steps.Continues) (freed d p.regions.continued (after core_steps.Continues)) o.agree positive
       (held c' o.kept) (ways.continues (source_freed m' r) (out c') (on m' c' o));
   returns = λ m' c' vs xs o given.
       region_freed_same p.world p.program n d r m' c' (λ u. next (steps.Returns vs)) (freed d d (after (core_steps.Returns xs))) o.agree positive

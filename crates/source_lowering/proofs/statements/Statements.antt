@@ -53,22 +53,22 @@ pub falls_same : (p : Point) (n b : ℕ) (result : Shape) → RunsAs p n b resul
 falls_same p n b result = record { same = λ m c next rest after fits ways. ways.falls m c (onward_self p p.regions.all b m c fits) }
 
 pub breaks_same : (p : Point) (n b : ℕ) (result : Shape)
-    → RunsAs p n b result (give steps.Breaks) (leaving_code p.regions.all p.regions.inner ++ (Break ∷ []))
+    → RunsAs p n b result (give steps.Breaks) (leaving_code p.regions.all p.regions.broken ++ (Break ∷ []))
 breaks_same p n b result = record {
   same = λ m c next rest after fits ways.
       subst (λ z. SameAt p n (next steps.Breaks m) z)
-      (sym (ap (λ z. meaning.statements z after c) (put_all (leaving_code p.regions.all p.regions.inner) (Break ∷ []) rest)
-      ∙ leaving_runs p.regions.all p.regions.inner (MoreStatements Break rest) after c))
+      (sym (ap (λ z. meaning.statements z after c) (put_all (leaving_code p.regions.all p.regions.broken) (Break ∷ []) rest)
+      ∙ leaving_runs p.regions.all p.regions.broken (MoreStatements Break rest) after c))
       (ways.breaks m c (onward_self p p.regions.all b m c fits));
 }
 
 pub continues_same : (p : Point) (n b : ℕ) (result : Shape)
-    → RunsAs p n b result (give steps.Continues) (leaving_code p.regions.all p.regions.inner ++ (Continue ∷ []))
+    → RunsAs p n b result (give steps.Continues) (leaving_code p.regions.all p.regions.continued ++ (Continue ∷ []))
 continues_same p n b result = record {
   same = λ m c next rest after fits ways.
       subst (λ z. SameAt p n (next steps.Continues m) z)
-      (sym (ap (λ z. meaning.statements z after c) (put_all (leaving_code p.regions.all p.regions.inner) (Continue ∷ []) rest)
-      ∙ leaving_runs p.regions.all p.regions.inner (MoreStatements Continue rest) after c))
+      (sym (ap (λ z. meaning.statements z after c) (put_all (leaving_code p.regions.all p.regions.continued) (Continue ∷ []) rest)
+      ∙ leaving_runs p.regions.all p.regions.continued (MoreStatements Continue rest) after c))
       (ways.continues m c (onward_self p p.regions.all b m c fits));
 }
 
@@ -157,7 +157,8 @@ leave_same p n b result void = record {
 
 choice_by : (t : Bool) (p : Point) (n b : ℕ) (result : Shape) (first second : Act Flow) (these those : List Statement) (m : source.Memory) (c : Config)
     (next : Flow → source.Memory → steps.Step) (rest : Statements) (after : Next) → Decides t (c.temps p.regions.all) → RunsAs p n b result first these
-    → RunsAs p n b result second those → SameState p m c → WaysOn p.world p.program n p.regions (around p b) m c result next (meaning.statements rest after) after
+    → RunsAs p n b result second those → SameState p m c
+    → WaysOn p.world p.program n p.regions (around p b) m c result next (meaning.statements rest after) after
     → SameAt p n (choose t first second next m) (meaning.statements (MoreStatements (If p.regions.all (all_of these) (all_of those)) rest) after c)
 choice_by true p n b result first second these those m c next rest after decides one other fits ways =
     let inner : Next = λ exit. meaning.falls_to exit (meaning.statements rest after) after in

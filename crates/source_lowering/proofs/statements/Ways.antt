@@ -40,9 +40,9 @@ pub record WaysOn (w : World) (fs : Program) (n : ℕ) (h : RegionsAround) (b : 
     (next : Flow → source.Memory → steps.Step) (falls_on : Config → core_steps.Step) (after : Next) : Type 0 where
   pub falls : (m : source.Memory) (c : Config) → Onward w h.all b m0 c0 m c → Same w fs n (next steps.Falls m) (falls_on c)
   pub breaks : (m : source.Memory) (c : Config) → Onward w h.all b m0 c0 m c
-      → Same w fs n (next steps.Breaks m) (freed h.all h.inner (after core_steps.Breaks) c)
+      → Same w fs n (next steps.Breaks m) (freed h.all h.broken (after core_steps.Breaks) c)
   pub continues : (m : source.Memory) (c : Config) → Onward w h.all b m0 c0 m c
-      → Same w fs n (next steps.Continues m) (freed h.all h.inner (after core_steps.Continues) c)
+      → Same w fs n (next steps.Continues m) (freed h.all h.continued (after core_steps.Continues) c)
   pub returns : (m : source.Memory) (c : Config) (vs : List Scalar) (xs : List Content) → Onward w h.all b m0 c0 m c → ResultIs w m c.memory result vs xs
       → Same w fs n (next (steps.Returns vs) m) (freed h.all h.all (after (core_steps.Returns xs)) c)
 

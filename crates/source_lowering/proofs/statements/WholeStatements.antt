@@ -1,10 +1,10 @@
--- Statements with structs as values: one that is dropped, assigned, or what a local begins as.
+-- Statements with structs and unions as values: one that is dropped, assigned, or what a local begins as.
 use Rattle.std.proofs.Common.{◌≡◌, ℕ, suc, ◌+◌, List, [], ◌∷◌, ◌++◌, length, Bool, true, false, refl, sym, ap, ◌∙◌, subst, arith}
-use Rattle.source_meaning.specs.Shapes.{Shape, StructShape}
+use Rattle.source_meaning.specs.Shapes.{Shape}
 use Rattle.source_meaning.specs.Memory as source
 use Rattle.source_meaning.specs.Memory.{Scalar, Spot, is_live}
 use Rattle.source_meaning.specs.Steps as steps
-use Rattle.source_meaning.specs.Steps.{World, Variable, Scope, Flow, Act, give, ◌>>=◌}
+use Rattle.source_meaning.specs.Steps.{Variable, Scope, Flow, Act, give, ◌>>=◌}
 use Rattle.source_meaning.specs.Conversions.{cells_of, converted}
 use Rattle.source_meaning.specs.Values.{write_cells}
 use Rattle.source_meaning.specs.Places.{Sense, with_binding, assigned}
@@ -17,7 +17,7 @@ use Rattle.core_meaning.specs.Operations.{copied}
 use Rattle.core_meaning.specs.Meaning as meaning
 use Rattle.source_lowering.specs.Layouts.{layout_of}
 use Rattle.source_lowering.specs.Lowered.{put}
-use Rattle.source_lowering.specs.Lowerable.{IsObject, AreStructs}
+use Rattle.source_lowering.specs.Lowerable.{IsObject, IsWholeShape, AreStructs}
 use Rattle.source_lowering.proofs.memory.StructCells.{shapes_in, HasCells}
 use Rattle.source_lowering.specs.Simulation.{at, AreMade, Leads, Grown, Point, SameState, SameAt, Next, around, before_value, keeping}
 use Rattle.source_lowering.proofs.memory.Keeping.{IsLess, later_on, later_less, blocks_of}
@@ -29,14 +29,15 @@ use Rattle.source_lowering.proofs.statements.Declaring.{with_local}
 use Rattle.source_lowering.proofs.memory.Beginning.{BeginsIn}
 use Rattle.source_lowering.proofs.memory.SameShapes.{shapes_same}
 use Rattle.source_lowering.proofs.expressions.Places.{IsPlaced}
-use Rattle.source_lowering.proofs.memory.Initialising.{copy_code, converted_whole, struct_with_same}
+use Rattle.source_lowering.proofs.memory.Initialising.{copy_code, converted_whole, whole_with_same}
 use Rattle.source_lowering.proofs.memory.CopiedOver.{copy_over, dead_stuck, shown_count}
 use Rattle.source_lowering.proofs.memory.Overwriting.{all_written, writes_all, overwritten}
 use Rattle.source_lowering.proofs.expressions.Wholes.{own_spot, IsWhole, fits_keeping, fits_kept, before_less, own_apart, value_made}
 use Rattle.source_lowering.proofs.memory.Members.{layout_count}
+use Rattle.source_lowering.proofs.memory.ObjectShapes.{whole_object}
 use Rattle.source_lowering.proofs.statements.Ways.{Onward, WaysOn, RunsAs}
 
--- what an expression keeps that is a struct, a statement keeps
+-- what an expression keeps that is a struct or a union, a statement keeps
 pub later_whole : (p : Point) (v : ℕ) (m m' : source.Memory) (c c' : core.Memory) → Grown (before_value p v) m c m' c'
     → Grown (around p (suc p.frame)) m c m' c'
 later_whole p v m m' c c' l = later_less (before_value p v) (before_value p 0) m m' c c' (before_less p 0 v (omega arith)) l
@@ -48,7 +49,7 @@ items_whole p v = record {
   kept = λ k i h. (h.0, λ e. let f = h.1 e in absurd (omega (arith, f)));
 }
 
--- ---- a struct that is dropped
+-- ---- one that is dropped
 
 pub whole_dropped : (p : Point) (n value : ℕ) (result : Shape) (e : Sense) (code : List Statement) → IsWhole p n p.regions.all value e code
     → RunsAs p n (suc p.frame) result (e.value >>= λ vs. give steps.Falls) code
@@ -66,29 +67,30 @@ whole_dropped p n value result e code one = record {
       });
 }
 
--- ---- a local begins as a struct that is made
+-- ---- a local begins as one that is made
 
-pub whole_begins : (p : Point) (n value : ℕ) (scope : Scope) (name tag : List ℕ) (shapes : List Shape) (e : Sense) (code : List Statement)
+pub whole_begins : (p : Point) (n value : ℕ) (scope : Scope) (name : List ℕ) (shape : Shape) (shapes : List Shape) (e : Sense) (code : List Statement)
     (then_act : Scope → Act Flow) (next : Flow → source.Memory → steps.Step) (m : source.Memory) (c : Config) (rest : Statements) (after : Next)
-    → scope.world ≡ p.world → scope.frame ≡ p.frame → AreStructs p.world.unions p.world.structs → IsObject p.world.structs (StructShape tag)
-    → p.pending ≡ StructShape tag ∷ shapes → SameState p m c → IsWhole p n p.regions.all value e code
-    → BeginsIn p (with_local p name (StructShape tag) shapes) n m c
-    (λ m'. then_act (with_binding scope name (Variable (StructShape tag) (local_spot p.frame p.made))) next m') (meaning.statements rest after)
-    → SameAt p n (initialised scope name (StructShape tag) e then_act next m) (meaning.statements (put code
-    (put (copy_code p (layout_of p.world (StructShape tag))) rest)) after c)
-whole_begins p n value scope name tag shapes e code then_act next m c rest after world frame structs object pending fits one goes =
-    one.same m c (λ vs. converted scope.world (StructShape tag) e.shape vs (λ us. local_with scope name (StructShape tag) us then_act next)) copies after fits
+    → scope.world ≡ p.world → scope.frame ≡ p.frame → AreStructs p.world.unions p.world.structs
+    → IsWholeShape p.world.unions p.world.structs shape → p.pending ≡ shape ∷ shapes → SameState p m c → IsWhole p n p.regions.all value e code
+    → BeginsIn p (with_local p name shape shapes) n m c
+    (λ m'. then_act (with_binding scope name (Variable shape (local_spot p.frame p.made))) next m') (meaning.statements rest after)
+    → SameAt p n (initialised scope name shape e then_act next m) (meaning.statements (put code
+    (put (copy_code p (layout_of p.world shape)) rest)) after c)
+whole_begins p n value scope name shape shapes e code then_act next m c rest after world frame structs is_whole pending fits one goes =
+    one.same m c (λ vs. converted scope.world shape e.shape vs (λ us. local_with scope name shape us then_act next)) copies after fits
     (record {
       above = omega arith;
       go = λ m1 c1 vs fits1 later1 kept1 temp shown.
-          subst (λ z. SameAt p n (converted z (StructShape tag) e.shape vs (λ us. local_with scope name (StructShape tag) us then_act next) m1)
+          subst (λ z. SameAt p n (converted z shape e.shape vs (λ us. local_with scope name shape us then_act next) m1)
           (meaning.statements copies after c1)) (sym world)
-          (converted_whole p n tag e.shape vs (λ us. local_with scope name (StructShape tag) us then_act next) m1 (meaning.statements copies after c1)
+          (converted_whole p n shape e.shape vs (λ us. local_with scope name shape us then_act next) m1 (meaning.statements copies after c1) is_whole
           (λ equal.
-          let same : StructShape tag ≡ StructShape one.tag = shapes_same (StructShape tag) e.shape equal ∙ one.shape_is in
-          struct_with_same p n scope name tag shapes (own_spot p.own value 0) 0 vs then_act next m1 c1 rest after world frame structs object pending fits1 temp
+          let same : shape ≡ one.shape = shapes_same shape e.shape equal ∙ one.shape_is in
+          whole_with_same p n scope name shape shapes (own_spot p.own value 0) 0 vs then_act next m1 c1 rest after world frame structs is_whole pending
+          fits1 temp
           (subst (λ z. AreMade c1.memory (own_spot p.own value 0) 0 (layout_of p.world z).cells) (sym same)
-          (value_made p m1 c1 value (StructShape one.tag) fits1 one.numbered))
+          (value_made p m1 c1 value one.shape one.object fits1 one.numbered))
           (subst (λ z. AllShown p.world m1 c1.memory (own_spot p.own value 0) (cells_of p.world z) vs) (sym same) shown)
           fits1.stands refl
           (record {
@@ -100,17 +102,17 @@ whole_begins p n value scope name tag shapes e code then_act next m c rest after
     })
   where
     copies : Statements
-    copies = put (copy_code p (layout_of p.world (StructShape tag))) rest
+    copies = put (copy_code p (layout_of p.world shape)) rest
 
--- ---- a struct is assigned
+-- ---- one is assigned
 
 -- the value is an unnamed one, which stays while its place is evaluated
-pub whole_assigned : (p : Point) (n value : ℕ) (result : Shape) (to from : Sense) (tag : List ℕ) (code place : List Statement)
-    → AreStructs p.world.unions p.world.structs → IsObject p.world.structs (StructShape tag) → IsWhole p n p.regions.all value from code
-    → IsPlaced (keeping p (suc value)) n (p.regions.all + 1) to (StructShape tag) place
+pub whole_assigned : (p : Point) (n value : ℕ) (result : Shape) (to from : Sense) (shape : Shape) (code place : List Statement)
+    → AreStructs p.world.unions p.world.structs → IsWholeShape p.world.unions p.world.structs shape → IsWhole p n p.regions.all value from code
+    → IsPlaced (keeping p (suc value)) n (p.regions.all + 1) to shape place
     → RunsAs p n (suc p.frame) result ((assigned p.world to from).value >>= λ vs. give steps.Falls)
-    (code ++ (place ++ (Do (Copy (p.regions.all + 1) p.regions.all (layout_of p.world (StructShape tag))) ∷ [])))
-whole_assigned p n value result to from tag code place structs object one placed = record {
+    (code ++ (place ++ (Do (Copy (p.regions.all + 1) p.regions.all (layout_of p.world shape)) ∷ [])))
+whole_assigned p n value result to from shape code place structs is_whole one placed = record {
   same = λ m c next rest after fits ways.
       subst (λ z. SameAt p n (from.value (λ vs. converted p.world to.shape from.shape vs (λ us. stores us next)) m) (meaning.statements z after c))
       (sym (put_all code (place ++ copies) rest ∙ ap (put code) (put_all place copies rest)))
@@ -119,9 +121,9 @@ whole_assigned p n value result to from tag code place structs object one placed
       (one.same m c (λ vs. converted p.world shape from.shape vs (λ us. stores us next)) (put place (put copies rest)) after fits (record {
         above = omega arith;
         go = λ m1 c1 vs fits1 later1 kept1 temp shown.
-            converted_whole p n tag from.shape vs (λ us. stores us next) m1 (meaning.statements (put place (put copies rest)) after c1)
+            converted_whole p n shape from.shape vs (λ us. stores us next) m1 (meaning.statements (put place (put copies rest)) after c1) is_whole
             (λ equal.
-            let same : shape ≡ StructShape one.tag = shapes_same shape from.shape equal ∙ one.shape_is in
+            let same : shape ≡ one.shape = shapes_same shape from.shape equal ∙ one.shape_is in
             placed.placed.same m1 c1 (λ t. write_cells t vs (λ u. next steps.Falls)) (put copies rest) after (fits_keeping p (suc value) m1 c1 fits1) (record {
               above = omega arith;
               go = λ m2 c2 t byte fits2' later2 kept2 temp2 lies leads.
@@ -136,23 +138,23 @@ whole_assigned p n value result to from tag code place structs object one placed
                     kept = λ k less. kept2 k (omega (arith, less)) ∙ kept1 k less;
                   }) temp2 (kept2 p.regions.all (omega arith) ∙ temp) lies.cells leads
                   (subst (λ z. AreMade c2.memory (own_spot p.own value 0) 0 (layout_of p.world z).cells) (sym same)
-                  (value_made p m2 c2 value (StructShape one.tag) fits2 one.numbered))
+                  (value_made p m2 c2 value one.shape one.object fits2 one.numbered))
                   (subst (λ z. AllShown p.world m2 c2.memory (own_spot p.own value 0) (cells_of p.world z) vs) (sym same)
                   (all_shown_kept (before_value p (suc value)) p.world m1 m2 c1.memory c2.memory (own_spot p.own value 0)
-                  (cells_of p.world (StructShape one.tag)) vs later2
+                  (cells_of p.world one.shape) vs later2
                   (λ i j less. later2.owned p.own (core.beyond (own_spot p.own value 0) i) j refl (omega arith, λ f. omega arith)) shown));
             }));
       })));
 }
   where
-    shape : Shape
-    shape = StructShape tag
+    object : IsObject p.world.unions p.world.structs shape
+    object = whole_object p.world.unions p.world.structs shape is_whole
 
     layout : Layout
-    layout = layout_of p.world (StructShape tag)
+    layout = layout_of p.world shape
 
     copies : List Statement
-    copies = Do (Copy (p.regions.all + 1) p.regions.all (layout_of p.world (StructShape tag))) ∷ []
+    copies = Do (Copy (p.regions.all + 1) p.regions.all (layout_of p.world shape)) ∷ []
 
     stores : List Scalar → (Flow → source.Memory → steps.Step) → source.Memory → steps.Step
     stores us next = to.place (λ t. write_cells t us (λ u. next steps.Falls))
@@ -162,7 +164,7 @@ whole_assigned p n value result to from tag code place structs object one placed
         → (m2 : source.Memory) (c2 : Config) (vs : List Scalar) (t : Spot) (byte : ℕ) → SameState p m2 c2
         → Onward p.world p.regions.all (around p (suc p.frame)) m c m2 c2 → c2.temps (p.regions.all + 1) ≡ Pointer (at t) byte
         → c2.temps p.regions.all ≡ Pointer (own_spot p.own value 0) 0
-        → HasCells p.world.unions p.world.structs (StructShape tag) → Leads p.world m2 c2.memory (StructShape tag) t byte
+        → HasCells p.world.unions p.world.structs shape → Leads p.world m2 c2.memory shape t byte
         → AreMade c2.memory (own_spot p.own value 0) 0 layout.cells
         → AllShown p.world m2 c2.memory (own_spot p.own value 0) (cells_of p.world shape) vs
         → SameAt p n (write_cells t vs (λ u. next steps.Falls) m2) (meaning.statements (put copies rest) after c2)

@@ -33,7 +33,7 @@ use Rattle.source_meaning.specs.Shapes.{
   settled_by,
 }
 use Rattle.source_lowering.specs.Taken.{IsSharedRegion, AreShared}
-use Rattle.source_lowering.specs.Lowerable.{IsTarget, IsValueShape, IsObject, IsNoStruct, IsObjectBase, IsKnownIn, IsObjectType, IsWordType}
+use Rattle.source_lowering.specs.Lowerable.{IsTarget, IsValueShape, IsObject, IsOperandShape, IsObjectBase, IsKnownIn, IsObjectType, IsWordType}
 use Rattle.source_lowering.proofs.values.Integers.{object_value}
 
 -- a pointer whose owner may be left open
@@ -45,6 +45,7 @@ IsOpen (ThinShape may_be_null owner to) = (shared_owner owner ≡ Shared) × IsO
 IsOpen (FatShape to) = IsOpen to
 IsOpen HandleShape = Unit {0}
 IsOpen (StructShape tag) = Unit {0}
+IsOpen (UnionShape tag) = Unit {0}
 IsOpen _ = ⊥
 
 pub owner_shared : (r : Option RegionName) → IsSharedRegion r → shared_owner (owner_of r) ≡ Shared
@@ -68,7 +69,7 @@ base_open tree.Unsigned h = tt
 base_open tree.Char h = tt
 base_open tree.Void h = absurd h
 base_open (tree.Struct tag arguments) h = tt
-base_open (tree.Union tag arguments) h = absurd h
+base_open (tree.Union tag arguments) h = tt
 base_open (tree.Handle region) h = tt
 base_open (tree.Key region) h = absurd h
 
@@ -82,21 +83,21 @@ settled_target (FatShape to) h = settled_target to h
 settled_target HandleShape h = tt
 settled_target KeyShape h = absurd h
 settled_target (StructShape tag) h = tt
-settled_target (UnionShape tag) h = absurd h
+settled_target (UnionShape tag) h = tt
 settled_target (ArrayShape count of) h = absurd h
 
-settled_object : (structs : List Layout) (s : Shape) → IsOpen s → IsKnownIn structs (settled s) → IsObject structs (settled s)
-settled_object structs (StructShape tag) h g = g
-settled_object structs (ThinShape may_be_null owner to) h g = (h.0, settled_target to h.1)
-settled_object structs IntShape h g = tt
-settled_object structs UnsignedShape h g = tt
-settled_object structs CharShape h g = tt
-settled_object structs VoidShape h g = absurd h
-settled_object structs (FatShape to) h g = settled_target to h
-settled_object structs HandleShape h g = tt
-settled_object structs KeyShape h g = absurd h
-settled_object structs (UnionShape tag) h g = absurd h
-settled_object structs (ArrayShape count of) h g = absurd h
+settled_object : (unions structs : List Layout) (s : Shape) → IsOpen s → IsKnownIn unions structs (settled s) → IsObject unions structs (settled s)
+settled_object unions structs (StructShape tag) h g = g
+settled_object unions structs (ThinShape may_be_null owner to) h g = (h.0, settled_target to h.1)
+settled_object unions structs IntShape h g = tt
+settled_object unions structs UnsignedShape h g = tt
+settled_object unions structs CharShape h g = tt
+settled_object unions structs VoidShape h g = absurd h
+settled_object unions structs (FatShape to) h g = settled_target to h
+settled_object unions structs HandleShape h g = tt
+settled_object unions structs KeyShape h g = absurd h
+settled_object unions structs (UnionShape tag) h g = g
+settled_object unions structs (ArrayShape count of) h g = absurd h
 
 pub first_shared : (o : Owner) → first_owner o Shared ≡ shared_owner o
 first_shared Shared = refl
@@ -109,6 +110,7 @@ settled_same UnsignedShape from h g = refl
 settled_same CharShape from h g = refl
 settled_same HandleShape from h g = refl
 settled_same (StructShape tag) from h g = refl
+settled_same (UnionShape tag) from h g = refl
 settled_same (ThinShape m o to) (ThinShape n q from) h g =
     let owner : first_owner o q ≡ shared_owner o = ap (first_owner o) g.0 ∙ first_shared o in
     let inner = settled_same to from h.1 g.1 in
@@ -119,6 +121,7 @@ settled_same (ThinShape m o to) CharShape h g = refl
 settled_same (ThinShape m o to) VoidShape h g = refl
 settled_same (ThinShape m o to) HandleShape h g = refl
 settled_same (ThinShape m o to) (StructShape tag) h g = refl
+settled_same (ThinShape m o to) (UnionShape tag) h g = refl
 settled_same (ThinShape m o to) (FatShape from) h g = ap (λ z. ThinShape m (shared_owner o) z) (settled_same to from h.1 g)
 settled_same (ThinShape m o to) _ h g = absurd g
 settled_same VoidShape from h g = absurd h
@@ -130,27 +133,29 @@ settled_same (FatShape to) CharShape h g = refl
 settled_same (FatShape to) VoidShape h g = refl
 settled_same (FatShape to) HandleShape h g = refl
 settled_same (FatShape to) (StructShape tag) h g = refl
+settled_same (FatShape to) (UnionShape tag) h g = refl
 settled_same (FatShape to) _ h g = absurd g
 settled_same KeyShape from h g = absurd h
-settled_same (UnionShape tag) from h g = absurd h
 settled_same (ArrayShape count of) from h g = absurd h
 
 written_open : (t : TypeName) → AreShared t.pointers → IsObjectBase t.base → IsOpen (written t)
 written_open t pointers base = pointed_open t.pointers (base_shape t.base) pointers (base_open t.base base)
 
 -- a type settles to its shape, whatever its initializer
-pub type_settles : (structs : List Layout) (t : TypeName) → IsObjectType structs t → (s : Shape) → IsTarget s → settled_by (written t) s ≡ settled (written t)
-type_settles structs t h s target = settled_same (written t) s (written_open t h.pointers h.base) target
+pub type_settles : (unions structs : List Layout) (t : TypeName) → IsObjectType unions structs t → (s : Shape) → IsTarget s
+    → settled_by (written t) s ≡ settled (written t)
+type_settles unions structs t h s target = settled_same (written t) s (written_open t h.pointers h.base) target
 
 -- which is that of an object
-pub object_settled : (structs : List Layout) (t : TypeName) → IsObjectType structs t → IsObject structs (settled (written t))
-object_settled structs t h = settled_object structs (written t) (written_open t h.pointers h.base) h.known
+pub object_settled : (unions structs : List Layout) (t : TypeName) → IsObjectType unions structs t → IsObject unions structs (settled (written t))
+object_settled unions structs t h = settled_object unions structs (written t) (written_open t h.pointers h.base) h.known
 
 -- or of a value
 pub value_settled : (t : TypeName) → IsWordType t → IsValueShape (settled (written t))
 value_settled t h =
-    object_value [] (settled (written t)) (settled_object [] (written t) (written_open t h.pointers h.base) (known (settled (written t)) h.word)) h.word
+    object_value [] [] (settled (written t)) (settled_object [] [] (written t) (written_open t h.pointers h.base) (known (settled (written t)) h.word)) h.word
   where
-    known : (s : Shape) → IsNoStruct s → IsKnownIn [] s
+    known : (s : Shape) → IsOperandShape s → IsKnownIn [] [] s
     known (StructShape tag) g = absurd g
+    known (UnionShape tag) g = absurd g
     known _ g = tt

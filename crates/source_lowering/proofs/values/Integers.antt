@@ -25,7 +25,7 @@ use Rattle.core_meaning.specs.Memory as core
 use Rattle.core_meaning.specs.Memory.{Content, Word, Null, Pointer, Birth}
 use Rattle.source_lowering.specs.Lowered.{type_of}
 use Rattle.source_lowering.specs.Taken.{IsIntegerShape}
-pub use Rattle.source_lowering.specs.Lowerable.{IsTarget, IsWordShape, IsValueShape, IsObject, IsNoStruct}
+pub use Rattle.source_lowering.specs.Lowerable.{IsTarget, IsWordShape, IsValueShape, IsObject, IsOperandShape}
 use Rattle.source_lowering.specs.Simulation.{at, contents_in, Shown, ANull, APointer, Given, first_in}
 use Rattle.source_lowering.specs.Members.{words_in}
 
@@ -98,7 +98,7 @@ integer_word (UnionShape tag) h = absurd h
 integer_word (ArrayShape count of) h = absurd h
 
 -- what can be pointed to, and is no struct, is a value
-pub target_taken : (s : Shape) → IsTarget s → IsNoStruct s → IsTaken s
+pub target_taken : (s : Shape) → IsTarget s → IsOperandShape s → IsTaken s
 target_taken IntShape h g = tt
 target_taken UnsignedShape h g = tt
 target_taken CharShape h g = tt
@@ -108,7 +108,7 @@ target_taken (FatShape to) h g = h
 target_taken HandleShape h g = h
 target_taken KeyShape h g = h
 target_taken (StructShape tag) h g = g
-target_taken (UnionShape tag) h g = h
+target_taken (UnionShape tag) h g = g
 target_taken (ArrayShape count of) h g = h
 
 pub taken_target : (s : Shape) → IsTaken s → IsTarget s
@@ -121,52 +121,53 @@ taken_target (FatShape to) h = h
 taken_target HandleShape h = h
 taken_target KeyShape h = h
 taken_target (StructShape tag) h = tt
-taken_target (UnionShape tag) h = h
+taken_target (UnionShape tag) h = tt
 taken_target (ArrayShape count of) h = h
 
-pub taken_no_struct : (s : Shape) → IsTaken s → IsNoStruct s
+pub taken_no_struct : (s : Shape) → IsTaken s → IsOperandShape s
 taken_no_struct (StructShape tag) h = h
+taken_no_struct (UnionShape tag) h = h
 taken_no_struct _ h = tt
 
--- an object is a value or a struct
-pub object_target : (structs : List Layout) (s : Shape) → IsObject structs s → IsTarget s
-object_target structs (StructShape tag) h = tt
-object_target structs IntShape h = tt
-object_target structs UnsignedShape h = tt
-object_target structs CharShape h = tt
-object_target structs VoidShape h = tt
-object_target structs (ThinShape may_be_null owner to) h = h
-object_target structs (FatShape to) h = h
-object_target structs HandleShape h = h
-object_target structs KeyShape h = h
-object_target structs (UnionShape tag) h = h
-object_target structs (ArrayShape count of) h = h
+-- an object is a value, a struct or a union
+pub object_target : (unions structs : List Layout) (s : Shape) → IsObject unions structs s → IsTarget s
+object_target unions structs (StructShape tag) h = tt
+object_target unions structs IntShape h = tt
+object_target unions structs UnsignedShape h = tt
+object_target unions structs CharShape h = tt
+object_target unions structs VoidShape h = tt
+object_target unions structs (ThinShape may_be_null owner to) h = h
+object_target unions structs (FatShape to) h = h
+object_target unions structs HandleShape h = h
+object_target unions structs KeyShape h = h
+object_target unions structs (UnionShape tag) h = tt
+object_target unions structs (ArrayShape count of) h = h
 
-pub object_value : (structs : List Layout) (s : Shape) → IsObject structs s → IsNoStruct s → IsValueShape s
-object_value structs (StructShape tag) h g = g
-object_value structs IntShape h g = tt
-object_value structs UnsignedShape h g = tt
-object_value structs CharShape h g = tt
-object_value structs VoidShape h g = h
-object_value structs (ThinShape may_be_null owner to) h g = h
-object_value structs (FatShape to) h g = h
-object_value structs HandleShape h g = h
-object_value structs KeyShape h g = h
-object_value structs (UnionShape tag) h g = h
-object_value structs (ArrayShape count of) h g = h
+pub object_value : (unions structs : List Layout) (s : Shape) → IsObject unions structs s → IsOperandShape s → IsValueShape s
+object_value unions structs (StructShape tag) h g = g
+object_value unions structs IntShape h g = tt
+object_value unions structs UnsignedShape h g = tt
+object_value unions structs CharShape h g = tt
+object_value unions structs VoidShape h g = h
+object_value unions structs (ThinShape may_be_null owner to) h g = h
+object_value unions structs (FatShape to) h g = h
+object_value unions structs HandleShape h g = h
+object_value unions structs KeyShape h g = h
+object_value unions structs (UnionShape tag) h g = g
+object_value unions structs (ArrayShape count of) h g = h
 
-pub value_object : (structs : List Layout) (s : Shape) → IsValueShape s → IsObject structs s
-value_object structs (StructShape tag) h = absurd h
-value_object structs IntShape h = tt
-value_object structs UnsignedShape h = tt
-value_object structs CharShape h = tt
-value_object structs VoidShape h = h
-value_object structs (ThinShape may_be_null owner to) h = h
-value_object structs (FatShape to) h = h
-value_object structs HandleShape h = h
-value_object structs KeyShape h = h
-value_object structs (UnionShape tag) h = h
-value_object structs (ArrayShape count of) h = h
+pub value_object : (unions structs : List Layout) (s : Shape) → IsValueShape s → IsObject unions structs s
+value_object unions structs (StructShape tag) h = absurd h
+value_object unions structs IntShape h = tt
+value_object unions structs UnsignedShape h = tt
+value_object unions structs CharShape h = tt
+value_object unions structs VoidShape h = h
+value_object unions structs (ThinShape may_be_null owner to) h = h
+value_object unions structs (FatShape to) h = h
+value_object unions structs HandleShape h = h
+value_object unions structs KeyShape h = h
+value_object unions structs (UnionShape tag) h = absurd h
+value_object unions structs (ArrayShape count of) h = h
 
 -- a word is a value
 pub word_value : (s : Shape) → IsWordShape s → IsValueShape s

@@ -1,0 +1,91 @@
+-- How many nodes expressions have, whatever their values: each takes four temporaries, and passes three words, at most. An assignment takes none of its own.
+use Rattle.std.proofs.Common.{ℕ, ◌+◌, Some}
+use Rattle.cyc_tree.specs.Tree as tree
+use Rattle.cyc_tree.specs.Tree.{Expression, Expressions, NoExpressions, MoreExpressions, Links, NoLinks, MoreLinks, Suffixes, NoSuffixes, Index, Dot, Arrow}
+use Rattle.cyc_tree.specs.Tree.{Made, One, Array, Initializer, Declaration, Statement, BlockItems, NoItems, Declare, Execute, Clauses, NoClauses, MoreClauses}
+use Rattle.source_meaning.specs.Shapes.{Shape, VoidShape}
+use Rattle.source_meaning.specs.Steps.{World}
+use Rattle.source_lowering.specs.Lowered.{call_shape}
+
+-- ---- expressions
+
+abbrev mutual
+  pub expression_count : Expression → ℕ
+  expression_count (Expression.Call name arguments) = 1 + argument_count arguments
+  expression_count (Expression.MakeUnion tag member value) = 1 + expression_count value
+  expression_count (Expression.NumElts at operand) = 1 + expression_count operand
+  expression_count (Expression.Grouped at inner) = expression_count inner
+  expression_count (Expression.Suffixed primary suffixes) = expression_count primary + suffix_count suffixes
+  expression_count (Expression.Prefixed at operator operand) = 1 + expression_count operand
+  expression_count (Expression.Chain first others) = expression_count first + link_count others
+  expression_count (Expression.AllOf first others) = expression_count first + joined_count others
+  expression_count (Expression.AnyOf first others) = expression_count first + joined_count others
+  expression_count (Expression.Assign place value) = expression_count place + expression_count value
+  expression_count (Expression.New at new) = 1 + made_count new
+  expression_count (Expression.NewIn at handle new) = 1 + (expression_count handle + made_count new)
+  expression_count _ = 1
+
+  pub made_count : Made → ℕ
+  made_count (One value) = expression_count value
+  made_count (Array index count element) = expression_count count + expression_count element
+
+  pub argument_count : Expressions → ℕ
+  argument_count NoExpressions = 0
+  argument_count (MoreExpressions first others) = expression_count first + argument_count others
+
+  -- operands of `&&` and `||` after the first, with the operators before them
+  pub joined_count : Expressions → ℕ
+  joined_count NoExpressions = 0
+  joined_count (MoreExpressions first others) = 1 + (expression_count first + joined_count others)
+
+  pub link_count : Links → ℕ
+  link_count NoLinks = 0
+  link_count (MoreLinks operator operand others) = 1 + (expression_count operand + link_count others)
+
+  pub suffix_count : Suffixes → ℕ
+  suffix_count NoSuffixes = 0
+  suffix_count (Index index others) = 1 + (expression_count index + suffix_count others)
+  suffix_count (Dot f others) = 1 + suffix_count others
+  suffix_count (Arrow f others) = 1 + suffix_count others
+
+-- what a result counts as: nothing is no value
+abbrev pub result_count : Shape → ℕ
+result_count VoidShape = 0
+result_count s = 1
+
+-- of an expression that is a statement: a call may have no value
+abbrev pub run_count : World → Expression → ℕ
+run_count w (Expression.Call name arguments) = result_count (call_shape w name.text) + argument_count arguments
+run_count w (Expression.Grouped at inner) = run_count w inner
+run_count w e = expression_count e
+
+-- ---- statements
+
+abbrev pub initializer_count : Initializer → ℕ
+initializer_count Initializer.Unset = 0
+initializer_count (Initializer.Elements count) = 0
+initializer_count (Initializer.Value e) = expression_count e
+
+abbrev pub declaration_count : Declaration → ℕ
+declaration_count (tree.Local of name initializer) = initializer_count initializer
+declaration_count _ = 0
+
+abbrev mutual
+  pub statement_count : World → Statement → ℕ
+  statement_count w (Statement.Block at items) = item_count w items
+  statement_count w (Statement.Run e) = run_count w e
+  statement_count w (Statement.If at condition body) = expression_count condition + statement_count w body
+  statement_count w (Statement.IfElse at condition body otherwise) = expression_count condition + (statement_count w body + statement_count w otherwise)
+  statement_count w (Statement.While at condition body) = expression_count condition + statement_count w body
+  statement_count w (Statement.Switch at place clauses) = expression_count place + clause_count w clauses
+  statement_count w (Statement.Return at (Some e)) = expression_count e
+  statement_count w _ = 0
+
+  pub item_count : World → BlockItems → ℕ
+  item_count w NoItems = 0
+  item_count w (Declare d others) = declaration_count d + item_count w others
+  item_count w (Execute s others) = statement_count w s + item_count w others
+
+  pub clause_count : World → Clauses → ℕ
+  clause_count w NoClauses = 0
+  clause_count w (MoreClauses at label body others) = item_count w body + clause_count w others

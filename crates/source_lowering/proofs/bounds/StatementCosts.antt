@@ -1,0 +1,296 @@
+-- What the code of statements takes: locals by those that are declared, operations by the size of the text.
+use Rattle.std.proofs.Common.{ℕ, suc, ◌+◌, ◌*◌, ◌≤◌, List, [], ◌∷◌, ◌++◌, length, Some, None, arith, max}
+use Rattle.cyc_tree.specs.Tree as tree
+use Rattle.cyc_tree.specs.Tree.{Statement, BlockItems, NoItems, Declare, Execute, Clauses, NoClauses, MoreClauses, Case, Default}
+use Rattle.source_meaning.specs.Shapes.{Shape, Part, part_shape}
+use Rattle.source_meaning.specs.Steps.{World}
+use Rattle.core_meaning.specs.Core as core
+use Rattle.core_meaning.specs.Core.{Do, If, Block, Return, Constant, Apply, Equal, NoStatements}
+use Rattle.source_lowering.specs.Lowered.{Named, all_of, results_in, static_shape, expression_values, union_parts, member_number, put_local, held_loads}
+use Rattle.source_lowering.specs.Lowered.{tag_load}
+use Rattle.source_lowering.specs.Programs.{local_shape, block_shapes, locals_of, outward, named_here, leaving_code, declaration_values, statement_values}
+use Rattle.source_lowering.specs.Programs.{RegionsAround, in_loop, in_switch, regions_with, statement_code, items_code, cases_code, default_code, item_values}
+use Rattle.source_lowering.specs.Programs.{case_values}
+use Rattle.source_lowering.specs.Lowerable.{TakesStatement, TakesItems, TakesClauses}
+use Rattle.source_lowering.specs.Bounds.{
+  shape_words,
+  statement_locals,
+  item_locals,
+  clause_locals,
+  statement_size,
+  item_size,
+  clauses_size,
+  statement_left,
+  items_left,
+  clauses_left,
+}
+use Rattle.source_lowering.proofs.bounds.Nodes.{statement_count, item_count, clause_count}
+use Rattle.source_lowering.proofs.bounds.LocalWords.{shapes_words}
+use Rattle.source_lowering.proofs.bounds.Costs.{Costs, no_costs, one_costs, both_cost, more_costs, if_costs, while_costs, does_one, does_then, leave_costs}
+use Rattle.source_lowering.proofs.bounds.Costs.{block_costs}
+use Rattle.source_lowering.proofs.bounds.Counted.{one_node}
+use Rattle.source_lowering.proofs.bounds.ValueCosts.{put_local_costs, tag_load_costs, held_loads_costs}
+use Rattle.source_lowering.proofs.bounds.PartCosts.{results_few, results_last, results_many, conversion_costs}
+use Rattle.source_lowering.proofs.bounds.ExpressionCosts.{place_costs, expression_costs}
+use Rattle.source_lowering.proofs.bounds.WholeCosts.{run_costs}
+use Rattle.source_lowering.proofs.bounds.DeclarationCosts.{declaration_bounded, ending_costs, regions_paid, leaving_costs}
+use Rattle.source_lowering.proofs.bounds.Taken.{taken_by, taken_outward}
+
+-- ---- words of locals
+
+-- the words of the locals that a block declares itself
+abbrev pub own_locals : World → BlockItems → ℕ
+own_locals w items = shapes_words w (block_shapes items)
+
+-- a statement's code: its locals by their number, its operations by its size
+pub record IsBounded (t p l n : ℕ) (code : List core.Statement) : Type 0 where
+  pub operations : ℕ
+  pub costs : Costs t p l operations code
+  pub less : operations ≤ 8 * n
+
+-- the way out, behind the regions that are left
+leaves : (t p all count o : ℕ) (s : core.Statement) → all ≤ t → o ≤ 8 → Costs t p 0 o (s ∷ [])
+    → IsBounded t p 0 (1 + count) (leaving_code all count ++ (s ∷ []))
+leaves t p all count o s h less c =
+    record { operations = count + o; costs = both_cost t p 0 count 0 o _ _ (leaving_costs all count t p h) c; less = omega (arith, less) }
+
+-- a block's items declare its own locals, and those of inner blocks come beside them
+pub record ItemsBounded (w : World) (t p l n : ℕ) (items : BlockItems) (code : List core.Statement) : Type 0 where
+  pub inner : ℕ
+  pub bounded : IsBounded t p inner n code
+  pub locals : own_locals w items + inner ≤ l
+
+-- ---- clauses of a `switch`
+
+-- those with a name one after the other, and the `default` behind them
+record ClausesBounded (t p l n : ℕ) (named last : List core.Statement) : Type 0 where
+  case_locals : ℕ
+  default_locals : ℕ
+  case_operations : ℕ
+  default_operations : ℕ
+  cases : Costs t p case_locals case_operations named
+  otherwise : Costs t p default_locals default_operations last
+  locals : case_locals + default_locals ≤ l
+  less : case_operations + default_operations ≤ 8 * n
+
+-- one of them: its test, the copy of the member, and its items
+abbrev case_code : World → Shape → (number d : ℕ) → BlockItems → (items : List core.Statement) → List core.Statement
+case_code w s number d body items =
+    Do (Constant (d + 2) number) ∷ Do (Apply Equal (d + 2) (d + 1) (d + 2)) ∷
+    If (d + 2)
+    (all_of (Block (locals_of w (s ∷ block_shapes body)) (all_of (held_loads s d ++ (put_local s d 0 0 ++ items))) ∷ core.Break ∷ [])) NoStatements ∷ []
+
+case_bounded : (w : World) (s : Shape) (number t p l n d : ℕ) (body : BlockItems) (items : List core.Statement) → d + 4 ≤ t → ItemsBounded w t p l n body items
+    → IsBounded t p (shape_words w s + l) (8 + n) (case_code w s number d body items)
+case_bounded w s number t p l n d body items h a =
+    let all = shape_words w s + l in
+    let j = a.bounded.less in let m = a.locals in
+    let o = 3 + (4 + a.bounded.operations) in
+    let inside = both_cost t p 0 3 (0 + a.inner) (4 + a.bounded.operations) (held_loads s d) _ (held_loads_costs s t p d (omega (arith, h)))
+    (both_cost t p 0 4 a.inner a.bounded.operations (put_local s d 0 0) items (put_local_costs s t p d 0 0 h) a.bounded.costs) in
+    let these = both_cost t p all (1 + o) 0 1 _ (core.Break ∷ [])
+    (block_costs t p all (0 + (0 + a.inner)) o w (s ∷ block_shapes body) (held_loads s d ++ (put_local s d 0 0 ++ items)) (omega (arith, m)) inside)
+    (one_costs t p 0 1 core.Break (omega arith) (omega arith) (omega arith) (omega arith)) in
+    record {
+      operations = 1 + (1 + (1 + (1 + o + 1 + 0)));
+      costs = more_costs t p (0 + (all + 0 + 0)) (2 + (1 + (1 + o + 1 + 0))) t p all _ _ (omega arith) (omega arith) (omega arith) (omega arith)
+          (both_cost t p 0 2 (all + 0 + 0) (1 + (1 + o + 1 + 0)) (Do (Constant (d + 2) number) ∷ Do (Apply Equal (d + 2) (d + 1) (d + 2)) ∷ []) _
+          (does_then t p 1 (Constant (d + 2) number) _ (omega (arith, h)) (does_one t p (Apply Equal (d + 2) (d + 1) (d + 2)) (omega (arith, h))))
+          (if_costs t p (d + 2) (all + 0) 0 (1 + o + 1) 0 _ [] (omega (arith, h)) these (no_costs t p)));
+      less = omega (arith, j);
+    }
+
+-- ---- statements
+
+mutual
+  statement_bounded : (w : World) (result : Shape) (names : List Named) (r : RegionsAround) (own : ℕ) (s : Statement) (t p : ℕ)
+      → TakesStatement w result names s → max (taken_by names) (r.all + (statement_locals w names s + 4 * statement_count w s) + 1) ≤ t
+      → 3 * statement_count w s ≤ p
+      → IsBounded t p (statement_locals w names s) (statement_size s + statement_left r s) (statement_code w result names r own s)
+  statement_bounded w result names r own (Statement.Empty at) t p h f g = record { operations = 0; costs = no_costs t p; less = omega arith }
+  statement_bounded w result names r own (Statement.Block at items) t p h f g =
+      let same = taken_outward names in
+      let one = items_bounded w result (outward names) r 0 own items t p h (omega (arith, f, same)) g in
+      let b = one.bounded.less in let l = one.locals in
+      record {
+        operations = 1 + one.bounded.operations;
+        costs = block_costs t p (item_locals w (outward names) 0 items) one.inner one.bounded.operations w (block_shapes items) _ l one.bounded.costs;
+        less = omega (arith, b);
+      }
+  statement_bounded w result names r own (Statement.Run e) t p h f g =
+      let a = run_costs w names e t p r.all own h (omega (arith, f)) (omega (arith, f)) (omega (arith, g)) in let l = a.less in
+      record { operations = a.operations; costs = a.costs; less = omega (arith, l) }
+  statement_bounded w result names r own (Statement.If at condition body) t p h f g =
+      let a = expression_costs w names condition t p r.all own h.0 (omega (arith, f)) (omega (arith, g)) in
+      let b = statement_bounded w result names r (own + length (expression_values w names condition)) body t p h.1 (omega (arith, f)) (omega (arith, g)) in
+      let l = a.less in let k = b.less in
+      record {
+        operations = a.operations + (1 + (b.operations + 0));
+        costs = more_costs t p (0 + (statement_locals w names body + 0)) _ t p (statement_locals w names body) _ _ (omega arith) (omega arith) (omega arith)
+            (omega arith)
+            (both_cost t p 0 a.operations (statement_locals w names body + 0) (1 + (b.operations + 0)) _ _ a.costs
+            (if_costs t p r.all (statement_locals w names body) 0 b.operations 0 _ [] (omega (arith, f)) b.costs (no_costs t p)));
+        less = omega (arith, l, k);
+      }
+  statement_bounded w result names r own (Statement.IfElse at condition body otherwise) t p h f g =
+      let first = own + length (expression_values w names condition) in
+      let a = expression_costs w names condition t p r.all own h.0 (omega (arith, f)) (omega (arith, g)) in
+      let b = statement_bounded w result names r first body t p h.1.0 (omega (arith, f)) (omega (arith, g)) in
+      let c = statement_bounded w result names r (first + length (statement_values w names body)) otherwise t p h.1.1 (omega (arith, f)) (omega (arith, g)) in
+      let l = a.less in let k = b.less in let j = c.less in
+      let x = statement_locals w names body in let y = statement_locals w names otherwise in
+      record {
+        operations = a.operations + (1 + (b.operations + c.operations));
+        costs = more_costs t p (0 + (x + y)) _ t p (x + y) _ _ (omega arith) (omega arith) (omega arith) (omega arith)
+            (both_cost t p 0 a.operations (x + y) (1 + (b.operations + c.operations)) _ _ a.costs
+            (if_costs t p r.all x y b.operations c.operations _ _ (omega (arith, f)) b.costs c.costs));
+        less = omega (arith, l, k, j);
+      }
+  statement_bounded w result names r own (Statement.While at condition body) t p h f g =
+      let a = expression_costs w names condition t p r.all own h.0 (omega (arith, f)) (omega (arith, g)) in
+      let b = statement_bounded w result names (in_loop r) (own + length (expression_values w names condition)) body t p h.1 (omega (arith, f))
+      (omega (arith, g)) in
+      let l = a.less in let k = b.less in
+      record {
+        operations = 1 + (a.operations + b.operations);
+        costs = more_costs t p (0 + statement_locals w names body) (1 + (a.operations + b.operations)) t p (statement_locals w names body) _ _
+            (omega arith) (omega arith) (omega arith) (omega arith)
+            (while_costs t p r.all 0 (statement_locals w names body) a.operations b.operations _ _ (omega (arith, f)) a.costs b.costs);
+        less = omega (arith, l, k);
+      }
+  statement_bounded w result names r own (Statement.Switch at place clauses) t p h f g =
+      let first = own + length (expression_values w names place) in
+      let parts = union_parts w (static_shape w names place) in
+      let l = clause_locals w names parts clauses in
+      let n = one_node place in
+      let a = place_costs w names place t p r.all own h.0 (omega (arith, f)) (omega (arith, g)) in
+      let last = first + length (case_values w names parts clauses) in
+      let b = clauses_bounded w result names (in_switch r) parts first last clauses t p h.1.1 (omega (arith, f, n)) (omega (arith, f)) (omega (arith, g)) in
+      let j = a.less in let k = b.less in let e = b.locals in
+      let o = a.operations + (1 + (b.case_operations + b.default_operations)) in
+      record {
+        operations = o;
+        costs = leave_costs t p l o _ (more_costs t p (0 + (0 + (b.case_locals + b.default_locals))) o t p l o _ (omega arith) (omega arith) (omega (arith, e))
+            (omega arith)
+            (both_cost t p 0 a.operations (0 + (b.case_locals + b.default_locals)) (1 + (b.case_operations + b.default_operations)) _ _ a.costs
+            (both_cost t p 0 1 (b.case_locals + b.default_locals) (b.case_operations + b.default_operations) (tag_load (r.all + 1) r.all) _
+            (tag_load_costs t p (r.all + 1) r.all (omega (arith, f, n)) (omega (arith, f, n)))
+            (both_cost t p b.case_locals b.case_operations b.default_locals b.default_operations _ _ b.cases b.otherwise))));
+        less = omega (arith, j, k);
+      }
+  statement_bounded w result names r own (Statement.Break at) t p h f g =
+      leaves t p r.all r.broken 1 core.Break (omega (arith, f)) (omega arith)
+      (one_costs t p 0 1 core.Break (omega arith) (omega arith) (omega arith) (omega arith))
+  statement_bounded w result names r own (Statement.Continue at) t p h f g =
+      leaves t p r.all r.continued 1 core.Continue (omega (arith, f)) (omega arith)
+      (one_costs t p 0 1 core.Continue (omega arith) (omega arith) (omega arith) (omega arith))
+  statement_bounded w result names r own (Statement.Return at None) t p h f g =
+      leaves t p r.all r.all 1 (Return []) (omega (arith, f)) (omega arith)
+      (one_costs t p 0 1 (Return []) (omega arith) (omega arith) (omega arith) (omega arith))
+  statement_bounded w result names r own (Statement.Return at (Some e)) t p h f g =
+      let n = one_node e in
+      let a = expression_costs w names e t p r.all own h (omega (arith, f)) (omega (arith, g)) in
+      let few = results_few result in let last = results_last result r.all in let many = results_many result r.all in
+      let b = leaves t p r.all r.all 4 (Return (results_in result r.all)) (omega (arith, f)) (omega arith)
+      (one_costs t p 0 4 (Return (results_in result r.all)) (omega (arith, last, few, f, n)) (omega arith) (omega arith) (omega (arith, many))) in
+      let l = a.less in let k = b.less in
+      record {
+        operations = a.operations + (4 + b.operations);
+        costs = both_cost t p 0 a.operations 0 (4 + b.operations) _ _ a.costs
+            (both_cost t p 0 4 0 b.operations _ _ (conversion_costs w t p r.all result (static_shape w names e) (omega (arith, f, n))) b.costs);
+        less = omega (arith, l, k);
+      }
+  statement_bounded w result names r own _ t p h f g = absurd h
+
+  pub items_bounded : (w : World) (result : Shape) (names : List Named) (r : RegionsAround) (index own : ℕ) (items : BlockItems) (t p : ℕ)
+      → TakesItems w result names index items
+      → max (taken_by names) (r.all + (item_locals w names index items + 4 * item_count w items) + 1) ≤ t → 3 * item_count w items ≤ p
+      → ItemsBounded w t p (item_locals w names index items) (item_size items + items_left r items) items (items_code w result names r index own items)
+  items_bounded w result names r index own NoItems t p h f g = record {
+    inner = 0;
+    bounded = record { operations = 0; costs = no_costs t p; less = omega arith };
+    locals = omega arith;
+  }
+  items_bounded w result names r index own (Declare d others) t p h f g =
+      let paid = regions_paid w d r.all in
+      let a = declaration_bounded w names d r.all index own t p h.0 (omega (arith, f)) (omega (arith, g)) in
+      let b = items_bounded w result (named_here (tree.local_of d).text (local_shape d) index ∷ names) (regions_with d r) (suc index)
+      (own + length (declaration_values w names d)) others t p h.1 (omega (arith, f, paid)) (omega (arith, g)) in
+      let l = a.less in let k = b.bounded.less in let m = b.locals in
+      record {
+        inner = b.inner;
+        bounded = record {
+          operations = a.operations + (b.bounded.operations + 1);
+          costs = more_costs t p (0 + (b.inner + 0)) _ t p b.inner _ _ (omega arith) (omega arith) (omega arith) (omega arith)
+              (both_cost t p 0 a.operations (b.inner + 0) (b.bounded.operations + 1) _ _ a.costs
+              (both_cost t p b.inner b.bounded.operations 0 1 _ _ b.bounded.costs (ending_costs d r.all t p (omega (arith, f)))));
+          less = omega (arith, l, k);
+        };
+        locals = omega (arith, m);
+      }
+  items_bounded w result names r index own (Execute s others) t p h f g =
+      let a = statement_bounded w result names r own s t p h.0 (omega (arith, f)) (omega (arith, g)) in
+      let b = items_bounded w result names r index (own + length (statement_values w names s)) others t p h.1 (omega (arith, f)) (omega (arith, g)) in
+      let l = a.less in let k = b.bounded.less in let m = b.locals in
+      record {
+        inner = statement_locals w names s + b.inner;
+        bounded = record {
+          operations = a.operations + b.bounded.operations;
+          costs = both_cost t p (statement_locals w names s) a.operations b.inner b.bounded.operations _ _ a.costs b.bounded.costs;
+          less = omega (arith, l, k);
+        };
+        locals = omega (arith, m);
+      }
+
+  -- the pointer to the union and its tag are in the first free temporaries, with two behind them
+  clauses_bounded : (w : World) (result : Shape) (names : List Named) (r : RegionsAround) (parts : List Part) (own last : ℕ) (clauses : Clauses) (t p : ℕ)
+      → TakesClauses w result names parts clauses → r.all + 4 ≤ t
+      → max (taken_by names) (r.all + (clause_locals w names parts clauses + 4 * clause_count w clauses) + 1) ≤ t → 3 * clause_count w clauses ≤ p
+      → ClausesBounded t p (clause_locals w names parts clauses) (clauses_size clauses + clauses_left r clauses)
+      (cases_code w result names r parts own clauses) (default_code w result names r last clauses)
+  clauses_bounded w result names r parts own last NoClauses t p h e f g = record {
+    case_locals = 0;
+    default_locals = 0;
+    case_operations = 0;
+    default_operations = 0;
+    cases = no_costs t p;
+    otherwise = no_costs t p;
+    locals = omega arith;
+    less = omega arith;
+  }
+  clauses_bounded w result names r parts own last (MoreClauses at (Case f x) body others) t p h e less g =
+      let s = part_shape parts f.text in
+      let inner = named_here x.text s 0 ∷ outward names in
+      let same = taken_outward names in
+      let a = items_bounded w result inner r 1 own body t p h.1.0 (omega (arith, less, same)) (omega (arith, g)) in
+      let b = clauses_bounded w result names r parts (own + length (item_values w inner 1 body)) last others t p h.1.1 e (omega (arith, less))
+      (omega (arith, g)) in
+      let one = case_bounded w s (member_number parts f.text) t p (item_locals w inner 1 body) (item_size body + items_left r body) r.all body
+      (items_code w result inner r 1 own body) e a in
+      let j = one.less in let k = b.less in let l = b.locals in
+      record {
+        case_locals = shape_words w s + item_locals w inner 1 body + b.case_locals;
+        default_locals = b.default_locals;
+        case_operations = one.operations + b.case_operations;
+        default_operations = b.default_operations;
+        cases = both_cost t p (shape_words w s + item_locals w inner 1 body) one.operations b.case_locals b.case_operations
+            (case_code w s (member_number parts f.text) r.all body (items_code w result inner r 1 own body)) _ one.costs b.cases;
+        otherwise = b.otherwise;
+        locals = omega (arith, l);
+        less = omega (arith, j, k);
+      }
+  clauses_bounded w result names r parts own last (MoreClauses at Default body others) t p h e f g =
+      let same = taken_outward names in
+      let a = items_bounded w result (outward names) r 0 last body t p h.0 (omega (arith, f, same)) (omega (arith, g)) in
+      let b = clauses_bounded w result names r parts own last others t p h.1 e (omega (arith, f)) (omega (arith, g)) in
+      let m = a.locals in let j = a.bounded.less in let k = b.less in let l = b.locals in
+      record {
+        case_locals = b.case_locals;
+        default_locals = item_locals w (outward names) 0 body;
+        case_operations = b.case_operations;
+        default_operations = 1 + a.bounded.operations;
+        cases = b.cases;
+        otherwise = block_costs t p (item_locals w (outward names) 0 body) a.inner a.bounded.operations w (block_shapes body) _ m a.bounded.costs;
+        locals = omega (arith, l);
+        less = omega (arith, j, k);
+      }

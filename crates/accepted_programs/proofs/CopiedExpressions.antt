@@ -1,5 +1,5 @@
 -- An expression is a copied value, and no place in the block of a unique pointer, where no form is taken but those of copied values.
-use Rattle.std.proofs.Common.{◌≡◌, ℕ, Bool, true, false, refl}
+use Rattle.std.proofs.Common.{◌≡◌, ℕ, Bool, true, false, [], ◌∷◌, refl}
 use Rattle.std.specs.Prelude.{◌&&◌}
 use Rattle.cyc_tree.specs.Places.{expression_place}
 use Rattle.cyc_tree.specs.Tree.{
@@ -20,21 +20,22 @@ use Rattle.cyc_tree.specs.Tree.{
 }
 use Rattle.source_meaning.specs.Calls.{number_type}
 use Rattle.source_meaning.specs.Expressions.{is_unique_region}
-use Rattle.source_typing.specs.Calls.{called, target}
+use Rattle.source_typing.specs.Calls.{arguments_fit, called, target, union_made, union_tag}
 use Rattle.source_typing.specs.Expressions.{judge, judge_all, judge_links, judge_suffixes, judge_tests}
 use Rattle.source_typing.specs.Making.{Goal, To, goal_of, inside, with_counter}
 use Rattle.source_typing.specs.Operators.{applied, counted, is_fat, prefixed, tested_both}
 use Rattle.source_typing.specs.Places.{arrow, assigned, grouped, indexed, member}
 use Rattle.source_typing.specs.Regions.{TheHeap}
-use Rattle.source_typing.specs.Scope.{Env, Value, is_place, meant}
+use Rattle.source_typing.specs.Scope.{Env, Value, is_place, meant, value}
+use Rattle.source_typing.specs.Tables.{Part, Tag}
 use Rattle.source_typing.specs.Taken.{Taken, all_taken, are_suffixed, if_taken, links_taken, suffixes_taken, taken}
 use Rattle.source_typing.specs.Taken.{takes_handle, takes_prefix, takes_suffixes}
-use Rattle.source_typing.specs.Types.{Int, Unsigned, is_testable}
+use Rattle.source_typing.specs.Types.{Int, Union, Unsigned, is_testable}
 use Rattle.source_typing.specs.Verdicts.{Of, Verdict, after, both}
 use Rattle.accepted_programs.specs.Laws.{copied_forms}
 use Rattle.accepted_programs.proofs.CopiedMakings.{array_copied, handle_shared, making_copied}
 use Rattle.accepted_programs.proofs.CopiedNames.{HasCopiedAlone, counter_kept, meant_found}
-use Rattle.accepted_programs.proofs.CopiedTypes.{judged_both}
+use Rattle.accepted_programs.proofs.CopiedTypes.{judged_both, judged_rule, judged_rules}
 use Rattle.accepted_programs.proofs.CopiedValues.{
   GivesCopied,
   GivesCopy,
@@ -84,6 +85,11 @@ suffixes_copied k (Dot f es) g v h c =
 suffixes_copied k (Arrow f es) g v h c =
     suffixes_copied k es g (after v (arrow g f)) h (arrow_gives g f v h c)
 
+-- what makes a union
+union_copied : (g : Env) (at : ℕ) (m : Tag × Part) (v : Value) → GivesCopied (union_made g at m v)
+union_copied g at (t, p) v =
+    judged_rule (λ w. IsCopiedValue w) (arguments_fit g at t.regions (p.type ∷ []) (v ∷ [])) (λ rs. value at (Union t.text rs)) (λ rs. (tt, tt))
+
 pub judge_copied : (k : Taken) (e : Expression) (g : Env) → HasCopiedAlone g → GivesCopied (judge g (taken (copied_forms k) e))
 judge_copied k (Expression.Number at n suffix) g h = (number_copied (number_type n suffix), tt)
 judge_copied k (Expression.Character at byte) g h = (tt, tt)
@@ -95,7 +101,10 @@ judge_copied k (Expression.Variable x) g h = variable_copied x.at (meant g x.tex
 judge_copied k (Expression.Call x es) g h =
     judged_both (λ u. GivesCopy u) (λ w. IsCopiedValue w) (target x.at (meant g x.text)) (judge_all g (all_taken (copied_forms k) es)) (called g x.at)
     (target_copied x.at (meant g x.text) (meant_found g x.text h)) (λ u vs c. called_copied g x.at u vs c)
-judge_copied k (Expression.MakeUnion tag f e) g h = tt
+judge_copied k (Expression.MakeUnion tag f e) g h =
+    let y : Expression = taken (copied_forms k) e in
+    if_copied k.unions g tag.at (Expression.MakeUnion tag f y)
+    (judged_rules (λ w. IsCopiedValue w) (union_tag tag f (meant g tag.text)) (judge g y) (union_made g tag.at) (λ m v. union_copied g tag.at m v))
 judge_copied k (Expression.NumElts at e) g h =
     if_copied k.arrays g at (Expression.NumElts at (taken (copied_forms k) e))
     (gives_after (judge g (taken (copied_forms k) e)) (counted at) (judge_copied k e g h) (λ a c. gives_fitting (is_fat a.type) at at Unsigned tt))

@@ -232,7 +232,7 @@ tag_parts_known k g i union false s = (tt, tt)
 
 tag_known : (k : Taken) (g : Tables) (i : ℕ) (x : Item) → IsNoOtherValue (judged_tag g i (item_taken (copied_forms k) x)).entry.entry
 tag_known k g i (tree.StructItem s) = tag_parts_known k g i false (takes_structure (copied_forms k) k.structs s) s
-tag_known k g i (tree.UnionItem u) = tag_parts_known k g i true (takes_structure (copied_forms k) false u) u
+tag_known k g i (tree.UnionItem u) = tag_parts_known k g i true (takes_structure (copied_forms k) k.unions u) u
 tag_known k g i (tree.GlobalItem x) = tt
 tag_known k g i (tree.FunctionItem f) = tt
 

@@ -1,13 +1,14 @@
 -- What names are where no form is taken but those of copied values: variables and arrays of copied types, the index of an array that is made, variables of no
 -- known type, functions that give such a type, and structs and unions of parts of such types. Then all such types are copied.
-use Rattle.std.proofs.Common.{◌≡◌, ℕ, zero, suc, Bool, true, false, Option, Some, None, List, [], ◌∷◌, refl, ap₂}
+use Rattle.std.proofs.Common.{◌≡◌, ℕ, zero, suc, Bool, true, false, Option, Some, None, List, [], ◌∷◌, refl, subst, ap₂}
 use Rattle.std.specs.Prelude.{bytes_eq, if◌then◌else◌, length, ◌&&◌}
 use Rattle.cyc_tree.specs.Tree as tree
 use Rattle.source_typing.specs.Declarations.{what_after, what_of}
 use Rattle.source_typing.specs.Faults.{Fault}
 use Rattle.source_typing.specs.Making.{with_counter}
 use Rattle.source_typing.specs.Regions.{Region}
-use Rattle.source_typing.specs.Scope.{Env, Local, find_local, is_second, meant, with_local, with_locals}
+use Rattle.source_typing.specs.Scope.{Env, Local, block_entered, find_local, is_second, meant, next_region, with_local, with_locals}
+use Rattle.source_typing.specs.Statements.{Chosen, bound_what, clause_scope, part_what, parts_of_chosen}
 use Rattle.source_typing.specs.Tables.{
   Arrayed,
   Counter,
@@ -22,18 +23,20 @@ use Rattle.source_typing.specs.Tables.{
   Tables,
   Unknown,
   What,
+  argument,
   as_tag,
   copies,
   each_part,
   find,
   if_known,
   is_copyable,
+  part_in,
   parts_in,
   parts_of_tag,
 }
 use Rattle.source_typing.specs.Types.{Char, Fat, Handle, Int, Key, Null, StaticType, Struct, Thin, Union, Unique, Unsigned, Void}
 use Rattle.source_typing.specs.Verdicts.{Faulty, Of, Unjudged, Verdict}
-use Rattle.accepted_programs.proofs.CopiedTypes.{IsCopied, IsCopiedIfKnown, IsCopiedIfSome}
+use Rattle.accepted_programs.proofs.CopiedTypes.{IsCopied, IsCopiedIfKnown, IsCopiedIfSome, copied_renamed}
 
 -- ---- names
 
@@ -130,7 +133,7 @@ copied_to n g k (Handle r) h = refl
 copied_to n g k (Key r) h = absurd h
 copied_to zero g k (Struct tag rs) h = refl
 copied_to (suc n) g k (Struct tag rs) h = parts_copyable (copies n g) (λ t c. copied_to n g k t c) (parts_in g tag) (parts_found g tag k)
-copied_to n g k (Union tag rs) h = absurd h
+copied_to n g k (Union tag rs) h = refl
 
 pub copied_is_copyable : (g : Tables) → AreNoOtherValues g → (t : StaticType) → IsCopied t → is_copyable g t ≡ true
 copied_is_copyable g k t h = copied_to (length g) g k t h
@@ -169,3 +172,32 @@ local_kept x w g k h = by (is_second g.locals g.block x.text)
 -- within the element of an array that is made
 pub counter_kept : (x : tree.Name) (g : Env) → HasCopiedAlone g → HasCopiedAlone (with_counter x g)
 counter_kept x g h = ((tt, h.0), h.1)
+
+-- ---- the name of a clause
+
+part_found : (ps : List Part) (x : List ℕ) (p : Part) → AreCopiedParts ps → part_in ps x ≡ Some p → IsCopiedIfSome p.type
+part_found [] x p h e = absurd cc
+part_found (q ∷ ps) x p h e = by (bytes_eq q.name x) (λ r. part_found ps x p h.1 r) e
+  where
+    by : (b : Bool) → (part_in ps x ≡ Some p → IsCopiedIfSome p.type) → (if b then Some q else part_in ps x) ≡ Some p → IsCopiedIfSome p.type
+    by true others r = let same : q ≡ p = cc in subst (λ (z : Part). IsCopiedIfSome z.type) same h.0
+    by false others r = others r
+
+bound_known : (r : Region) (c : Option Chosen) (o : Option Part) → ((p : Part) → o ≡ Some p → IsCopiedIfSome p.type) → IsCopiedOrUnknown (bound_what r c o)
+bound_known r None o h = tt
+bound_known r (Some c) None h = tt
+bound_known r (Some c) (Some p) h = by p.type (h p refl)
+  where
+    by : (t : Option StaticType) → IsCopiedIfSome t → IsCopiedOrUnknown (part_what r c.regions t)
+    by None k = tt
+    by (Some t) k = copied_renamed (argument c.regions) t k
+
+chosen_parts : (g : Env) (c : Option Chosen) → AreNoOtherValues g.tables → AreCopiedParts (parts_of_chosen g c)
+chosen_parts g None h = tt
+chosen_parts g (Some c) h = parts_found g.tables c.tag h
+
+pub clause_kept : (g : Env) (c : Option Chosen) (p : tree.Pattern) → HasCopiedAlone g → HasCopiedAlone (clause_scope g c p)
+clause_kept g c tree.Default h = h
+clause_kept g c (tree.Case f x) h =
+    local_kept x (bound_what (next_region g) c (part_in (parts_of_chosen g c) f.text)) (block_entered g)
+    (bound_known (next_region g) c (part_in (parts_of_chosen g c) f.text) (λ p e. part_found (parts_of_chosen g c) f.text p (chosen_parts g c h.1) e)) h

@@ -113,7 +113,7 @@ kept_copied false t h = tt
 
 stored_copied : (g : Env) (t : StaticType) → IsCopied t → IsCopied (assigned_type g t)
 stored_copied g (Struct tag rs) h = tt
-stored_copied g (Union tag rs) h = absurd h
+stored_copied g (Union tag rs) h = tt
 stored_copied g t h = kept_copied (is_copyable g.tables t) t h
 
 pub assigned_copied : (b : Bool) (g : Env) (to from : Value) → IsCopiedValue to → GivesCopied (assigned_in b g to from)

@@ -39,6 +39,7 @@ IsCopied (Thin n r t) = IsCopied t
 IsCopied (Fat r t) = IsCopied t
 IsCopied (Handle r) = Unit {0}
 IsCopied (Struct tag rs) = Unit {0}
+IsCopied (Union tag rs) = Unit {0}
 IsCopied _ = ⊥
 
 -- where it is known
@@ -74,6 +75,24 @@ judged_both P Q (Of a) (Faulty g gs) rule h k = tt
 judged_both P Q (Of a) Unjudged rule h k = tt
 judged_both P Q (Of a) (Of b) rule h k = k a b h
 
+-- whatever its parts are
+pub judged_rule : {A B : Type 0} (Q : B → Type 0) (v : Verdict A) (rule : A → Verdict B) → ((a : A) → WhereJudged Q (rule a)) → WhereJudged Q (after v rule)
+judged_rule Q (Of a) rule k = k a
+judged_rule Q (Faulty f fs) rule k = tt
+judged_rule Q Unjudged rule k = tt
+
+pub judged_rules : {A B C : Type 0} (Q : C → Type 0) (v : Verdict A) (w : Verdict B) (rule : A → B → Verdict C)
+    → ((a : A) (b : B) → WhereJudged Q (rule a b)) → WhereJudged Q (both v w rule)
+judged_rules Q (Faulty f fs) (Faulty g gs) rule k = tt
+judged_rules Q (Faulty f fs) Unjudged rule k = tt
+judged_rules Q (Faulty f fs) (Of b) rule k = tt
+judged_rules Q Unjudged (Faulty g gs) rule k = tt
+judged_rules Q Unjudged Unjudged rule k = tt
+judged_rules Q Unjudged (Of b) rule k = tt
+judged_rules Q (Of a) (Faulty g gs) rule k = tt
+judged_rules Q (Of a) Unjudged rule k = tt
+judged_rules Q (Of a) (Of b) rule k = k a b
+
 pub judged_unless : {A : Type 0} (P : A → Type 0) (fs : List Fault) (v : Verdict A) → WhereJudged P v → WhereJudged P (unless_faulty fs v)
 judged_unless P [] v h = h
 judged_unless P (f ∷ fs) v h = tt
@@ -107,7 +126,7 @@ copied_renamed f (Unique n t) h = absurd h
 copied_renamed f (Handle r) h = tt
 copied_renamed f (Key r) h = absurd h
 copied_renamed f (Struct tag rs) h = tt
-copied_renamed f (Union tag rs) h = absurd h
+copied_renamed f (Union tag rs) h = tt
 
 -- ---- missing regions
 
@@ -133,7 +152,7 @@ outer_shared (Some (Unique n t)) h = absurd h
 outer_shared (Some (Handle r)) h = tt
 outer_shared (Some (Key r)) h = absurd h
 outer_shared (Some (Struct tag rs)) h = tt
-outer_shared (Some (Union tag rs)) h = absurd h
+outer_shared (Some (Union tag rs)) h = tt
 
 pointee_copied : (s : Option StaticType) → IsCopiedIfSome s → IsCopiedIfSome (pointee_of s)
 pointee_copied None h = tt
@@ -148,7 +167,7 @@ pointee_copied (Some (Unique n t)) h = absurd h
 pointee_copied (Some (Handle r)) h = tt
 pointee_copied (Some (Key r)) h = absurd h
 pointee_copied (Some (Struct tag rs)) h = tt
-pointee_copied (Some (Union tag rs)) h = absurd h
+pointee_copied (Some (Union tag rs)) h = tt
 
 found_shared : (r : Option Region) (f : Found) → IsNotUnique f → IsNotUnique (or_found r f)
 found_shared (Some r) f h = tt
@@ -182,7 +201,7 @@ filled_copied (Unique n t) s h k = absurd h
 filled_copied (Handle r) s h k = tt
 filled_copied (Key r) s h k = absurd h
 filled_copied (Struct tag rs) s h k = tt
-filled_copied (Union tag rs) s h k = absurd h
+filled_copied (Union tag rs) s h k = tt
 
 pub settled_copied : (at : ℕ) (p : PartialType) (s : Option StaticType) → IsCopied p → IsCopiedIfSome s → IsCopiedIfKnown (settled at p s)
 settled_copied at p s h k = by (filled_from p s) (filled_copied p s h k)

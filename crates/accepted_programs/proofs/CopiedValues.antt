@@ -176,7 +176,7 @@ promoted_copied (Unique n t) h = absurd h
 promoted_copied (Handle r) h = h
 promoted_copied (Key r) h = absurd h
 promoted_copied (Struct tag rs) h = tt
-promoted_copied (Union tag rs) h = absurd h
+promoted_copied (Union tag rs) h = tt
 
 common_copied : (t u : StaticType) → IsCopied (common t u)
 common_copied Unsigned u = tt

@@ -11,7 +11,7 @@ use Rattle.source_typing.specs.Functions.{AllSpotted, Variables, take_named, tak
 use Rattle.source_typing.specs.Regions.{Region}
 use Rattle.source_typing.specs.Tables.{Tables, find, tag_in}
 use Rattle.source_typing.specs.Taken.{Taken, takes_base, takes_pointers, takes_region, takes_sign, takes_type}
-use Rattle.source_typing.specs.Types.{Char, Handle, Int, Key, PartialType, Struct, Unsigned, Void}
+use Rattle.source_typing.specs.Types.{Char, Handle, Int, Key, PartialType, Struct, Union, Unsigned, Void}
 use Rattle.source_typing.specs.Verdicts.{Faulty, Of, Unjudged, Verdict, refuse, unless_faulty}
 use Rattle.source_typing.specs.Written.{Found, IsUnique, RegionNamed, Spot, all_found, as_region, built, count_fits, counted_type, find_region}
 use Rattle.source_typing.specs.Written.{found_by, found_named, pointer_to, pointers_to, regions_of_tag, spot, spots_of, tag_of, type_built, with_arguments}
@@ -103,7 +103,8 @@ type_shared k g t e =
     by (tree.Handle r) e h = argument_shared r (map (λ (p : tree.Pointer). spot true p.region) t.pointers) h
     by (tree.Struct tag []) e h = missing_shared (regions_of_tag (tag_in g tag.text)) (map (λ (p : tree.Pointer). spot true p.region) t.pointers) h
     by (tree.Struct tag (r ∷ rs)) e h = arguments_shared (r ∷ rs) (map (λ (p : tree.Pointer). spot true p.region) t.pointers) h
-    by (tree.Union tag rs) e h = absurd cc
+    by (tree.Union tag []) e h = missing_shared (regions_of_tag (tag_in g tag.text)) (map (λ (p : tree.Pointer). spot true p.region) t.pointers) h
+    by (tree.Union tag (r ∷ rs)) e h = arguments_shared (r ∷ rs) (map (λ (p : tree.Pointer). spot true p.region) t.pointers) h
     by (tree.Key r) e h = absurd cc
 
 pointer_copied : (s : Sign) (f : Found) (t : PartialType) → IsNotUnique f → IsCopied t → IsCopiedIfSome (pointer_to s f t)
@@ -121,12 +122,12 @@ pointers_copied (p ∷ ps) [] t h c = c
 pointers_copied (p ∷ ps) (f ∷ fs) None h c = tt
 pointers_copied (p ∷ ps) (f ∷ fs) (Some t) h c = pointers_copied ps fs (pointer_to p.sign f t) h.1 (pointer_copied p.sign f t h.0 c)
 
--- a struct, whose first regions are its arguments
-struct_copied : (tag : List ℕ) (n : ℕ) (args : List Found) (ps : List tree.Pointer) (fs : List Found) → AreNotUnique fs
-    → IsCopiedIfSome (with_arguments n (Struct tag) args ps fs)
-struct_copied tag zero args ps fs h = pointers_copied ps fs (Some (Struct tag (map as_region args))) h tt
-struct_copied tag (suc n) args ps [] h = tt
-struct_copied tag (suc n) args ps (f ∷ fs) h = struct_copied tag n (args ++ f ∷ []) ps fs h.1
+-- a struct or a union, whose first regions are its arguments
+tag_copied : (make : List (Option Region) → PartialType) (n : ℕ) (args : List Found) (ps : List tree.Pointer) (fs : List Found) → AreNotUnique fs
+    → ((rs : List (Option Region)) → IsCopied (make rs)) → IsCopiedIfSome (with_arguments n make args ps fs)
+tag_copied make zero args ps fs h k = pointers_copied ps fs (Some (make (map as_region args))) h (k (map as_region args))
+tag_copied make (suc n) args ps [] h k = tt
+tag_copied make (suc n) args ps (f ∷ fs) h k = tag_copied make n (args ++ f ∷ []) ps fs h.1 k
 
 written_copied : (k : Taken) (g : Tables) (t : TypeName) (fs : List Found) (bad : List Fault) → takes_type (copied_forms k) t ≡ true → AreNotUnique fs
     → WhereJudged (λ (p : PartialType). IsCopied p) (written_with g t (fs, bad))
@@ -149,14 +150,26 @@ written_copied k g t fs bad e h =
         u = record { at = t.at; base = tree.Struct tag rs; pointers = t.pointers }
 
         counted : (n : ℕ) (b : Bool) → WhereJudged (λ (p : PartialType). IsCopied p) (unless_faulty bad (counted_type u fs n b))
-        counted n true = found (with_arguments n (Struct tag.text) [] t.pointers fs) (struct_copied tag.text n [] t.pointers fs h)
+        counted n true = found (with_arguments n (Struct tag.text) [] t.pointers fs) (tag_copied (Struct tag.text) n [] t.pointers fs h (λ qs. tt))
         counted n false = judged_unless (λ (p : PartialType). IsCopied p) bad (refuse region_rule t.at) tt
 
         on_tag : (v : Verdict ℕ) → WhereJudged (λ (p : PartialType). IsCopied p) (written_on u fs bad v)
         on_tag (Faulty f others) = tt
         on_tag Unjudged = judged_unless (λ (p : PartialType). IsCopied p) bad Unjudged tt
         on_tag (Of n) = counted n (count_fits (tree.Struct tag rs) n)
-    by (tree.Union tag rs) e = absurd cc
+    by (tree.Union tag rs) e = on_tag (tag_of (find g tag.text) true tag.at)
+      where
+        u : TypeName
+        u = record { at = t.at; base = tree.Union tag rs; pointers = t.pointers }
+
+        counted : (n : ℕ) (b : Bool) → WhereJudged (λ (p : PartialType). IsCopied p) (unless_faulty bad (counted_type u fs n b))
+        counted n true = found (with_arguments n (Union tag.text) [] t.pointers fs) (tag_copied (Union tag.text) n [] t.pointers fs h (λ qs. tt))
+        counted n false = judged_unless (λ (p : PartialType). IsCopied p) bad (refuse region_rule t.at) tt
+
+        on_tag : (v : Verdict ℕ) → WhereJudged (λ (p : PartialType). IsCopied p) (written_on u fs bad v)
+        on_tag (Faulty f others) = tt
+        on_tag Unjudged = judged_unless (λ (p : PartialType). IsCopied p) bad Unjudged tt
+        on_tag (Of n) = counted n (count_fits (tree.Union tag rs) n)
     by (tree.Handle r) e = found (built (tree.Handle r) 0 t.pointers fs) (on_handle fs h)
       where
         on_handle : (fs : List Found) → AreNotUnique fs → IsCopiedIfSome (built (tree.Handle r) 0 t.pointers fs)

@@ -131,7 +131,8 @@ mutual
   use_idle k (Expression.UniqueRegion at) g h = refl
   use_idle k (Expression.Variable x) g h = name_idle g x h
   use_idle k (Expression.Call x es) g h = ap (λ act. value_use act) (λ i s. arguments_idle k es g h s i)
-  use_idle k (Expression.MakeUnion tag f e) g h = refl
+  use_idle k (Expression.MakeUnion tag f e) g h =
+      if_idle k.unions g tag.at (Expression.MakeUnion tag f (taken (copied_forms k) e)) (ap (λ u. value_use u.value) (use_idle k e g h))
   use_idle k (Expression.NumElts at e) g h =
       if_idle k.arrays g at (Expression.NumElts at (taken (copied_forms k) e)) (ap (λ u. value_use u.look) (use_idle k e g h))
   use_idle k (Expression.Grouped at e) g h = use_idle k e g h

@@ -1,22 +1,25 @@
 -- A statement leaves the states of all locals as they are, where no form is taken but those of copied values.
-use Rattle.std.proofs.Common.{◌≡◌, Bool, true, false, Option, Some, None, refl, ap}
+use Rattle.std.proofs.Common.{◌≡◌, ℕ, Bool, true, false, Option, Some, None, refl, ap}
 use Rattle.std.specs.Prelude.{◌&&◌, []}
 use Rattle.cyc_tree.specs.Tree as tree
-use Rattle.cyc_tree.specs.Tree.{BlockItems, Declare, Execute, Expression, Initializer, NoItems, Statement}
+use Rattle.cyc_tree.specs.Tree.{BlockItems, Clauses, Declare, Execute, Expression, Initializer, MoreClauses, NoClauses, NoItems, Statement}
 use Rattle.source_typing.specs.Declarations.{declare}
 use Rattle.source_typing.specs.Flow.{use_of}
-use Rattle.source_typing.specs.Left.{declares, either, entering, left, left_by, left_by_items, result_value, Left}
+use Rattle.source_typing.specs.Left.{declares, either, entering, left, left_by, left_by_clauses, left_by_items, result_value, switched_left, Left}
+use Rattle.source_typing.specs.Expressions.{judge}
 use Rattle.source_typing.specs.Moves.{nothing}
 use Rattle.source_typing.specs.Scope.{Env, block_entered}
-use Rattle.source_typing.specs.Statements.{in_a_loop}
+use Rattle.source_typing.specs.Statements.{Chosen, chosen, clause_scope, in_a_loop, in_a_switch}
 use Rattle.source_typing.specs.States.{Passed, States}
 use Rattle.source_typing.specs.Taken.{
   Taken,
+  clauses_taken,
   declaration_taken,
   declared_if,
   initializer_taken,
   items_taken,
   result_taken,
+  statement_if,
   statement_taken,
   taken,
   takes_initializer,
@@ -24,7 +27,7 @@ use Rattle.source_typing.specs.Taken.{
 }
 use Rattle.accepted_programs.specs.Laws.{copied_forms}
 use Rattle.accepted_programs.proofs.IdleExpressions.{use_idle}
-use Rattle.accepted_programs.proofs.CopiedNames.{HasCopiedAlone}
+use Rattle.accepted_programs.proofs.CopiedNames.{HasCopiedAlone, clause_kept}
 use Rattle.accepted_programs.proofs.CopiedScopes.{declared_kept}
 use Rattle.accepted_programs.proofs.StillStates.{
   AreStill,
@@ -36,6 +39,7 @@ use Rattle.accepted_programs.proofs.StillStates.{
   fallen_still,
   loop_still,
   sequence_still,
+  switched_still,
 }
 
 -- ---- expressions in statements
@@ -78,6 +82,15 @@ declares_still k (tree.Local t x i) g inside rest h c s = by (takes_type (copied
 
 -- ---- statements
 
+-- a `switch`, taken or not
+switch_still : (k : Taken) (b : Bool) (at : ℕ) (e : Expression) (cs : Clauses) (g : Env) → HasCopiedAlone g
+    → AreStill (λ t. left_by_clauses (in_a_switch g) (chosen (judge g (taken (copied_forms k) e))) (clauses_taken (copied_forms k) cs) t) → (s : States)
+    → IsStill s (left_by g (statement_if b at (Statement.Switch at (taken (copied_forms k) e) (clauses_taken (copied_forms k) cs))) s)
+switch_still k false at e cs g h c s = ended_still s
+switch_still k true at e cs g h c s =
+    let rest : States → Left = λ t. left_by_clauses (in_a_switch g) (chosen (judge g (taken (copied_forms k) e))) (clauses_taken (copied_forms k) cs) t in
+    after_still (use_of g (taken (copied_forms k) e)).look (λ t. switched_left (rest t)) (look_still k e g h) (λ t. switched_still t (rest t) (c t)) s
+
 mutual
   pub statement_still : (k : Taken) (x : Statement) (g : Env) → HasCopiedAlone g → (s : States) → IsStill s (left_by g (statement_taken (copied_forms k) x) s)
   statement_still k (Statement.Empty at) g h s = ended_still s
@@ -96,7 +109,9 @@ mutual
   statement_still k (Statement.While at e body) g h s =
       loop_still (use_of g (taken (copied_forms k) e)).look (λ t. left_by (in_a_loop g) (statement_taken (copied_forms k) body) t) (look_still k e g h)
       (λ t. statement_still k body (in_a_loop g) h t) s
-  statement_still k (Statement.Switch at e cs) g h s = ended_still s
+  statement_still k (Statement.Switch at e cs) g h s =
+      let on : Option Chosen = chosen (judge g (taken (copied_forms k) e)) in
+      switch_still k k.unions at e cs g h (clauses_still k cs (in_a_switch g) on h) s
   statement_still k (Statement.Break at) g h s = record { falls = tt; breaks = refl; continues = tt; faults = refl }
   statement_still k (Statement.Continue at) g h s = record { falls = tt; breaks = tt; continues = refl; faults = refl }
   statement_still k (Statement.Return at v) g h s = record { falls = tt; breaks = tt; continues = tt; faults = result_still k v g h s }
@@ -111,3 +126,12 @@ mutual
   items_still k (Execute x others) g h s =
       sequence_still s (left_by g (statement_taken (copied_forms k) x) s) (λ t. left_by_items g (items_taken (copied_forms k) others) t)
       (statement_still k x g h s) (items_still k others g h)
+
+  clauses_still : (k : Taken) (x : Clauses) (g : Env) (c : Option Chosen) → HasCopiedAlone g → (s : States)
+      → IsStill s (left_by_clauses g c (clauses_taken (copied_forms k) x) s)
+  clauses_still k NoClauses g c h s = record { falls = tt; breaks = tt; continues = tt; faults = refl }
+  clauses_still k (MoreClauses at pattern body others) g c h s =
+      let inside : Env = clause_scope g c pattern in
+      let rest : States → Left = λ t. left_by_items inside (items_taken (copied_forms k) body) t in
+      either_still s (entering g inside rest s) (left_by_clauses g c (clauses_taken (copied_forms k) others) s)
+      (entering_still g inside rest (items_still k body inside (clause_kept g c pattern h)) s) (clauses_still k others g c h s)

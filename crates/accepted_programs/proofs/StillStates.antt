@@ -17,6 +17,7 @@ use Rattle.source_typing.specs.Left.{
   left,
   loop,
   loop_from,
+  switched_left,
   turn_of,
 }
 use Rattle.source_typing.specs.Moves.{Use, elements_passed, nothing, tested_use, value_use}
@@ -90,6 +91,10 @@ sequence_still s a rest h k = by a.falls h.falls
     by : (w : Option States) → IsReachedIn s w → IsStill s (followed w a rest)
     by None e = h
     by (Some t) e = subst (λ u. IsStill s (joined a (rest u) (rest u).falls)) (sym e) (joined_still s a (rest s) (rest s).falls h (k s) (k s).falls)
+
+-- a `break` of a clause leaves the `switch`
+pub switched_still : (s : States) (l : Left) → IsStill s l → IsStill s (switched_left l)
+switched_still s l h = record { falls = h.breaks; breaks = tt; continues = h.continues; faults = h.faults }
 
 -- ---- loops
 

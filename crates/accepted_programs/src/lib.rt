@@ -1,9 +1,9 @@
 //! The programs that are accepted (`Checked`), which forms of the language are taken today (`supported`), and what the rules of flow say
 //! of a program of such forms: nothing.
 //!
-//! Of no program without tagged unions, unique pointers and keys, with other faults or without, does flow find
+//! Of no program without unique pointers and keys, with other faults or without, does flow find
 //! any (`copied_forms_have_no_flow_faults`), since none of its locals has a state: integers, thin and fat pointers,
-//! handles and structs of such are copied. Stands on the rules of `source_typing`.
+//! handles, tagged unions and structs of such are copied. Stands on the rules of `source_typing`.
 #![tactic(auto)]
 
 mod checked;

@@ -244,7 +244,8 @@ entries_aligned h i [] (x ∷ is) n = absurd n
 entries_aligned h i (j ∷ js) [] n = absurd n
 entries_aligned h i (j ∷ js) (tree.StructItem s ∷ is) n =
     (sym (ap (λ (z : Named). z.name) n.0.is), (inl refl, entries_aligned h (suc i) js is n.1))
-entries_aligned h i (j ∷ js) (tree.UnionItem s ∷ is) n = absurd n.0
+entries_aligned h i (j ∷ js) (tree.UnionItem s ∷ is) n =
+    (sym (ap (λ (z : Named). z.name) n.0.is), (inl refl, entries_aligned h (suc i) js is n.1))
 entries_aligned h i (j ∷ js) (tree.GlobalItem x ∷ is) n =
     other_named (global_entry (at_item false h i) x) x.name j.entry (entries_with false h (suc i) js is) (entries js) tt n.0
     (entries_aligned h (suc i) js is n.1)

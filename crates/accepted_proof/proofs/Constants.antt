@@ -18,7 +18,7 @@ use Rattle.source_typing.specs.Regions.{Region, Regions, TheHeap}
 use Rattle.source_typing.specs.Scope.{Env}
 use Rattle.source_typing.specs.Taken.{constant_form, initial_form, takes_initial}
 use Rattle.accepted_programs.specs.Supported.{supported}
-use Rattle.source_typing.specs.Types.{Fat, Handle, Char, Int, Null, StaticType, Struct, Thin, Union, Unsigned, integer_type, is_integer, shape_of}
+use Rattle.source_typing.specs.Types.{Fat, Handle, Char, Int, Null, StaticType, Struct, Thin, Union, Unique, Unsigned, integer_type, is_integer, shape_of}
 use Rattle.source_typing.specs.Verdicts.{Of, faults_of}
 use Rattle.source_typing.proofs.Converting.{conversion_is}
 
@@ -56,6 +56,8 @@ integer_shape _ h = absurd cc
 null_good : (r : Regions) (at place : ℕ) (u : StaticType) → IsObjectType u → broken at (conversion r Null u) ≡ [] → ConstantGood u (Constant.Null place)
 null_good r at place (Thin true q t) w e = record { first = tt; taken = λ b. tt }
 null_good r at place (Thin false q t) w e = absurd cc
+null_good r at place (Unique true t) w e = record { first = tt; taken = λ b. tt }
+null_good r at place (Unique false t) w e = absurd cc
 null_good r at place (Fat q t) w e = record { first = tt; taken = λ b. tt }
 null_good r at place Int w e = absurd cc
 null_good r at place Unsigned w e = absurd cc
@@ -74,7 +76,8 @@ not_broken at (Some rule) e = absurd cc
 -- a string converts to pointers to chars
 text_first : (r : Regions) (t : StaticType) (place : ℕ) (bytes : List ℕ) (u : StaticType) → IsObjectType u → t ≡ Fat TheHeap Char → Converts r t u
     → ConstantGood u (Constant.Text place bytes)
-text_first r t place bytes u w h Same = subst (λ (y : StaticType). ConstantGood y (Constant.Text place bytes)) (sym h) (record { first = refl; taken = λ b. tt })
+text_first r t place bytes u w h Same =
+    subst (λ (y : StaticType). ConstantGood y (Constant.Text place bytes)) (sym h) (record { first = refl; taken = λ b. tt })
 text_first r t place bytes u w h (Fats {b = q} {t = s} o) =
     let c : s ≡ Char = cc in
     subst (λ (y : StaticType). ConstantGood (Fat q y) (Constant.Text place bytes)) (sym c) (record { first = refl; taken = λ b. tt })

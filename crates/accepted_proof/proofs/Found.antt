@@ -25,11 +25,11 @@ use Rattle.source_typing.specs.Verdicts.{Of}
 use Rattle.source_typing.proofs.Inversion.{none_of_both}
 use Rattle.accepted_proof.specs.Good.{AllGood, BodiesJudged}
 use Rattle.accepted_proof.proofs.Globals.{GlobalGood, counted_shape, shape_here}
-use Rattle.accepted_proof.proofs.good.Functions.{FunctionGood, function_good}
+use Rattle.accepted_proof.proofs.good.Functions.{FunctionGood, KindsKnown, function_good}
 use Rattle.accepted_proof.proofs.good.Tables.{AreHeaded}
 use Rattle.accepted_proof.proofs.AlignedTables.{AreAligned, beginning_same, same_tags}
 use Rattle.accepted_proof.proofs.Heads.{head_same}
-use Rattle.accepted_proof.proofs.Named.{StructKnown}
+use Rattle.accepted_proof.proofs.Named.{TagKnown}
 
 -- ---- what is known of each item
 
@@ -40,8 +40,8 @@ pub record FunctionKnown (g h : Tables) (i : ℕ) (f : tree.Function) (n : Named
   pub good : FunctionGood g i f
 
 abbrev pub ItemKnown : Tables → Tables → ℕ → Judged → Item → Type 0
-ItemKnown g h i j (tree.StructItem s) = StructKnown s j.entry
-ItemKnown g h i j (tree.UnionItem s) = ⊥
+ItemKnown g h i j (tree.StructItem s) = TagKnown false s j.entry
+ItemKnown g h i j (tree.UnionItem s) = TagKnown true s j.entry
 ItemKnown g h i j (tree.GlobalItem x) = (j.entry ≡ named x.name OfOther) × GlobalGood h i x
 ItemKnown g h i j (tree.FunctionItem f) = FunctionKnown g h i f j.entry
 
@@ -52,27 +52,28 @@ AllKnown g h i [] (item ∷ items) = ⊥
 AllKnown g h i (j ∷ js) [] = ⊥
 
 module _ (bodies : BodiesJudged) where
-  pub all_known : (g h : Tables) (i : ℕ) (js : List Judged) (is : List Item) → AllGood 0 g → AreAligned g h → AreHeaded h i js is
+  pub all_known : (g h : Tables) (i : ℕ) (js : List Judged) (is : List Item) → AllGood 0 g → KindsKnown g → AreAligned g h → AreHeaded h i js is
       → only_taken supported is ≡ is
       → HasOperands is → items_from false g i is ≡ [] → flow_from g i is ≡ []
       → AllKnown g h i js is
-  all_known g h i [] [] a s k t o p flow = tt
-  all_known g h i [] (x ∷ is) a s k t o p flow = absurd k
-  all_known g h i (j ∷ js) [] a s k t o p flow = absurd k
-  all_known g h i (j ∷ js) (tree.StructItem x ∷ is) a s k t o p flow =
-      let b : only_taken supported is ≡ is = cc in (k.0, all_known g h (suc i) js is a s k.1 b o.1 p flow)
-  all_known g h i (j ∷ js) (tree.UnionItem x ∷ is) a s k t o p flow = absurd k.0
-  all_known g h i (j ∷ js) (tree.GlobalItem x ∷ is) a s k t o p flow =
+  all_known g h i [] [] a n s k t o p flow = tt
+  all_known g h i [] (x ∷ is) a n s k t o p flow = absurd k
+  all_known g h i (j ∷ js) [] a n s k t o p flow = absurd k
+  all_known g h i (j ∷ js) (tree.StructItem x ∷ is) a n s k t o p flow =
+      let b : only_taken supported is ≡ is = cc in (k.0, all_known g h (suc i) js is a n s k.1 b o.1 p flow)
+  all_known g h i (j ∷ js) (tree.UnionItem x ∷ is) a n s k t o p flow =
+      let b : only_taken supported is ≡ is = cc in (k.0, all_known g h (suc i) js is a n s k.1 b o.1 p flow)
+  all_known g h i (j ∷ js) (tree.GlobalItem x ∷ is) a n s k t o p flow =
       let b : only_taken supported is ≡ is = cc in
       let d = none_of_both (global_faults (at_item false g i) x) (items_from false g (suc i) is) p in
-      (k.0, all_known g h (suc i) js is a s k.1 b o.1 d.1 flow)
-  all_known g h i (j ∷ js) (tree.FunctionItem f ∷ is) a s k t o p flow =
+      (k.0, all_known g h (suc i) js is a n s k.1 b o.1 d.1 flow)
+  all_known g h i (j ∷ js) (tree.FunctionItem f ∷ is) a n s k t o p flow =
       let c : function_taken supported f ≡ f = cc in
       let b : only_taken supported is ≡ is = cc in
       let d = none_of_both (function_faults false g i f) (items_from false g (suc i) is) p in
       let l = none_of_both (body_flow (body_scope false g i f (head_of false g f)) f) (flow_from g (suc i) is) flow in (
-        record { is = k.0.0; same = head_same false g h f (same_tags g h s); good = function_good bodies g i f a c o.0 d.0 l.0 },
-        all_known g h (suc i) js is a s k.1 b o.1 d.1 l.1,
+        record { is = k.0.0; same = head_same false g h f (same_tags g h s); good = function_good bodies g i f a n c o.0 d.0 l.0 },
+        all_known g h (suc i) js is a n s k.1 b o.1 d.1 l.1,
       )
 
 -- ---- globals in their order
@@ -82,7 +83,7 @@ globals_judged g h i [] [] s k = tt
 globals_judged g h i [] (x ∷ is) s k = absurd k
 globals_judged g h i (j ∷ js) [] s k = tt
 globals_judged g h i (j ∷ js) (tree.StructItem x ∷ is) s k = globals_judged g h (suc i) js is s k.1
-globals_judged g h i (j ∷ js) (tree.UnionItem x ∷ is) s k = absurd k.0
+globals_judged g h i (j ∷ js) (tree.UnionItem x ∷ is) s k = globals_judged g h (suc i) js is s k.1
 globals_judged g h i (j ∷ js) (tree.GlobalItem x ∷ is) s k = (
   record {
     type = k.0.1.type;
@@ -135,7 +136,18 @@ find_function g h i (j ∷ js) (tree.StructItem y ∷ is) x s k e =
         → FunctionFound g is x s
     by true others p = absurd (none cc)
     by false others p = others p
-find_function g h i (j ∷ js) (tree.UnionItem y ∷ is) x s k e = absurd k.0
+find_function g h i (j ∷ js) (tree.UnionItem y ∷ is) x s k e =
+    let rest : FunctionFound g is x s = by (bytes_eq y.tag.text x) (λ p. find_function g h (suc i) js is x s k.1 p) e in
+    record { number = rest.number; function = rest.function; found = rest.found; named = rest.named; signature = rest.signature; good = rest.good }
+  where
+    none : j.entry.entry ≡ OfFunction s → ⊥
+    none p = let q : OfTag k.0.tag ≡ OfFunction s = sym (ap (λ (n : Named). n.entry) k.0.is) ∙ p in cc
+
+    by : (b : Bool) → (find (entries_with false h (suc i) js is) x ≡ Some (OfFunction s) → FunctionFound g is x s)
+        → (if b then Some j.entry.entry else find (entries_with false h (suc i) js is) x) ≡ Some (OfFunction s)
+        → FunctionFound g is x s
+    by true others p = absurd (none cc)
+    by false others p = others p
 find_function g h i (j ∷ js) (tree.GlobalItem y ∷ is) x s k e =
     let rest : FunctionFound g is x s = by (bytes_eq y.name.text x) (λ p. find_function g h (suc i) js is x s k.1 p) e in
     record { number = rest.number; function = rest.function; found = rest.found; named = rest.named; signature = rest.signature; good = rest.good }
@@ -189,7 +201,17 @@ find_value g h i first (j ∷ js) (tree.StructItem y ∷ is) x w k e =
         → (if b then Some j.entry.entry else find (entries_with false h (suc i) js is) x) ≡ Some (OfValue w) → ValueFound is first x w
     by true others p = absurd (none cc)
     by false others p = others p
-find_value g h i first (j ∷ js) (tree.UnionItem y ∷ is) x w k e = absurd k.0
+find_value g h i first (j ∷ js) (tree.UnionItem y ∷ is) x w k e =
+    let rest : ValueFound is first x w = by (bytes_eq y.tag.text x) (λ p. find_value g h (suc i) first js is x w k.1 p) e in
+    record { number = rest.number; count = rest.count; type = rest.type; means = rest.means; is_bound = rest.is_bound }
+  where
+    none : j.entry.entry ≡ OfValue w → ⊥
+    none p = let q : OfTag k.0.tag ≡ OfValue w = sym (ap (λ (n : Named). n.entry) k.0.is) ∙ p in cc
+
+    by : (b : Bool) → (find (entries_with false h (suc i) js is) x ≡ Some (OfValue w) → ValueFound is first x w)
+        → (if b then Some j.entry.entry else find (entries_with false h (suc i) js is) x) ≡ Some (OfValue w) → ValueFound is first x w
+    by true others p = absurd (none cc)
+    by false others p = others p
 find_value g h i first (j ∷ js) (tree.FunctionItem f ∷ is) x w k e =
     let rest : ValueFound is first x w = by (bytes_eq f.name.text x) (λ p. find_value g h (suc i) first js is x w k.1 p) e in
     record { number = rest.number; count = rest.count; type = rest.type; means = rest.means; is_bound = rest.is_bound }
@@ -244,7 +266,15 @@ no_builtin g h i n (j ∷ js) (tree.StructItem y ∷ is) x k e = by (bytes_eq y.
         → (if b then Some j.entry.entry else find (entries_with false h (suc i) js is) x) ≡ Some (OfBuiltin n) → ⊥
     by true others p = none cc
     by false others p = others p
-no_builtin g h i n (j ∷ js) (tree.UnionItem y ∷ is) x k e = k.0
+no_builtin g h i n (j ∷ js) (tree.UnionItem y ∷ is) x k e = by (bytes_eq y.tag.text x) (λ p. no_builtin g h (suc i) n js is x k.1 p) e
+  where
+    none : j.entry.entry ≡ OfBuiltin n → ⊥
+    none p = let q : OfTag k.0.tag ≡ OfBuiltin n = sym (ap (λ (n : Named). n.entry) k.0.is) ∙ p in cc
+
+    by : (b : Bool) → (find (entries_with false h (suc i) js is) x ≡ Some (OfBuiltin n) → ⊥)
+        → (if b then Some j.entry.entry else find (entries_with false h (suc i) js is) x) ≡ Some (OfBuiltin n) → ⊥
+    by true others p = none cc
+    by false others p = others p
 no_builtin g h i n (j ∷ js) (tree.GlobalItem y ∷ is) x k e =
     by (bytes_eq y.name.text x) (λ p. no_builtin g h (suc i) n js is x k.1 p) e
   where

@@ -107,8 +107,8 @@ plain_good : (g : Tables) (x : tree.Global) → KnowsTags g → takes_type suppo
     → Surely (λ u. PlainGood 0 x.of u) (after (written g (foreign_names (spots_of g x.of)) x.of) (settled_alone x.of.at))
 plain_good g x tags e =
     let names : List RegionNamed = foreign_names (spots_of g x.of) in
-    surely_after (λ p. IsWritten 0 x.of p) (λ u. PlainGood 0 x.of u) (written g names x.of) (settled_alone x.of.at)
-    (in_scope_good 0 g names x.of tags (heap_names (spots_of g x.of)) e) (λ p w. alone_good 0 x.of.at x.of p w)
+    surely_after (λ p. IsWritten true 0 x.of p) (λ u. PlainGood 0 x.of u) (written g names x.of) (settled_alone x.of.at)
+    (in_scope_good 0 g names x.of tags (heap_names (spots_of g x.of)) e) (λ p w. alone_good true 0 x.of.at x.of p w)
 
 type_good : (g : Env) (x : tree.Global) → KnowsTags g.tables → takes_type supported x.of ≡ true
     → Surely (λ u. VariableGood g.tables x.of u) (global_type g x)

@@ -167,7 +167,7 @@ parameters_good g vs (m ∷ ms) tags t h p =
     let v : Verdict StaticType = parameter_type g m.of s in
     let z : (faults_of v ≡ []) × (all_faults (read_parameters g s.after_all ms).types ≡ []) =
     none_of_both (faults_of v) (all_faults (read_parameters g s.after_all ms).types) p in
-    let k : SpotsGood vs (length (base_spots g m.of.base)) m.of.pointers s = type_spots_good g vs m.of t.0 h in
+    let k : SpotsGood vs (length (base_spots g m.of.base)) m.of.pointers s = type_spots_good g vs m.of h in
     let first : (u : StaticType) × (v ≡ Of u) × ObjectGood s.after_all.count m.of u =
     surely_is (λ u. ObjectGood s.after_all.count m.of u) v (parameter_good g vs m.of tags t.0 h) z.0 in
     let rest : ParametersGood s.after_all ms (read_parameters g s.after_all ms) = parameters_good g s.after_all ms tags t.1 k.names z.1 in

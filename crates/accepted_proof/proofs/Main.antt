@@ -35,7 +35,18 @@ find_main g h i (j ∷ js) (tree.StructItem y ∷ is) k e =
           function = rest.function;
           found = ap (λ (b : Bool). if b then Some j.entry.entry else find (entries_with false h (suc i) js is) (codes "main")) q ∙ rest.found;
         }
-find_main g h i (j ∷ js) (tree.UnionItem y ∷ is) k e = absurd k.0
+find_main g h i (j ∷ js) (tree.UnionItem y ∷ is) k e =
+    by (bytes_eq y.tag.text (codes "main")) refl (λ p. find_main g h (suc i) js is k.1 p) e
+  where
+    by : (b : Bool) → bytes_eq y.tag.text (codes "main") ≡ b → (main_found is ≡ [] → MainHere h (suc i) js is)
+        → (if b then main_is (tree.UnionItem y) y.tag.at else main_found is) ≡ [] → MainHere h i (j ∷ js) (tree.UnionItem y ∷ is)
+    by true q others p = absurd cc
+    by false q others p =
+        let rest : MainHere h (suc i) js is = others p in
+        record {
+          function = rest.function;
+          found = ap (λ (b : Bool). if b then Some j.entry.entry else find (entries_with false h (suc i) js is) (codes "main")) q ∙ rest.found;
+        }
 find_main g h i (j ∷ js) (tree.GlobalItem y ∷ is) k e =
     by (bytes_eq y.name.text (codes "main")) refl (λ p. find_main g h (suc i) js is k.1 p) e
   where

@@ -1,6 +1,6 @@
 -- A program of the forms that are taken in which the rules find no fault is in order by the rules' own tables: so it is never stuck, and it has its `main`.
 use Rattle.std.specs.Prelude.{bytes_eq, codes, if◌then◌else◌, length, map}
-use Rattle.std.proofs.Common.{◌≡◌, ℕ, ◌<◌, Bool, true, false, inl, inr, Option, Some, None, List, [], ◌∷◌, refl, sym, subst, ap, ◌∙◌}
+use Rattle.std.proofs.Common.{◌≡◌, ◌⊎◌, ℕ, ◌<◌, Bool, true, false, inl, inr, Option, Some, None, List, [], ◌∷◌, refl, sym, subst, ap, ◌∙◌}
 use Rattle.std.proofs.lemmas.List.{length-map}
 use Rattle.std.proofs.lemmas.Slice.Eq.{bytes_eq-Decides}
 use Rattle.cyc_tree.specs.Tree as tree
@@ -8,10 +8,9 @@ use Rattle.cyc_tree.specs.Tree.{Program}
 use Rattle.source_lowering.specs.Programs.{function_code, program_code}
 use Rattle.source_meaning.specs.Places.{bound_to}
 use Rattle.source_meaning.specs.Programs.{heap_spot, routine_of, world_of}
-use Rattle.source_meaning.specs.Shapes.{ArrayShape, Layout, part_of, part_shapes}
+use Rattle.source_meaning.specs.Shapes.{ArrayShape, part_of, part_shapes}
 use Rattle.source_meaning.specs.Steps.{Variable, World}
-use Rattle.type_proof.specs.Entries.{Builtin, Function, PlainEntry, Structure}
-use Rattle.type_proof.specs.Structs.{AreLaidOut, AreUnions}
+use Rattle.type_proof.specs.Entries.{Builtin, Function, PlainEntry, Structure, Unioned}
 use Rattle.type_proof.specs.Programs.{ArrayFound, FunctionJudged, GlobalFound, MainFound, ProgramJudged}
 use Rattle.source_typing.specs.Answers.{program_faults}
 use Rattle.source_typing.specs.Declarations.{what_of}
@@ -41,7 +40,7 @@ use Rattle.source_typing.specs.Verdicts.{Of}
 use Rattle.source_typing.proofs.TakenOperands.{taken_has_operands}
 use Rattle.type_proof.proofs.Never.{never_stuck}
 use Rattle.type_proof.proofs.Same.{judged_same}
-use Rattle.accepted_proof.specs.Good.{AllGood, BodiesJudged, IsGoodEntry, IsGoodTag}
+use Rattle.accepted_proof.specs.Good.{AllGood, BodiesJudged, IsGoodEntry}
 use Rattle.accepted_proof.specs.Laws.{AcceptedAreJudged, AcceptedAreNeverStuck, AcceptedHaveMain}
 use Rattle.accepted_proof.proofs.StructsFound.{StructsFound, not_made, structs_found}
 use Rattle.accepted_proof.proofs.AlignedTables.{AreAligned, tables_aligned}
@@ -53,6 +52,7 @@ use Rattle.accepted_proof.proofs.good.Functions.{FunctionNamed, function_is, fun
 use Rattle.accepted_proof.proofs.good.Tables.{AreHeaded, IsClean, all_headed, is_clean_program, tables_good}
 use Rattle.accepted_proof.proofs.good.Types.{KnowsTags}
 use Rattle.accepted_proof.proofs.Named.{builtins_known, entries_known}
+use Rattle.accepted_proof.proofs.lowered.Types.{TagThere}
 use Rattle.accepted_proof.proofs.Main.{MainHere, find_main, number_below}
 
 -- ---- names
@@ -113,7 +113,9 @@ module _ (bodies : BodiesJudged) (p : Program) (e : program_faults supported p �
   good = tables_good heads (judged_tags p) p tags headed
 
   pub known : AllKnown tables heads 0 (judged_tags p) p
-  known = all_known bodies tables heads 0 (judged_tags p) p good same headed clean.taken (taken_has_operands supported p clean.taken) clean.items clean.flow
+  known =
+      all_known bodies tables heads 0 (judged_tags p) p good found.kinds same headed clean.taken (taken_has_operands supported p clean.taken) clean.items
+      clean.flow
 
   -- ---- names
 
@@ -216,19 +218,34 @@ module _ (bodies : BodiesJudged) (p : Program) (e : program_faults supported p �
       by false false q r k = absurd (no_builtin tables heads 0 n (judged_tags p) p x known k)
 
   -- a struct
-  structure_is : (x : List ℕ) (t : Tag) → find tables x ≡ Some (OfTag t) → IsGoodTag t → Structure world x t
-  structure_is x t h s = by (bytes_eq (codes "getchar") x) (bytes_eq (codes "putchar") x) refl refl h
+  structure_is : (x : List ℕ) (t : Tag) → find tables x ≡ Some (OfTag t) → t.is_union ≡ false → Structure world x t
+  structure_is x t h kind = by (bytes_eq (codes "getchar") x) (bytes_eq (codes "putchar") x) refl refl h
     where
       by : (a c : Bool) → bytes_eq (codes "getchar") x ≡ a → bytes_eq (codes "putchar") x ≡ c → entry_by items x a c ≡ Some (OfTag t) → Structure world x t
       by true c q r k = absurd cc
       by false true q r k = absurd cc
       by false false q r k = record {
         named = found.texts x t h;
-        no_union = s.no_union;
+        no_union = kind;
         not_read = swapped (codes "getchar") x false q;
         not_written = swapped (codes "putchar") x false r;
-        there = found.there x t h;
+        there = subst (λ (b : Bool). TagThere world b x) kind (found.there x t h);
       }
+
+  -- a union
+  unioned_is : (x : List ℕ) (t : Tag) → find tables x ≡ Some (OfTag t) → t.is_union ≡ true → Unioned world x t
+  unioned_is x t h kind = record {
+    named = found.texts x t h;
+    union = kind;
+    there = subst (λ (b : Bool). TagThere world b x) kind (found.there x t h);
+  }
+
+  tag_is : (x : List ℕ) (t : Tag) → find tables x ≡ Some (OfTag t) → Structure world x t ⊎ Unioned world x t
+  tag_is x t h = by t.is_union refl
+    where
+      by : (b : Bool) → t.is_union ≡ b → Structure world x t ⊎ Unioned world x t
+      by false e = inl (structure_is x t h e)
+      by true e = inr (unioned_is x t h e)
 
   plain : (x : List ℕ) (y : Entry) → find tables x ≡ Some y → PlainEntry world x y
   plain x y h = by y h (entry_good 0 tables x y good h)
@@ -238,7 +255,7 @@ module _ (bodies : BodiesJudged) (p : Program) (e : program_faults supported p �
       by (OfValue (Arrayed t r)) h s = s.0
       by (OfValue Counter) h s = no_counter x h
       by (OfValue Unknown) h s = absurd s
-      by (OfTag t) h s = inl (structure_is x t h s)
+      by (OfTag t) h s = tag_is x t h
       by (OfFunction s) h k = its_function x s h
       by (OfBuiltin n) h s = builtin_is x n h
       by OfOther h s = absurd s
@@ -277,11 +294,7 @@ module _ (bodies : BodiesJudged) (p : Program) (e : program_faults supported p �
   pub judged : ProgramJudged p tables
   judged = record {
     structs = found.structs;
-    unions = record {
-      types = [];
-      laid_out = subst (λ (ls : List Layout). AreLaidOut tables [] ls) (sym found.no_unions) tt;
-      members = subst (λ (ls : List Layout). AreUnions [] ls) (sym found.no_unions) tt;
-    };
+    unions = found.unions;
     plain = plain;
     globals = globals_judged tables heads 0 (judged_tags p) p same known;
     variables = variables;

@@ -1,53 +1,21 @@
--- Where no name in scope is a union's, each member that an expression names is a struct's.
-use Rattle.std.proofs.Common.{◌≡◌, false, Option, Some, None, List, [], ◌∷◌, ℕ, refl}
+-- Each member that an expression names is a struct's, where all is known of each name in scope.
+use Rattle.std.proofs.Common.{ℕ, List, [], ◌∷◌}
 use Rattle.cyc_tree.specs.Tree.{Array, Arrow, Dot, Expression, Expressions, Index, Links, Made, MoreExpressions, MoreLinks, NoExpressions, NoLinks, NoSuffixes}
 use Rattle.cyc_tree.specs.Tree.{One, Suffixes}
 use Rattle.source_meaning.specs.Expressions.{is_unique_region}
 use Rattle.source_typing.specs.Expressions.{judge}
-use Rattle.source_typing.specs.Making.{goal_of, inside, with_counter}
+use Rattle.source_typing.specs.Making.{Goal, goal_of, inside, with_counter}
 use Rattle.source_typing.specs.Places.{arrow, indexed, member}
 use Rattle.source_typing.specs.Scope.{Env, Local, Value, with_locals}
-use Rattle.source_typing.specs.Tables.{Entry, OfBuiltin, OfFunction, OfOther, OfTag, OfValue, Tables, as_tag, find, tag_in}
-use Rattle.source_typing.specs.Types.{Fat, StaticType, Struct, Thin}
+use Rattle.source_typing.specs.Tables.{Tables}
+use Rattle.source_typing.specs.Types.{Fat, StaticType, Struct, Thin, Unique}
 use Rattle.source_typing.specs.Verdicts.{Faulty, Of, Unjudged, Verdict, after, both}
 use Rattle.type_proof.specs.Members.{AllHaveStructMembers, HasStructMembers, IsNoUnion, LeadingToNoUnion, LeadsToNoUnion, LinksHaveStructMembers}
-use Rattle.type_proof.specs.Members.{MadeHasStructMembers, OfNoUnion, SuffixesHaveStructMembers, names_union}
-use Rattle.accepted_proof.specs.Good.{AllGood, IsGood}
-use Rattle.accepted_proof.proofs.good.Names.{MeansGood, found_good}
-
--- no tag is a union's
-abbrev pub HasNoUnion : Tables → Type 0
-HasNoUnion tables = (tag : List ℕ) → names_union (tag_in tables tag) ≡ false
-
-pub no_union_good : (n : ℕ) (g : Tables) → AllGood n g → HasNoUnion g
-no_union_good n g h tag = by (find g tag) (found_good n g tag h)
-  where
-    by : (o : Option Entry) → MeansGood n o → names_union (as_tag o) ≡ false
-    by None k = refl
-    by (Some (OfTag t)) k = k.no_union
-    by (Some (OfValue v)) k = refl
-    by (Some (OfFunction s)) k = refl
-    by (Some (OfBuiltin c)) k = refl
-    by (Some OfOther) k = refl
-
-of_struct : (g : Tables) → HasNoUnion g → (t : StaticType) → IsNoUnion g t
-of_struct g h (Struct tag rs) = h tag
-of_struct g h _ = tt
-
-to_struct : (g : Tables) → HasNoUnion g → (t : StaticType) → LeadsToNoUnion g t
-to_struct g h (Thin n r t) = of_struct g h t
-to_struct g h (Fat r t) = of_struct g h t
-to_struct g h _ = tt
-
-judged_of : (g : Env) → HasNoUnion g.tables → (v : Verdict Value) → OfNoUnion g v
-judged_of g h (Of v) = of_struct g.tables h v.type
-judged_of g h (Faulty f fs) = tt
-judged_of g h Unjudged = tt
-
-judged_to : (g : Env) → HasNoUnion g.tables → (v : Verdict Value) → LeadingToNoUnion g v
-judged_to g h (Of v) = to_struct g.tables h v.type
-judged_to g h (Faulty f fs) = tt
-judged_to g h Unjudged = tt
+use Rattle.type_proof.specs.Members.{MadeHasStructMembers, OfNoUnion, SuffixesHaveStructMembers}
+use Rattle.accepted_proof.specs.Good.{AllGood, IsGood, IsStructTag, KnowsKinds, NamesStructs}
+use Rattle.accepted_proof.proofs.kinds.Expressions.{counter_known, dot_named, expression_named, index_named, inside_known, lead_named}
+use Rattle.accepted_proof.proofs.kinds.Perhaps.{Perhaps}
+use Rattle.accepted_proof.proofs.kinds.Phrases.{ValueNames}
 
 -- what is known of the names in scope is known of the program's names
 behind_locals : (n : ℕ) (ls : List Local) (g : Tables) → AllGood n (with_locals ls g) → AllGood n g
@@ -57,42 +25,81 @@ behind_locals n (l ∷ ls) g h = behind_locals n ls g h.1
 pub tables_good : (g : Env) → IsGood g → AllGood g.regions.count g.tables
 tables_good g h = behind_locals g.regions.count g.locals g.tables h.names
 
+-- ---- no struct has a union's tag
+
+of_struct : (g : Tables) (t : StaticType) → NamesStructs (IsStructTag g) t → IsNoUnion g t
+of_struct g (Struct tag rs) h = h
+of_struct g _ h = tt
+
+to_struct : (g : Tables) (t : StaticType) → NamesStructs (IsStructTag g) t → LeadsToNoUnion g t
+to_struct g (Thin n r t) h = of_struct g t h
+to_struct g (Fat r t) h = of_struct g t h
+to_struct g (Unique n t) h = of_struct g t h
+to_struct g _ h = tt
+
+abbrev IsNamed : Env → Verdict Value → Type 0
+IsNamed g v = Perhaps (λ a. ValueNames (IsStructTag g.tables) a) v
+
+judged_of : (g : Env) (v : Verdict Value) → IsNamed g v → OfNoUnion g v
+judged_of g (Of v) h = of_struct g.tables v.type h
+judged_of g (Faulty f fs) h = tt
+judged_of g Unjudged h = tt
+
+judged_to : (g : Env) (v : Verdict Value) → IsNamed g v → LeadingToNoUnion g v
+judged_to g (Of v) h = to_struct g.tables v.type h
+judged_to g (Faulty f fs) h = tt
+judged_to g Unjudged h = tt
+
+abbrev HasKinds : Env → Type 0
+HasKinds g = KnowsKinds (IsStructTag g.tables) g
+
+inner_kinds : (goal : Verdict Goal) (g : Env) → HasKinds g → HasKinds (inside goal g)
+inner_kinds goal g k = inside_known (IsStructTag g.tables) goal g k
+
 mutual
-  pub struct_members : (e : Expression) (g : Env) → HasNoUnion g.tables → HasStructMembers g e
-  struct_members (Expression.Number at n suffix) g h = tt
-  struct_members (Expression.Character at byte) g h = tt
-  struct_members (Expression.Text at bytes) g h = tt
-  struct_members (Expression.Null at) g h = tt
-  struct_members (Expression.HeapRegion at) g h = tt
-  struct_members (Expression.UniqueRegion at) g h = tt
-  struct_members (Expression.Variable x) g h = tt
-  struct_members (Expression.Call x es) g h = all_members es g h
-  struct_members (Expression.MakeUnion tag f e) g h = struct_members e g h
-  struct_members (Expression.NumElts at e) g h = struct_members e g h
-  struct_members (Expression.Grouped at e) g h = struct_members e g h
-  struct_members (Expression.Suffixed e es) g h = (struct_members e g h, suffix_members es (judge g e) g h)
-  struct_members (Expression.Prefixed at o e) g h = struct_members e g h
-  struct_members (Expression.New at new) g h = made_members new g h
-  struct_members (Expression.NewIn at e new) g h = (struct_members e g h, made_members new (inside (goal_of (is_unique_region e) g (judge g e)) g) h)
-  struct_members (Expression.Chain e es) g h = (struct_members e g h, link_members es g h)
-  struct_members (Expression.AllOf e es) g h = (struct_members e g h, all_members es g h)
-  struct_members (Expression.AnyOf e es) g h = (struct_members e g h, all_members es g h)
-  struct_members (Expression.Assign a b) g h = (struct_members a g h, struct_members b g h)
+  pub struct_members : (e : Expression) (g : Env) → HasKinds g → HasStructMembers g e
+  struct_members (Expression.Number at n suffix) g k = tt
+  struct_members (Expression.Character at byte) g k = tt
+  struct_members (Expression.Text at bytes) g k = tt
+  struct_members (Expression.Null at) g k = tt
+  struct_members (Expression.HeapRegion at) g k = tt
+  struct_members (Expression.UniqueRegion at) g k = tt
+  struct_members (Expression.Variable x) g k = tt
+  struct_members (Expression.Call x es) g k = all_members es g k
+  struct_members (Expression.MakeUnion tag f e) g k = struct_members e g k
+  struct_members (Expression.NumElts at e) g k = struct_members e g k
+  struct_members (Expression.Grouped at e) g k = struct_members e g k
+  struct_members (Expression.Suffixed e es) g k =
+      (struct_members e g k, suffix_members es (judge g e) g k (expression_named (IsStructTag g.tables) e g k))
+  struct_members (Expression.Prefixed at o e) g k = struct_members e g k
+  struct_members (Expression.New at new) g k = made_members new g k
+  struct_members (Expression.NewIn at e new) g k =
+      let goal : Verdict Goal = goal_of (is_unique_region e) g (judge g e) in
+      (struct_members e g k, made_members new (inside goal g) (inner_kinds goal g k))
+  struct_members (Expression.Chain e es) g k = (struct_members e g k, link_members es g k)
+  struct_members (Expression.AllOf e es) g k = (struct_members e g k, all_members es g k)
+  struct_members (Expression.AnyOf e es) g k = (struct_members e g k, all_members es g k)
+  struct_members (Expression.Assign a b) g k = (struct_members a g k, struct_members b g k)
 
-  all_members : (es : Expressions) (g : Env) → HasNoUnion g.tables → AllHaveStructMembers g es
-  all_members NoExpressions g h = tt
-  all_members (MoreExpressions e es) g h = (struct_members e g h, all_members es g h)
+  all_members : (es : Expressions) (g : Env) → HasKinds g → AllHaveStructMembers g es
+  all_members NoExpressions g k = tt
+  all_members (MoreExpressions e es) g k = (struct_members e g k, all_members es g k)
 
-  link_members : (es : Links) (g : Env) → HasNoUnion g.tables → LinksHaveStructMembers g es
-  link_members NoLinks g h = tt
-  link_members (MoreLinks o e es) g h = (struct_members e g h, link_members es g h)
+  link_members : (es : Links) (g : Env) → HasKinds g → LinksHaveStructMembers g es
+  link_members NoLinks g k = tt
+  link_members (MoreLinks o e es) g k = (struct_members e g k, link_members es g k)
 
-  suffix_members : (es : Suffixes) (v : Verdict Value) (g : Env) → HasNoUnion g.tables → SuffixesHaveStructMembers g v es
-  suffix_members NoSuffixes v g h = tt
-  suffix_members (Index e es) v g h = (struct_members e g h, suffix_members es (both v (judge g e) (indexed g)) g h)
-  suffix_members (Dot f es) v g h = (judged_of g h v, suffix_members es (after v (member g f)) g h)
-  suffix_members (Arrow f es) v g h = (judged_to g h v, suffix_members es (after v (arrow g f)) g h)
+  suffix_members : (es : Suffixes) (v : Verdict Value) (g : Env) → HasKinds g → IsNamed g v → SuffixesHaveStructMembers g v es
+  suffix_members NoSuffixes v g k h = tt
+  suffix_members (Index e es) v g k h = (
+    struct_members e g k,
+    suffix_members es (both v (judge g e) (indexed g)) g k (index_named (IsStructTag g.tables) g v (judge g e) h),
+  )
+  suffix_members (Dot f es) v g k h =
+      (judged_of g v h, suffix_members es (after v (member g f)) g k (dot_named (IsStructTag g.tables) g f v k h))
+  suffix_members (Arrow f es) v g k h =
+      (judged_to g v h, suffix_members es (after v (arrow g f)) g k (lead_named (IsStructTag g.tables) g f v k h))
 
-  made_members : (new : Made) (g : Env) → HasNoUnion g.tables → MadeHasStructMembers g new
-  made_members (One e) g h = struct_members e g h
-  made_members (Array x n e) g h = (struct_members n g h, struct_members e (with_counter x g) h)
+  made_members : (new : Made) (g : Env) → HasKinds g → MadeHasStructMembers g new
+  made_members (One e) g k = struct_members e g k
+  made_members (Array x n e) g k = (struct_members n g k, struct_members e (with_counter x g) (counter_known (IsStructTag g.tables) x g k))

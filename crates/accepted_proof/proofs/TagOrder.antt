@@ -1,6 +1,6 @@
 -- What is known of the tags of a program while they are judged: their kinds, and that those that stand later have no fault of their own.
 use Rattle.std.proofs.Common.{◌≡◌, ◌<◌, ◌≤◌, ◌+◌, ℕ, suc, Bool, true, false, Option, Some, None, List, [], ◌∷◌, ◌++◌, refl, sym, subst, ap, ◌∙◌, arith}
-use Rattle.std.specs.Prelude.{◌&&◌, length}
+use Rattle.std.specs.Prelude.{◌&&◌, bytes_eq, length}
 use Rattle.cyc_tree.specs.Tree as tree
 use Rattle.cyc_tree.specs.Operands.{AreSomeMembers}
 use Rattle.cyc_tree.specs.Tree.{Item}
@@ -9,9 +9,9 @@ use Rattle.source_typing.specs.Faults.{Fault, is_clean}
 use Rattle.source_typing.specs.Programs.{Judged, all_tag_faults, bare_from, builtins, entries, first_entry, first_from, judged_tag, name_of, named}
 use Rattle.source_typing.specs.Regions.{Level, Region, TheHeap}
 use Rattle.source_typing.specs.Scope.{Env}
-use Rattle.source_typing.specs.Tables.{Entry, Named, OfBuiltin, OfFunction, OfOther, OfTag, OfValue, Tables}
-use Rattle.source_typing.specs.Tags.{bare_tag, head_faults, head_scope, member_faults, parameter_added, parameters_from, region_parameters, repeated}
-use Rattle.source_typing.specs.Tags.{struct_sized, tag_faults, tag_parts, tag_scope}
+use Rattle.source_typing.specs.Tables.{Entry, Named, OfBuiltin, OfFunction, OfOther, OfTag, OfValue, Tables, find}
+use Rattle.source_typing.specs.Tags.{bare_tag, head_entry, head_faults, head_scope, member_faults, parameter_added, parameters_from, region_parameters}
+use Rattle.source_typing.specs.Tags.{repeated, struct_sized, tag_faults, tag_parts, tag_scope}
 use Rattle.source_typing.specs.Taken.{Taken, are_members, item_taken, members_taken, only_taken, refused_member, refused_structure, structure_if}
 use Rattle.source_typing.specs.Taken.{takes_arguments, takes_structure}
 use Rattle.accepted_programs.specs.Supported.{supported}
@@ -19,10 +19,11 @@ use Rattle.source_typing.specs.Written.{RegionNamed, find_region}
 use Rattle.source_typing.proofs.Entries.{judged_name}
 use Rattle.source_typing.proofs.Inversion.{both_none, none_of_both, own_is}
 use Rattle.accepted_proof.specs.Good.{NamesBelow}
-use Rattle.accepted_proof.proofs.good.Types.{IsKnownEntry, KnowsTags}
-use Rattle.accepted_proof.proofs.HeadTags.{AreAlike, TablesAlike, heads_clean, own_first}
+use Rattle.accepted_proof.proofs.good.Types.{IsKnownEntry, KnowsTags, MeansKnown}
+use Rattle.accepted_proof.proofs.HeadClean.{heads_clean}
+use Rattle.accepted_proof.proofs.HeadTags.{AreAlike, TablesAlike, own_first}
 use Rattle.accepted_proof.proofs.MemberTypes.{AreMembersTaken, members_are_taken}
-use Rattle.accepted_proof.proofs.Named.{named_known}
+use Rattle.accepted_proof.proofs.Named.{named_known, one_known, others_known}
 use Rattle.accepted_proof.proofs.Tags.{judged_list}
 
 -- ---- structs that are taken
@@ -57,10 +58,10 @@ refused_clean g i u s t e p = by (subst (λ z. tag_faults g i u z ≡ []) (sym e
         p).1 in
         cc
 
--- structs, globals and functions alone
+-- each struct and union is taken
 abbrev pub IsSorted : Item → Type 0
 IsSorted (tree.StructItem s) = StructTaken supported s
-IsSorted (tree.UnionItem s) = ⊥
+IsSorted (tree.UnionItem s) = StructTaken supported s
 IsSorted (tree.GlobalItem x) = Unit {0}
 IsSorted (tree.FunctionItem f) = Unit {0}
 
@@ -72,7 +73,13 @@ item_sorted : (g : Tables) (i : ℕ) (x : Item) → item_taken supported x ≡ x
 item_sorted g i (tree.StructItem s) e p =
     let q : structure_if (takes_structure supported true s) s (members_taken supported s.members) ≡ s = cc in
     struct_taken supported (takes_arguments supported s.regions) s.members s (any_arguments supported refl s.regions) refl q
-item_sorted g i (tree.UnionItem s) e p = let f : refused_structure s ≡ s = cc in absurd (refused_clean g i true s s f p)
+item_sorted g i (tree.UnionItem s) e p =
+    let q : structure_if (takes_structure supported supported.unions s) s (members_taken supported s.members) ≡ s = cc in
+    by supported.unions q
+  where
+    by : (b : Bool) → structure_if (takes_structure supported b s) s (members_taken supported s.members) ≡ s → StructTaken supported s
+    by true q = struct_taken supported (takes_arguments supported s.regions) s.members s (any_arguments supported refl s.regions) refl q
+    by false q = absurd (refused_clean g i true s s q p)
 item_sorted g i (tree.GlobalItem x) e p = tt
 item_sorted g i (tree.FunctionItem f) e p = tt
 
@@ -91,15 +98,15 @@ all_sorted g i done (x ∷ is) t p =
 
 pub bare_known : (i : ℕ) (is : List Item) → AreSorted is → KnowsTags (bare_from i is)
 bare_known i [] h = λ x. tt
-bare_known i (tree.StructItem s ∷ is) h = named_known _ (bare_from (suc i) is) (refl, refl) (bare_known (suc i) is h.1)
-bare_known i (tree.UnionItem s ∷ is) h = absurd h.0
+bare_known i (tree.StructItem s ∷ is) h = named_known _ (bare_from (suc i) is) refl (bare_known (suc i) is h.1)
+bare_known i (tree.UnionItem s ∷ is) h = named_known _ (bare_from (suc i) is) refl (bare_known (suc i) is h.1)
 bare_known i (tree.GlobalItem x ∷ is) h = named_known (named x.name OfOther) (bare_from (suc i) is) tt (bare_known (suc i) is h.1)
 bare_known i (tree.FunctionItem f ∷ is) h = named_known (named f.name OfOther) (bare_from (suc i) is) tt (bare_known (suc i) is h.1)
 
 pub first_alike : (h : Tables) (i : ℕ) (is : List Item) → TablesAlike (first_from h i is) (bare_from i is)
 first_alike h i [] = tt
-first_alike h i (tree.StructItem s ∷ is) = (refl, refl, first_alike h (suc i) is)
-first_alike h i (tree.UnionItem s ∷ is) = (refl, refl, first_alike h (suc i) is)
+first_alike h i (tree.StructItem s ∷ is) = (refl, (refl, refl), first_alike h (suc i) is)
+first_alike h i (tree.UnionItem s ∷ is) = (refl, (refl, refl), first_alike h (suc i) is)
 first_alike h i (tree.GlobalItem x ∷ is) = (refl, tt, first_alike h (suc i) is)
 first_alike h i (tree.FunctionItem f ∷ is) = (refl, tt, first_alike h (suc i) is)
 
@@ -126,20 +133,20 @@ item_alike g h i (tree.UnionItem s) OfOther k = absurd k
 item_alike g h i (tree.GlobalItem x) e k = k
 item_alike g h i (tree.FunctionItem f) e k = k
 
--- ---- the faults of a struct
+-- ---- the faults of a struct or a union
 
-pub record TagClean (g : Tables) (i : ℕ) (s : tree.Structure) : Type 0 where
-  pub sized : struct_sized g false s (tag_parts g i false s) ≡ []
+pub record TagClean (g : Tables) (i : ℕ) (union : Bool) (s : tree.Structure) : Type 0 where
+  pub sized : struct_sized g union s (tag_parts g i union s) ≡ []
   pub parameters : (region_parameters s).1 ≡ []
-  pub members : member_faults (tag_scope g i s) false s.members ≡ []
+  pub members : member_faults (tag_scope g i s) union s.members ≡ []
   pub once : repeated [] s.members ≡ []
 
-pub tag_clean : (g : Tables) (i : ℕ) (s : tree.Structure) → tag_faults g i false s ≡ [] → TagClean g i s
-tag_clean g i s p =
-    let o = own_is (struct_sized g false s (tag_parts g i false s))
-    (((region_parameters s).1 ++ member_faults (tag_scope g i s) false s.members) ++ repeated [] s.members) p in
-    let b = none_of_both ((region_parameters s).1 ++ member_faults (tag_scope g i s) false s.members) (repeated [] s.members) o.1 in
-    let c = none_of_both (region_parameters s).1 (member_faults (tag_scope g i s) false s.members) b.0 in
+pub tag_clean : (g : Tables) (i : ℕ) (union : Bool) (s : tree.Structure) → tag_faults g i union s ≡ [] → TagClean g i union s
+tag_clean g i union s p =
+    let o = own_is (struct_sized g union s (tag_parts g i union s))
+    (((region_parameters s).1 ++ member_faults (tag_scope g i s) union s.members) ++ repeated [] s.members) p in
+    let b = none_of_both ((region_parameters s).1 ++ member_faults (tag_scope g i s) union s.members) (repeated [] s.members) o.1 in
+    let c = none_of_both (region_parameters s).1 (member_faults (tag_scope g i s) union s.members) b.0 in
     record { sized = o.0; parameters = c.0; members = c.1; once = b.1 }
 
 -- the region parameters of a struct are names before so many
@@ -170,20 +177,26 @@ names_from m k names (tree.Unique at ∷ rs) l h =
 pub parameters_below : (g : Tables) (i : ℕ) (s : tree.Structure) → NamesBelow (length s.regions) (tag_scope g i s).names
 parameters_below g i s = names_from (length s.regions) 0 [] s.regions (omega arith) tt
 
--- what is first known of a struct is that it has no fault
-first_sound : (g h : Tables) (i : ℕ) (s : tree.Structure) → KnowsTags h → TablesAlike g h → StructTaken supported s → tag_faults g i false s ≡ []
-    → IsKnownEntry (first_entry h i (tree.StructItem s))
-first_sound g h i s tags alike k p =
-    let c : TagClean g i s = tag_clean g i s p in
-    let taken : AreMembersTaken supported s.members = members_are_taken supported (tag_scope g i s) s.members k.members c.members in
-    let e : Env = head_scope h i false s in
-    let clean : head_faults e false s.members ≡ [] =
-    heads_clean (length s.regions) (tag_scope g i s) e (own_first g h (named s.tag (bare_tag i false s false)) refl alike tags) refl
-    (parameters_below h i s) s.members taken c.members in (
-      ap (λ (fs : List Fault). is_clean fs) (both_none ((region_parameters s).1 ++ head_faults e false s.members) (repeated [] s.members)
-          (both_none (region_parameters s).1 (head_faults e false s.members) c.parameters clean) c.once),
-      refl,
-    )
+-- what is first known of a struct or a union is that it has no fault
+first_sound : (g h : Tables) (i : ℕ) (union : Bool) (s : tree.Structure) → KnowsTags h → TablesAlike g h
+    → ((x : List ℕ) → bytes_eq s.tag.text x ≡ false → MeansKnown (find g x)) → StructTaken supported s → tag_faults g i union s ≡ []
+    → IsKnownEntry (head_entry h i union s)
+first_sound g h i union s tags alike known k p =
+    let c : TagClean g i union s = tag_clean g i union s p in
+    let taken : AreMembersTaken supported s.members = members_are_taken supported (tag_scope g i s) union s.members k.members c.members in
+    let e : Env = head_scope h i union s in
+    let clean : head_faults e union s.members ≡ [] =
+    heads_clean (length s.regions) union (tag_scope g i s) e (own_first g h (named s.tag (bare_tag i union s false)) refl alike tags known) refl
+    (parameters_below h i s) s.members taken c.members in
+    ap (λ (fs : List Fault). is_clean fs) (both_none ((region_parameters s).1 ++ head_faults e union s.members) (repeated [] s.members)
+    (both_none (region_parameters s).1 (head_faults e union s.members) c.parameters clean) c.once)
+
+-- an item that is judged has no fault
+pub judged_known : (g : Tables) (i : ℕ) (x : Item) → (judged_tag g i x).faults ≡ [] → IsKnownEntry (judged_tag g i x).entry.entry
+judged_known g i (tree.StructItem s) p = ap (λ (fs : List Fault). is_clean fs) p
+judged_known g i (tree.UnionItem s) p = ap (λ (fs : List Fault). is_clean fs) p
+judged_known g i (tree.GlobalItem x) p = tt
+judged_known g i (tree.FunctionItem f) p = tt
 
 pub builtins_alike : (g h : Tables) → TablesAlike g h → TablesAlike (builtins g) (builtins h)
 builtins_alike g h k = (refl, tt, (refl, tt, k))
@@ -191,9 +204,9 @@ builtins_alike g h k = (refl, tt, (refl, tt, k))
 -- what is known of the items that aren't judged yet
 pub first_known : (b : Tables) (i : ℕ) (done : List Judged) (is : List Item) → KnowsTags (builtins b)
     → TablesAlike (entries done ++ first_from (builtins b) i is) b
-    → AreSorted is → all_tag_faults (judged_list (builtins b) i done is) ≡ [] → KnowsTags (first_from (builtins b) i is)
-first_known b i done [] tags alike k p = λ x. tt
-first_known b i done (x ∷ is) tags alike k p =
+    → AreSorted is → all_tag_faults (judged_list (builtins b) i done is) ≡ [] → KnowsTags (entries done) → KnowsTags (first_from (builtins b) i is)
+first_known b i done [] tags alike k p known = λ x. tt
+first_known b i done (x ∷ is) tags alike k p known =
     let h : Tables = builtins b in
     let g : Tables = builtins (entries done ++ first_from h i (x ∷ is)) in
     let j : Judged = judged_tag g i x in
@@ -202,14 +215,18 @@ first_known b i done (x ∷ is) tags alike k p =
     let others : KnowsTags (first_from h (suc i) is) =
     first_known b (suc i) (done ++ j ∷ []) is tags
     (alike_step done j (named (name_of x) (first_entry h i x)) (first_from h (suc i) is) b (judged_name g i x) (λ e q. item_alike g h i x e q) alike)
-    k.1 c.1 in
+    k.1 c.1 (one_known done j known (judged_known g i x c.0)) in
     named_known (named (name_of x) (first_entry h i x)) (first_from h (suc i) is)
-    (by x k.0 c.0 (builtins_alike (entries done ++ first_from h i (x ∷ is)) b alike)) others
+    (by x k.0 c.0 (builtins_alike (entries done ++ first_from h i (x ∷ is)) b alike)
+    (λ y e. others_known done (named (name_of x) (first_entry h i x)) (first_from h (suc i) is) y known others e)) others
   where
     by : (x : Item) → IsSorted x → (judged_tag (builtins (entries done ++ first_from (builtins b) i (x ∷ is))) i x).faults ≡ []
         → TablesAlike (builtins (entries done ++ first_from (builtins b) i (x ∷ is))) (builtins b)
+        → ((y : List ℕ) → bytes_eq (name_of x).text y ≡ false → MeansKnown (find (builtins (entries done ++ first_from (builtins b) i (x ∷ is))) y))
         → IsKnownEntry (first_entry (builtins b) i x)
-    by (tree.StructItem s) k p a = first_sound (builtins (entries done ++ first_from (builtins b) i (tree.StructItem s ∷ is))) (builtins b) i s tags a k p
-    by (tree.UnionItem s) k p a = absurd k
-    by (tree.GlobalItem y) k p a = tt
-    by (tree.FunctionItem f) k p a = tt
+    by (tree.StructItem s) k p a o =
+        first_sound (builtins (entries done ++ first_from (builtins b) i (tree.StructItem s ∷ is))) (builtins b) i false s tags a o k p
+    by (tree.UnionItem s) k p a o =
+        first_sound (builtins (entries done ++ first_from (builtins b) i (tree.UnionItem s ∷ is))) (builtins b) i true s tags a o k p
+    by (tree.GlobalItem y) k p a o = tt
+    by (tree.FunctionItem f) k p a o = tt

@@ -9,4 +9,5 @@ pub mod Places
 pub mod Makings
 pub mod Expressions
 pub mod Declarations
+pub mod Switches
 pub mod Bodies

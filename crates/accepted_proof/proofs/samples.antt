@@ -1,3 +1,4 @@
 pub mod StructSamples
 pub mod RegionSamples
+pub mod UnionSamples
 pub mod RefusedPrograms

@@ -3,8 +3,8 @@ use Rattle.std.specs.Prelude.{◌≡◌, ◌<◌, ℕ, false, List, [], length}
 use Rattle.cyc_tree.specs.Tree.{Program}
 use Rattle.cyc_words.specs.Events.{SourceEnding}
 use Rattle.source_lowering.specs.Programs.{program_code}
-use Rattle.source_lowering.specs.Lowerable.{IsLowerable}
-use Rattle.source_meaning.specs.Programs.{source}
+use Rattle.source_lowering.specs.Lowerable.{HaveFewMembers, IsLowerable}
+use Rattle.source_meaning.specs.Programs.{source, unions_of}
 use Rattle.type_proof.specs.Programs.{ProgramJudged}
 use Rattle.source_typing.specs.Answers.{program_faults}
 use Rattle.source_typing.specs.Programs.{tables_of}
@@ -14,9 +14,9 @@ use Rattle.accepted_programs.specs.Supported.{supported}
 abbrev pub AcceptedAreJudged : Type 0
 AcceptedAreJudged = (p : Program) → program_faults supported p ≡ [] → ProgramJudged p (tables_of false p)
 
--- lowering takes each
+-- lowering takes each whose unions have no more members than a word counts
 abbrev pub AcceptedAreLowerable : Type 0
-AcceptedAreLowerable = (p : Program) → program_faults supported p ≡ [] → IsLowerable p
+AcceptedAreLowerable = (p : Program) → program_faults supported p ≡ [] → HaveFewMembers (unions_of p) → IsLowerable p
 
 -- none is ever stuck, on any input, with any fuel
 abbrev pub AcceptedAreNeverStuck : Type 0

@@ -11,8 +11,8 @@ use Rattle.compile_proof.proofs.NamedApart.{named_apart}
 use Rattle.compile_proof.proofs.DataWithin.{data_within}
 
 pub accepted_do : AllAcceptedDo
-accepted_do p e =
-    let lowerable : IsLowerable p = joined.lowerable p e in
+accepted_do p e few =
+    let lowerable : IsLowerable p = joined.lowerable p e few in
     let within = data_within p e in
     record {
       promised = lowerable_do p lowerable (named_apart false p (no_typing_faults supported p e));

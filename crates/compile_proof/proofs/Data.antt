@@ -16,6 +16,7 @@ use Rattle.source_meaning.specs.Shapes.{
   FatShape,
   HandleShape,
   StructShape,
+  UnionShape,
   ArrayShape,
   written,
   settled,
@@ -33,13 +34,15 @@ use Rattle.core_lines.specs.Selected.{rounded, nth, bytes_of, offsets_from, end_
 use Rattle.core_lines.specs.Running.{data_offsets, data_end}
 use Rattle.core_lines.specs.Statics.{IsPlain, IsPlainDatum, ArePlainData}
 use Rattle.core_lines.proofs.memory.DataBytes.{one_part_plain, zero_plain}
-use Rattle.source_lowering.specs.Programs.{word_in, constant_word, span_content, text_content, text_datum, constant_content, initial_content, first_content, begun_datum, global_datum}
+use Rattle.source_lowering.specs.Programs.{word_in, constant_word, span_content, text_content, text_datum, constant_content, initial_content, first_content}
+use Rattle.source_lowering.specs.Programs.{begun_datum, global_datum}
 use Rattle.source_lowering.specs.Programs.{string_datum, program_code}
 use Rattle.source_lowering.specs.Layouts.{layout_of, local_of}
-use Rattle.source_lowering.specs.Lowerable.{AreStructs, IsObject, IsVariable, TakesGlobal, TakesProgram, IsLowerable}
+use Rattle.source_lowering.specs.Lowerable.{IsObject, IsVariable, TakesGlobal, TakesProgram, IsLowerable}
 use Rattle.source_lowering.specs.Taken.{IsIntegerShape, IsString, TakesConstant}
 use Rattle.source_lowering.proofs.statements.WrittenTypes.{object_settled}
-use Rattle.source_lowering.proofs.Programs.{global_variable}
+use Rattle.source_lowering.proofs.Programs.{global_variable, world_plain}
+use Rattle.source_lowering.proofs.expressions.Names.{IsPlainWorld}
 use Rattle.source_lowering.proofs.regions.HeapValues.{heap_data}
 use Rattle.source_lowering.proofs.Texts.{string_found}
 use Rattle.compile_proof.proofs.Layouts.{object_layout, variable_layout}
@@ -131,6 +134,16 @@ no_handle (Initial.Given (tree.Character at byte)) h = h
 no_handle (Initial.Given (tree.Text at bytes)) h = h
 no_handle (Initial.Given (tree.Null at)) h = h
 
+-- and none is a union
+no_union : (tag : List ℕ) (i : Initial) → TakesGlobal (UnionShape tag) i → ⊥
+no_union tag Initial.Unset h = h
+no_union tag (Initial.Elements count) h = h.1
+no_union tag (Initial.Given (tree.Number at value suffix)) h = h
+no_union tag (Initial.Given (tree.Negative at value suffix)) h = h
+no_union tag (Initial.Given (tree.Character at byte)) h = h
+no_union tag (Initial.Given (tree.Text at bytes)) h = h
+no_union tag (Initial.Given (tree.Null at)) h = h
+
 -- a part begins as its layout says
 parts_zero : (l : Layout) → IsZero l → (cell part : ℕ) → IsNothing (first_content (shape_in (slice_get l.cells cell) part))
 parts_zero l h cell part = by (shape_in (slice_get l.cells cell) part) refl
@@ -139,13 +152,13 @@ parts_zero l h cell part = by (shape_in (slice_get l.cells cell) part) refl
     by None e = tt
     by (Some s) e = h.nothing cell part s (record { is = e })
 
-begun_plain : (os : List ℕ) (w : World) (s : Shape) → AreStructs w.unions w.structs → IsVariable w.structs s → IsPlainDatum os (begun_datum (local_of w s))
-begun_plain os w s structs variable =
-    let l = variable_layout w s structs variable in
+begun_plain : (os : List ℕ) (w : World) (s : Shape) → IsPlainWorld w → IsVariable w.unions w.structs s → IsPlainDatum os (begun_datum (local_of w s))
+begun_plain os w s plain variable =
+    let l = variable_layout w s plain variable in
     let layout : Layout = (local_of w s).layout in
     zero_plain os (begun_datum (local_of w s)) l.joined l.whole (λ cell part. parts_zero layout l.nothing (cell % length layout.cells) part)
 
-module _ (os : List ℕ) (near : AreNear os) (w : World) (lie : TextsLie (length os) w.strings) (structs : AreStructs w.unions w.structs) where
+module _ (os : List ℕ) (near : AreNear os) (w : World) (lie : TextsLie (length os) w.strings) (plain : IsPlainWorld w) where
   -- a pointer is NULL or a string at first
   given_plain : (c : tree.Constant) (b : Bool) (o : Owner) (to : Shape) → TakesConstant (ThinShape b o to) c
       → IsPlain os 4 (constant_content w c (ThinShape b o to))
@@ -160,40 +173,41 @@ module _ (os : List ℕ) (near : AreNear os) (w : World) (lie : TextsLie (length
   pointer_plain (Initial.Elements count) b o to h = tt
   pointer_plain (Initial.Given c) b o to h = given_plain c b o to h
 
-  fat_plain : (i : Initial) (to : Shape) → IsObject w.structs (FatShape to) → IsPlainDatum os (global_datum w i (FatShape to))
+  fat_plain : (i : Initial) (to : Shape) → IsObject w.unions w.structs (FatShape to) → IsPlainDatum os (global_datum w i (FatShape to))
   fat_plain (Initial.Given (tree.Text at bytes)) to h = given (string_at w.strings at) (λ part. text_plain os near w.strings lie at part)
     where
       given : (found : Option Scalar) → ((part : ℕ) → IsPlain os 4 (text_content found part)) → IsPlainDatum os (text_datum w (FatShape to) found)
       given (Some (Wide (Some span))) g =
-          let l = object_layout w (FatShape to) structs h in
+          let l = object_layout w (FatShape to) plain h in
           record {
             joined = l.joined;
             whole = l.whole;
             plain = λ cell part s has. subst (λ z. IsPlain os z (span_content span part)) (sym (fat_wide w to _ part s has)) (g part);
           }
-      given _ g = begun_plain os w (FatShape to) structs h
-  fat_plain (Initial.Given (tree.Number at value suffix)) to h = begun_plain os w (FatShape to) structs h
-  fat_plain (Initial.Given (tree.Negative at value suffix)) to h = begun_plain os w (FatShape to) structs h
-  fat_plain (Initial.Given (tree.Character at byte)) to h = begun_plain os w (FatShape to) structs h
-  fat_plain (Initial.Given (tree.Null at)) to h = begun_plain os w (FatShape to) structs h
-  fat_plain (Initial.Elements count) to h = begun_plain os w (FatShape to) structs h
-  fat_plain Initial.Unset to h = begun_plain os w (FatShape to) structs h
+      given _ g = begun_plain os w (FatShape to) plain h
+  fat_plain (Initial.Given (tree.Number at value suffix)) to h = begun_plain os w (FatShape to) plain h
+  fat_plain (Initial.Given (tree.Negative at value suffix)) to h = begun_plain os w (FatShape to) plain h
+  fat_plain (Initial.Given (tree.Character at byte)) to h = begun_plain os w (FatShape to) plain h
+  fat_plain (Initial.Given (tree.Null at)) to h = begun_plain os w (FatShape to) plain h
+  fat_plain (Initial.Elements count) to h = begun_plain os w (FatShape to) plain h
+  fat_plain Initial.Unset to h = begun_plain os w (FatShape to) plain h
 
-  object_plain : (i : Initial) (s : Shape) → IsObject w.structs s → TakesGlobal s i → IsPlainDatum os (global_datum w i s)
+  object_plain : (i : Initial) (s : Shape) → IsObject w.unions w.structs s → TakesGlobal s i → IsPlainDatum os (global_datum w i s)
   object_plain i IntShape h t = one_part_plain os 4 (Word 0) (global_datum w i IntShape) (inr refl) refl (λ cell. word_plain os w i t)
   object_plain i UnsignedShape h t = one_part_plain os 4 (Word 0) (global_datum w i UnsignedShape) (inr refl) refl (λ cell. unsigned_plain os w i t)
   object_plain i CharShape h t = one_part_plain os 1 (Word 0) (global_datum w i CharShape) (inl refl) refl (λ cell. byte_plain os w i t)
   object_plain i (ThinShape may_be_null owner to) h t =
       one_part_plain os 4 Null (global_datum w i (ThinShape may_be_null owner to)) (inr refl) refl (λ cell. pointer_plain i may_be_null owner to t)
-  object_plain i (StructShape tag) h t = begun_plain os w (StructShape tag) structs h
+  object_plain i (StructShape tag) h t = begun_plain os w (StructShape tag) plain h
   object_plain i (FatShape to) h t = fat_plain i to h
   object_plain i HandleShape h t = absurd (no_handle i t)
+  object_plain i (UnionShape tag) h t = absurd (no_union tag i t)
   object_plain i _ h t = absurd h
 
   -- an object, or an array of objects
-  datum_plain : (i : Initial) (s : Shape) → IsObject w.structs s → TakesGlobal s i → IsPlainDatum os (global_datum w i (global_shape i s))
+  datum_plain : (i : Initial) (s : Shape) → IsObject w.unions w.structs s → TakesGlobal s i → IsPlainDatum os (global_datum w i (global_shape i s))
   datum_plain Initial.Unset s h t = object_plain Initial.Unset s h t
-  datum_plain (Initial.Elements count) s h t = begun_plain os w (ArrayShape count s) structs (global_variable w (Initial.Elements count) s t h)
+  datum_plain (Initial.Elements count) s h t = begun_plain os w (ArrayShape count s) plain (global_variable w (Initial.Elements count) s t h)
   datum_plain (Initial.Given c) s h t = object_plain (Initial.Given c) s h t
 
   -- a string's bytes
@@ -207,10 +221,10 @@ module _ (os : List ℕ) (near : AreNear os) (w : World) (lie : TextsLie (length
   pub data_plain : (items : List Item) (ss : List Literal) → TakesProgram w items → ArePlainData os (heap_data w items ss)
   data_plain [] ss h = strings_plain ss
   data_plain (tree.StructItem s ∷ items) ss h = data_plain items ss h.1
-  data_plain (tree.UnionItem u ∷ items) ss h = absurd h.0
+  data_plain (tree.UnionItem u ∷ items) ss h = data_plain items ss h.1
   data_plain (tree.FunctionItem g ∷ items) ss h = data_plain items ss h.1
   data_plain (tree.GlobalItem g ∷ items) ss h =
-      (datum_plain g.initial (settled (written g.of)) (object_settled w.structs g.of h.0.0) h.0.1, data_plain items ss h.1)
+      (datum_plain g.initial (settled (written g.of)) (object_settled w.unions w.structs g.of h.0.0) h.0.1, data_plain items ss h.1)
 
 -- ---- a program's data
 
@@ -232,7 +246,7 @@ offsets_many low (d ∷ ds) = ap suc (offsets_many (rounded low + bytes_of (datu
 pub program_plain : (p : tree.Program) → IsLowerable p → data_end (program_code p).data_objects ≤ 2 ^ 20
     → ArePlainData (data_offsets (program_code p).data_objects) (program_code p).data_objects
 program_plain p h within =
-    data_plain os near w (subst (λ n. TextsLie n w.strings) (sym (offsets_many 0 ds)) (program_texts p h)) h.structs p (program_strings p) h.items
+    data_plain os near w (subst (λ n. TextsLie n w.strings) (sym (offsets_many 0 ds)) (program_texts p h)) (world_plain p h) p (program_strings p) h.items
   where
     w : World
     w = world_of p

@@ -3,7 +3,7 @@
 use Rattle.std.proofs.Common.{ℕ, suc, ◌+◌, ◌≤◌, List, [], ◌∷◌, length, arith, length-append, ap}
 use Rattle.cyc_tree.specs.Tree.{Expression, Expressions, NoExpressions, MoreExpressions, Links, NoLinks, MoreLinks, Suffixes, NoSuffixes, Index, Dot, Arrow}
 use Rattle.cyc_tree.specs.Tree.{Made, One, Array}
-use Rattle.source_meaning.specs.Shapes.{Shape, Part, part_shapes, parts_of, pointee}
+use Rattle.source_meaning.specs.Shapes.{Shape, Part, part_shape, part_shapes, parts_of, pointee}
 use Rattle.source_meaning.specs.Sizes.{rounded_up}
 use Rattle.source_meaning.specs.Steps.{World}
 use Rattle.source_meaning.specs.Operators.{operator_shape}
@@ -12,11 +12,14 @@ use Rattle.source_meaning.specs.Conversions.{cells_of}
 use Rattle.core_meaning.specs.Core.{Statement}
 use Rattle.source_lowering.specs.Layouts.{extent_of}
 use Rattle.source_lowering.specs.Members.{words_in}
-use Rattle.source_lowering.specs.Lowered.{Named, local_named, prefix_shape, static_shape, suffixed_shape, values_by, expression_values, suffix_values, all_values, link_values, new_values, whole_values, made_values, Left, left_of, member_at, member_behind, element_at, suffixed_code, put_code, place_code, operator_code, truth_code, word_code, address_by, call_parameters, argument_words, expression_code, links_code, all_code, any_code, arguments_code, new_code, whole_code, members_code, number_named}
+use Rattle.source_lowering.specs.Lowered.{Named, local_named, member_number, prefix_shape, static_shape, suffixed_shape, values_by, expression_values}
+use Rattle.source_lowering.specs.Lowered.{suffix_values, all_values, link_values, new_values, whole_values, made_values, Left, left_of, member_at}
+use Rattle.source_lowering.specs.Lowered.{member_behind, element_at, suffixed_code, put_code, place_code, operator_code, truth_code, word_code, address_by}
+use Rattle.source_lowering.specs.Lowered.{call_parameters, argument_words, expression_code, links_code, all_code, any_code, arguments_code, new_code}
+use Rattle.source_lowering.specs.Lowered.{whole_code, members_code, number_named}
 use Rattle.source_lowering.specs.Lowerable.{
   IsTarget,
   AreObjects,
-  AreStructs,
   TakesSuffixes,
   TakesMembers,
   Takes,
@@ -28,14 +31,16 @@ use Rattle.source_lowering.specs.Lowerable.{
   TakesMade,
 }
 use Rattle.source_lowering.proofs.Structs.{struct_made}
+use Rattle.source_lowering.proofs.UnionSizes.{union_of}
 use Rattle.source_lowering.proofs.values.Integers.{value_taken, taken_target}
+use Rattle.source_lowering.proofs.expressions.Names.{IsPlainWorld}
 use Rattle.source_lowering.proofs.expressions.EachCall.{AllValues, call_values}
 use Rattle.compile_proof.specs.Naming.{CodeNames}
 use Rattle.compile_proof.proofs.Naming.{both_name, all_name}
-use Rattle.compile_proof.proofs.StaticShapes.{place_target, shape_taken}
+use Rattle.compile_proof.proofs.StaticShapes.{member_value, place_target, shape_taken}
 use Rattle.compile_proof.proofs.Texts.{text_names}
 use Rattle.compile_proof.proofs.Pointers.{stores_names, LeftNames, member_left, behind_left, element_left, pointed_left, stored_left}
-use Rattle.compile_proof.proofs.MadeNames.{read_names, member_names, made_names, array_names, element_names}
+use Rattle.compile_proof.proofs.MadeNames.{read_names, union_names, member_names, made_names, array_names, element_names}
 use Rattle.source_lowering.proofs.expressions.Homes.{element_values, same_element}
 use Rattle.compile_proof.proofs.Parts.{
   local_lies,
@@ -65,9 +70,10 @@ number_around blocks n w names name t a = record {
 }
 
 -- the code is in blocks that have so many locals each, in a function of so many unnamed values, over so many objects of the data
-module _ (blocks : List ℕ) (own n : ℕ) (w : World) (structs : AreStructs w.unions w.structs) where
+module _ (blocks : List ℕ) (own n : ℕ) (w : World) (plain : IsPlainWorld w) where
   -- a pointer to a variable
-  variable_names : (names : List Named) (around : Around blocks n w names) (name : List ℕ) (d : ℕ) → CodeNames blocks own n (address_by (local_named names name) (bound_to w.globals name) d)
+  variable_names : (names : List Named) (around : Around blocks n w names) (name : List ℕ) (d : ℕ)
+      → CodeNames blocks own n (address_by (local_named names name) (bound_to w.globals name) d)
   variable_names names around name d =
       address_names blocks own n d (local_named names name) (bound_to w.globals name) (local_lies blocks names name around.locals)
       (global_lies n w.globals name around.globals)
@@ -77,7 +83,8 @@ module _ (blocks : List ℕ) (own n : ℕ) (w : World) (structs : AreStructs w.u
   value_target names around e h = taken_target (static_shape w names e) (shape_taken w names around.plain around.words e h)
 
   mutual
-    stored_names : (names : List Named) (around : Around blocks n w names) (e : Expression) (d next : ℕ) → TakesPlace w names e → next + length (expression_values w names e) ≤ own
+    stored_names : (names : List Named) (around : Around blocks n w names) (e : Expression) (d next : ℕ) → TakesPlace w names e
+        → next + length (expression_values w names e) ≤ own
         → CodeNames blocks own n (put_code w names e d next)
     stored_names names around (Expression.Variable name) d next h f =
         put_names blocks own n d (local_named names name.text) (bound_to w.globals name.text) (local_lies blocks names name.text around.locals)
@@ -87,34 +94,40 @@ module _ (blocks : List ℕ) (own n : ℕ) (w : World) (structs : AreStructs w.u
         let s = prefix_shape operator (static_shape w names operand) in
         let p = d + words_in s in
         both_name blocks own n _ _
-        (pointed_names blocks own n w structs operator (static_shape w names operand) p (expression_code w names operand p next) (Takes w names operand) h
+        (pointed_names blocks own n w plain operator (static_shape w names operand) p (expression_code w names operand p next) (Takes w names operand) h
         (λ k. value_target names around operand k) (λ k. expression_names names around operand p next k f)) (stores_names blocks own n s p d 0 0)
     stored_names names around (Expression.Suffixed primary others) d next h f =
         let first = next + length (suffix_values w names others) in
         let many = length-append (suffix_values w names others) (expression_values w names primary) in
-        stored_left blocks own n w structs _ (d + words_in (suffixed_shape w others (static_shape w names primary))) d
-        (primary_names names around others (static_shape w names primary) (λ x. expression_code w names primary x first) (λ x. place_code w names primary x first)
+        stored_left blocks own n w plain _ (d + words_in (suffixed_shape w others (static_shape w names primary))) d
+        (primary_names names around others (static_shape w names primary) (λ x. expression_code w names primary x first)
+        (λ x. place_code w names primary x first)
         primary next h (omega (arith, f, many)) (λ k. value_target names around primary k)
-        (λ k x. expression_names names around primary x first k (omega (arith, f, many))) (λ k x. place_names names around primary x first k (omega (arith, f, many))))
+        (λ k x. expression_names names around primary x first k (omega (arith, f, many)))
+        (λ k x. place_names names around primary x first k (omega (arith, f, many))))
     stored_names names around _ d next h f = absurd h
 
-    pub place_names : (names : List Named) (around : Around blocks n w names) (e : Expression) (d next : ℕ) → TakesPlace w names e → next + length (expression_values w names e) ≤ own
+    pub place_names : (names : List Named) (around : Around blocks n w names) (e : Expression) (d next : ℕ) → TakesPlace w names e
+        → next + length (expression_values w names e) ≤ own
         → CodeNames blocks own n (place_code w names e d next)
     place_names names around (Expression.Variable name) d next h f = variable_names names around name.text d
     place_names names around (Expression.Grouped at inner) d next h f = place_names names around inner d next h f
     place_names names around (Expression.Prefixed at operator operand) d next h f =
-        pointed_names blocks own n w structs operator (static_shape w names operand) d (expression_code w names operand d next) (Takes w names operand) h
+        pointed_names blocks own n w plain operator (static_shape w names operand) d (expression_code w names operand d next) (Takes w names operand) h
         (λ k. value_target names around operand k) (λ k. expression_names names around operand d next k f)
     place_names names around (Expression.Suffixed primary others) d next h f =
         let first = next + length (suffix_values w names others) in
         let many = length-append (suffix_values w names others) (expression_values w names primary) in
-        pointed_left blocks own n w structs _ d
-        (primary_names names around others (static_shape w names primary) (λ x. expression_code w names primary x first) (λ x. place_code w names primary x first)
+        pointed_left blocks own n w plain _ d
+        (primary_names names around others (static_shape w names primary) (λ x. expression_code w names primary x first)
+        (λ x. place_code w names primary x first)
         primary next h (omega (arith, f, many)) (λ k. value_target names around primary k)
-        (λ k x. expression_names names around primary x first k (omega (arith, f, many))) (λ k x. place_names names around primary x first k (omega (arith, f, many))))
+        (λ k x. expression_names names around primary x first k (omega (arith, f, many)))
+        (λ k x. place_names names around primary x first k (omega (arith, f, many))))
     place_names names around _ d next h f = absurd h
 
-    pub expression_names : (names : List Named) (around : Around blocks n w names) (e : Expression) (d next : ℕ) → Takes w names e → next + length (expression_values w names e) ≤ own
+    pub expression_names : (names : List Named) (around : Around blocks n w names) (e : Expression) (d next : ℕ) → Takes w names e
+        → next + length (expression_values w names e) ≤ own
         → CodeNames blocks own n (expression_code w names e d next)
     expression_names names around (Expression.Number at value suffix) d next h f = (tt, tt)
     expression_names names around (Expression.Character at byte) d next h f = (tt, tt)
@@ -132,14 +145,16 @@ module _ (blocks : List ℕ) (own n : ℕ) (w : World) (structs : AreStructs w.u
         both_name blocks own n _ _ (expression_names names around operand d next h f) (count_names blocks own n d)
     expression_names names around (Expression.Grouped at inner) d next h f = expression_names names around inner d next h f
     expression_names names around (Expression.Prefixed at operator operand) d next h f =
-        prefix_names blocks own n w structs operator (static_shape w names operand) d (expression_code w names operand (d + 1) next)
+        prefix_names blocks own n w plain operator (static_shape w names operand) d (expression_code w names operand (d + 1) next)
         (expression_code w names operand d next) (place_code w names operand d next) (Takes w names operand) (TakesPlace w names operand) h
-        (λ k. value_target names around operand k) (λ k. expression_names names around operand (d + 1) next k f) (λ k. expression_names names around operand d next k f)
+        (λ k. value_target names around operand k) (λ k. expression_names names around operand (d + 1) next k f)
+        (λ k. expression_names names around operand d next k f)
         (λ k. place_names names around operand d next k f)
     expression_names names around (Expression.Suffixed primary others) d next h f =
         let first = next + length (suffix_values w names others) in
         let many = length-append (suffix_values w names others) (expression_values w names primary) in
-        (primary_names names around others (static_shape w names primary) (λ x. expression_code w names primary x first) (λ x. place_code w names primary x first)
+        (primary_names names around others (static_shape w names primary) (λ x. expression_code w names primary x first)
+        (λ x. place_code w names primary x first)
         primary next h.0 (omega (arith, f, many)) (λ k. value_target names around primary k)
         (λ k x. expression_names names around primary x first k (omega (arith, f, many)))
         (λ k x. place_names names around primary x first k (omega (arith, f, many)))).value d
@@ -156,75 +171,83 @@ module _ (blocks : List ℕ) (own n : ℕ) (w : World) (structs : AreStructs w.u
         let many = length-append (expression_values w names first) (all_values w names others) in
         let behind = next + length (expression_values w names first) in
         both_name blocks own n _ _
-        (both_name blocks own n _ _ (expression_names names around first d next h.0 (omega (arith, f, many))) (word_names blocks own n (static_shape w names first) d))
-        (both_name blocks own n (all_code w names others d behind) (truth_code d) (each_names names around others d behind h.1 (omega (arith, f, many))) (tt, (tt, tt)))
+        (both_name blocks own n _ _ (expression_names names around first d next h.0 (omega (arith, f, many)))
+        (word_names blocks own n (static_shape w names first) d))
+        (both_name blocks own n (all_code w names others d behind) (truth_code d) (each_names names around others d behind h.1 (omega (arith, f, many)))
+        (tt, (tt, tt)))
     expression_names names around (Expression.AnyOf first others) d next h f =
         let many = length-append (expression_values w names first) (all_values w names others) in
         let behind = next + length (expression_values w names first) in
         both_name blocks own n _ _
-        (both_name blocks own n _ _ (expression_names names around first d next h.0 (omega (arith, f, many))) (word_names blocks own n (static_shape w names first) d))
-        (both_name blocks own n (any_code w names others d behind) (truth_code d) (any_names names around others d behind h.1 (omega (arith, f, many))) (tt, (tt, tt)))
+        (both_name blocks own n _ _ (expression_names names around first d next h.0 (omega (arith, f, many)))
+        (word_names blocks own n (static_shape w names first) d))
+        (both_name blocks own n (any_code w names others d behind) (truth_code d) (any_names names around others d behind h.1 (omega (arith, f, many)))
+        (tt, (tt, tt)))
     expression_names names around (Expression.Assign place value) d next h f =
         let many = length-append (expression_values w names value) (expression_values w names place) in
         both_name blocks own n _ _ (expression_names names around value d next h.1.0 (omega (arith, f, many)))
         (both_name blocks own n _ _
-        (conversion_names blocks own n w structs (static_shape w names place) (static_shape w names value) d
+        (conversion_names blocks own n w plain (static_shape w names place) (static_shape w names value) d
         (place_target w names around.plain around.words place h.0))
         (stored_names names around place d (next + length (expression_values w names value)) h.0 (omega (arith, f, many))))
     expression_names names around _ d next h f = absurd h
 
     -- suffixes on a primary expression
-    primary_names : (names : List Named) (around : Around blocks n w names) (suffixes : Suffixes) (s : Shape) (value pointer : ℕ → List Statement) (primary : Expression) (next : ℕ)
+    primary_names : (names : List Named) (around : Around blocks n w names) (suffixes : Suffixes) (s : Shape) (value pointer : ℕ → List Statement)
+        (primary : Expression) (next : ℕ)
         → TakesSuffixes w names suffixes s (Takes w names primary) (TakesPlace w names primary) → next + length (suffix_values w names suffixes) ≤ own
         → (Takes w names primary → IsTarget s) → (Takes w names primary → (d : ℕ) → CodeNames blocks own n (value d))
         → (TakesPlace w names primary → (d : ℕ) → CodeNames blocks own n (pointer d))
-        → LeftNames blocks own n w structs (suffixed_code w names suffixes (left_of s value pointer) next)
+        → LeftNames blocks own n w plain (suffixed_code w names suffixes (left_of s value pointer) next)
     primary_names names around NoSuffixes s value pointer primary next takes f t v p = absurd takes
     primary_names names around (Index index others) s value pointer primary next takes f t v p =
         let first = next + length (suffix_values w names others) in
         let many = length-append (suffix_values w names others) (expression_values w names index) in
         let code : ℕ → List Statement = λ d. expression_code w names index d first in
         suffixes_names names around others (element_at w (pointee s) code value) next takes.1.1.1 (omega (arith, f, many))
-        (element_left blocks own n w structs (pointee s) code value takes.1.1.0
+        (element_left blocks own n w plain (pointee s) code value takes.1.1.0
         (λ d. expression_names names around index d first takes.1.0 (omega (arith, f, many))) (v takes.0))
     primary_names names around (Dot field others) s value pointer primary next takes f t v p =
         suffixes_names names around others (member_at w s pointer 0 0 field.text) next takes.1.1 f
-        (member_left blocks own n w structs s pointer 0 0 field.text takes.1.0 (p takes.0))
+        (member_left blocks own n w plain s pointer 0 0 field.text takes.1.0 (p takes.0))
     primary_names names around (Arrow field others) s value pointer primary next takes f t v p =
         let left : Left = left_of s value pointer in
         suffixes_names names around others (member_behind w left field.text) next takes.1.1 f
-        (behind_left blocks own n w structs left field.text (t takes.0) takes.1.0 (v takes.0))
+        (behind_left blocks own n w plain left field.text (t takes.0) takes.1.0 (v takes.0))
 
     -- further ones on what they lead to
-    suffixes_names : (names : List Named) (around : Around blocks n w names) (suffixes : Suffixes) (left : Left) (next : ℕ) → TakesMembers w names suffixes left.shape
-        → next + length (suffix_values w names suffixes) ≤ own → LeftNames blocks own n w structs left
-        → LeftNames blocks own n w structs (suffixed_code w names suffixes left next)
+    suffixes_names : (names : List Named) (around : Around blocks n w names) (suffixes : Suffixes) (left : Left) (next : ℕ)
+        → TakesMembers w names suffixes left.shape
+        → next + length (suffix_values w names suffixes) ≤ own → LeftNames blocks own n w plain left
+        → LeftNames blocks own n w plain (suffixed_code w names suffixes left next)
     suffixes_names names around NoSuffixes left next takes f h = h
     suffixes_names names around (Index index others) left next takes f h =
         let first = next + length (suffix_values w names others) in
         let many = length-append (suffix_values w names others) (expression_values w names index) in
         let code : ℕ → List Statement = λ d. expression_code w names index d first in
         suffixes_names names around others (element_at w (pointee left.shape) code left.value) next takes.1.1.1 (omega (arith, f, many))
-        (element_left blocks own n w structs (pointee left.shape) code left.value takes.1.1.0
+        (element_left blocks own n w plain (pointee left.shape) code left.value takes.1.1.0
         (λ d. expression_names names around index d first takes.1.0 (omega (arith, f, many))) h.value)
     suffixes_names names around (Dot field others) left next takes f h =
         suffixes_names names around others (member_at w left.shape left.pointer left.cells left.bytes field.text) next takes.1 f
-        (member_left blocks own n w structs left.shape left.pointer left.cells left.bytes field.text takes.0 h.pointer)
+        (member_left blocks own n w plain left.shape left.pointer left.cells left.bytes field.text takes.0 h.pointer)
     suffixes_names names around (Arrow field others) left next takes f h =
         suffixes_names names around others (member_behind w left field.text) next takes.1.1 f
-        (behind_left blocks own n w structs left field.text h.target takes.1.0 h.value)
+        (behind_left blocks own n w plain left field.text h.target takes.1.0 h.value)
 
-    arguments_name : (names : List Named) (around : Around blocks n w names) (shapes : List Shape) (es : Expressions) (d next : ℕ) → AllValues shapes → TakesAll w names es
+    arguments_name : (names : List Named) (around : Around blocks n w names) (shapes : List Shape) (es : Expressions) (d next : ℕ) → AllValues shapes
+        → TakesAll w names es
         → next + length (all_values w names es) ≤ own → CodeNames blocks own n (arguments_code w names shapes es d next)
     arguments_name names around [] es d next values h f = tt
     arguments_name names around (s ∷ ss) NoExpressions d next values h f = tt
     arguments_name names around (s ∷ ss) (MoreExpressions e es) d next values h f =
         let many = length-append (expression_values w names e) (all_values w names es) in
         both_name blocks own n _ _ (expression_names names around e d next h.0 (omega (arith, f, many)))
-        (both_name blocks own n _ _ (conversion_names blocks own n w structs s (static_shape w names e) d (taken_target s (value_taken s values.0)))
+        (both_name blocks own n _ _ (conversion_names blocks own n w plain s (static_shape w names e) d (taken_target s (value_taken s values.0)))
         (arguments_name names around ss es (d + words_in s) (next + length (expression_values w names e)) values.1 h.1 (omega (arith, f, many))))
 
-    links_name : (names : List Named) (around : Around blocks n w names) (links : Links) (left : Shape) (d next : ℕ) → TakesLinks w names links → next + length (link_values w names links) ≤ own
+    links_name : (names : List Named) (around : Around blocks n w names) (links : Links) (left : Shape) (d next : ℕ) → TakesLinks w names links
+        → next + length (link_values w names links) ≤ own
         → CodeNames blocks own n (links_code w names links left d next)
     links_name names around NoLinks left d next h f = tt
     links_name names around (MoreLinks operator operand others) left d next h f =
@@ -235,7 +258,8 @@ module _ (blocks : List ℕ) (own n : ℕ) (w : World) (structs : AreStructs w.u
         (links_name names around others (operator_shape operator left (static_shape w names operand)) d (next + length (expression_values w names operand)) h.1
         (omega (arith, f, many))))
 
-    each_names : (names : List Named) (around : Around blocks n w names) (es : Expressions) (d next : ℕ) → TakesAll w names es → next + length (all_values w names es) ≤ own
+    each_names : (names : List Named) (around : Around blocks n w names) (es : Expressions) (d next : ℕ) → TakesAll w names es
+        → next + length (all_values w names es) ≤ own
         → CodeNames blocks own n (all_code w names es d next)
     each_names names around NoExpressions d next h f = tt
     each_names names around (MoreExpressions e es) d next h f =
@@ -248,7 +272,8 @@ module _ (blocks : List ℕ) (own n : ℕ) (w : World) (structs : AreStructs w.u
           each_names names around es d (next + length (expression_values w names e)) h.1 (omega (arith, f, many)),
         )
 
-    any_names : (names : List Named) (around : Around blocks n w names) (es : Expressions) (d next : ℕ) → TakesAll w names es → next + length (all_values w names es) ≤ own
+    any_names : (names : List Named) (around : Around blocks n w names) (es : Expressions) (d next : ℕ) → TakesAll w names es
+        → next + length (all_values w names es) ≤ own
         → CodeNames blocks own n (any_code w names es d next)
     any_names names around NoExpressions d next h f = tt
     any_names names around (MoreExpressions e es) d next h f =
@@ -261,10 +286,11 @@ module _ (blocks : List ℕ) (own n : ℕ) (w : World) (structs : AreStructs w.u
           any_names names around es d (next + length (expression_values w names e)) h.1 (omega (arith, f, many)),
         )
 
-    new_names : (names : List Named) (around : Around blocks n w names) (new : Made) (d next : ℕ) → TakesNew w names new → next + length (new_values w names new) ≤ own
+    new_names : (names : List Named) (around : Around blocks n w names) (new : Made) (d next : ℕ) → TakesNew w names new
+        → next + length (new_values w names new) ≤ own
         → CodeNames blocks own n (new_code w names new d next)
     new_names names around (One e) d next h f =
-        made_names blocks own n w structs d next (whole_values w names e) (expression_values w names e) (whole_code w names e (d + 1) next)
+        made_names blocks own n w plain d next (whole_values w names e) (expression_values w names e) (whole_code w names e (d + 1) next)
         (expression_code w names e (d + 1) next) (TakesWhole w names e) (Takes w names e) (λ k room. whole_names names around e (d + 1) next k room)
         (λ k room. expression_names names around e (d + 1) next k room) (static_shape w names e) h.0 h.1 f
     new_names names around (Array index count element) d next h f =
@@ -275,38 +301,52 @@ module _ (blocks : List ℕ) (own n : ℕ) (w : World) (structs : AreStructs w.u
         let many = length-append counted (element_values w names index.text 0 element) in
         let same = ap length (same_element w names index.text 0 (d + 2) element) in
         both_name blocks own n _ _ (expression_names names around count (d + 1) next h.0 (omega (arith, f, many)))
-        (array_names blocks own n w structs (static_shape w inner element) d _ (h.1 (d + 2)).0
-        (element_names blocks own n w structs d first (whole_values w inner element) (expression_values w inner element) (whole_code w inner element (d + 3) first)
+        (array_names blocks own n w plain (static_shape w inner element) d _ (h.1 (d + 2)).0
+        (element_names blocks own n w plain d first (whole_values w inner element) (expression_values w inner element)
+        (whole_code w inner element (d + 3) first)
         (expression_code w inner element (d + 3) first) (TakesWhole w inner element) (Takes w inner element)
         (λ k room. whole_names inner within element (d + 3) first k room) (λ k room. expression_names inner within element (d + 3) first k room)
         (static_shape w inner element) (h.1 (d + 2)).0 (h.1 (d + 2)).1 (omega (arith, f, many, same))))
 
-    -- structs
-    pub whole_names : (names : List Named) (around : Around blocks n w names) (e : Expression) (d next : ℕ) → TakesWhole w names e → next + length (whole_values w names e) ≤ own
+    -- structs and tagged unions
+    pub whole_names : (names : List Named) (around : Around blocks n w names) (e : Expression) (d next : ℕ) → TakesWhole w names e
+        → next + length (whole_values w names e) ≤ own
         → CodeNames blocks own n (whole_code w names e d next)
     whole_names names around (Expression.Call name arguments) d next h f = (
       omega (arith, f),
-      members_names names around (parts_of w.structs name.text) arguments d 0 0 (suc next) (struct_made w.unions w.structs name.text structs).members h.1
+      members_names names around (parts_of w.structs name.text) arguments d 0 0 (suc next) (struct_made w.unions w.structs name.text plain.structs).members h.1
           (omega (arith, f)),
     )
+    whole_names names around (Expression.MakeUnion tag member value) d next h f =
+        let parts = parts_of w.unions tag.text in
+        let s = part_shape parts member.text in
+        let is_value = member_value parts member.text (union_of w.unions tag.text plain.unions h.0).members h.1.0 in (
+          omega (arith, f),
+          both_name blocks own n _ _ (expression_names names around value (d + 1) (suc next) h.1.1 (omega (arith, f)))
+              (union_names blocks own n w plain s (static_shape w names value) (member_number parts member.text) d (taken_target s (value_taken s is_value))),
+        )
     whole_names names around (Expression.Grouped at inner) d next h f = whole_names names around inner d next h f
     whole_names names around (Expression.Variable name) d next h f =
-        read_names blocks own n w structs (static_shape w names (Expression.Variable name)) d next _ h.1 (omega (arith, f)) (variable_names names around name.text d)
+        read_names blocks own n w plain (static_shape w names (Expression.Variable name)) d next _ h.1 (omega (arith, f))
+        (variable_names names around name.text d)
     whole_names names around (Expression.Suffixed primary others) d next h f =
         let first = suc next + length (suffix_values w names others) in
         let many = length-append (suffix_values w names others) (expression_values w names primary) in
-        read_names blocks own n w structs (static_shape w names (Expression.Suffixed primary others)) d next _ h.1 (omega (arith, f))
-        (pointed_left blocks own n w structs _ d
-        (primary_names names around others (static_shape w names primary) (λ x. expression_code w names primary x first) (λ x. place_code w names primary x first)
+        read_names blocks own n w plain (static_shape w names (Expression.Suffixed primary others)) d next _ h.1 (omega (arith, f))
+        (pointed_left blocks own n w plain _ d
+        (primary_names names around others (static_shape w names primary) (λ x. expression_code w names primary x first)
+        (λ x. place_code w names primary x first)
         primary (suc next) h.0 (omega (arith, f, many)) (λ k. value_target names around primary k)
-        (λ k x. expression_names names around primary x first k (omega (arith, f, many))) (λ k x. place_names names around primary x first k (omega (arith, f, many)))))
+        (λ k x. expression_names names around primary x first k (omega (arith, f, many)))
+        (λ k x. place_names names around primary x first k (omega (arith, f, many)))))
     whole_names names around (Expression.Prefixed at operator operand) d next h f =
-        read_names blocks own n w structs (static_shape w names (Expression.Prefixed at operator operand)) d next _ h.1 (omega (arith, f))
-        (pointed_names blocks own n w structs operator (static_shape w names operand) d (expression_code w names operand d (suc next))
+        read_names blocks own n w plain (static_shape w names (Expression.Prefixed at operator operand)) d next _ h.1 (omega (arith, f))
+        (pointed_names blocks own n w plain operator (static_shape w names operand) d (expression_code w names operand d (suc next))
         (Takes w names operand) h.0 (λ k. value_target names around operand k) (λ k. expression_names names around operand d (suc next) k (omega (arith, f))))
     whole_names names around _ d next h f = absurd h
 
-    members_names : (names : List Named) (around : Around blocks n w names) (ps : List Part) (arguments : Expressions) (d cells bytes next : ℕ) → AreObjects w.structs (part_shapes ps)
+    members_names : (names : List Named) (around : Around blocks n w names) (ps : List Part) (arguments : Expressions) (d cells bytes next : ℕ)
+        → AreObjects w.unions w.structs (part_shapes ps)
         → TakesMade w names ps arguments → next + length (made_values w names ps arguments) ≤ own
         → CodeNames blocks own n (members_code w names ps arguments d cells bytes next)
     members_names names around [] arguments d cells bytes next objects h f = tt
@@ -316,8 +356,10 @@ module _ (blocks : List ℕ) (own n : ℕ) (w : World) (structs : AreStructs w.u
         let values = values_by p.shape (whole_values w names first) (expression_values w names first) in
         let many = length-append values (made_values w names ps others) in
         both_name blocks own n _ _
-        (member_names blocks own n w structs d next (whole_values w names first) (expression_values w names first) (whole_code w names first (d + 1) next)
-        (expression_code w names first (d + 1) next) (TakesWhole w names first) (Takes w names first) (λ k room. whole_names names around first (d + 1) next k room)
-        (λ k room. expression_names names around first (d + 1) next k room) p.shape (static_shape w names first) cells at objects.0 h.0 (omega (arith, f, many)))
+        (member_names blocks own n w plain d next (whole_values w names first) (expression_values w names first) (whole_code w names first (d + 1) next)
+        (expression_code w names first (d + 1) next) (TakesWhole w names first) (Takes w names first)
+        (λ k room. whole_names names around first (d + 1) next k room)
+        (λ k room. expression_names names around first (d + 1) next k room) p.shape (static_shape w names first) cells at objects.0 h.0
+        (omega (arith, f, many)))
         (members_names names around ps others d (cells + length (cells_of w p.shape)) (at + (extent_of w p.shape).size) (next + length values) objects.1 h.1
         (omega (arith, f, many)))

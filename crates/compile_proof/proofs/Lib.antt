@@ -8,6 +8,7 @@ pub mod Parts
 pub mod MadeNames
 pub mod Expressions
 pub mod WholeNames
+pub mod Statements
 pub mod Functions
 pub mod Selectable
 pub mod Frames

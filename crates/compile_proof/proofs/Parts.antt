@@ -14,8 +14,11 @@ use Rattle.source_meaning.specs.Calls.{function_of}
 use Rattle.core_meaning.specs.Core.{Operation, LessUnsigned, Apply, Statement, Do, IsNull, SamePlace, Getchar, Putchar}
 use Rattle.core_lines.specs.Selectable.{IsLocal}
 use Rattle.source_lowering.specs.Members.{words_in, raised, reached_code}
-use Rattle.source_lowering.specs.Lowered.{Named, local_named, number_of, get_local, load_global, stored_code, get_by, put_by, address_by, reach_code, loads_code, narrow_code, to_fat_code, to_thin_code, thinned_code, conversion_code, type_of, applied_to, compared_code, fat_code, operator_code, count_code, word_code, not_code, prefix_code, pointed_code, function_call, call_code, Home, InBlock, InTemporary, get_home, put_home, home_address}
-use Rattle.source_lowering.specs.Lowerable.{IsTarget, AreStructs, TakesPrefix, TakesPointer}
+use Rattle.source_lowering.specs.Lowered.{Named, local_named, number_of, get_local, load_global, stored_code, get_by, put_by, address_by, reach_code}
+use Rattle.source_lowering.specs.Lowered.{loads_code, narrow_code, to_fat_code, to_thin_code, thinned_code, conversion_code, type_of, applied_to}
+use Rattle.source_lowering.specs.Lowered.{compared_code, fat_code, operator_code, count_code, word_code, not_code, prefix_code, pointed_code, function_call}
+use Rattle.source_lowering.specs.Lowered.{call_code, Home, InBlock, InTemporary, get_home, put_home, home_address}
+use Rattle.source_lowering.specs.Lowerable.{IsTarget, TakesPrefix, TakesPointer}
 use Rattle.source_lowering.proofs.expressions.Names.{AreObjectNames, IsPlainWorld}
 use Rattle.compile_proof.specs.Naming.{NamesIn, CodeNames}
 use Rattle.compile_proof.proofs.Naming.{both_name, all_name}
@@ -68,7 +71,7 @@ pub record Around (blocks : List ℕ) (objects : ℕ) (w : World) (names : List 
   pub locals : LocalsLie blocks names
   pub globals : GlobalsLie objects w.globals
   pub texts : TextsLie objects w.strings
-  pub words : AreObjectNames w.structs names
+  pub words : AreObjectNames w.unions w.structs names
   pub plain : IsPlainWorld w
 
 -- ---- variables
@@ -128,12 +131,12 @@ module _ (blocks : List ℕ) (own n : ℕ) where
   to_fat_names (ThinShape true owner to) d = (tt, (tt, (tt, (tt, tt))))
   to_fat_names _ d = tt
 
-  module _ (w : World) (structs : AreStructs w.unions w.structs) where
+  module _ (w : World) (plain : IsPlainWorld w) where
     to_thin_names : (may_be_null : Bool) (to : Shape) (d : ℕ) → IsTarget to → CodeNames blocks own n (to_thin_code w may_be_null to d)
-    to_thin_names false to d h = element_names blocks own n w structs to d d h
+    to_thin_names false to d h = element_names blocks own n w plain to d d h
     to_thin_names true to d h =
         let code : List Statement = Do (Apply LessUnsigned (d + 1) (d + 2) (d + 1)) ∷ reached_code w to d d (raised ArrayBounds) in
-        ((all_name blocks own n code (tt, reached_names blocks own n w structs to d d (raised ArrayBounds) h (tt, tt)), tt), tt)
+        ((all_name blocks own n code (tt, reached_names blocks own n w plain to d d (raised ArrayBounds) h (tt, tt)), tt), tt)
 
     thinned_names : (may_be_null : Bool) (to from : Shape) (d : ℕ) → IsTarget to → CodeNames blocks own n (thinned_code w may_be_null to from d)
     thinned_names may_be_null to (FatShape of) d h = to_thin_names may_be_null to d h
@@ -196,7 +199,7 @@ module _ (blocks : List ℕ) (own n : ℕ) where
   not_names _ d = (tt, (tt, tt))
 
   -- an operator on an operand that is taken as a value, or as a place
-  module _ (w : World) (structs : AreStructs w.unions w.structs) where
+  module _ (w : World) (plain : IsPlainWorld w) where
     pub prefix_names : (o : Prefix) (s : Shape) (d : ℕ) (above here place : List Statement) (value pointed : Type 0) → TakesPrefix o s value pointed
         → (value → IsTarget s) → (value → CodeNames blocks own n above) → (value → CodeNames blocks own n here)
         → (pointed → CodeNames blocks own n place) → CodeNames blocks own n (prefix_code w o s d above here place)
@@ -207,14 +210,14 @@ module _ (blocks : List ℕ) (own n : ℕ) where
     prefix_names prefix.Not s d above here place value pointed takes t h g p = both_name blocks own n above (not_code s d) (h takes) (not_names s d)
     prefix_names prefix.Dereference s d above here place value pointed takes t h g p =
         both_name blocks own n (here ++ reach_code w s d) (loads_code (pointee s) d 0 0)
-        (both_name blocks own n here (reach_code w s d) (g takes.0) (reach_names blocks own n w structs s d (t takes.0)))
+        (both_name blocks own n here (reach_code w s d) (g takes.0) (reach_names blocks own n w plain s d (t takes.0)))
         (loads_names blocks own n (pointee s) d 0 0)
     prefix_names prefix.AddressOf s d above here place value pointed takes t h g p = p takes
 
     pub pointed_names : (o : Prefix) (s : Shape) (d : ℕ) (here : List Statement) (value : Type 0) → TakesPointer o value → (value → IsTarget s)
         → (value → CodeNames blocks own n here) → CodeNames blocks own n (pointed_code w o s d here)
     pointed_names prefix.Dereference s d here value takes t h =
-        both_name blocks own n here (reach_code w s d) (h takes) (reach_names blocks own n w structs s d (t takes))
+        both_name blocks own n here (reach_code w s d) (h takes) (reach_names blocks own n w plain s d (t takes))
     pointed_names _ s d here value takes t h = absurd takes
 
   -- ---- calls

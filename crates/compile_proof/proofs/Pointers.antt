@@ -1,5 +1,5 @@
--- The code of values of one word and of three, of fat pointers, and of members and elements names temporaries alone; an element has no more bytes than a word
--- says.
+-- The code of values of one word and of three, of fat pointers, and of members of structs and unions and of elements names temporaries alone; an element has no
+-- more bytes than a word says.
 use Rattle.std.proofs.Common.{ℕ, zero, suc, ◌+◌, List, [], ◌∷◌, ◌++◌, true, false}
 use Rattle.cyc_words.specs.declared.faults.Kind.TheVariants.{NullException, ArrayBounds}
 use Rattle.source_meaning.specs.Shapes.{
@@ -22,6 +22,8 @@ use Rattle.core_meaning.specs.Core.{Statement, Statements, If}
 use Rattle.source_lowering.specs.Lowered.{
   loads_code,
   stores_code,
+  held_loads,
+  held_stores,
   check_code,
   reach_code,
   member_shape,
@@ -34,8 +36,9 @@ use Rattle.source_lowering.specs.Lowered.{
   store_to,
 }
 use Rattle.source_lowering.specs.Members.{all_of, bounds_code, raised, reached_code, element_code, index_code}
-use Rattle.source_lowering.specs.Lowerable.{IsTarget, IsObject, AreStructs}
+use Rattle.source_lowering.specs.Lowerable.{IsTarget, IsObject}
 use Rattle.source_lowering.proofs.values.Integers.{object_target}
+use Rattle.source_lowering.proofs.expressions.Names.{IsPlainWorld}
 use Rattle.compile_proof.specs.Naming.{AreNaming, CodeNames}
 use Rattle.compile_proof.proofs.Naming.{both_name}
 use Rattle.compile_proof.proofs.StaticShapes.{target_small}
@@ -48,6 +51,15 @@ module _ (blocks : List ℕ) (own n : ℕ) where
   pub stores_names : (s : Shape) (p d cells bytes : ℕ) → CodeNames blocks own n (stores_code s p d cells bytes)
   stores_names (FatShape to) p d cells bytes = (tt, (tt, (tt, tt)))
   stores_names _ p d cells bytes = (tt, tt)
+
+  -- the member of a tagged union
+  pub held_names : (s : Shape) (d : ℕ) → CodeNames blocks own n (held_loads s d)
+  held_names (FatShape to) d = (tt, (tt, (tt, tt)))
+  held_names _ d = (tt, tt)
+
+  pub given_names : (s : Shape) (p d : ℕ) → CodeNames blocks own n (held_stores s p d)
+  given_names (FatShape to) p d = (tt, (tt, (tt, tt)))
+  given_names _ p d = (tt, tt)
 
   pub check_names : (s : Shape) (d : ℕ) → CodeNames blocks own n (check_code s d)
   check_names (ThinShape true owner to) d = ((tt, (tt, tt)), tt)
@@ -73,10 +85,10 @@ module _ (blocks : List ℕ) (own n : ℕ) where
 
   -- ---- elements
 
-  module _ (w : World) (structs : AreStructs w.unions w.structs) where
+  module _ (w : World) (plain : IsPlainWorld w) where
     pub reached_names : (to : Shape) (t p : ℕ) (otherwise : Statements) → IsTarget to → AreNaming blocks own n otherwise
         → CodeNames blocks own n (reached_code w to t p otherwise)
-    reached_names to t p otherwise h names = ((tt, names), (target_small w to structs h, tt))
+    reached_names to t p otherwise h names = ((tt, names), (target_small w to plain h, tt))
 
     pub element_names : (to : Shape) (t p : ℕ) → IsTarget to → CodeNames blocks own n (element_code w to t p)
     element_names to t p h =
@@ -94,22 +106,22 @@ module _ (blocks : List ℕ) (own n : ℕ) where
       pub pointer : (d : ℕ) → CodeNames blocks own n (left.pointer d)
       pub target : IsTarget left.shape
 
-    pub member_left : (s : Shape) (pointer : ℕ → List Statement) (cells bytes : ℕ) (f : List ℕ) → IsObject w.structs (member_shape w s f)
+    pub member_left : (s : Shape) (pointer : ℕ → List Statement) (cells bytes : ℕ) (f : List ℕ) → IsObject w.unions w.structs (member_shape w s f)
         → ((d : ℕ) → CodeNames blocks own n (pointer d)) → LeftNames (member_at w s pointer cells bytes f)
     member_left s pointer cells bytes f object names = record {
       value = λ d. both_name blocks own n _ _ (names d) (loads_names (member_shape w s f) d _ _);
       pointer = names;
-      target = object_target w.structs (member_shape w s f) object;
+      target = object_target w.unions w.structs (member_shape w s f) object;
     }
 
     -- of what a value leads to
-    pub behind_left : (left : Left) (f : List ℕ) → IsTarget left.shape → IsObject w.structs (member_shape w (pointee left.shape) f)
+    pub behind_left : (left : Left) (f : List ℕ) → IsTarget left.shape → IsObject w.unions w.structs (member_shape w (pointee left.shape) f)
         → ((d : ℕ) → CodeNames blocks own n (left.value d)) → LeftNames (member_behind w left f)
     behind_left left f target object value =
         member_left (pointee left.shape) (λ d. left.value d ++ reach_code w left.shape d) 0 0 f object
         (λ d. both_name blocks own n _ _ (value d) (reach_names left.shape d target))
 
-    pub element_left : (to : Shape) (index value : ℕ → List Statement) → IsObject w.structs to → ((d : ℕ) → CodeNames blocks own n (index d))
+    pub element_left : (to : Shape) (index value : ℕ → List Statement) → IsObject w.unions w.structs to → ((d : ℕ) → CodeNames blocks own n (index d))
         → ((d : ℕ) → CodeNames blocks own n (value d)) → LeftNames (element_at w to index value)
     element_left to index value object indexed valued = record {
       value = λ d. both_name blocks own n _ _ (pointer d) (loads_names to d 0 0);
@@ -118,7 +130,7 @@ module _ (blocks : List ℕ) (own n : ℕ) where
     }
       where
         target : IsTarget to
-        target = object_target w.structs to object
+        target = object_target w.unions w.structs to object
 
         pointer : (d : ℕ) → CodeNames blocks own n (index d ++ (value (d + 1) ++ index_code w to d))
         pointer d =

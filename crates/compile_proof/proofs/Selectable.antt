@@ -35,7 +35,7 @@ code_of w (r ∷ rs) (suc number) f all e =
 function_selectable : (n : ℕ) (w : World) (f : Routine) → GlobalsLie n w.globals → TextsLie n w.strings → IsPlainWorld w → IsRoutine w f
     → IsSelectableIn n (function_code w f)
 function_selectable n w f globals texts plain is = record {
-  own_layouts = own_layouts w f plain.structs is;
+  own_layouts = own_layouts w f plain is;
   few = omega arith;
   body = have_lines (scope_of n (function_code w f)) (body_code w f) (body_names n w f globals texts plain is) (omega arith) (omega arith);
 }
@@ -48,7 +48,7 @@ selectable p h =
     let n = length (heap_data w p ss) in
     let many = length-append (data_of w p) (map (string_datum w) ss) in
     record {
-      data_layouts = data_layouts w p ss h.structs h.items;
+      data_layouts = data_layouts w p ss (world_plain p h) h.items;
       functions = λ number f is.
           let c = code_of w w.functions number f (routines_are (world_of p) p h.items) is in
           subst (λ (g : Function). IsSelectableIn n g) c.same

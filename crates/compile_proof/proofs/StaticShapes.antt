@@ -1,5 +1,5 @@
 -- The shapes of what is taken: a value's is a word's or a fat pointer's, and what a pointer leads to has no more bytes than a word says.
-use Rattle.std.proofs.Common.{◌≡◌, ⊎_elim, ℕ, ◌<◌, ◌^◌, List, [], ◌∷◌, Bool, true, false, Option, Some, None, refl, sym, subst, arith}
+use Rattle.std.proofs.Common.{◌≡◌, ⊎_elim, ℕ, ◌+◌, ◌<◌, ◌^◌, List, [], ◌∷◌, Bool, true, false, Option, Some, None, refl, sym, subst, arith}
 use Rattle.std.specs.Prelude.{bytes_eq, codes, if◌then◌else◌}
 use Rattle.cyc_tree.specs.declared.expression.Prefix.TheVariants as prefix
 use Rattle.cyc_tree.specs.declared.expression.Operator.TheVariants as operator
@@ -14,11 +14,16 @@ use Rattle.source_meaning.specs.Shapes.{
   FatShape,
   HandleShape,
   StructShape,
+  UnionShape,
   ArrayShape,
+  Part,
   Layout,
   has_tag,
+  part_shape,
+  part_shapes,
   pointee,
 }
+use Rattle.source_meaning.specs.Sizes.{extent_by, largest, no_extent, rounded_up, union_extent}
 use Rattle.source_meaning.specs.Memory.{AsInt, AsUnsigned, AsChar, IntegerType}
 use Rattle.source_meaning.specs.Steps.{Entity, Binding, World, Routine}
 use Rattle.source_meaning.specs.Operators.{operator_shape}
@@ -26,54 +31,76 @@ use Rattle.source_meaning.specs.Places.{bound_to}
 use Rattle.source_meaning.specs.Calls.{number_type, function_of}
 use Rattle.source_meaning.specs.Programs.{integer_shape}
 use Rattle.source_lowering.specs.Layouts.{extent_of}
-use Rattle.source_lowering.specs.Lowered.{Named, local_named, entity_shape, shape_by, named_shape, valued, member_shape, suffixed_shape, result_shape, call_shape, static_shape, new_shape, linked_shape, number_named}
-use Rattle.source_lowering.specs.Lowerable.{IsTarget, IsVariable, AreStructs, Takes, TakesPlace, TakesSuffixes, TakesMembers, TakesLinks, TakesNew}
+use Rattle.source_lowering.specs.Lowered.{Named, local_named, entity_shape, shape_by, named_shape, valued, member_shape, suffixed_shape, result_shape}
+use Rattle.source_lowering.specs.Lowered.{call_shape, static_shape, new_shape, linked_shape, number_named, union_parts}
+use Rattle.source_lowering.specs.Lowerable.{IsTarget, IsValueShape, IsVariable, IsUnionShape, AreValues, IsMember, Takes, TakesPlace, TakesSuffixes}
+use Rattle.source_lowering.specs.Lowerable.{TakesMembers, TakesLinks, TakesNew}
+use Rattle.source_meaning.proofs.Layouts.{no_parts}
 use Rattle.source_lowering.proofs.Structs.{struct_made}
+use Rattle.source_lowering.proofs.UnionSizes.{union_of, union_small}
 use Rattle.source_lowering.proofs.values.Integers.{IsTaken, target_taken, object_target}
 use Rattle.source_lowering.proofs.expressions.Places.{pointee_taken}
 use Rattle.source_lowering.proofs.expressions.Forms.{operator_taken}
+use Rattle.source_lowering.proofs.expressions.UnionMembers.{part_found, value_at}
 use Rattle.source_lowering.proofs.expressions.Names.{AreObjectNames, AreGlobals, IsPlainWorld, FoundFunction, find_function}
 
 -- ---- sizes
 
-pub target_small : (w : World) (s : Shape) → AreStructs w.unions w.structs → IsTarget s → (extent_of w s).size < 2 ^ 32
-target_small w (StructShape tag) structs h =
-    let small = (struct_made w.unions w.structs tag structs).small in omega (arith, small)
-target_small w (ThinShape may_be_null owner to) structs h = omega arith
-target_small w (FatShape to) structs h = omega arith
-target_small w IntShape structs h = omega arith
-target_small w UnsignedShape structs h = omega arith
-target_small w CharShape structs h = omega arith
-target_small w VoidShape structs h = omega arith
-target_small w HandleShape structs h = omega arith
-target_small w _ structs h = absurd h
+pub target_small : (w : World) (s : Shape) → IsPlainWorld w → IsTarget s → (extent_of w s).size < 2 ^ 32
+target_small w (StructShape tag) plain h =
+    let small = (struct_made w.unions w.structs tag plain.structs).small in omega (arith, small)
+target_small w (ThinShape may_be_null owner to) plain h = omega arith
+target_small w (FatShape to) plain h = omega arith
+target_small w IntShape plain h = omega arith
+target_small w UnsignedShape plain h = omega arith
+target_small w CharShape plain h = omega arith
+target_small w VoidShape plain h = omega arith
+target_small w HandleShape plain h = omega arith
+target_small w (UnionShape tag) plain h = by (has_tag w.unions tag) refl
+  where
+    by : (b : Bool) → has_tag w.unions tag ≡ b → (union_extent w.unions tag).size < 2 ^ 32
+    by true e = let small = union_small w.unions tag plain.unions e in omega (arith, small)
+    by false e = subst (λ (ps : List Part). rounded_up (4 + largest (extent_by no_extent no_extent) 0 ps) 4 < 2 ^ 32) (sym (no_parts w.unions tag e))
+        (omega arith)
+target_small w _ plain h = absurd h
+
+-- ---- members of unions
+
+-- each of them is a value
+pub union_values : (w : World) (s : Shape) → IsPlainWorld w → IsUnionShape w.unions s → AreValues (part_shapes (union_parts w s))
+union_values w (UnionShape tag) plain h = (union_of w.unions tag plain.unions h).members
+union_values w _ plain h = absurd h
+
+pub member_value : (ps : List Part) (f : List ℕ) → AreValues (part_shapes ps) → IsMember ps f → IsValueShape (part_shape ps f)
+member_value ps f values h = value_at (part_shapes ps) h.number (part_shape ps f) values (part_found ps f h.number h.is).shape
 
 -- ---- names
 
-variable_target : (structs : List Layout) (s : Shape) → IsVariable structs s → IsTarget (valued s)
-variable_target structs (ArrayShape count of) h = object_target structs of h.1
-variable_target structs s h = object_target structs s h
+variable_target : (unions structs : List Layout) (s : Shape) → IsVariable unions structs s → IsTarget (valued s)
+variable_target unions structs (ArrayShape count of) h = object_target unions structs of h.1
+variable_target unions structs s h = object_target unions structs s h
 
-global_target : (structs : List Layout) (bs : List Binding) (name : List ℕ) → AreGlobals structs bs → IsTarget (valued (entity_shape (bound_to bs name)))
-global_target structs [] name h = tt
-global_target structs (b ∷ bs) name h = by (bytes_eq b.name name) (global_target structs bs name h.1)
+global_target : (unions structs : List Layout) (bs : List Binding) (name : List ℕ) → AreGlobals unions structs bs
+    → IsTarget (valued (entity_shape (bound_to bs name)))
+global_target unions structs [] name h = tt
+global_target unions structs (b ∷ bs) name h = by (bytes_eq b.name name) (global_target unions structs bs name h.1)
   where
     one : IsTarget (valued (entity_shape (Some b.entity)))
-    one = subst (λ (e : Entity). IsTarget (valued (entity_shape (Some e)))) (sym h.0.is) (variable_target structs h.0.shape h.0.is_variable)
+    one = subst (λ (e : Entity). IsTarget (valued (entity_shape (Some e)))) (sym h.0.is) (variable_target unions structs h.0.shape h.0.is_variable)
 
     by : (t : Bool) → IsTarget (valued (entity_shape (bound_to bs name)))
         → IsTarget (valued (entity_shape (if t then Some b.entity else bound_to bs name)))
     by true others = one
     by false others = others
 
-local_target : (structs : List Layout) (ls : List Named) (name : List ℕ) (global : Option Entity) → AreObjectNames structs ls
+local_target : (unions structs : List Layout) (ls : List Named) (name : List ℕ) (global : Option Entity) → AreObjectNames unions structs ls
     → IsTarget (valued (entity_shape global)) → IsTarget (valued (shape_by (local_named ls name) global))
-local_target structs [] name global h g = g
-local_target structs (l ∷ ls) name global h g = by (bytes_eq l.name name) (local_target structs ls name global h.1 g)
+local_target unions structs [] name global h g = g
+local_target unions structs (l ∷ ls) name global h g = by (bytes_eq l.name name) (local_target unions structs ls name global h.1 g)
   where
     by : (t : Bool) → IsTarget (valued (shape_by (local_named ls name) global))
         → IsTarget (valued (shape_by (if t then Some l else local_named ls name) global))
-    by true others = variable_target structs l.shape h.0
+    by true others = variable_target unions structs l.shape h.0
     by false others = others
 
 number_taken : (value : ℕ) (suffix : Bool) → IsTaken (integer_shape (number_type value suffix))
@@ -101,28 +128,28 @@ call_taken w name plain no_tag = by (bytes_eq name (codes "getchar")) (bytes_eq 
 
 -- ---- expressions
 
-module _ (w : World) (names : List Named) (plain : IsPlainWorld w) (words : AreObjectNames w.structs names) where
+module _ (w : World) (names : List Named) (plain : IsPlainWorld w) (words : AreObjectNames w.unions w.structs names) where
   name_target : (name : List ℕ) → IsTarget (valued (named_shape w names name))
-  name_target name = local_target w.structs names name (bound_to w.globals name) words (global_target w.structs w.globals name plain.globals)
+  name_target name = local_target w.unions w.structs names name (bound_to w.globals name) words (global_target w.unions w.structs w.globals name plain.globals)
 
   -- what suffixes lead to is an object
   members_target : (suffixes : Suffixes) (s : Shape) → IsTarget s → TakesMembers w names suffixes s → IsTarget (suffixed_shape w suffixes s)
   members_target NoSuffixes s t h = t
-  members_target (Index index others) s t h = members_target others (pointee s) (object_target w.structs (pointee s) h.1.1.0) h.1.1.1
+  members_target (Index index others) s t h = members_target others (pointee s) (object_target w.unions w.structs (pointee s) h.1.1.0) h.1.1.1
   members_target (Dot f others) s t h =
-      members_target others (member_shape w s f.text) (object_target w.structs (member_shape w s f.text) h.0) h.1
+      members_target others (member_shape w s f.text) (object_target w.unions w.structs (member_shape w s f.text) h.0) h.1
   members_target (Arrow f others) s t h =
-      members_target others (member_shape w (pointee s) f.text) (object_target w.structs (member_shape w (pointee s) f.text) h.1.0) h.1.1
+      members_target others (member_shape w (pointee s) f.text) (object_target w.unions w.structs (member_shape w (pointee s) f.text) h.1.0) h.1.1
 
   suffixed_target : (suffixes : Suffixes) (s : Shape) (value place : Type 0) → TakesSuffixes w names suffixes s value place
       → IsTarget (suffixed_shape w suffixes s)
   suffixed_target NoSuffixes s value place h = absurd h
   suffixed_target (Index index others) s value place h =
-      members_target others (pointee s) (object_target w.structs (pointee s) h.1.1.0) h.1.1.1
+      members_target others (pointee s) (object_target w.unions w.structs (pointee s) h.1.1.0) h.1.1.1
   suffixed_target (Dot f others) s value place h =
-      members_target others (member_shape w s f.text) (object_target w.structs (member_shape w s f.text) h.1.0) h.1.1
+      members_target others (member_shape w s f.text) (object_target w.unions w.structs (member_shape w s f.text) h.1.0) h.1.1
   suffixed_target (Arrow f others) s value place h =
-      members_target others (member_shape w (pointee s) f.text) (object_target w.structs (member_shape w (pointee s) f.text) h.1.0) h.1.1
+      members_target others (member_shape w (pointee s) f.text) (object_target w.unions w.structs (member_shape w (pointee s) f.text) h.1.0) h.1.1
 
   linked_taken : (links : Links) (s : Shape) → IsTaken s → TakesLinks w names links → IsTaken (linked_shape w names links s)
   linked_taken NoLinks s t h = t
@@ -130,8 +157,8 @@ module _ (w : World) (names : List Named) (plain : IsPlainWorld w) (words : AreO
       linked_taken others (operator_shape operator s (static_shape w names operand)) (operator_taken operator s (static_shape w names operand) t) h.1
 
   new_taken : (new : Made) → TakesNew w names new → IsTaken (new_shape w names new)
-  new_taken (One value) h = (refl, object_target w.structs (static_shape w names value) h.0)
-  new_taken (Array index count element) h = object_target w.structs (static_shape w (number_named index.text 0 ∷ names) element) (h.1 0).0
+  new_taken (One value) h = (refl, object_target w.unions w.structs (static_shape w names value) h.0)
+  new_taken (Array index count element) h = object_target w.unions w.structs (static_shape w (number_named index.text 0 ∷ names) element) (h.1 0).0
 
   mutual
     pub place_target : (e : Expression) → TakesPlace w names e → IsTarget (static_shape w names e)

@@ -2,20 +2,22 @@
 use Rattle.std.proofs.Common.{◌≡◌, ℕ, ◌+◌, ◌≤◌, List, length, Bool, true, false, refl, arith, length-append}
 use Rattle.std.specs.Prelude.{if◌then◌else◌}
 use Rattle.cyc_tree.specs.Tree.{Expression}
-use Rattle.source_meaning.specs.Shapes.{Shape, StructShape}
+use Rattle.source_meaning.specs.Shapes.{Shape, StructShape, UnionShape}
 use Rattle.source_meaning.specs.Steps.{World}
 use Rattle.source_lowering.specs.Lowered.{Named, expression_code, expression_values, static_shape}
-use Rattle.source_lowering.specs.Whole.{makes_struct, is_made, whole_values, whole_code, assigned_code, assigned_values, dropped_code, dropped_values, run_code, run_values}
+use Rattle.source_lowering.specs.Whole.{makes_struct, is_made, whole_values, whole_code, assigned_code, assigned_values, dropped_code, dropped_values}
+use Rattle.source_lowering.specs.Whole.{run_code, run_values}
 use Rattle.source_lowering.specs.Programs.{source_code}
-use Rattle.source_lowering.specs.Lowerable.{AreStructs, Takes, TakesWhole, TakesAssigned, TakesDropped, TakesCalled, TakesRun}
+use Rattle.source_lowering.specs.Lowerable.{Takes, TakesWhole, TakesAssigned, TakesDropped, TakesCalled, TakesRun}
 use Rattle.source_lowering.proofs.bounds.WholeObjects.{unmade_place}
+use Rattle.source_lowering.proofs.expressions.Names.{IsPlainWorld}
 use Rattle.compile_proof.specs.Naming.{CodeNames}
 use Rattle.compile_proof.proofs.Naming.{both_name}
 use Rattle.compile_proof.proofs.Layouts.{object_layout}
 use Rattle.compile_proof.proofs.Parts.{Around}
 use Rattle.compile_proof.proofs.Expressions.{place_names, expression_names, whole_names}
 
-module _ (blocks : List ℕ) (own n : ℕ) (w : World) (names : List Named) (structs : AreStructs w.unions w.structs) (around : Around blocks n w names) where
+module _ (blocks : List ℕ) (own n : ℕ) (w : World) (names : List Named) (plain : IsPlainWorld w) (around : Around blocks n w names) where
   -- ---- initializers
 
   pub source_names : (e : Expression) (d next : ℕ) → TakesWhole w names e
@@ -25,25 +27,32 @@ module _ (blocks : List ℕ) (own n : ℕ) (w : World) (names : List Named) (str
     where
       by : (made : Bool) → is_made w e ≡ made → next + length (if made then whole_values w names e else expression_values w names e) ≤ own
           → CodeNames blocks own n (source_code w names made e d next)
-      by true is f = whole_names blocks own n w structs names around e d next h f
-      by false is f = place_names blocks own n w structs names around e d next (unmade_place w names e h is) f
+      by true is f = whole_names blocks own n w plain names around e d next h f
+      by false is f = place_names blocks own n w plain names around e d next (unmade_place w names e h is) f
 
   -- ---- expressions that are statements
 
   assigned_names : (s : Shape) (place value : Expression) (d next : ℕ) → TakesAssigned w names s place value
       → next + length (assigned_values w names s place value) ≤ own → CodeNames blocks own n (assigned_code w names s place value d next)
   assigned_names (StructShape tag) place value d next h f =
-      let l = object_layout w (StructShape tag) structs h.1.1 in
+      let l = object_layout w (StructShape tag) plain h.1.1 in
       let many = length-append (whole_values w names value) (expression_values w names place) in
-      both_name blocks own n _ _ (whole_names blocks own n w structs names around value d next h.1.0 (omega (arith, f, many)))
-      (both_name blocks own n _ _ (place_names blocks own n w structs names around place (d + 1) (next + length (whole_values w names value)) h.0
+      both_name blocks own n _ _ (whole_names blocks own n w plain names around value d next h.1.0 (omega (arith, f, many)))
+      (both_name blocks own n _ _ (place_names blocks own n w plain names around place (d + 1) (next + length (whole_values w names value)) h.0
       (omega (arith, f, many))) ((l.lies, l.full), tt))
-  assigned_names _ place value d next h f = expression_names blocks own n w structs names around (Expression.Assign place value) d next h f
+  assigned_names (UnionShape tag) place value d next h f =
+      let l = object_layout w (UnionShape tag) plain h.1.1 in
+      let many = length-append (whole_values w names value) (expression_values w names place) in
+      both_name blocks own n _ _ (whole_names blocks own n w plain names around value d next h.1.0 (omega (arith, f, many)))
+      (both_name blocks own n _ _ (place_names blocks own n w plain names around place (d + 1) (next + length (whole_values w names value)) h.0
+      (omega (arith, f, many))) ((l.lies, l.full), tt))
+  assigned_names _ place value d next h f = expression_names blocks own n w plain names around (Expression.Assign place value) d next h f
 
   dropped_names : (s : Shape) (e : Expression) (d next : ℕ) → TakesDropped w names s e → next + length (dropped_values w names s e) ≤ own
       → CodeNames blocks own n (dropped_code w names s e d next)
-  dropped_names (StructShape tag) e d next h f = whole_names blocks own n w structs names around e d next h f
-  dropped_names _ e d next h f = expression_names blocks own n w structs names around e d next h f
+  dropped_names (StructShape tag) e d next h f = whole_names blocks own n w plain names around e d next h f
+  dropped_names (UnionShape tag) e d next h f = whole_names blocks own n w plain names around e d next h f
+  dropped_names _ e d next h f = expression_names blocks own n w plain names around e d next h f
 
   pub run_names : (e : Expression) (d next : ℕ) → TakesRun w names e → next + length (run_values w names e) ≤ own
       → CodeNames blocks own n (run_code w names e d next)
@@ -57,6 +66,6 @@ module _ (blocks : List ℕ) (own n : ℕ) (w : World) (names : List Named) (str
       by : (made : Bool) → TakesCalled made (TakesWhole w names e) (Takes w names e)
           → next + length (if made then whole_values w names e else expression_values w names e) ≤ own
           → CodeNames blocks own n (if made then whole_code w names e d next else expression_code w names e d next)
-      by true h f = whole_names blocks own n w structs names around e d next h f
-      by false h f = expression_names blocks own n w structs names around e d next h f
+      by true h f = whole_names blocks own n w plain names around e d next h f
+      by false h f = expression_names blocks own n w plain names around e d next h f
   run_names e d next h f = dropped_names (static_shape w names e) e d next h f

@@ -1,9 +1,9 @@
 -- What holds of all programs that lowering takes.
 use Rattle.std.specs.Prelude.{◌≡◌, ◌≤◌, ◌^◌, []}
 use Rattle.cyc_tree.specs.Tree.{Program}
-use Rattle.source_meaning.specs.Programs.{world_of}
+use Rattle.source_meaning.specs.Programs.{world_of, unions_of}
 use Rattle.core_lines.specs.Statics.{ArePlainData}
-use Rattle.source_lowering.specs.Lowerable.{IsLowerable}
+use Rattle.source_lowering.specs.Lowerable.{HaveFewMembers, IsLowerable}
 use Rattle.source_lowering.specs.Programs.{program_code}
 use Rattle.source_typing.specs.Answers.{program_faults}
 use Rattle.accepted_programs.specs.Supported.{supported}
@@ -21,6 +21,6 @@ pub record AcceptedDoes (p : Program) : Type 0 where
   pub plain : ArePlainData (data_offsets (program_code p).data_objects) (program_code p).data_objects
   pub data_within : data_end (program_code p).data_objects ≤ 2 ^ 20
 
--- that holds of each program of the forms that are taken today in which the rules find no fault
+-- that holds of each program of the forms that are taken today in which the rules find no fault, and whose unions have no more members than a word counts
 abbrev pub AllAcceptedDo : Type 0
-AllAcceptedDo = (p : Program) → program_faults supported p ≡ [] → AcceptedDoes p
+AllAcceptedDo = (p : Program) → program_faults supported p ≡ [] → HaveFewMembers (unions_of p) → AcceptedDoes p

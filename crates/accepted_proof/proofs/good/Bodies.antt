@@ -1,27 +1,30 @@
 -- A statement without fault, where all is known of each name in scope, is in order; and so is the body of a function.
 use Rattle.std.proofs.Common.{◌≡◌, ℕ, Bool, true, false, Some, None, [], refl, subst, ap, ◌∙◌}
 use Rattle.std.specs.Prelude.{◌&&◌, ◌||◌, ◌++◌}
-use Rattle.cyc_tree.specs.Operands.{ExpressionHasOperands, ItemsHaveOperands, StatementHasOperands}
+use Rattle.cyc_tree.specs.Operands.{ClausesHaveOperands, ExpressionHasOperands, ItemsHaveOperands, StatementHasOperands}
 use Rattle.cyc_tree.specs.Places.{expression_place}
-use Rattle.cyc_tree.specs.Tree.{BlockItems, Declare, Execute, Expression, NoItems, Statement}
+use Rattle.cyc_tree.specs.Tree.{BlockItems, Clauses, Declare, Execute, Expression, MoreClauses, NoClauses, NoItems, Statement}
 use Rattle.type_proof.specs.Entries.{IsPlain, IsObjectType}
-use Rattle.type_proof.specs.Judged.{Condition, ItemsJudged, Returned, StatementJudged}
+use Rattle.type_proof.specs.Judged.{ClausesJudged, Condition, ItemsJudged, Returned, StatementJudged, on_union}
 use Rattle.accepted_programs.specs.Supported.{supported}
 use Rattle.source_typing.specs.Conversions.{converts}
 use Rattle.source_typing.specs.Declarations.{declare}
 use Rattle.source_typing.specs.Expressions.{judge}
 use Rattle.source_typing.specs.Faults.{type_rule}
 use Rattle.source_typing.specs.Scope.{Env, Value, block_entered}
-use Rattle.source_typing.specs.Statements.{condition, condition_faults, in_a_loop, items_faults, returned, statement_faults}
-use Rattle.source_typing.specs.Taken.{declaration_taken, items_taken, statement_taken, taken}
-use Rattle.source_typing.specs.Types.{Fat, Handle, Char, Int, StaticType, Struct, Thin, Union, Unsigned, Void, is_testable}
+use Rattle.source_typing.specs.Statements.{Chosen, clause_scope, clauses_faults, condition, condition_faults, in_a_loop}
+use Rattle.source_typing.specs.Statements.{in_a_switch, items_faults, returned, statement_faults}
+use Rattle.source_typing.specs.Named.{AllBelow}
+use Rattle.source_typing.specs.Taken.{clauses_taken, declaration_taken, items_taken, statement_taken, taken}
+use Rattle.source_typing.specs.Types.{Fat, Handle, Char, Int, StaticType, Struct, Thin, Union, Unique, Unsigned, Void, is_testable}
 use Rattle.source_typing.specs.Verdicts.{Faulty, Of, Unjudged, Verdict, after, faults_of, if_fits}
 use Rattle.source_typing.specs.Ways.{ways_of}
 use Rattle.source_typing.proofs.Inversion.{none_of_both, test_is}
 use Rattle.source_typing.proofs.TakenExpressions.{after_clean}
 use Rattle.accepted_proof.specs.Good.{BodiesJudged, ExpressionsJudged, IsGood}
-use Rattle.accepted_proof.proofs.good.Scopes.{good_block, good_loop}
+use Rattle.accepted_proof.proofs.good.Scopes.{good_block, good_loop, good_switch}
 use Rattle.accepted_proof.proofs.good.Declarations.{converted_is, declaration_good, expression_good}
+use Rattle.accepted_proof.proofs.good.Switches.{ClauseClean, GoodPattern, GoodSwitch, SwitchClean, clause_clean, clauses_on, pattern_good, switch_clean, switch_good}
 
 -- ---- conditions and results
 
@@ -39,6 +42,7 @@ returned_clean g at Char (Faulty f fs) h e = absurd cc
 returned_clean g at Void (Faulty f fs) h e = absurd cc
 returned_clean g at (Thin b r t) (Faulty f fs) h e = absurd cc
 returned_clean g at (Fat r t) (Faulty f fs) h e = absurd cc
+returned_clean g at (Unique b t) (Faulty f fs) h e = absurd cc
 returned_clean g at (Struct tag rs) (Faulty f fs) h e = absurd cc
 returned_clean g at (Union tag rs) (Faulty f fs) h e = absurd cc
 returned_clean g at (Handle r) (Faulty f fs) h e = absurd cc
@@ -53,6 +57,7 @@ returned_object g at Char v h e = (h, e)
 returned_object g at Void v h e = absurd cc
 returned_object g at (Thin b r t) v h e = (h, e)
 returned_object g at (Fat r t) v h e = (h, e)
+returned_object g at (Unique b t) v h e = (h, e)
 returned_object g at (Struct tag rs) v h e = (h, e)
 returned_object g at (Union tag rs) v h e = (h, e)
 returned_object g at (Handle r) v h e = (h, e)
@@ -66,6 +71,7 @@ nothing_returned g at Unsigned h e = absurd cc
 nothing_returned g at Char h e = absurd cc
 nothing_returned g at (Thin b r t) h e = absurd cc
 nothing_returned g at (Fat r t) h e = absurd cc
+nothing_returned g at (Unique b t) h e = absurd cc
 nothing_returned g at (Struct tag rs) h e = absurd cc
 nothing_returned g at (Union tag rs) h e = absurd cc
 nothing_returned g at (Handle r) h e = absurd cc
@@ -126,7 +132,15 @@ module _ (expressions : ExpressionsJudged) where
         let j : statement_taken supported x ≡ x = cc in
         let z = none_of_both (condition_faults g e) (statement_faults (in_a_loop g) c x) p in
         (condition_good e g h i o.0 z.0, statement_good x (in_a_loop g) c r k f (good_loop g h) j o.1 z.1)
-    statement_good (Statement.Switch at e cs) g c r k f h t o p = absurd cc
+    statement_good (Statement.Switch at e cs) g c r k f h t o p =
+        let i : taken supported e ≡ e = cc in
+        let j : clauses_taken supported cs ≡ cs = cc in
+        let z : SwitchClean g c at e cs = switch_clean g c at e cs p in
+        let s : GoodSwitch g e cs = switch_good g at e cs (expression_good expressions e g h i o.0 z.place) z.own in (
+          s.switching,
+          clauses_good cs (in_a_switch g) c (on_union s.switching) r k f (good_switch g h) s.below j o.1
+              (clauses_on g c at e cs s.switching z),
+        )
     statement_good (Statement.Break at) g c r k f h t o p = test_is (g.in_loop || g.in_switch) type_rule at p
     statement_good (Statement.Continue at) g c r k f h t o p = test_is g.in_loop type_rule at p
     statement_good (Statement.Return at None) g c r k f h t o p =
@@ -153,6 +167,24 @@ module _ (expressions : ExpressionsJudged) where
         let d : Bool = c && (ways_of x).falls in
         let z = none_of_both (statement_faults g c x) (items_faults g d others) p in
         (statement_good x g c r k f h i o.0 z.0, items_good others g d r k f h j o.1 z.1)
+
+    clauses_good : (x : Clauses) (g : Env) (c : Bool) (u : Chosen) (r : StaticType) → IsPlain r → g.result ≡ Some r → IsGood g
+        → AllBelow g.regions.count u.regions
+        → clauses_taken supported x ≡ x
+        → ClausesHaveOperands x
+        → clauses_faults g c (Some u) x ≡ []
+        → ClausesJudged g c u x
+    clauses_good NoClauses g c u r k f h b t o p = tt
+    clauses_good (MoreClauses at pattern body others) g c u r k f h b t o p =
+        let i : items_taken supported body ≡ body = cc in
+        let j : clauses_taken supported others ≡ others = cc in
+        let z : ClauseClean g c u pattern body others = clause_clean g c u at pattern body others p in
+        let a : GoodPattern g u pattern = pattern_good g u pattern h b z.names in (
+          z.falls,
+          a.judged,
+          items_good body (clause_scope g (Some u) pattern) c r k (a.result ∙ f) a.good i o.0 z.body_clean,
+          clauses_good others g c u r k f h b j o.1 z.others_clean,
+        )
 
   -- the body of each function in which the rules find no fault
   pub bodies_judged : BodiesJudged

@@ -1,6 +1,6 @@
 -- A declaration of a local, of an array or of a lexical region without fault, where all is known of each name in scope: it is in order, and all is known after
 -- it.
-use Rattle.std.proofs.Common.{◌≡◌, ℕ, Bool, true, false, Some, None, [], refl, sym, subst, ap, ◌∙◌, arith}
+use Rattle.std.proofs.Common.{◌≡◌, ℕ, Bool, true, false, Option, Some, None, [], refl, sym, subst, ap, ◌∙◌, arith}
 use Rattle.std.specs.Prelude.{◌&&◌, ◌++◌}
 use Rattle.std.proofs.lemmas.Bool.{and_parts}
 use Rattle.cyc_tree.specs.Operands.{DeclarationHasOperands, ExpressionHasOperands}
@@ -28,12 +28,14 @@ use Rattle.source_typing.specs.Types.{Handle, StaticType}
 use Rattle.source_typing.specs.Verdicts.{Of, Verdict, faults_of}
 use Rattle.source_typing.proofs.Converting.{broken_is, conversion_is}
 use Rattle.source_typing.proofs.Inversion.{none_of_both}
-use Rattle.accepted_proof.specs.Good.{ExpressionsJudged, IsGood, IsGoodValue, Surely}
+use Rattle.accepted_proof.specs.Good.{ExpressionsJudged, IsGood, IsGoodValue, IsStructTag, NamesStructs, Surely}
+use Rattle.accepted_proof.proofs.kinds.Perhaps.{perhaps_is}
+use Rattle.accepted_proof.proofs.kinds.Types.{set_named, unset_named}
 use Rattle.accepted_proof.proofs.Sure.{surely_is}
 use Rattle.accepted_proof.proofs.Wider.{IsWithin, taken_within}
-use Rattle.accepted_proof.proofs.StructMembers.{no_union_good, struct_members, tables_good}
+use Rattle.accepted_proof.proofs.StructMembers.{struct_members}
 use Rattle.accepted_proof.proofs.good.Scopes.{good_array, good_local, good_region, one_more}
-use Rattle.accepted_proof.proofs.good.Locals.{IsLocalType, local_begins, local_shape, set_good, unset_good}
+use Rattle.accepted_proof.proofs.good.Locals.{IsLocalType, local_begins, set_good, unset_good, unset_shape}
 
 -- ---- expressions
 
@@ -71,7 +73,7 @@ module _ (expressions : ExpressionsJudged) where
           judged = z.1;
           is_taken = taken_within supported safe_forms supported_are_safe e t;
           operands = o;
-          members = struct_members e g (no_union_good g.regions.count g.tables (tables_good g h));
+          members = struct_members e g h.kinds;
         };
         good = z.2;
       }
@@ -96,17 +98,29 @@ local_taken false g at d e p q = absurd (by (subst (λ z. (declare g z).faults �
 
 -- ---- locals
 
+-- the structs that its type names
+unset_kind : (g : Env) (t : TypeName) (count : Option ℕ) (u : StaticType) → IsGood g → unset_type g t count ≡ Of u → NamesStructs (IsStructTag g.tables) u
+unset_kind g t count u h e =
+    perhaps_is (λ z. NamesStructs (IsStructTag g.tables) z) (unset_type g t count) u (unset_named (IsStructTag g.tables) g t count h.kinds) e
+
 unset_declared : (g : Env) (t : TypeName) (x : tree.Name) → IsGood g → takes_type supported t ≡ true
     → (declare g (tree.Local t x Initializer.Unset)).faults ≡ []
     → GoodDeclaration g (tree.Local t x Initializer.Unset)
 unset_declared g t x h e p =
     let f = none_of_both (faults_of (unset_type g t None)) (second g x) p in
-    let z = surely_is (λ u. IsLocalType g t false u) (unset_type g t None) (unset_good g t None h e) f.0 in
+    let z = surely_is (λ u. IsLocalType g t false None u) (unset_type g t None) (unset_good g t None h e) f.0 in
     let scope : (declare g (tree.Local t x Initializer.Unset)).scope ≡ extended g x z.0 =
     ap (λ v. with_local x (what_of g.frame None v) g) z.1 ∙ one_more x (Stored z.0 g.frame) g f.1 in
     record {
-      judged = record { type = z.0; object = z.2.object; below = z.2.below; begins = local_begins g t z.0 z.2; shape = z.2.shape; scope = scope };
-      good = subst (λ s. IsGood s) (sym scope) (good_local x z.0 g z.2.object z.2.below h);
+      judged = record {
+        type = z.0;
+        object = z.2.object;
+        below = z.2.below;
+        begins = local_begins g t z.0 z.2;
+        shape = unset_shape g t z.0 z.2;
+        scope = scope;
+      };
+      good = subst (λ s. IsGood s) (sym scope) (good_local x z.0 g z.2.object z.2.below (unset_kind g t None z.0 h z.1) h);
       result = ap (λ (s : Env). s.result) scope;
     }
 
@@ -116,12 +130,19 @@ array_declared : (g : Env) (t : TypeName) (x : tree.Name) (n : ℕ) → IsGood g
     → GoodDeclaration g (tree.Local t x (Initializer.Elements n))
 array_declared g t x n h e p =
     let f = none_of_both (faults_of (unset_type g t (Some n))) (second g x) p in
-    let z = surely_is (λ u. IsLocalType g t false u) (unset_type g t (Some n)) (unset_good g t (Some n) h e) f.0 in
+    let z = surely_is (λ u. IsLocalType g t false None u) (unset_type g t (Some n)) (unset_good g t (Some n) h e) f.0 in
     let scope : (declare g (tree.Local t x (Initializer.Elements n))).scope ≡ arrayed g x z.0 =
     ap (λ v. with_local x (what_of g.frame (Some n) v) g) z.1 ∙ one_more x (Arrayed z.0 g.frame) g f.1 in
     record {
-      judged = record { type = z.0; object = z.2.object; below = z.2.below; begins = local_begins g t z.0 z.2; shape = z.2.shape; scope = scope };
-      good = subst (λ s. IsGood s) (sym scope) (good_array x z.0 g z.2.object z.2.below h);
+      judged = record {
+        type = z.0;
+        object = z.2.object;
+        below = z.2.below;
+        begins = local_begins g t z.0 z.2;
+        shape = unset_shape g t z.0 z.2;
+        scope = scope;
+      };
+      good = subst (λ s. IsGood s) (sym scope) (good_array x z.0 g z.2.object z.2.below (unset_kind g t (Some n) z.0 h z.1) h);
       result = ap (λ (s : Env). s.result) scope;
     }
 
@@ -135,8 +156,10 @@ set_declared g t x e h k a p q =
     let f : set_faults g (Of v) (set_type g t (Of v)) ≡ [] = subst (λ w. set_faults g w (set_type g t w) ≡ []) a.accepted.judged p in
     let b = none_of_both (faults_of (set_type g t (Of v)) ++ []) (converted_to g (Of v) (set_type g t (Of v))) f in
     let c = none_of_both (faults_of (set_type g t (Of v))) [] b.0 in
-    let z = surely_is (λ u. IsLocalType g t true u) (set_type g t (Of v)) (set_good g t v h a.good.type a.good.below k) c.0 in
+    let z = surely_is (λ u. IsLocalType g t true (Some v.type) u) (set_type g t (Of v)) (set_good g t v h a.good.type a.good.below k) c.0 in
     let d : converts g v z.0 ≡ [] = subst (λ w. converted_to g (Of v) w ≡ []) z.1 b.1 in
+    let kind : NamesStructs (IsStructTag g.tables) z.0 =
+    perhaps_is (λ u. NamesStructs (IsStructTag g.tables) u) (set_type g t (Of v)) z.0 (set_named (IsStructTag g.tables) g t (Of v) h.kinds) z.1 in
     let type_is : set_type g t (judge g e) ≡ Of z.0 = ap (λ w. set_type g t w) a.accepted.judged ∙ z.1 in
     let scope : (declare g (tree.Local t x (Initializer.Value e))).scope ≡ extended g x z.0 =
     ap (λ fs. with_local x (what_after fs (what_of g.frame None (set_type g t (judge g e)))) g) p
@@ -147,10 +170,10 @@ set_declared g t x e h k a p q =
         object = z.2.object;
         below = z.2.below;
         fitting = record { accepted = a.accepted; converts = converted_is g v z.0 d };
-        shape = local_shape g t z.0 v.type z.2 a.good.type;
+        shape = z.2.shape;
         scope = scope;
       };
-      good = subst (λ s. IsGood s) (sym scope) (good_local x z.0 g z.2.object z.2.below h);
+      good = subst (λ s. IsGood s) (sym scope) (good_local x z.0 g z.2.object z.2.below kind h);
       result = ap (λ (s : Env). s.result) scope;
     }
 
@@ -169,7 +192,7 @@ region_good g at r x h p =
     let scope : (declare g (tree.Region at r x)).scope ≡ extended inside x t = opened ∙ ap (λ z. extended z x t) same in
     record {
       judged = opened;
-      good = subst (λ s. IsGood s) (sym scope) (good_local x t inside tt (omega arith) (good_region r g h));
+      good = subst (λ s. IsGood s) (sym scope) (good_local x t inside tt (omega arith) tt (good_region r g h));
       result = ap (λ (s : Env). s.result) scope;
     }
 

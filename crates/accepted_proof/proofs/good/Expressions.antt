@@ -1,12 +1,12 @@
 -- Each expression of the forms that are taken is at fault or in order, where all is known of each name in scope.
-use Rattle.std.proofs.Common.{◌≡◌, ℕ, Bool, true, false, List, [], ◌∷◌, refl, sym, subst}
+use Rattle.std.proofs.Common.{◌≡◌, ℕ, Bool, true, false, List, refl, sym, subst}
 use Rattle.std.specs.Prelude.{◌&&◌}
 use Rattle.cyc_tree.specs.declared.expression.Operator.{Operator}
 use Rattle.cyc_tree.specs.Tree.{Array, Arrow, Dot, Expression, Expressions, Index, Links, Made, MoreExpressions, MoreLinks, Name, NoExpressions, NoLinks}
 use Rattle.cyc_tree.specs.Tree.{NoSuffixes, One, Suffixes}
 use Rattle.source_meaning.specs.Calls.{number_type}
 use Rattle.source_meaning.specs.Expressions.{is_unique_region}
-use Rattle.source_typing.specs.Calls.{called, target}
+use Rattle.source_typing.specs.Calls.{called, target, union_made, union_tag}
 use Rattle.source_typing.specs.Expressions.{judge, judge_all, judge_links, judge_made_in, judge_suffixes, judge_tests, number_typed}
 use Rattle.source_typing.specs.Fixing.{more}
 use Rattle.source_typing.specs.Making.{Goal, To, elements, goal_of, inside, with_counter}
@@ -26,12 +26,15 @@ use Rattle.type_proof.proofs.expressions.Fixed.{ValuesBelow}
 use Rattle.type_proof.proofs.expressions.Integers.{type_integer}
 use Rattle.accepted_proof.specs.Good.{ExpressionsJudged, IsGood, IsGoodValue, IsValueType, SeatBelow, Surely}
 use Rattle.accepted_proof.proofs.good.Names.{
+  IsGoodMember,
   IsGoodPlace,
   IsGoodResult,
   IsGoodTarget,
   called_judged,
   found_good,
   target_judged,
+  union_judged,
+  union_made_judged,
 }
 use Rattle.accepted_proof.proofs.good.Scopes.{good_counter, good_inside}
 use Rattle.accepted_proof.proofs.good.Makings.{IsGoal, IsKnownOperand, array_good, array_there, elements_good, handle_good, made_good}
@@ -94,6 +97,13 @@ module _ (g : Env) (good : IsGood g) where
       (target_judged g.regions.count x.at (meant g x.text) (found_good g.regions.count (in_scope g) x.text good.names)) h
       (λ u vs c d. surely_also (λ v. IsGoodResult g.regions.count v) (λ v. IsGoodValue g v) (called g x.at u vs)
       (called_judged g x.at u vs good.enclosing c d) (valued g))
+
+  union_good : (tag f : Name) (e : Expression) → Judged e → Judged (Expression.MakeUnion tag f e)
+  union_good tag f e h =
+      surely_both (λ m. IsGoodMember m) (λ v. IsGoodValue g v) (λ v. IsGoodValue g v) (union_tag tag f (meant g tag.text)) (judge g e) (union_made g tag.at)
+      (union_judged g.regions.count tag f (meant g tag.text) (found_good g.regions.count (in_scope g) tag.text good.names)) h
+      (λ m a c d. surely_also (λ v. IsGoodResult g.regions.count v) (λ v. IsGoodValue g v) (union_made g tag.at m a)
+      (union_made_judged g tag.at m a good.enclosing c (d.below, tt)) (valued g))
 
   -- ---- several operands
 
@@ -202,7 +212,7 @@ not_unique (Expression.HeapRegion at) h = refl
 not_unique (Expression.UniqueRegion at) h = h
 not_unique (Expression.Variable x) h = refl
 not_unique (Expression.Call x es) h = refl
-not_unique (Expression.MakeUnion tag f e) h = refl
+not_unique (Expression.MakeUnion tag f e) h = no_unique supported.unions tag.at (Expression.MakeUnion tag f (kept e)) refl
 not_unique (Expression.NumElts at e) h = refl
 not_unique (Expression.Grouped at e) h = not_unique e h
 not_unique (Expression.Suffixed e es) h =
@@ -254,7 +264,8 @@ mutual
   expression_judged (Expression.Variable x) g good = variable_good g good x
   expression_judged (Expression.Call x es) g good =
       call_good g good x (all_taken supported es) (arguments_good g good (all_taken supported es) (each_judged es g good))
-  expression_judged (Expression.MakeUnion tag f e) g good = tt
+  expression_judged (Expression.MakeUnion tag f e) g good =
+      if_kept g good supported.unions tag.at (Expression.MakeUnion tag f (kept e)) (union_good g good tag f (kept e) (expression_judged e g good))
   expression_judged (Expression.NumElts at e) g good =
       if_kept g good supported.arrays at (Expression.NumElts at (kept e))
       (surely_after (λ v. IsGoodValue g v) (λ v. IsGoodValue g v) (judge g (kept e)) (counted at) (expression_judged e g good)

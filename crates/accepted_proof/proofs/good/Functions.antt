@@ -15,18 +15,19 @@ use Rattle.accepted_programs.specs.Supported.{supported}
 use Rattle.source_typing.specs.Named.{AllBelow, BoundsBelow, TypeBelow, TypesBelow}
 use Rattle.type_proof.specs.Programs.{FunctionJudged, name_alone, with_all}
 use Rattle.source_typing.specs.Faults.{name_rule, own_after, test, type_rule}
-use Rattle.source_typing.specs.Functions.{Head, body_scope, end_reached, function_faults, function_scope, head_of, needs_return, with_parameters}
+use Rattle.source_typing.specs.Functions.{Head, body_scope, end_reached, function_faults, function_scope, head_of, needs_return, variables, with_parameters}
 use Rattle.source_typing.specs.Left.{body_flow}
 use Rattle.source_typing.specs.Regions.{TheHeap, entry_regions}
 use Rattle.source_typing.specs.Scope.{Env, at_item, is_second, with_local}
 use Rattle.source_typing.specs.Statements.{items_faults}
-use Rattle.source_typing.specs.Tables.{Arrayed, Counter, Entry, OfBuiltin, OfFunction, OfOther, OfTag, OfValue, Signature, Stored, Tables, Unknown}
+use Rattle.source_typing.specs.Tables.{Arrayed, Counter, Entry, OfBuiltin, OfFunction, OfOther, OfTag, OfValue, Signature, Stored, Tables, Unknown, find}
 use Rattle.source_typing.specs.Tags.{is_named, repeated}
 use Rattle.source_typing.specs.Taken.{function_taken}
 use Rattle.source_typing.specs.Types.{Int, StaticType, Void, is_void}
 use Rattle.source_typing.specs.Ways.{ways_of_items}
 use Rattle.source_typing.proofs.Inversion.{none_of_both, own_is, test_is}
-use Rattle.accepted_proof.specs.Good.{AllGood, BodiesJudged, IsGood, IsGoodEntry}
+use Rattle.accepted_proof.specs.Good.{AllGood, BodiesJudged, IsGood, IsGoodEntry, IsStructTag, MeansNamed}
+use Rattle.accepted_proof.proofs.kinds.Types.{TypesName, parameters_named, structs_known}
 use Rattle.accepted_proof.proofs.good.Scopes.{good_local, one_more}
 use Rattle.accepted_proof.proofs.HeadTypes.{below_more, object_more}
 use Rattle.accepted_proof.proofs.good.Types.{good_tags}
@@ -62,11 +63,12 @@ same_scope (m ∷ ms) before (t ∷ ts) g r h =
     ap (λ (z : Env). with_parameters ms (map (λ t. Some t) ts) z) s
     ∙ same_scope ms (m ∷ before) ts (extended g m.name t) e.1 (with_one m before t g h)
 
-all_good : (ps : List Part) (ts : List StaticType) (g : Env) → AreObjects ts → TypesBelow g.regions.count ts → IsGood g → IsGood (with_all ps ts g)
-all_good [] ts g w b h = h
-all_good (p ∷ ps) [] g w b h = h
-all_good (p ∷ ps) (t ∷ ts) g w b h =
-    all_good ps ts (extended g (name_alone p.name) t) w.1 b.1 (good_local (name_alone p.name) t g w.0 b.0 h)
+all_good : (ps : List Part) (ts : List StaticType) (g : Env) → AreObjects ts → TypesBelow g.regions.count ts → TypesName (IsStructTag g.tables) ts → IsGood g
+    → IsGood (with_all ps ts g)
+all_good [] ts g w b k h = h
+all_good (p ∷ ps) [] g w b k h = h
+all_good (p ∷ ps) (t ∷ ts) g w b k h =
+    all_good ps ts (extended g (name_alone p.name) t) w.1 b.1 k.1 (good_local (name_alone p.name) t g w.0 b.0 k.0 h)
 
 pub all_result : (ps : List Part) (ts : List StaticType) (g : Env) → (with_all ps ts g).result ≡ g.result
 all_result [] ts g = refl
@@ -93,6 +95,10 @@ tables_more n (x ∷ xs) h = (entry_more n x.entry h.0, tables_more n xs h.1)
 
 -- ---- the scope around its block
 
+-- all tags are known, structs' and unions'
+abbrev pub KindsKnown : Tables → Type 0
+KindsKnown g = (x : List ℕ) → MeansNamed (IsStructTag g) x (find g x)
+
 -- the scope around a function's block
 abbrev outside : Tables → ℕ → Head → Env
 outside g i h = record (at_item false g i) {
@@ -102,8 +108,8 @@ outside g i h = record (at_item false g i) {
 }
 
 -- where all is known of each global, whose types name no region but the heap
-outside_good : (g : Tables) (i : ℕ) (f : tree.Function) → AllGood 0 g → HeadGood g f → IsGood (function_scope false g i (head_of false g f))
-outside_good g i f a k =
+outside_good : (g : Tables) (i : ℕ) (f : tree.Function) → AllGood 0 g → KindsKnown g → HeadGood g f → IsGood (function_scope false g i (head_of false g f))
+outside_good g i f a kinds k =
     let h : Head = head_of false g f in
     let n : ℕ = h.signature.regions in
     record {
@@ -111,6 +117,8 @@ outside_good g i f a k =
       regions = names_up n h.names k.names;
       frame = omega arith;
       enclosing = record { region = TheHeap; is = refl; below = tt };
+      kinds = record { tables = kinds; locals = tt };
+      blocks = tt;
     }
 
 -- ---- what is known of it
@@ -125,10 +133,10 @@ pub record FunctionGood (g : Tables) (i : ℕ) (f : tree.Function) : Type 0 wher
   pub flow : body_flow (with_all (map part_of f.parameters) head.signature.types (function_scope false g i (head_of false g f))) f ≡ []
 
 module _ (bodies : BodiesJudged) where
-  pub function_good : (g : Tables) (i : ℕ) (f : tree.Function) → AllGood 0 g → function_taken supported f ≡ f → ItemsHaveOperands f.body
+  pub function_good : (g : Tables) (i : ℕ) (f : tree.Function) → AllGood 0 g → KindsKnown g → function_taken supported f ≡ f → ItemsHaveOperands f.body
       → function_faults false g i f ≡ [] → body_flow (body_scope false g i f (head_of false g f)) f ≡ []
       → FunctionGood g i f
-  function_good g i f a t o p flow =
+  function_good g i f a kinds t o p flow =
       let h : Head = head_of false g f in
       let s : Env = body_scope false g i f h in
       let q : (h.faults ≡ []) × (own_after (test (not (end_reached f h)) type_rule f.end) (items_faults s true f.body) ≡ []) =
@@ -143,7 +151,9 @@ module _ (bodies : BodiesJudged) where
       ∙ same_scope f.parameters [] k.signature.types inside k.once (λ x e. refl) in
       let scope : IsGood all =
       all_good (map part_of f.parameters) k.signature.types inside k.signature.objects
-      (types_up h.signature.regions k.signature.types k.signature.types_below) (outside_good g i f a k) in
+      (types_up h.signature.regions k.signature.types k.signature.types_below)
+      (parameters_named (IsStructTag g) g (variables [] 0) f.parameters k.signature.types (structs_known (IsStructTag g) g kinds) k.signature.parameters)
+      (outside_good g i f a kinds k) in
       record {
         clean = q.0;
         head = k;

@@ -22,20 +22,26 @@ use Rattle.source_typing.specs.Calls.{
   part_types,
   target,
   target_of_tag,
+  if_union,
   typed_result,
+  union_made,
+  union_member,
+  union_tag,
 }
 use Rattle.source_typing.specs.Faults.{effect_rule, outlives_rule, test}
 use Rattle.source_typing.specs.Fixing.{Fit, all_fits, first_fit, fixed_from, fixed_known, fixed_one, is_found, more}
 use Rattle.source_typing.specs.Regions.{Level, Region, same_id}
 use Rattle.source_typing.specs.Scope.{Enclosing, Env, InRegion, Nowhere, Value, value}
-use Rattle.source_typing.specs.Tables.{Arrayed, Counter, Entry, OfBuiltin, OfFunction, OfOther, OfTag, OfValue, Stored, Tables, Unknown, argument, find}
+use Rattle.source_typing.specs.Tables.{Arrayed, Counter, Entry, OfBuiltin, OfFunction, OfOther, OfTag, OfValue, Part, Stored, Tables, Tag, Unknown, argument}
+use Rattle.source_typing.specs.Tables.{find, part_in}
 use Rattle.source_typing.specs.Types.{Char, Fat, Handle, Int, Key, Null, StaticType, Struct, Thin, Union, Unique, Unsigned, Void, renamed}
 use Rattle.source_typing.specs.Verdicts.{Faulty, Of, Unjudged, Verdict}
 use Rattle.source_typing.specs.Written.{Found, Is, IsUnique, Missing, if_sound}
+use Rattle.cyc_tree.specs.Tree as tree
 use Rattle.type_proof.proofs.expressions.Fixed.{EnclosingBelow, ValuesBelow, fixed_within, plain_below}
 use Rattle.type_proof.proofs.expressions.Words.{plain_renamed}
 use Rattle.accepted_proof.specs.Good.{AllGood, IsAround, IsGoodEntry, IsGoodSignature, IsGoodTag, IsValueType, SeatBelow, Surely}
-use Rattle.accepted_proof.proofs.Sure.{surely_after, surely_both, surely_since, surely_unless}
+use Rattle.accepted_proof.proofs.Sure.{surely_after, surely_both, surely_other, surely_since, surely_unless}
 
 -- ---- what a name means
 
@@ -68,9 +74,11 @@ pub target_judged : (count at : ℕ) (e : Option Entry) → MeansGood count e �
 target_judged count at None h = tt
 target_judged count at (Some (OfBuiltin n)) h = tt
 target_judged count at (Some (OfFunction s)) h = subst (λ b. Surely (λ u. IsGoodTarget u) (if_sound b (Of (ToFunction s)))) (sym h.sound) h
-target_judged count at (Some (OfTag t)) h =
-    subst (λ b. Surely (λ u. IsGoodTarget u) (target_of_tag b t at)) (sym h.no_union)
-    (subst (λ b. Surely (λ u. IsGoodTarget u) (if_sound b (Of (ToStruct t)))) (sym h.sound) h)
+target_judged count at (Some (OfTag t)) h = by t.is_union
+  where
+    by : (b : Bool) → Surely (λ u. IsGoodTarget u) (target_of_tag b t at)
+    by true = surely_other (λ u. IsGoodTarget u) t.sound at h.sound
+    by false = subst (λ b. Surely (λ u. IsGoodTarget u) (if_sound b (Of (ToStruct t)))) (sym h.sound) h
 target_judged count at (Some (OfValue (Stored t r))) h = tt
 target_judged count at (Some (OfValue (Arrayed t r))) h = tt
 target_judged count at (Some (OfValue Counter)) h = tt
@@ -152,7 +160,7 @@ plain_value Void h = tt
 plain_value Null h = tt
 plain_value (Thin n r t) h = h
 plain_value (Fat r t) h = h
-plain_value (Unique n t) h = absurd h
+plain_value (Unique n t) h = h
 plain_value (Handle r) h = tt
 plain_value (Key r) h = absurd h
 plain_value (Struct tag rs) h = h
@@ -198,3 +206,49 @@ called_judged g at (ToFunction s) vs e h below =
     (test (all_live g rs s.effect) effect_rule at ++ test (all_ordered g rs s.bounds) outlives_rule at) (typed_result at rs s.result)
     (λ none. subst (λ (t : Option StaticType). Surely (λ v. IsGoodResult g.regions.count v) (typed_result at rs t)) (sym h.result)
     (result_judged g.regions.count at rs h.gives h.plain k)))
+
+-- ---- union values
+
+-- a member of a union without fault, whose type is an object's
+pub record IsGoodMember (tp : Tag × Part) : Type 0 where
+  pub type : StaticType
+  pub is : tp.1.type ≡ Some type
+  pub object : IsObjectType type
+
+member_found : (f : tree.Name) (t : Tag) (ps : List Part) (ts : List StaticType) → part_types ps ≡ map (λ t. Some t) ts → AreObjects ts
+    → Surely (λ m. IsGoodMember m) (union_member f t (part_in ps f.text))
+member_found f t [] ts e o = tt
+member_found f t (p ∷ ps) [] e o = absurd cc
+member_found f t (p ∷ ps) (u ∷ ts) e o =
+    let a : p.type ≡ Some u = cc in
+    let c : part_types ps ≡ map (λ t. Some t) ts = cc in
+    by (bytes_eq p.name f.text) a (member_found f t ps ts c o.1)
+  where
+    by : (b : Bool) → p.type ≡ Some u → Surely (λ m. IsGoodMember m) (union_member f t (part_in ps f.text))
+        → Surely (λ m. IsGoodMember m) (union_member f t (if b then Some p else part_in ps f.text))
+    by true a others = record { type = u; is = a; object = o.0 }
+    by false a others = others
+
+pub union_judged : (count : ℕ) (tag f : tree.Name) (e : Option Entry) → MeansGood count e → Surely (λ m. IsGoodMember m) (union_tag tag f e)
+union_judged count tag f None h = tt
+union_judged count tag f (Some (OfTag t)) h = subst (λ b. Surely (λ m. IsGoodMember m) (if_sound b (if_union t.is_union tag f t))) (sym h.sound) (by t.is_union)
+  where
+    by : (b : Bool) → Surely (λ m. IsGoodMember m) (if_union b tag f t)
+    by true = member_found f t t.parts h.types h.parts h.objects
+    by false = tt
+union_judged count tag f (Some (OfFunction s)) h = surely_other (λ m. IsGoodMember m) s.sound tag.at h.sound
+union_judged count tag f (Some (OfBuiltin n)) h = tt
+union_judged count tag f (Some (OfValue (Stored t r))) h = tt
+union_judged count tag f (Some (OfValue (Arrayed t r))) h = tt
+union_judged count tag f (Some (OfValue Counter)) h = tt
+union_judged count tag f (Some (OfValue Unknown)) h = absurd h
+union_judged count tag f (Some OfOther) h = absurd h
+
+pub union_made_judged : (g : Env) (at : ℕ) (tp : Tag × Part) (v : Value) → IsAround g.regions.count g.enclosing → IsGoodMember tp
+    → ValuesBelow g.regions.count (v ∷ []) → Surely (λ w. IsGoodResult g.regions.count w) (union_made g at tp v)
+union_made_judged g at (t, p) v e h below =
+    surely_after (λ (rs : List Region). AllBelow g.regions.count rs) (λ w. IsGoodResult g.regions.count w)
+    (arguments_fit g at t.regions (p.type ∷ []) (v ∷ [])) (λ rs. value at (Union t.text rs))
+    (subst (λ (o : Option StaticType). Surely (λ (rs : List Region). AllBelow g.regions.count rs) (arguments_fit g at t.regions (o ∷ []) (v ∷ [])))
+    (sym h.is) (arguments_judged g at t.regions (h.type ∷ []) (v ∷ []) e (h.object, tt) below))
+    (λ rs k. record { type = tt; below = k; nowhere = refl })

@@ -130,13 +130,13 @@ module _ (count : ℕ) (g : Env) where
   compared_judged at (Thin n r t) Char h k = tt
   compared_judged at (Thin n r t) Void h k = tt
   compared_judged at (Thin n r t) (Fat q u) h k = tt
-  compared_judged at (Thin n r t) (Unique m u) h k = absurd k
+  compared_judged at (Thin n r t) (Unique m u) h k = tt
   compared_judged at (Thin n r t) (Handle q) h k = tt
   compared_judged at (Thin n r t) (Key q) h k = absurd k
   compared_judged at (Thin n r t) (Struct tag qs) h k = tt
   compared_judged at (Thin n r t) (Union tag qs) h k = tt
   compared_judged at (Fat r t) u h k = null_judged ((is_pointer (Fat r t) && is_null u) || (is_null (Fat r t) && is_pointer u)) at
-  compared_judged at (Unique n t) u h k = absurd h
+  compared_judged at (Unique n t) u h k = null_judged ((is_pointer (Unique n t) && is_null u) || (is_null (Unique n t) && is_pointer u)) at
   compared_judged at (Handle r) u h k = null_judged ((is_pointer (Handle r) && is_null u) || (is_null (Handle r) && is_pointer u)) at
   compared_judged at (Key r) u h k = absurd h
   compared_judged at (Struct tag rs) u h k =
@@ -172,7 +172,7 @@ module _ (count : ℕ) (g : Env) where
   applied_judged o at Null u h b k = joined_judged (is_integer Null && is_integer u) o at Null u refl h k
   applied_judged o at (Thin n r t) u h b k = joined_judged (is_integer (Thin n r t) && is_integer u) o at (Thin n r t) u refl h k
   applied_judged o at (Fat r t) u h b k = fat_judged (is_move o && is_integer u) o at (Fat r t) u h b k
-  applied_judged o at (Unique n t) u h b k = absurd h
+  applied_judged o at (Unique n t) u h b k = joined_judged (is_integer (Unique n t) && is_integer u) o at (Unique n t) u refl h k
   applied_judged o at (Handle r) u h b k = joined_judged (is_integer (Handle r) && is_integer u) o at (Handle r) u refl h k
   applied_judged o at (Key r) u h b k = absurd h
   applied_judged o at (Struct tag rs) u h b k = joined_judged (is_integer (Struct tag rs) && is_integer u) o at (Struct tag rs) u refl h k

@@ -75,7 +75,7 @@ contents_judged g at Void w h = tt
 contents_judged g at Null w h = tt
 contents_judged g at (Thin n r t) w h = live_judged g.regions.count (is_live g r) at t r w h.1 h.0
 contents_judged g at (Fat r t) w h = live_judged g.regions.count (is_live g r) at t r w h.1 h.0
-contents_judged g at (Unique n t) w h = absurd w
+contents_judged g at (Unique n t) w h = record { type = w; below = h; seat = tt }
 contents_judged g at (Handle r) w h = tt
 contents_judged g at (Key r) w h = absurd w
 contents_judged g at (Struct tag rs) w h = tt
@@ -93,13 +93,14 @@ indexed_judged g a b w h = by a.type (is_integer b.type) w h
 
 -- ---- addresses
 
--- a pointer into the place's region
+-- a pointer into the place's region, or a unique one to its block
 address_judged : (g : Env) (at : ℕ) (t : StaticType) (s : Seat) → (is_place s ≡ true → IsObjectType t) → TypeBelow g.regions.count t
     → SeatBelow g.regions.count s → Surely (λ v. IsGoodValue g v) (address_of at t s)
 address_judged g at t Nowhere w h k = tt
 address_judged g at t (In r) w h k =
     valued g (record { at = at; type = Thin false r t; seat = Nowhere }) (record { type = w refl; below = (k, h); nowhere = refl })
-address_judged g at t InBlock w h k = absurd k
+address_judged g at t InBlock w h k =
+    valued g (record { at = at; type = Unique false t; seat = Nowhere }) (record { type = w refl; below = h; nowhere = refl })
 
 -- ---- operators in front
 
@@ -151,7 +152,6 @@ part_judged g at s tag rs x h below k = by (find g.tables tag) (found_good g.reg
 pub member_judged : (g : Env) (x : tree.Name) (at : ℕ) (t : StaticType) (s : Seat) → AllGood g.regions.count g.tables → IsValueType t
     → TypeBelow g.regions.count t → SeatBelow g.regions.count s → Surely (λ v. IsGoodPlace g.regions.count v) (member_of g x at t s)
 member_judged g x at t Nowhere h w b k = tt
-member_judged g x at t InBlock h w b k = absurd k
 member_judged g x at Int (In r) h w b k = tt
 member_judged g x at Unsigned (In r) h w b k = tt
 member_judged g x at Char (In r) h w b k = tt
@@ -159,11 +159,23 @@ member_judged g x at Void (In r) h w b k = tt
 member_judged g x at Null (In r) h w b k = tt
 member_judged g x at (Thin n q t) (In r) h w b k = tt
 member_judged g x at (Fat q t) (In r) h w b k = tt
-member_judged g x at (Unique n t) (In r) h w b k = absurd w
+member_judged g x at (Unique n t) (In r) h w b k = tt
 member_judged g x at (Handle q) (In r) h w b k = tt
 member_judged g x at (Key q) (In r) h w b k = absurd w
 member_judged g x at (Struct tag rs) (In r) h w b k = part_judged g at (In r) tag rs x h b k
 member_judged g x at (Union tag rs) (In r) h w b k = tt
+member_judged g x at Int InBlock h w b k = tt
+member_judged g x at Unsigned InBlock h w b k = tt
+member_judged g x at Char InBlock h w b k = tt
+member_judged g x at Void InBlock h w b k = tt
+member_judged g x at Null InBlock h w b k = tt
+member_judged g x at (Thin n q t) InBlock h w b k = tt
+member_judged g x at (Fat q t) InBlock h w b k = tt
+member_judged g x at (Unique n t) InBlock h w b k = tt
+member_judged g x at (Handle q) InBlock h w b k = tt
+member_judged g x at (Key q) InBlock h w b k = absurd w
+member_judged g x at (Struct tag rs) InBlock h w b k = part_judged g at InBlock tag rs x h b k
+member_judged g x at (Union tag rs) InBlock h w b k = tt
 
 arrow_live_judged : (g : Env) (x : tree.Name) (at : ℕ) (b : Bool) (r : Region) (tag : List ℕ) (rs : List Region) → AllGood g.regions.count g.tables
     → AllBelow g.regions.count rs → Below g.regions.count r → Surely (λ v. IsGoodPlace g.regions.count v) (arrow_live b g x at r tag rs)
@@ -180,10 +192,26 @@ thin_arrow g x at n r (Struct tag rs) h w b k = arrow_live_judged g x at (is_liv
 thin_arrow g x at n r Void h w b k = absurd w
 thin_arrow g x at n r Null h w b k = absurd w
 thin_arrow g x at n r (Fat q t) h w b k = tt
-thin_arrow g x at n r (Unique m t) h w b k = absurd w
+thin_arrow g x at n r (Unique m t) h w b k = tt
 thin_arrow g x at n r (Handle q) h w b k = tt
 thin_arrow g x at n r (Key q) h w b k = absurd w
 thin_arrow g x at n r (Union tag rs) h w b k = tt
+
+-- through a unique pointer, into its block
+unique_arrow : (g : Env) (x : tree.Name) (at : ℕ) (n : Bool) (t : StaticType) → AllGood g.regions.count g.tables → IsObjectType t
+    → TypeBelow g.regions.count t → Surely (λ v. IsGoodPlace g.regions.count v) (arrow_of g x at (Unique n t))
+unique_arrow g x at n Int h w b = tt
+unique_arrow g x at n Unsigned h w b = tt
+unique_arrow g x at n Char h w b = tt
+unique_arrow g x at n (Thin m q t) h w b = tt
+unique_arrow g x at n (Struct tag rs) h w b = part_judged g at InBlock tag rs x h b tt
+unique_arrow g x at n Void h w b = absurd w
+unique_arrow g x at n Null h w b = absurd w
+unique_arrow g x at n (Fat q t) h w b = tt
+unique_arrow g x at n (Unique m t) h w b = tt
+unique_arrow g x at n (Handle q) h w b = tt
+unique_arrow g x at n (Key q) h w b = absurd w
+unique_arrow g x at n (Union tag rs) h w b = tt
 
 -- through a fat pointer as through a thin one
 fat_arrow : (g : Env) (x : tree.Name) (at : ℕ) (r : Region) (t : StaticType) → arrow_of g x at (Fat r t) ≡ arrow_of g x at (Thin true r t)
@@ -200,7 +228,7 @@ arrow_judged g x at Null h w b = tt
 arrow_judged g x at (Thin n r t) h w b = thin_arrow g x at n r t h w b.1 b.0
 arrow_judged g x at (Fat r t) h w b =
     subst (λ v. Surely (λ w. IsGoodPlace g.regions.count w) v) (sym (fat_arrow g x at r t)) (thin_arrow g x at true r t h w b.1 b.0)
-arrow_judged g x at (Unique n t) h w b = absurd w
+arrow_judged g x at (Unique n t) h w b = unique_arrow g x at n t h w b
 arrow_judged g x at (Handle r) h w b = tt
 arrow_judged g x at (Key r) h w b = absurd w
 arrow_judged g x at (Struct tag rs) h w b = tt
@@ -221,7 +249,7 @@ assigned_value t o = by t o
     by Void o = absurd o
     by Null o = absurd o
     by (Fat r t) o = o
-    by (Unique n t) o = absurd o
+    by (Unique n t) o = tt
     by (Handle r) o = tt
     by (Key r) o = absurd o
     by (Union tag rs) o = tt

@@ -1,7 +1,8 @@
--- A scope in which all is known of each name stays one: where a block or a loop begins, in an `rnew` and an element, and after a local, an array and a
--- lexical region.
-use Rattle.std.proofs.Common.{◌≡◌, ℕ, Bool, true, false, List, [], ◌∷◌, arith, refl}
-use Rattle.std.specs.Prelude.{◌+◌, if◌then◌else◌, is_some, not}
+-- A scope in which all is known of each name stays one: where a block, a loop or a `switch` begins, in an `rnew` and an element, and after a local, an
+-- array and a lexical region.
+use Rattle.std.proofs.Common.{◌≡◌, ℕ, Bool, true, false, List, [], ◌∷◌, ap, arith, refl}
+use Rattle.std.specs.Prelude.{◌+◌, ◌&&◌, ◌||◌, bytes_eq, if◌then◌else◌, is_some, nat_eq, not}
+use Rattle.std.proofs.lemmas.Bool.{eqb-true}
 use Rattle.cyc_tree.specs.Tree as tree
 use Rattle.type_proof.specs.Entries.{IsObjectType}
 use Rattle.type_proof.specs.Judged.{arrayed, extended, named}
@@ -13,13 +14,14 @@ use Rattle.source_typing.specs.Declarations.{name_added}
 use Rattle.source_typing.specs.Faults.{name_rule, test}
 use Rattle.source_typing.specs.Making.{To, inside, with_counter}
 use Rattle.source_typing.specs.Regions.{Region}
-use Rattle.source_typing.specs.Scope.{Enclosing, Env, block_entered, in_scope, is_second, next_region, second, with_local}
-use Rattle.source_typing.specs.Statements.{in_a_loop}
+use Rattle.source_typing.specs.Scope.{Enclosing, Env, Local, block_entered, in_scope, is_second, next_region, second, with_local}
+use Rattle.source_typing.specs.Statements.{in_a_loop, in_a_switch}
 use Rattle.source_typing.specs.Tables.{Arrayed, Counter, Entry, OfBuiltin, OfFunction, OfOther, OfTag, OfValue, Stored, Tables, Unknown, What}
 use Rattle.source_typing.specs.Types.{StaticType}
 use Rattle.source_typing.specs.Verdicts.{Of}
 use Rattle.source_typing.specs.Written.{RegionNamed, find_region}
-use Rattle.accepted_proof.specs.Good.{AllGood, IsAround, IsGood, IsGoodEntry, NamesBelow}
+use Rattle.accepted_proof.specs.Good.{AllGood, IsAround, IsGood, IsGoodEntry, AreWithin, IsStructTag, NamesBelow, NamesStructs}
+use Rattle.accepted_proof.proofs.kinds.Expressions.{counter_known, inside_known}
 
 -- ---- one more region name
 
@@ -42,6 +44,11 @@ around_up n i h = record { region = h.region; is = h.is; below = below_up n h.re
 
 -- ---- scopes
 
+-- a block further in
+within_more : (n : ℕ) (ls : List Local) → AreWithin n ls → AreWithin (n + 1) ls
+within_more n [] h = tt
+within_more n (l ∷ ls) h = (omega (arith, h.0), within_more n ls h.1)
+
 -- the block's own region is the name that is next
 pub good_block : (g : Env) → IsGood g → IsGood (block_entered g)
 good_block g h = record {
@@ -49,18 +56,51 @@ good_block g h = record {
   regions = names_up g.regions.count g.names h.regions;
   frame = omega arith;
   enclosing = around_up g.regions.count g.enclosing h.enclosing;
+  kinds = record { tables = h.kinds.tables; locals = h.kinds.locals };
+  blocks = within_more g.block g.locals h.blocks;
 }
 
 pub good_loop : (g : Env) → IsGood g → IsGood (in_a_loop g)
-good_loop g h = record { names = h.names; regions = h.regions; frame = h.frame; enclosing = h.enclosing }
+good_loop g h = record {
+  names = h.names;
+  regions = h.regions;
+  frame = h.frame;
+  enclosing = h.enclosing;
+  kinds = record { tables = h.kinds.tables; locals = h.kinds.locals };
+  blocks = h.blocks;
+}
+
+pub good_switch : (g : Env) → IsGood g → IsGood (in_a_switch g)
+good_switch g h = record {
+  names = h.names;
+  regions = h.regions;
+  frame = h.frame;
+  enclosing = h.enclosing;
+  kinds = record { tables = h.kinds.tables; locals = h.kinds.locals };
+  blocks = h.blocks;
+}
 
 -- in an `rnew` of a region that is in scope
 pub good_inside : (r : Region) (g : Env) → Below g.regions.count r → IsGood g → IsGood (inside (Of (To r)) g)
-good_inside r g b h = record { names = h.names; regions = h.regions; frame = h.frame; enclosing = record { region = r; is = refl; below = b } }
+good_inside r g b h = record {
+  names = h.names;
+  regions = h.regions;
+  frame = h.frame;
+  enclosing = record { region = r; is = refl; below = b };
+  kinds = inside_known (IsStructTag g.tables) (Of (To r)) g h.kinds;
+  blocks = h.blocks;
+}
 
 -- in an element of an array that is made
 pub good_counter : (x : tree.Name) (g : Env) → IsGood g → IsGood (with_counter x g)
-good_counter x g h = record { names = (tt, h.names); regions = h.regions; frame = h.frame; enclosing = h.enclosing }
+good_counter x g h = record {
+  names = (tt, h.names);
+  regions = h.regions;
+  frame = h.frame;
+  enclosing = h.enclosing;
+  kinds = counter_known (IsStructTag g.tables) x g h.kinds;
+  blocks = (omega arith, h.blocks);
+}
 
 -- after a lexical region
 name_below : (n : ℕ) (names : List RegionNamed) (x : tree.Name) (r : Region) (b : Bool) → NamesBelow n names → Below n r → NamesBelow n (name_added b x r names)
@@ -80,13 +120,31 @@ good_region r g h = record {
   regions = region_names r g h;
   frame = below_up g.regions.count g.frame h.frame;
   enclosing = around_up g.regions.count g.enclosing h.enclosing;
+  kinds = record { tables = h.kinds.tables; locals = h.kinds.locals };
+  blocks = h.blocks;
 }
 
-pub good_local : (x : tree.Name) (t : StaticType) (g : Env) → IsObjectType t → TypeBelow g.regions.count t → IsGood g → IsGood (extended g x t)
-good_local x t g w b h = record { names = ((w, b, h.frame), h.names); regions = h.regions; frame = h.frame; enclosing = h.enclosing }
+pub good_local : (x : tree.Name) (t : StaticType) (g : Env) → IsObjectType t → TypeBelow g.regions.count t → NamesStructs (IsStructTag g.tables) t → IsGood g
+    → IsGood (extended g x t)
+good_local x t g w b k h = record {
+  names = ((w, b, h.frame), h.names);
+  regions = h.regions;
+  frame = h.frame;
+  enclosing = h.enclosing;
+  kinds = record { tables = h.kinds.tables; locals = (k, h.kinds.locals) };
+  blocks = (omega arith, h.blocks);
+}
 
-pub good_array : (x : tree.Name) (t : StaticType) (g : Env) → IsObjectType t → TypeBelow g.regions.count t → IsGood g → IsGood (arrayed g x t)
-good_array x t g w b h = record { names = ((w, b, h.frame), h.names); regions = h.regions; frame = h.frame; enclosing = h.enclosing }
+pub good_array : (x : tree.Name) (t : StaticType) (g : Env) → IsObjectType t → TypeBelow g.regions.count t → NamesStructs (IsStructTag g.tables) t → IsGood g
+    → IsGood (arrayed g x t)
+good_array x t g w b k h = record {
+  names = ((w, b, h.frame), h.names);
+  regions = h.regions;
+  frame = h.frame;
+  enclosing = h.enclosing;
+  kinds = record { tables = h.kinds.tables; locals = (k, h.kinds.locals) };
+  blocks = (omega arith, h.blocks);
+}
 
 -- a name that isn't declared twice is one more local
 pub one_more : (x : tree.Name) (w : What) (g : Env) → second g x ≡ [] → with_local x w g ≡ named g x w
@@ -95,3 +153,18 @@ one_more x w g e = by (is_second g.locals g.block x.text) e
     by : (b : Bool) → test (not b) name_rule x.at ≡ [] → (if b then g else named g x w) ≡ named g x w
     by true p = absurd cc
     by false p = refl
+
+-- ---- the names of clauses
+
+-- in a block that begins, no name was declared before
+none_inside : (n : ℕ) (ls : List Local) (x : List ℕ) → AreWithin n ls → is_second ls (n + 1) x ≡ false
+none_inside n [] x h = refl
+none_inside n (l ∷ ls) x h = by (nat_eq l.block (n + 1)) refl (none_inside n ls x h.1)
+  where
+    by : (b : Bool) → nat_eq l.block (n + 1) ≡ b → is_second ls (n + 1) x ≡ false → (b && bytes_eq l.name x) || is_second ls (n + 1) x ≡ false
+    by true e others = let same : l.block ≡ n + 1 = eqb-true l.block (n + 1) e in absurd (omega (arith, same, h.0))
+    by false e others = others
+
+pub first_inside : (x : tree.Name) (w : What) (g : Env) → IsGood g → with_local x w (block_entered g) ≡ named (block_entered g) x w
+first_inside x w g h =
+    ap (λ (b : Bool). if b then block_entered g else named (block_entered g) x w) (none_inside g.block g.locals x.text h.blocks)

@@ -1,5 +1,5 @@
 -- The tables of a program in which the rules find no fault: all is known of each name.
-use Rattle.std.proofs.Common.{◌≡◌, ℕ, suc, false, Option, Some, None, List, [], ◌∷◌, sym, subst, ◌∙◌}
+use Rattle.std.proofs.Common.{◌≡◌, ℕ, suc, Bool, true, false, Option, Some, None, List, [], ◌∷◌, sym, subst, ◌∙◌}
 use Rattle.std.specs.Prelude.{◌++◌, codes}
 use Rattle.cyc_tree.specs.Tree as tree
 use Rattle.cyc_tree.specs.Tree.{Item, Program}
@@ -26,7 +26,7 @@ use Rattle.accepted_proof.proofs.AlignedTables.{AreAligned, global_faults_same, 
 use Rattle.accepted_proof.proofs.Globals.{GlobalGood, global_good}
 use Rattle.accepted_proof.proofs.good.Types.{KnowsTags}
 use Rattle.accepted_proof.proofs.Heads.{HeadGood, body_head_clean, head_good, head_same}
-use Rattle.accepted_proof.proofs.Named.{AreNamed, StructKnown}
+use Rattle.accepted_proof.proofs.Named.{AreNamed, TagKnown}
 
 -- ---- the faults of a program
 
@@ -88,8 +88,8 @@ known_good h f tags k = head_good h f tags k.is_taken k.clean
 
 -- what the tables are made of
 abbrev pub IsHeaded : Tables → ℕ → Judged → Item → Type 0
-IsHeaded h i j (tree.StructItem s) = StructKnown s j.entry
-IsHeaded h i j (tree.UnionItem s) = ⊥
+IsHeaded h i j (tree.StructItem s) = TagKnown false s j.entry
+IsHeaded h i j (tree.UnionItem s) = TagKnown true s j.entry
 IsHeaded h i j (tree.GlobalItem x) = (j.entry ≡ named x.name OfOther) × GlobalGood h i x
 IsHeaded h i j (tree.FunctionItem f) = (j.entry ≡ named f.name OfOther) × HeadKnown h f
 
@@ -108,7 +108,8 @@ all_headed g h i [] (x ∷ is) tags s n t f p = absurd n
 all_headed g h i (j ∷ js) [] tags s n t f p = absurd n
 all_headed g h i (j ∷ js) (tree.StructItem x ∷ is) tags s n t f p =
     let b : only_taken supported is ≡ is = cc in (n.0, all_headed g h (suc i) js is tags s n.1 b f p)
-all_headed g h i (j ∷ js) (tree.UnionItem x ∷ is) tags s n t f p = absurd n.0
+all_headed g h i (j ∷ js) (tree.UnionItem x ∷ is) tags s n t f p =
+    let b : only_taken supported is ≡ is = cc in (n.0, all_headed g h (suc i) js is tags s n.1 b f p)
 all_headed g h i (j ∷ js) (tree.GlobalItem x ∷ is) tags s n t f p =
     let a : item_taken supported (tree.GlobalItem x) ≡ tree.GlobalItem x = cc in
     let b : only_taken supported is ≡ is = cc in
@@ -128,8 +129,8 @@ all_headed g h i (j ∷ js) (tree.FunctionItem x ∷ is) tags s n t f p =
 
 -- ---- the tables
 
-struct_good : (s : tree.Structure) (n : Named) → StructKnown s n → IsGoodEntry 0 n.entry
-struct_good s n k = subst (λ (z : Named). IsGoodEntry 0 z.entry) (sym k.is) k.good
+tag_good : (union : Bool) (s : tree.Structure) (n : Named) → TagKnown union s n → IsGoodEntry 0 n.entry
+tag_good union s n k = subst (λ (z : Named). IsGoodEntry 0 z.entry) (sym k.is) k.good
 
 -- a global, or an array of so many elements
 global_means : (count : Option ℕ) (t : StaticType) → IsObjectType t → TypeBelow 0 t → IsGoodEntry 0 (OfValue (what_of TheHeap count (Of t)))
@@ -139,8 +140,8 @@ global_means (Some n) t w b = (w, b, tt)
 entries_good : (h : Tables) (i : ℕ) (js : List Judged) (is : List Item) → KnowsTags h → AreHeaded h i js is → AllGood 0 (entries_with false h i js is)
 entries_good h i [] is tags k = tt
 entries_good h i (j ∷ js) [] tags k = tt
-entries_good h i (j ∷ js) (tree.StructItem s ∷ is) tags k = (struct_good s j.entry k.0, entries_good h (suc i) js is tags k.1)
-entries_good h i (j ∷ js) (tree.UnionItem s ∷ is) tags k = absurd k.0
+entries_good h i (j ∷ js) (tree.StructItem s ∷ is) tags k = (tag_good false s j.entry k.0, entries_good h (suc i) js is tags k.1)
+entries_good h i (j ∷ js) (tree.UnionItem s ∷ is) tags k = (tag_good true s j.entry k.0, entries_good h (suc i) js is tags k.1)
 entries_good h i (j ∷ js) (tree.GlobalItem x ∷ is) tags k =
     let a : IsGoodEntry 0 (OfValue (what_of TheHeap (count_of x.initial) (Of k.0.1.type))) =
     global_means (count_of x.initial) k.0.1.type k.0.1.good.object k.0.1.good.below in

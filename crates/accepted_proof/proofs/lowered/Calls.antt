@@ -1,5 +1,5 @@
 -- Calls and makings of structs that lowering takes.
-use Rattle.std.proofs.Common.{◌≡◌, ℕ, Bool, true, false, inl, inr, Option, Some, None, List, [], ◌∷◌, refl, sym, subst, ap, ◌∙◌, arith}
+use Rattle.std.proofs.Common.{◌≡◌, ◌⊎◌, ℕ, Bool, true, false, inl, inr, Option, Some, None, List, [], ◌∷◌, refl, sym, subst, ap, ◌∙◌, arith}
 use Rattle.std.specs.Prelude.{bytes_eq, codes, if◌then◌else◌, length, map, nat_eq}
 use Rattle.std.proofs.lemmas.Bool.{eqb-true, false≢true}
 use Rattle.cyc_tree.specs.Tree.{Expression, Expressions, MoreExpressions, Name, NoExpressions}
@@ -11,14 +11,14 @@ use Rattle.source_meaning.specs.Shapes as shapes
 use Rattle.source_meaning.specs.Shapes.{IntShape, Part, Shape, StructShape, has_tag, parts_of}
 use Rattle.source_meaning.specs.Steps.{World}
 use Rattle.source_typing.specs.Calls.{Target, ToBuiltin, ToFunction, ToStruct, arguments_fit, builtin_parameters}
-use Rattle.source_typing.specs.Calls.{call_entered, called, part_types, target, typed_result}
+use Rattle.source_typing.specs.Calls.{call_entered, called, part_types, target, target_of_tag, typed_result}
 use Rattle.source_typing.specs.Converts.{Converts}
 use Rattle.source_typing.specs.Regions.{Region}
 use Rattle.source_typing.specs.Scope.{Env, Nowhere, Value, is_place, value}
 use Rattle.source_typing.specs.Tables as typing
 use Rattle.source_typing.specs.Tables.{Arrayed, Counter, Entry, OfBuiltin, OfFunction, OfOther, OfTag, OfValue, Signature, Stored, Tag, Unknown, argument}
 use Rattle.source_typing.specs.Types.{Char, Fat, Handle, Int, Key, Null, StaticType, Struct, Thin, Union, Unique, Unsigned, Void, renamed, shape_of}
-use Rattle.source_typing.specs.Verdicts.{Of}
+use Rattle.source_typing.specs.Verdicts.{Of, other_kind}
 use Rattle.source_typing.proofs.CallsFit.{AllConvert, arguments_are, sound_is, struct_is}
 use Rattle.source_typing.proofs.Inversion.{after_is, of_is, unless_is}
 use Rattle.type_proof.specs.Entries.{Builtin}
@@ -26,11 +26,15 @@ use Rattle.type_proof.specs.Structs.{AreMembers}
 use Rattle.type_proof.proofs.expressions.Members.{members_known}
 use Rattle.type_proof.proofs.invariant.Sound.{shape_renamed}
 use Rattle.type_proof.proofs.expressions.WordRules.{Valued, value_of}
-use Rattle.accepted_proof.proofs.Known.{IsKnown, IsKnownValue, IsStruct, IsWord, converts_struct, converts_word, word_shape}
-use Rattle.accepted_proof.proofs.lowered.Forms.{AreKnown, AreWords, IsGiven, IsTaken, KnownEntry, KnownFunction, KnownTag, TakenAs, word_is}
+use Rattle.accepted_proof.proofs.Known.{IsKnown, IsKnownValue, IsWhole, IsWord, converts_whole, converts_word, word_shape}
+use Rattle.accepted_proof.proofs.lowered.Forms.{AreKnown, AreWords, IsGiven, IsTaken, KnownEntry, KnownFunction, KnownKind, KnownTag, TakenAs, word_is}
+
+no_kind : {A : Type 0} (c : Bool) (at : ℕ) (v : A) → other_kind c at ≡ Of v → ⊥
+no_kind true at v e = cc
+no_kind false at v e = cc
 
 -- other regions make no other kind of type
-word_renamed : (f : Region → Region) (t : StaticType) → IsWord t → IsWord (renamed f t)
+pub word_renamed : (f : Region → Region) (t : StaticType) → IsWord t → IsWord (renamed f t)
 word_renamed f Void h = absurd h
 word_renamed f (Struct tag rs) h = absurd h
 word_renamed f Null h = tt
@@ -42,7 +46,7 @@ word_renamed f (Fat r t) h = tt
 word_renamed f (Unique n t) h = tt
 word_renamed f (Handle r) h = tt
 word_renamed f (Key r) h = tt
-word_renamed f (Union tag rs) h = tt
+word_renamed f (Union tag rs) h = absurd h
 
 -- what no name of a struct calls makes none
 makes_none : (w : World) (x : List ℕ) → has_tag w.structs x ≡ false → makes_struct w x ≡ false
@@ -99,7 +103,7 @@ module _ (w : World) (names : List Named) where
   words_taken g rs (t ∷ ts) (MoreExpressions e es) [] i c a h = absurd h
 
   -- an argument for a member of a type
-  pub word_member : (s : Shape) (whole word : Type 0) → Rattle.source_lowering.specs.Lowerable.IsNoStruct s → word → TakesMember s whole word
+  pub word_member : (s : Shape) (whole word : Type 0) → Rattle.source_lowering.specs.Lowerable.IsOperandShape s → word → TakesMember s whole word
   word_member (shapes.StructShape tag) whole word h k = absurd h
   word_member shapes.IntShape whole word h k = k
   word_member shapes.UnsignedShape whole word h k = k
@@ -109,52 +113,55 @@ module _ (w : World) (names : List Named) where
   word_member (shapes.FatShape t) whole word h k = k
   word_member shapes.HandleShape whole word h k = k
   word_member shapes.KeyShape whole word h k = k
-  word_member (shapes.UnionShape tag) whole word h k = k
+  word_member (shapes.UnionShape tag) whole word h k = absurd h
   word_member (shapes.ArrayShape n t) whole word h k = k
 
-  -- a type is a word's or a struct's, where its shape is known
-  word_or_struct : (t : StaticType) → IsKnown w.structs (shape_of t) → Rattle.std.specs.Prelude.◌⊎◌ (IsWord t) (IsStruct t)
-  word_or_struct Void h = absurd h
-  word_or_struct (Struct tag rs) h = inr tt
-  word_or_struct Null h = inl tt
-  word_or_struct Int h = inl tt
-  word_or_struct Unsigned h = inl tt
-  word_or_struct Char h = inl tt
-  word_or_struct (Thin n r t) h = inl tt
-  word_or_struct (Fat r t) h = inl tt
-  word_or_struct (Unique n t) h = inl tt
-  word_or_struct (Handle r) h = inl tt
-  word_or_struct (Key r) h = inl tt
-  word_or_struct (Union tag rs) h = inl tt
+  -- a type is a word's, a struct's or a union's, where its shape is known
+  word_or_whole : (t : StaticType) → IsKnown w (shape_of t) → IsWord t ⊎ IsWhole t
+  word_or_whole Void h = absurd h
+  word_or_whole (Struct tag rs) h = inr tt
+  word_or_whole (Union tag rs) h = inr tt
+  word_or_whole Null h = inl tt
+  word_or_whole Int h = inl tt
+  word_or_whole Unsigned h = inl tt
+  word_or_whole Char h = inl tt
+  word_or_whole (Thin n r t) h = inl tt
+  word_or_whole (Fat r t) h = inl tt
+  word_or_whole (Unique n t) h = inl tt
+  word_or_whole (Handle r) h = inl tt
+  word_or_whole (Key r) h = inl tt
 
-  pub struct_taken : (t : StaticType) (e : Expression) → IsStruct t → TakenAs w names t e → TakesWhole w names e
-  struct_taken (Struct tag rs) e h k = k.takes
-  struct_taken _ e h k = absurd h
+  pub whole_taken : (t : StaticType) (e : Expression) → IsWhole t → TakenAs w names t e → TakesWhole w names e
+  whole_taken (Struct tag rs) e h k = k.takes
+  whole_taken (Union tag rs) e h k = k.takes
+  whole_taken _ e h k = absurd h
 
-  struct_renamed : (f : Region → Region) (t : StaticType) → IsStruct t → IsStruct (renamed f t)
-  struct_renamed f (Struct tag rs) h = tt
-  struct_renamed f _ h = absurd h
+  whole_renamed : (f : Region → Region) (t : StaticType) → IsWhole t → IsWhole (renamed f t)
+  whole_renamed f (Struct tag rs) h = tt
+  whole_renamed f (Union tag rs) h = tt
+  whole_renamed f _ h = absurd h
 
-  whole_member : (t : StaticType) (whole word : Type 0) → IsStruct t → whole → TakesMember (shape_of t) whole word
+  whole_member : (t : StaticType) (whole word : Type 0) → IsWhole t → whole → TakesMember (shape_of t) whole word
   whole_member (Struct tag rs) whole word h k = k
+  whole_member (Union tag rs) whole word h k = k
   whole_member _ whole word h k = absurd h
 
-  member_taken : (g : Env) (rs : List Region) (t : StaticType) (e : Expression) (v : Value) → IsKnown w.structs (shape_of t)
+  member_taken : (g : Env) (rs : List Region) (t : StaticType) (e : Expression) (v : Value) → IsKnown w (shape_of t)
       → Converts g.regions v.type (renamed (argument rs) t) → IsTaken w names e v → TakesMember (shape_of t) (TakesWhole w names e) (Takes w names e)
-  member_taken g rs t e v k c h = by (word_or_struct t k)
+  member_taken g rs t e v k c h = by (word_or_whole t k)
     where
-      by : Rattle.std.specs.Prelude.◌⊎◌ (IsWord t) (IsStruct t) → TakesMember (shape_of t) (TakesWhole w names e) (Takes w names e)
+      by : IsWord t ⊎ IsWhole t → TakesMember (shape_of t) (TakesWhole w names e) (Takes w names e)
       by (inl i) =
           word_member (shape_of t) (TakesWhole w names e) (Takes w names e) (word_shape t i)
           (word_is w names v.type e (converts_word g.regions v.type (renamed (argument rs) t) c (word_renamed (argument rs) t i)) h.value).takes
       by (inr i) =
-          let s : IsStruct (renamed (argument rs) t) = struct_renamed (argument rs) t i in
-          let q : v.type ≡ renamed (argument rs) t = converts_struct g.regions v.type (renamed (argument rs) t) c s in
+          let s : IsWhole (renamed (argument rs) t) = whole_renamed (argument rs) t i in
+          let q : v.type ≡ renamed (argument rs) t = converts_whole g.regions v.type (renamed (argument rs) t) c s in
           whole_member t (TakesWhole w names e) (Takes w names e) i
-          (struct_taken (renamed (argument rs) t) e s (subst (λ z. TakenAs w names z e) q h.value))
+          (whole_taken (renamed (argument rs) t) e s (subst (λ z. TakenAs w names z e) q h.value))
 
   made_taken : (g : Env) (rs : List Region) (ps : List typing.Part) (qs : List Part) (ts : List StaticType) (es : Expressions) (vs : List Value)
-      → AreMembers ps qs ts → AreKnown w.structs ts → length (map (λ (t : StaticType). Some t) ts) ≡ length vs
+      → AreMembers ps qs ts → AreKnown w ts → length (map (λ (t : StaticType). Some t) ts) ≡ length vs
       → AllConvert g rs (map (λ (t : StaticType). Some t) ts) vs → AllTaken es vs → TakesMade w names qs es
   made_taken g rs [] [] [] NoExpressions [] m k c a h = tt
   made_taken g rs (p ∷ ps) (q ∷ qs) (t ∷ ts) (MoreExpressions e es) (v ∷ vs) m k c a h = (
@@ -174,21 +181,21 @@ module _ (w : World) (names : List Named) where
 
   -- ---- what a call gives
 
-  given_known : (f : Region → Region) (t : StaticType) → IsGiven w.structs t → IsKnownValue w.structs (renamed f t)
+  given_known : (f : Region → Region) (t : StaticType) → IsGiven w t → IsKnownValue w (renamed f t)
   given_known f Void h = tt
   given_known f Null h = tt
   given_known f (Struct tag rs) h = absurd h.0
   given_known f Int h = tt
   given_known f Unsigned h = tt
   given_known f Char h = tt
-  given_known f (Thin n r t) h = (h.1.0, subst (λ s. IsKnown w.structs s) (sym (shape_renamed f t)) h.1.1)
-  given_known f (Fat r t) h = subst (λ s. IsKnown w.structs s) (sym (shape_renamed f t)) h.1
+  given_known f (Thin n r t) h = (h.1.0, subst (λ s. IsKnown w s) (sym (shape_renamed f t)) h.1.1)
+  given_known f (Fat r t) h = subst (λ s. IsKnown w s) (sym (shape_renamed f t)) h.1
   given_known f (Unique n t) h = absurd (let q : shapes.Alone ≡ shapes.Shared = h.1.0 in cc)
   given_known f (Handle r) h = tt
   given_known f (Key r) h = absurd h.1
-  given_known f (Union tag rs) h = absurd h.1
+  given_known f (Union tag rs) h = absurd h.0
 
-  given_value : (f : Region → Region) (t : StaticType) (e : Expression) → IsGiven w.structs t → Takes w names e
+  given_value : (f : Region → Region) (t : StaticType) (e : Expression) → IsGiven w t → Takes w names e
       → static_shape w names e ≡ shape_of t → TakenAs w names (renamed f t) e
   given_value f Void e h k s = tt
   given_value f Null e h k s = record { takes = k; shape = s }
@@ -201,12 +208,12 @@ module _ (w : World) (names : List Named) where
   given_value f (Unique n t) e h k s = record { takes = k; shape = s ∙ sym (shape_renamed f (Unique n t)) }
   given_value f (Handle r) e h k s = record { takes = k; shape = s }
   given_value f (Key r) e h k s = absurd h.1
-  given_value f (Union tag rs) e h k s = absurd h.1
+  given_value f (Union tag rs) e h k s = absurd h.0
 
   word_call : (f : Region → Region) (x : Name) (es : Expressions) (v : Value) (t : StaticType) → has_tag w.structs x.text ≡ false → TakesAll w names es
-      → call_shape w x.text ≡ shape_of t → IsGiven w.structs t → Valued v (renamed f t) → IsTaken w names (Expression.Call x es) v
+      → call_shape w x.text ≡ shape_of t → IsGiven w t → Valued v (renamed f t) → IsTaken w names (Expression.Call x es) v
   word_call f x es v t n k s h d = record {
-    known = subst (λ z. IsKnownValue w.structs z) (sym d.type) (given_known f t h);
+    known = subst (λ z. IsKnownValue w z) (sym d.type) (given_known f t h);
     value = subst (λ z. TakenAs w names z (Expression.Call x es)) (sym d.type) (given_value f t (Expression.Call x es) h (n, k) s);
     run = subst (λ b. TakesCalled b (TakesWhole w names (Expression.Call x es)) (Takes w names (Expression.Call x es)))
         (sym (makes_none w x.text n)) (n, k);
@@ -256,7 +263,7 @@ module _ (w : World) (names : List Named) where
         let one : makes_struct w x.text ≡ true = makes_one w x.text k.not_read k.not_written k.there in
         let d : Valued v (Struct t.text z.0) = value_of x.at (Struct t.text z.0) v z.2 in
         record {
-          known = subst (λ y. IsKnownValue w.structs y) (sym d.type) (subst (λ (y : List ℕ). has_tag w.structs y ≡ true) (sym k.named) k.there);
+          known = subst (λ y. IsKnownValue w y) (sym d.type) (subst (λ (y : List ℕ). has_tag w.structs y ≡ true) (sym k.named) k.there);
           value = subst (λ y. TakenAs w names y (Expression.Call x es)) (sym d.type) (record {
             takes = (one, made);
             shape = struct_shape w x.text k.not_read k.not_written k.there ∙ ap (λ (y : List ℕ). StructShape y) (sym k.named);
@@ -275,9 +282,16 @@ module _ (w : World) (names : List Named) where
     call_taken x es (Some (OfValue Counter)) t vs v k q h e = absurd cc
     call_taken x es (Some (OfValue Unknown)) t vs v k q h e = absurd cc
     call_taken x es (Some OfOther) t vs v k q h e = absurd cc
-    call_taken x es (Some (OfTag u)) t vs v k q h e =
-        let known : KnownTag w x.text u = k (OfTag u) refl in
-        struct_called x es u known vs v h (subst (λ (y : Target). called g x.at y vs ≡ Of v) (struct_is u.is_union u x.at t known.no_union q) e)
+    call_taken x es (Some (OfTag u)) t vs v k q h e = of u.is_union refl (k (OfTag u) refl)
+      where
+        -- a union's name isn't called
+        never : (b : Bool) → target_of_tag b u x.at ≡ Of t → b ≡ true → ⊥
+        never true p z = no_kind u.sound x.at t p
+        never false p z = cc
+
+        of : (b : Bool) → u.is_union ≡ b → KnownKind w b x.text u → IsTaken w names (Expression.Call x es) v
+        of true z k = absurd (never u.is_union q z)
+        of false z k = struct_called x es u k vs v h (subst (λ (y : Target). called g x.at y vs ≡ Of v) (struct_is u.is_union u x.at t z q) e)
     call_taken x es (Some (OfFunction s)) t vs v k q h e =
         function_called x es s (k (OfFunction s) refl) vs v h (subst (λ (y : Target). called g x.at y vs ≡ Of v) (sound_is s.sound s t q) e)
     call_taken x es (Some (OfBuiltin n)) t vs v k q h e =

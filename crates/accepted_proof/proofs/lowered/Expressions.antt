@@ -4,7 +4,7 @@ use Rattle.std.specs.Prelude.{◌&&◌, length, nat_lt}
 use Rattle.cyc_tree.specs.Places.{expression_place}
 use Rattle.cyc_tree.specs.Tree.{Array, Arrow, Dot, Expression, Expressions, Index, Links, MoreExpressions, MoreLinks, Name, NoExpressions, NoLinks, NoSuffixes}
 use Rattle.cyc_tree.specs.Tree.{One, Suffixes}
-use Rattle.source_lowering.specs.Lowerable.{IsNoStruct}
+use Rattle.source_lowering.specs.Lowerable.{IsOperandShape}
 use Rattle.source_lowering.specs.Lowered.{Named, number_named, static_shape, valued}
 use Rattle.source_meaning.specs.Calls.{number_type}
 use Rattle.source_meaning.specs.Expressions.{is_unique_region}
@@ -18,7 +18,7 @@ use Rattle.source_typing.specs.Making.{Goal, To, array_made, elements, goal_of, 
 use Rattle.source_typing.specs.Operators.{applied, counted, is_fat, tested_both}
 use Rattle.source_typing.specs.Places.{grouped, variable}
 use Rattle.source_typing.specs.Regions.{TheHeap}
-use Rattle.source_typing.specs.Scope.{Env, In, InBlock, Value, meant, value}
+use Rattle.source_typing.specs.Scope.{Env, In, InBlock, Value, meant}
 use Rattle.source_typing.specs.Tables.{Arrayed, Counter, Entry, OfBuiltin, OfFunction, OfOther, OfTag, OfValue, Stored, Unknown}
 use Rattle.source_typing.specs.Taken.{all_taken, are_suffixed, if_taken, links_taken, suffixes_taken, taken, takes_handle, takes_suffixes}
 use Rattle.accepted_programs.specs.Supported.{supported}
@@ -32,6 +32,8 @@ use Rattle.type_proof.proofs.expressions.WordRules.{Valued, value_of}
 use Rattle.accepted_proof.proofs.Known.{IsKnownValue, IsWord, known_value}
 use Rattle.accepted_proof.proofs.lowered.Forms.{IsKnownScope, IsTaken, TakenWord, taken_grouped, taken_place, taken_word, valued_type, word_is}
 use Rattle.accepted_proof.proofs.lowered.Calls.{AllTaken, call_taken}
+use Rattle.accepted_proof.proofs.lowered.Unions.{union_taken}
+use Rattle.source_typing.specs.Calls.{union_made, union_tag}
 use Rattle.accepted_proof.proofs.lowered.Makings.{array_taken, making_taken}
 use Rattle.accepted_proof.proofs.lowered.Members.{IndicesTaken, suffixed_taken}
 use Rattle.accepted_proof.proofs.lowered.Operators.{are_joined, assign_taken, fits_seat, no_place, prefixed_taken}
@@ -48,10 +50,10 @@ number_word AsInt = tt
 number_word AsUnsigned = tt
 number_word AsChar = tt
 
-number_known : (structs : List _) (i : IntegerType) → IsKnownValue structs (integer_type i)
-number_known structs AsInt = tt
-number_known structs AsUnsigned = tt
-number_known structs AsChar = tt
+number_known : (w : World) (i : IntegerType) → IsKnownValue w (integer_type i)
+number_known w AsInt = tt
+number_known w AsUnsigned = tt
+number_known w AsChar = tt
 
 no_kind : (c : Bool) (at : ℕ) (v : Value) → other_kind c at ≡ Of v → ⊥
 no_kind true at v e = cc
@@ -112,18 +114,18 @@ module _ (w : World) (names : List Named) (g : Env) (scope : IsKnownScope w name
       let z : record { at = x.at; type = t; seat = In r } ≡ v = of_is (record { at = x.at; type = t; seat = In r }) v e in
       taken_place w names (Expression.Variable x) v t (ap (λ (y : Value). y.type) (sym z))
       (λ s. let y : In r ≡ InBlock = ap (λ (y : Value). y.seat) z ∙ s in cc)
-      (record { takes = tt; shape = ap (λ (s : Shape). valued s) k.0 ∙ valued_type t; known = k.1 }) (known_value w.structs t k.1) (λ y. y) (λ y. y) (λ y. y)
+      (record { takes = tt; shape = ap (λ (s : Shape). valued s) k.0 ∙ valued_type t; known = k.1 }) (known_value w t k.1) (λ y. y) (λ y. y) (λ y. y)
   variable_taken x (Some (OfValue (Arrayed t r))) v q e =
       let k = scope.entries x.text (OfValue (Arrayed t r)) q in
       let d : Valued v (Fat r t) = value_of x.at (Fat r t) v e in
       let shape : static_shape w names (Expression.Variable x) ≡ shape_of (Fat r t) = ap (λ (s : Shape). valued s) k.1 in
       taken_word w names (Expression.Variable x) v (Fat r t) d.type (no_place v d.seat) tt k.2
-      (record { takes = subst (λ (s : Shape). IsNoStruct s) (sym shape) tt; shape = shape }) (λ z. z)
+      (record { takes = subst (λ (s : Shape). IsOperandShape s) (sym shape) tt; shape = shape }) (λ z. z)
   variable_taken x (Some (OfValue Counter)) v q e =
       let d : Valued v Unsigned = value_of x.at Unsigned v e in
       let shape : static_shape w names (Expression.Variable x) ≡ UnsignedShape = ap (λ (s : Shape). valued s) (scope.entries x.text (OfValue Counter) q) in
       taken_word w names (Expression.Variable x) v Unsigned d.type (no_place v d.seat) tt tt
-      (record { takes = subst (λ (s : Shape). IsNoStruct s) (sym shape) tt; shape = shape }) (λ z. z)
+      (record { takes = subst (λ (s : Shape). IsOperandShape s) (sym shape) tt; shape = shape }) (λ z. z)
   variable_taken x (Some (OfValue Unknown)) v q e = absurd cc
   variable_taken x (Some (OfTag t)) v q e = absurd (no_kind t.sound x.at v e)
   variable_taken x (Some (OfFunction s)) v q e = absurd (no_kind s.sound x.at v e)
@@ -158,7 +160,7 @@ module _ (w : World) where
     taken_is names g scope (Expression.Number at n suffix) v t p =
         let i : IntegerType = number_type n suffix in
         let d : Valued v (integer_type i) = value_of at (integer_type i) v p in
-        taken_word w names (Expression.Number at n suffix) v (integer_type i) d.type (no_place v d.seat) (number_word i) (number_known w.structs i)
+        taken_word w names (Expression.Number at n suffix) v (integer_type i) d.type (no_place v d.seat) (number_word i) (number_known w i)
         (record { takes = tt; shape = number_shape i }) (λ z. z)
     taken_is names g scope (Expression.Character at byte) v t p =
         let d : Valued v Char = value_of at Char v p in
@@ -178,7 +180,10 @@ module _ (w : World) where
         let i : all_taken supported es ≡ es = cc in
         let z = call_is g x es v p in
         call_taken w names g x es (meant g x.text) z.0 z.1 v (λ e q. scope.entries x.text e q) z.2 (all_are names g scope es z.1 i z.3) z.4
-    taken_is names g scope (Expression.MakeUnion tag f e) v t p = absurd cc
+    taken_is names g scope (Expression.MakeUnion tag f e) v t p =
+        let i : taken supported e ≡ e = cc in
+        let z = both_is (union_tag tag f (meant g tag.text)) (judge g e) (union_made g tag.at) v p in
+        union_taken w names g tag f e (meant g tag.text) z.0 z.1 v (λ d q. scope.entries tag.text d q) z.2 (taken_is names g scope e z.1 i z.3) z.4
     taken_is names g scope (Expression.NumElts at e) v t p =
         let i : taken supported e ≡ e = cc in
         let z = after_is (judge g e) (counted at) v p in
@@ -275,7 +280,8 @@ module _ (w : World) where
         let z = assign_is g to from v p in
         assign_taken w names g to from z.0 z.1 v (taken_is names g scope to z.0 i z.2) (taken_is names g scope from z.1 j z.3) z.4
 
-    indices_are : (names : List Named) (g : Env) (scope : IsKnownScope w names g) (es : Suffixes) → suffixes_taken supported es ≡ es → IndicesTaken w names g scope es
+    indices_are : (names : List Named) (g : Env) (scope : IsKnownScope w names g) (es : Suffixes) → suffixes_taken supported es ≡ es
+        → IndicesTaken w names g scope es
     indices_are names g scope NoSuffixes t = tt
     indices_are names g scope (Index e es) t =
         let i : taken supported e ≡ e = cc in
@@ -306,7 +312,7 @@ module _ (w : World) where
         tested_more w names g scope e es a y.0 y.1 z.0 v y.2 (taken_is names g scope e y.1 i y.3) y.4 z.1 (tests_are names g scope es b v j p)
 
     links_are : (names : List Named) (g : Env) (scope : IsKnownScope w names g) (es : Links) (a : Verdict Value) (v : Value) → links_taken supported es ≡ es
-        → ((x : Value) → a ≡ Of x → IsKnownValue w.structs x.type)
+        → ((x : Value) → a ≡ Of x → IsKnownValue w x.type)
         → judge_links g a es ≡ Of v → AreLinked w names g scope es a v
     links_are names g scope NoLinks a v t n p = p
     links_are names g scope (MoreLinks o e es) a v t n p =
@@ -315,7 +321,7 @@ module _ (w : World) where
         let b : Verdict Value = both a (judge g e) (applied g o) in
         let z = links_first g b es v p in
         let y = both_is a (judge g e) (applied g o) z.0 z.1 in
-        let k : IsKnownValue w.structs z.0.type = (are_joined w.structs g o y.0.type y.1.type z.0.type
+        let k : IsKnownValue w z.0.type = (are_joined w g o y.0.type y.1.type z.0.type
         (applied_to_is g o y.0.at y.0.type y.1.type z.0 y.4) (n y.0 y.2)).known in
         linked_more w names g scope o e es a y.0 y.1 z.0 v y.2 (n y.0 y.2) (taken_is names g scope e y.1 i y.3) y.4 z.1
-        (links_are names g scope es b v j (λ x q. subst (λ (u : Value). IsKnownValue w.structs u.type) (of_is z.0 x (sym z.1 ∙ q)) k) p)
+        (links_are names g scope es b v j (λ x q. subst (λ (u : Value). IsKnownValue w u.type) (of_is z.0 x (sym z.1 ∙ q)) k) p)

@@ -1,11 +1,11 @@
 -- What lowering takes of an expression, by its type, where all is known of each name in scope.
-use Rattle.std.proofs.Common.{◌≡◌, ℕ, ◌≤◌, true, false, Some, List, [], ◌∷◌, refl, sym, subst, ap}
+use Rattle.std.proofs.Common.{◌≡◌, ℕ, ◌≤◌, Bool, true, false, Some, List, [], ◌∷◌, refl, sym, subst, ap}
 use Rattle.std.specs.Prelude.{bytes_eq, codes, map}
 use Rattle.cyc_tree.specs.Tree.{Expression}
-use Rattle.source_lowering.specs.Lowerable.{IsNoStruct, IsStructShape, Takes, TakesDropped, TakesPlace, TakesRun, TakesWhole}
+use Rattle.source_lowering.specs.Lowerable.{IsMember, IsOperandShape, IsWholeShape, Takes, TakesDropped, TakesPlace, TakesRun, TakesWhole}
 use Rattle.source_lowering.specs.Lowered.{Named, call_shape, named_shape, member_shape, static_shape, valued}
 use Rattle.source_meaning.specs.Shapes as shapes
-use Rattle.source_meaning.specs.Shapes.{ArrayShape, Layout, Shape, StructShape, UnsignedShape, has_tag, parts_of}
+use Rattle.source_meaning.specs.Shapes.{ArrayShape, Shape, StructShape, UnionShape, UnsignedShape, has_tag, part_shape, parts_of}
 use Rattle.source_meaning.specs.Steps.{World}
 use Rattle.source_typing.specs.Extents.{size_of}
 use Rattle.source_typing.specs.Scope.{Env, InBlock, Seat, Value, is_place, meant}
@@ -49,9 +49,9 @@ use Rattle.accepted_proof.proofs.Known.{IsKnown, IsKnownValue, IsWord, word_shap
 -- ---- names
 
 -- what a function gives: a word, or nothing
-abbrev pub IsGiven : List Layout → StaticType → Type 0
-IsGiven structs Void = Unit {0}
-IsGiven structs t = IsWord t × IsKnown structs (shape_of t)
+abbrev pub IsGiven : World → StaticType → Type 0
+IsGiven w Void = Unit {0}
+IsGiven w t = IsWord t × IsKnown w (shape_of t)
 
 abbrev pub AreWords : List StaticType → Type 0
 AreWords [] = Unit {0}
@@ -67,30 +67,46 @@ pub record KnownFunction (w : World) (x : List ℕ) (s : Signature) : Type 0 whe
   pub words : AreWords types
   pub gives : StaticType
   pub result : s.result ≡ Some gives
-  pub given : IsGiven w.structs gives
+  pub given : IsGiven w gives
   pub shape : call_shape w x ≡ shape_of gives
 
-abbrev pub AreKnown : List Layout → List StaticType → Type 0
-AreKnown structs [] = Unit {0}
-AreKnown structs (t ∷ ts) = IsKnown structs (shape_of t) × AreKnown structs ts
+abbrev pub AreKnown : World → List StaticType → Type 0
+AreKnown w [] = Unit {0}
+AreKnown w (t ∷ ts) = IsKnown w (shape_of t) × AreKnown w ts
 
 -- a struct of the program, with its members
 pub record KnownTag (w : World) (x : List ℕ) (t : Tag) : Type 0 where
   pub not_read : bytes_eq x (codes "getchar") ≡ false
   pub not_written : bytes_eq x (codes "putchar") ≡ false
   pub named : t.text ≡ x
+  pub sound : t.sound ≡ true
   pub no_union : t.is_union ≡ false
   pub there : has_tag w.structs x ≡ true
   pub types : List StaticType
   pub members : AreMembers t.parts (parts_of w.structs x) types
-  pub known : AreKnown w.structs types
+  pub known : AreKnown w types
+
+-- a union of the program, with its members, which are words
+pub record KnownUnion (w : World) (x : List ℕ) (t : Tag) : Type 0 where
+  pub named : t.text ≡ x
+  pub sound : t.sound ≡ true
+  pub union : t.is_union ≡ true
+  pub there : has_tag w.unions x ≡ true
+  pub types : List StaticType
+  pub members : AreMembers t.parts (parts_of w.unions x) types
+  pub words : AreWords types
+  pub known : AreKnown w types
+
+abbrev pub KnownKind : World → Bool → List ℕ → Tag → Type 0
+KnownKind w false x t = KnownTag w x t
+KnownKind w true x t = KnownUnion w x t
 
 abbrev pub KnownEntry : World → List Named → List ℕ → Entry → Type 0
-KnownEntry w names x (OfValue (Stored t r)) = (named_shape w names x ≡ shape_of t) × IsKnown w.structs (shape_of t)
-KnownEntry w names x (OfValue (Arrayed t r)) = (count : ℕ) × (named_shape w names x ≡ ArrayShape count (shape_of t)) × IsKnown w.structs (shape_of t)
+KnownEntry w names x (OfValue (Stored t r)) = (named_shape w names x ≡ shape_of t) × IsKnown w (shape_of t)
+KnownEntry w names x (OfValue (Arrayed t r)) = (count : ℕ) × (named_shape w names x ≡ ArrayShape count (shape_of t)) × IsKnown w (shape_of t)
 KnownEntry w names x (OfValue Counter) = (named_shape w names x ≡ UnsignedShape)
 KnownEntry w names x (OfValue Unknown) = ⊥
-KnownEntry w names x (OfTag t) = KnownTag w x t
+KnownEntry w names x (OfTag t) = KnownKind w t.is_union x t
 KnownEntry w names x (OfFunction s) = KnownFunction w x s
 KnownEntry w names x (OfBuiltin n) = Builtin x n × (has_tag w.structs x ≡ false)
 KnownEntry w names x OfOther = ⊥
@@ -113,13 +129,22 @@ valued_type (Union tag rs) = refl
 -- a member of a struct has the shape that its type says
 pub record KnownMember (w : World) (tag f : List ℕ) (t : StaticType) : Type 0 where
   pub shape : member_shape w (StructShape tag) f ≡ shape_of t
-  pub known : IsKnown w.structs (shape_of t)
+  pub known : IsKnown w (shape_of t)
 
--- all is known of each name in scope, and of the members of each struct; and each object has a byte at least
+-- and so has one of a union, which has a number and is a word
+pub record KnownChoice (w : World) (tag f : List ℕ) (t : StaticType) : Type 0 where
+  pub member : IsMember (parts_of w.unions tag) f
+  pub shape : part_shape (parts_of w.unions tag) f ≡ shape_of t
+  pub known : IsKnown w (shape_of t)
+
+-- all is known of each name in scope, and of the members of each struct and union; and each object has a byte at least
 pub record IsKnownScope (w : World) (names : List Named) (g : Env) : Type 0 where
   pub entries : (x : List ℕ) (e : Entry) → meant g x ≡ Some e → KnownEntry w names x e
-  pub members : (tag f : List ℕ) (p : Part) (t : StaticType) → part_in (parts_in g.tables tag) f ≡ Some p → p.type ≡ Some t → KnownMember w tag f t
-  pub sizes : (t : StaticType) → IsKnown w.structs (shape_of t) → 1 ≤ size_of g.tables t
+  pub members : (tag f : List ℕ) (p : Part) (t : StaticType) → has_tag w.structs tag ≡ true → part_in (parts_in g.tables tag) f ≡ Some p → p.type ≡ Some t
+      → KnownMember w tag f t
+  pub choices : (tag f : List ℕ) (p : Part) (t : StaticType) → has_tag w.unions tag ≡ true → part_in (parts_in g.tables tag) f ≡ Some p → p.type ≡ Some t
+      → KnownChoice w tag f t
+  pub sizes : (t : StaticType) → IsKnown w (shape_of t) → 1 ≤ size_of g.tables t
 
 -- ---- expressions
 
@@ -134,20 +159,26 @@ module _ (w : World) (names : List Named) where
     pub takes : TakesWhole w names e
     pub shape : static_shape w names e ≡ StructShape tag
 
+  -- a union
+  pub record TakenUnion (e : Expression) (tag : List ℕ) : Type 0 where
+    pub takes : TakesWhole w names e
+    pub shape : static_shape w names e ≡ UnionShape tag
+
   -- as a value of a type; `void` has none
   abbrev pub TakenAs : StaticType → Expression → Type 0
   TakenAs Void e = Unit {0}
   TakenAs (Struct tag rs) e = TakenStruct e tag
+  TakenAs (Union tag rs) e = TakenUnion e tag
   TakenAs t e = TakenWord e t
 
   pub record TakenPlace (e : Expression) (t : StaticType) : Type 0 where
     pub takes : TakesPlace w names e
     pub shape : static_shape w names e ≡ shape_of t
-    pub known : IsKnown w.structs (shape_of t)
+    pub known : IsKnown w (shape_of t)
 
   -- an expression that lowering takes: as a value of its type, where its value is dropped, and as a place where it is one
   pub record IsTaken (e : Expression) (v : Value) : Type 0 where
-    pub known : IsKnownValue w.structs v.type
+    pub known : IsKnownValue w v.type
     pub value : TakenAs v.type e
     pub run : TakesRun w names e
     pub place : is_place v.seat ≡ true → TakenPlace e v.type
@@ -167,7 +198,7 @@ module _ (w : World) (names : List Named) where
   word_is (Unique n t) e h k = k
   word_is (Handle r) e h k = k
   word_is (Key r) e h k = k
-  word_is (Union tag rs) e h k = k
+  word_is (Union tag rs) e h k = absurd h
 
   pub word_as : (t : StaticType) (e : Expression) → IsWord t → TakenWord e t → TakenAs t e
   word_as Void e h k = absurd h
@@ -181,10 +212,10 @@ module _ (w : World) (names : List Named) where
   word_as (Unique n t) e h k = k
   word_as (Handle r) e h k = k
   word_as (Key r) e h k = k
-  word_as (Union tag rs) e h k = k
+  word_as (Union tag rs) e h k = absurd h
 
   -- a word, or nothing, whose value is dropped
-  dropped_shape : (s : Shape) (e : Expression) → IsNoStruct s → Takes w names e → TakesDropped w names s e
+  dropped_shape : (s : Shape) (e : Expression) → IsOperandShape s → Takes w names e → TakesDropped w names s e
   dropped_shape (StructShape tag) e h k = absurd h
   dropped_shape shapes.IntShape e h k = k
   dropped_shape shapes.UnsignedShape e h k = k
@@ -194,52 +225,57 @@ module _ (w : World) (names : List Named) where
   dropped_shape (shapes.FatShape t) e h k = k
   dropped_shape shapes.HandleShape e h k = k
   dropped_shape shapes.KeyShape e h k = k
-  dropped_shape (shapes.UnionShape tag) e h k = k
+  dropped_shape (UnionShape tag) e h k = absurd h
   dropped_shape (shapes.ArrayShape n t) e h k = k
 
   pub dropped_word : (t : StaticType) (e : Expression) → IsWord t → TakenWord e t → TakesDropped w names (static_shape w names e) e
   dropped_word t e h k =
-      dropped_shape (static_shape w names e) e (subst (λ s. IsNoStruct s) (sym k.shape) (word_shape t h)) k.takes
+      dropped_shape (static_shape w names e) e (subst (λ s. IsOperandShape s) (sym k.shape) (word_shape t h)) k.takes
 
   -- a word that is no place
-  pub taken_word : (e : Expression) (v : Value) (t : StaticType) → v.type ≡ t → (is_place v.seat ≡ true → ⊥) → IsWord t → IsKnownValue w.structs t
+  pub taken_word : (e : Expression) (v : Value) (t : StaticType) → v.type ≡ t → (is_place v.seat ≡ true → ⊥) → IsWord t → IsKnownValue w t
       → TakenWord e t → (TakesDropped w names (static_shape w names e) e → TakesRun w names e) → IsTaken e v
   taken_word e v t q s h k d run = record {
-    known = subst (λ z. IsKnownValue w.structs z) (sym q) k;
+    known = subst (λ z. IsKnownValue w z) (sym q) k;
     value = subst (λ z. TakenAs z e) (sym q) (word_as t e h d);
     run = run (dropped_word t e h d);
     place = λ z. absurd (s z);
     outside = λ z. s (ap (λ (y : Seat). is_place y) z);
   }
 
-  -- a place is taken as a value too: as a struct, or as a word
-  struct_there : (tag : List ℕ) → has_tag w.structs tag ≡ true → (s : Shape) → s ≡ StructShape tag → IsStructShape w.structs s
-  struct_there tag h s e = subst (λ z. IsStructShape w.structs z) (sym e) h
+  -- a place is taken as a value too: as a struct, as a union, or as a word
+  struct_there : (tag : List ℕ) → has_tag w.structs tag ≡ true → (s : Shape) → s ≡ StructShape tag → IsWholeShape w.unions w.structs s
+  struct_there tag h s e = subst (λ z. IsWholeShape w.unions w.structs z) (sym e) h
 
-  place_value : (t : StaticType) (e : Expression) → TakenPlace e t → (IsNoStruct (static_shape w names e) → Takes w names e)
-      → (TakesPlace w names e × IsStructShape w.structs (static_shape w names e) → TakesWhole w names e) → TakenAs t e
+  union_there : (tag : List ℕ) → has_tag w.unions tag ≡ true → (s : Shape) → s ≡ UnionShape tag → IsWholeShape w.unions w.structs s
+  union_there tag h s e = subst (λ z. IsWholeShape w.unions w.structs z) (sym e) h
+
+  place_value : (t : StaticType) (e : Expression) → TakenPlace e t → (IsOperandShape (static_shape w names e) → Takes w names e)
+      → (TakesPlace w names e × IsWholeShape w.unions w.structs (static_shape w names e) → TakesWhole w names e) → TakenAs t e
   place_value Void e p word whole = tt
   place_value (Struct tag rs) e p word whole =
       record { takes = whole (p.takes, struct_there tag p.known (static_shape w names e) p.shape); shape = p.shape }
-  place_value Null e p word whole = record { takes = word (subst (λ s. IsNoStruct s) (sym p.shape) tt); shape = p.shape }
-  place_value Int e p word whole = record { takes = word (subst (λ s. IsNoStruct s) (sym p.shape) tt); shape = p.shape }
-  place_value Unsigned e p word whole = record { takes = word (subst (λ s. IsNoStruct s) (sym p.shape) tt); shape = p.shape }
-  place_value Char e p word whole = record { takes = word (subst (λ s. IsNoStruct s) (sym p.shape) tt); shape = p.shape }
-  place_value (Thin n r t) e p word whole = record { takes = word (subst (λ s. IsNoStruct s) (sym p.shape) tt); shape = p.shape }
-  place_value (Fat r t) e p word whole = record { takes = word (subst (λ s. IsNoStruct s) (sym p.shape) tt); shape = p.shape }
-  place_value (Unique n t) e p word whole = record { takes = word (subst (λ s. IsNoStruct s) (sym p.shape) tt); shape = p.shape }
-  place_value (Handle r) e p word whole = record { takes = word (subst (λ s. IsNoStruct s) (sym p.shape) tt); shape = p.shape }
+  place_value (Union tag rs) e p word whole =
+      record { takes = whole (p.takes, union_there tag p.known (static_shape w names e) p.shape); shape = p.shape }
+  place_value Null e p word whole = record { takes = word (subst (λ s. IsOperandShape s) (sym p.shape) tt); shape = p.shape }
+  place_value Int e p word whole = record { takes = word (subst (λ s. IsOperandShape s) (sym p.shape) tt); shape = p.shape }
+  place_value Unsigned e p word whole = record { takes = word (subst (λ s. IsOperandShape s) (sym p.shape) tt); shape = p.shape }
+  place_value Char e p word whole = record { takes = word (subst (λ s. IsOperandShape s) (sym p.shape) tt); shape = p.shape }
+  place_value (Thin n r t) e p word whole = record { takes = word (subst (λ s. IsOperandShape s) (sym p.shape) tt); shape = p.shape }
+  place_value (Fat r t) e p word whole = record { takes = word (subst (λ s. IsOperandShape s) (sym p.shape) tt); shape = p.shape }
+  place_value (Unique n t) e p word whole = record { takes = word (subst (λ s. IsOperandShape s) (sym p.shape) tt); shape = p.shape }
+  place_value (Handle r) e p word whole = record { takes = word (subst (λ s. IsOperandShape s) (sym p.shape) tt); shape = p.shape }
   place_value (Key r) e p word whole = absurd p.known
-  place_value (Union tag rs) e p word whole = absurd p.known
 
-  place_dropped : (t : StaticType) (e : Expression) → TakenPlace e t → (IsNoStruct (static_shape w names e) → Takes w names e)
-      → (TakesPlace w names e × IsStructShape w.structs (static_shape w names e) → TakesWhole w names e)
+  place_dropped : (t : StaticType) (e : Expression) → TakenPlace e t → (IsOperandShape (static_shape w names e) → Takes w names e)
+      → (TakesPlace w names e × IsWholeShape w.unions w.structs (static_shape w names e) → TakesWhole w names e)
       → TakesDropped w names (static_shape w names e) e
   place_dropped t e p word whole = by (static_shape w names e) word whole p.shape
     where
-      by : (s : Shape) → (IsNoStruct s → Takes w names e) → (TakesPlace w names e × IsStructShape w.structs s → TakesWhole w names e) → s ≡ shape_of t
+      by : (s : Shape) → (IsOperandShape s → Takes w names e) → (TakesPlace w names e × IsWholeShape w.unions w.structs s → TakesWhole w names e)
+          → s ≡ shape_of t
           → TakesDropped w names s e
-      by (StructShape tag) word whole q = whole (p.takes, subst (λ z. IsKnown w.structs z) (sym q) p.known)
+      by (StructShape tag) word whole q = whole (p.takes, subst (λ z. IsKnown w z) (sym q) p.known)
       by shapes.IntShape word whole q = word tt
       by shapes.UnsignedShape word whole q = word tt
       by shapes.CharShape word whole q = word tt
@@ -248,15 +284,15 @@ module _ (w : World) (names : List Named) where
       by (shapes.FatShape s) word whole q = word tt
       by shapes.HandleShape word whole q = word tt
       by shapes.KeyShape word whole q = word tt
-      by (shapes.UnionShape tag) word whole q = word tt
+      by (UnionShape tag) word whole q = whole (p.takes, subst (λ z. IsKnown w z) (sym q) p.known)
       by (shapes.ArrayShape n s) word whole q = word tt
 
-  pub taken_place : (e : Expression) (v : Value) (t : StaticType) → v.type ≡ t → (v.seat ≡ InBlock → ⊥) → TakenPlace e t → IsKnownValue w.structs t
-      → (IsNoStruct (static_shape w names e) → Takes w names e)
-      → (TakesPlace w names e × IsStructShape w.structs (static_shape w names e) → TakesWhole w names e)
+  pub taken_place : (e : Expression) (v : Value) (t : StaticType) → v.type ≡ t → (v.seat ≡ InBlock → ⊥) → TakenPlace e t → IsKnownValue w t
+      → (IsOperandShape (static_shape w names e) → Takes w names e)
+      → (TakesPlace w names e × IsWholeShape w.unions w.structs (static_shape w names e) → TakesWhole w names e)
       → (TakesDropped w names (static_shape w names e) e → TakesRun w names e) → IsTaken e v
   taken_place e v t q o p k word whole run = record {
-    known = subst (λ z. IsKnownValue w.structs z) (sym q) k;
+    known = subst (λ z. IsKnownValue w z) (sym q) k;
     value = subst (λ z. TakenAs z e) (sym q) (place_value t e p word whole);
     run = run (place_dropped t e p word whole);
     place = λ s. subst (λ z. TakenPlace e z) (sym q) p;

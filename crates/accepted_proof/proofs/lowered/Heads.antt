@@ -6,7 +6,7 @@ use Rattle.cyc_tree.specs.Tree.{TypeName}
 use Rattle.source_lowering.specs.Lowerable as lowering
 use Rattle.source_lowering.specs.Lowerable.{AreStructs, IsObject, TakesFunction, TakesGlobal, TakesItem, TakesItems, TakesResult}
 use Rattle.source_lowering.specs.Programs.{parameter_names}
-use Rattle.source_meaning.specs.Shapes.{Layout, Shape, part_of, part_shapes, settled, written}
+use Rattle.source_meaning.specs.Shapes.{Shape, part_of, part_shapes, settled, written}
 use Rattle.source_meaning.specs.Steps.{World}
 use Rattle.type_proof.specs.Entries.{AreObjects, IsObjectType, IsPlain}
 use Rattle.type_proof.specs.Programs.{with_all}
@@ -31,8 +31,8 @@ use Rattle.accepted_proof.proofs.Known.{IsKnown, IsWord, known_object}
 use Rattle.accepted_proof.proofs.lowered.Bodies.{items_takes}
 use Rattle.accepted_proof.proofs.lowered.Forms.{AreKnown, AreWords, IsGiven, IsKnownScope}
 use Rattle.accepted_proof.proofs.lowered.Scopes.{scope_all}
-use Rattle.accepted_proof.proofs.lowered.Types.{BaseThere, TagsThere, base_there, begins_first, int_written, object_type, result_takes, twice_keeps, word_type}
-use Rattle.accepted_proof.proofs.lowered.Types.{written_known}
+use Rattle.accepted_proof.proofs.lowered.Types.{AreSound, BaseThere, TagsThere, base_there, begins_first, int_written, object_type, result_takes, twice_keeps}
+use Rattle.accepted_proof.proofs.lowered.Types.{word_type, written_known}
 use Rattle.accepted_proof.proofs.lowered.ObjectSizes.{elements_few, global_few}
 use Rattle.accepted_proof.proofs.lowered.SizedGlobals.{IsSized}
 use Rattle.source_typing.specs.Written as types
@@ -65,15 +65,15 @@ parameter_word (Fat r t) e = tt
 parameter_word (Unique n t) e = tt
 parameter_word (Handle r) e = tt
 parameter_word (Key r) e = tt
-parameter_word (Union tag rs) e = tt
+parameter_word (Union tag rs) e = absurd cc
 
-module _ (structs : List Layout) (g : Tables) (tags : TagsThere structs g) where
+module _ (w : World) (g : Tables) (tags : TagsThere w g) (sound : AreSound g) where
   -- ---- parameters
 
   pub record ParametersLowered (ms : List tree.Member) (ts : List StaticType) : Type 0 where
     pub takes : lowering.AreWords ms
     pub words : AreWords ts
-    pub known : AreKnown structs ts
+    pub known : AreKnown w ts
 
   parameters_lowered : (vs : Variables) (ms : List tree.Member) (ts : List StaticType) → AreMembersTaken supported ms
       → all_faults (read_parameters g vs ms).types ≡ [] → map known (read_parameters g vs ms).types ≡ map (λ (t : StaticType). Some t) ts
@@ -85,8 +85,8 @@ module _ (structs : List Layout) (g : Tables) (tags : TagsThere structs g) where
       let all : AllSpotted = take_spots vs (spots_of g m.of) in
       let v : Verdict StaticType = parameter_type g m.of all in
       let z = none_of_both (faults_of v) (all_faults (read_parameters g all.after_all ms).types) p in
-      let there : BaseThere structs m.of.base =
-      base_there structs g m.of (all.found, all.faults) (λ z. after (after z (settled_alone m.of.at)) (if_parameter m.of.at)) tags
+      let there : BaseThere w m.of.base =
+      base_there w g m.of (all.found, all.faults) (λ z. after (after z (settled_alone m.of.at)) (if_parameter m.of.at)) tags sound
       (twice_keeps (settled_alone m.of.at) (if_parameter m.of.at)) z.0 in
       let is : known v ≡ Some t = cc in
       let others : map known (read_parameters g all.after_all ms).types ≡ map (λ (t : StaticType). Some t) ts = cc in
@@ -97,20 +97,21 @@ module _ (structs : List Layout) (g : Tables) (tags : TagsThere structs g) where
       let word : IsWord t = parameter_word t (subst (λ (y : StaticType). fits_parameter y ≡ true) f.same f.fits) in
       let r : ParametersLowered ms ts = parameters_lowered all.after_all ms ts k.1 z.1 others shapes o.1 in
       record {
-        takes = (word_type structs m.of t k.0 there o.0 word shape, r.takes);
+        takes = (word_type w m.of t k.0 there o.0 word shape, r.takes);
         words = (word, r.words);
-        known = (written_known structs m.of t k.0 there o.0 shape, r.known);
+        known = (written_known w m.of t k.0 there o.0 shape, r.known);
       }
 
   -- ---- results
 
-  given_is : (t : StaticType) → is_void t || fits_parameter t ≡ true → IsPlain t → (IsObjectType t → IsKnown structs (shape_of t)) → IsGiven structs t
+  given_is : (t : StaticType) → is_void t || fits_parameter t ≡ true → IsPlain t → (IsObjectType t → IsKnown w (shape_of t)) → IsGiven w t
   given_is Void e o k = tt
   given_is Int e o k = (tt, k o)
   given_is Unsigned e o k = (tt, k o)
   given_is Char e o k = (tt, k o)
   given_is (Thin n r t) e o k = (tt, k o)
   given_is (Fat r t) e o k = (tt, k o)
+  given_is (Unique n t) e o k = (tt, k o)
   given_is (Struct tag rs) e o k = absurd cc
   given_is (Union tag rs) e o k = absurd cc
   given_is (Handle r) e o k = (tt, k o)
@@ -118,19 +119,19 @@ module _ (structs : List Layout) (g : Tables) (tags : TagsThere structs g) where
 
   pub record ResultLowered (t : TypeName) (u : StaticType) : Type 0 where
     pub takes : TakesResult t
-    pub given : IsGiven structs u
+    pub given : IsGiven w u
 
   result_lowered : (names : List RegionNamed) (t : TypeName) (u : StaticType) → takes_type supported t ≡ true → result_type g names t ≡ Of u → IsPlain u
       → settled (written t) ≡ shape_of u → ResultLowered t u
   result_lowered names t u e q o s =
-      let there : BaseThere structs t.base =
-      base_there structs g t (all_found names (spots_of g t)) (λ z. after (after z (settled_alone t.at)) (if_result t.at)) tags
+      let there : BaseThere w t.base =
+      base_there w g t (all_found names (spots_of g t)) (λ z. after (after z (settled_alone t.at)) (if_result t.at)) tags sound
       (twice_keeps (settled_alone t.at) (if_result t.at)) (ap (λ (v : Verdict StaticType). faults_of v) q) in
       let a = after_is (after (types.written g names t) (settled_alone t.at)) (if_result t.at) u q in
       let f : Fits (is_void a.0 || fits_parameter a.0) a.0 u = fits_is (is_void a.0 || fits_parameter a.0) t.at a.0 u a.2 in
-      let given : IsGiven structs u =
-      given_is u (subst (λ (y : StaticType). is_void y || fits_parameter y ≡ true) f.same f.fits) o (λ w. written_known structs t u e there w s) in
-      record { takes = result_takes structs t u e there o given s; given = given }
+      let given : IsGiven w u =
+      given_is u (subst (λ (y : StaticType). is_void y || fits_parameter y ≡ true) f.same f.fits) o (λ x. written_known w t u e there x s) in
+      record { takes = result_takes w t u e there o given s; given = given }
 
   -- ---- heads
 
@@ -153,11 +154,11 @@ module _ (structs : List Layout) (g : Tables) (tags : TagsThere structs g) where
 
 -- ---- functions
 
-pub function_lowered : (w : World) (g : Tables) (i : ℕ) (f : tree.Function) (k : FunctionGood g i f) → TagsThere w.structs g
+pub function_lowered : (w : World) (g : Tables) (i : ℕ) (f : tree.Function) (k : FunctionGood g i f) → TagsThere w g → AreSound g
     → function_taken supported f ≡ f
     → IsKnownScope w [] (function_scope false g i (head_of false g f)) → TakesFunction w f
-function_lowered w g i f k tags t scope =
-    let h : HeadLowered w.structs g tags f k.head = head_lowered w.structs g tags f k.head t k.clean in
+function_lowered w g i f k tags sound t scope =
+    let h : HeadLowered w g tags sound f k.head = head_lowered w g tags sound f k.head t k.clean in
     let inside : Env = function_scope false g i (head_of false g f) in
     record {
       result = h.result.takes;
@@ -176,35 +177,35 @@ function_lowered w g i f k tags t scope =
 -- ---- globals
 
 -- by the program's tables `g` it has no fault, and `h` are those by which its type was read
-module _ (w : World) (g h : Tables) (i : ℕ) (x : tree.Global) (k : GlobalGood h i x) (tags : TagsThere w.structs g)
+module _ (w : World) (g h : Tables) (i : ℕ) (x : tree.Global) (k : GlobalGood h i x) (tags : TagsThere w g) (sound : AreSound g)
     (t : item_taken supported (tree.GlobalItem x) ≡ tree.GlobalItem x) (f : item_forms supported (tree.GlobalItem x) ≡ [])
     (p : global_faults (at_item false g i) x ≡ [])
   where
     taken : GlobalTaken supported x
     taken = global_taken supported (at_item false g i) x t f p
 
-    there : BaseThere w.structs x.of.base
+    there : BaseThere w x.of.base
     there =
         let s : Env = at_item false g i in
         let names : List RegionNamed = foreign_names (spots_of g x.of) in
         let q = none_of_both (faults_of (global_type s x)) (initial_faults s x.initial (global_type s x)) p in
-        base_there w.structs g x.of (all_found names (spots_of g x.of))
-        (λ z. after (after z (settled_alone x.of.at)) (fitting_global s x.of.at (count_of x.initial) (has_none names))) tags
+        base_there w g x.of (all_found names (spots_of g x.of))
+        (λ z. after (after z (settled_alone x.of.at)) (fitting_global s x.of.at (count_of x.initial) (has_none names))) tags sound
         (twice_keeps (settled_alone x.of.at) (fitting_global s x.of.at (count_of x.initial) (has_none names))) q.0
 
-    pub global_known : IsKnown w.structs (shape_of k.type)
-    global_known = written_known w.structs x.of k.type taken.type there k.good.object k.good.shape
+    pub global_known : IsKnown w (shape_of k.type)
+    global_known = written_known w x.of k.type taken.type there k.good.object k.good.shape
 
     -- an array has few elements, since it has as many bytes by its meaning as by the rules
     few : AreStructs w.unions w.structs → IsSized w g i (tree.GlobalItem x) → IsFew x.initial
     few structs sized =
         elements_few w x.initial (settled (written x.of)) structs
-        (subst (λ (s : Shape). IsObject w.structs s) (sym k.good.shape) (known_object w.structs (shape_of k.type) global_known))
+        (subst (λ (s : Shape). IsObject w.unions w.structs s) (sym k.good.shape) (known_object w (shape_of k.type) global_known))
         (subst (λ (n : ℕ). n ≤ 4096) (sym sized) (global_few (at_item false g i) x p))
 
     pub global_lowered : AreStructs w.unions w.structs → IsSized w g i (tree.GlobalItem x) → TakesItem w (tree.GlobalItem x)
     global_lowered structs sized = (
-      object_type w.structs x.of k.type taken.type there k.good.object k.good.shape,
+      object_type w x.of k.type taken.type there k.good.object k.good.shape,
       subst (λ (s : Shape). TakesGlobal s x.initial) (sym k.good.shape)
           (k.initial.taken (begins_first h k.type k.good.object k.begins) (few structs sized)),
     )

@@ -3,7 +3,7 @@ use Rattle.std.proofs.Common.{◌≡◌, ℕ, true, false, List, ◌∷◌, refl
 use Rattle.std.specs.Prelude.{◌&&◌}
 use Rattle.std.proofs.lemmas.Bool.{and_parts}
 use Rattle.cyc_tree.specs.Tree.{Array, Expression, Name, One}
-use Rattle.source_lowering.specs.Lowerable.{IsNoStruct, IsObject, Takes, TakesDropped, TakesMember, TakesNew, TakesRun, TakesWhole}
+use Rattle.source_lowering.specs.Lowerable.{IsOperandShape, IsObject, Takes, TakesDropped, TakesMember, TakesNew, TakesRun, TakesWhole}
 use Rattle.source_lowering.specs.Lowered.{Named, number_named, static_shape}
 use Rattle.source_meaning.specs.Shapes as shapes
 use Rattle.source_meaning.specs.Shapes.{FatShape, Shape, ThinShape}
@@ -19,7 +19,7 @@ use Rattle.type_proof.proofs.expressions.Makings.{made_there}
 use Rattle.type_proof.proofs.expressions.WordRules.{Valued, value_of}
 use Rattle.accepted_proof.proofs.Known.{IsKnown, IsKnownValue, IsWord, integer_word, known_object, word_shape}
 use Rattle.accepted_proof.proofs.lowered.Calls.{word_member}
-use Rattle.accepted_proof.proofs.lowered.Forms.{IsTaken, TakenAs, TakenStruct, TakenWord, taken_word, word_is}
+use Rattle.accepted_proof.proofs.lowered.Forms.{IsTaken, TakenAs, TakenStruct, TakenUnion, TakenWord, taken_word, word_is}
 use Rattle.accepted_proof.proofs.lowered.Operators.{no_place}
 
 module _ (w : World) (names : List Named) where
@@ -28,33 +28,44 @@ module _ (w : World) (names : List Named) where
   -- a value of a type that can be made
   record NewTaken (e : Expression) (t : StaticType) : Type 0 where
     takes : TakesNew w names (One e)
-    known : IsKnown w.structs (shape_of t)
+    known : IsKnown w (shape_of t)
     shape : static_shape w names e ≡ shape_of t
 
-  word_made : (e : Expression) (t : StaticType) → IsWord t → IsKnown w.structs (shape_of t) → TakenWord w names e t → NewTaken e t
+  word_made : (e : Expression) (t : StaticType) → IsWord t → IsKnown w (shape_of t) → TakenWord w names e t → NewTaken e t
   word_made e t i k h =
-      let none : IsNoStruct (static_shape w names e) = subst (λ s. IsNoStruct s) (sym h.shape) (word_shape t i) in
+      let none : IsOperandShape (static_shape w names e) = subst (λ s. IsOperandShape s) (sym h.shape) (word_shape t i) in
       record {
         takes = (
-          subst (λ s. IsObject w.structs s) (sym h.shape) (known_object w.structs (shape_of t) k),
+          subst (λ s. IsObject w.unions w.structs s) (sym h.shape) (known_object w (shape_of t) k),
           word_member w names (static_shape w names e) (TakesWhole w names e) (Takes w names e) none h.takes,
         );
         known = k;
         shape = h.shape;
       }
 
-  struct_made : (e : Expression) (tag : List ℕ) (rs : List Region) → IsKnown w.structs (shape_of (Struct tag rs)) → TakenStruct w names e tag
+  struct_made : (e : Expression) (tag : List ℕ) (rs : List Region) → IsKnown w (shape_of (Struct tag rs)) → TakenStruct w names e tag
       → NewTaken e (Struct tag rs)
   struct_made e tag rs k h = record {
     takes = (
-      subst (λ s. IsObject w.structs s) (sym h.shape) k,
+      subst (λ s. IsObject w.unions w.structs s) (sym h.shape) k,
       subst (λ s. TakesMember s (TakesWhole w names e) (Takes w names e)) (sym h.shape) h.takes,
     );
     known = k;
     shape = h.shape;
   }
 
-  value_made : (e : Expression) (t : StaticType) → is_makeable t ≡ true → IsKnownValue w.structs t → TakenAs w names t e → NewTaken e t
+  union_made : (e : Expression) (tag : List ℕ) (rs : List Region) → IsKnown w (shape_of (Union tag rs)) → TakenUnion w names e tag
+      → NewTaken e (Union tag rs)
+  union_made e tag rs k h = record {
+    takes = (
+      subst (λ s. IsObject w.unions w.structs s) (sym h.shape) k,
+      subst (λ s. TakesMember s (TakesWhole w names e) (Takes w names e)) (sym h.shape) h.takes,
+    );
+    known = k;
+    shape = h.shape;
+  }
+
+  value_made : (e : Expression) (t : StaticType) → is_makeable t ≡ true → IsKnownValue w t → TakenAs w names t e → NewTaken e t
   value_made e Void m k h = absurd cc
   value_made e Null m k h = absurd cc
   value_made e Int m k h = word_made e Int tt k h
@@ -66,7 +77,7 @@ module _ (w : World) (names : List Named) where
   value_made e (Handle r) m k h = word_made e (Handle r) tt k h
   value_made e (Key r) m k h = absurd k
   value_made e (Struct tag rs) m k h = struct_made e tag rs k h
-  value_made e (Union tag rs) m k h = absurd k
+  value_made e (Union tag rs) m k h = union_made e tag rs k h
 
   -- ---- makings
 

@@ -1,11 +1,11 @@
 -- Members of structs and elements of arrays that lowering takes: each leads to a place.
 use Rattle.std.proofs.Common.{◌≡◌, ℕ, true, List, refl, sym, subst, ap, ◌∙◌}
 use Rattle.cyc_tree.specs.Tree.{Arrow, Dot, Expression, Index, NoSuffixes, Suffixes}
-use Rattle.source_lowering.specs.Lowerable.{IsNoStruct, IsObject, TakesMembers, TakesSuffixes}
+use Rattle.source_lowering.specs.Lowerable.{IsOperandShape, IsObject, TakesMembers, TakesSuffixes}
 use Rattle.source_lowering.specs.Lowered.{Named, member_shape, static_shape, suffixed_shape}
 use Rattle.source_lowering.specs.Lowerable.{Takes, TakesPlace}
 use Rattle.source_meaning.specs.Shapes as shapes
-use Rattle.source_meaning.specs.Shapes.{Shape, StructShape, pointee}
+use Rattle.source_meaning.specs.Shapes.{Shape, StructShape, has_tag, pointee}
 use Rattle.source_meaning.specs.Steps.{World}
 use Rattle.source_typing.specs.Expressions.{judge, judge_suffixes}
 use Rattle.source_typing.specs.Places.{arrow, indexed, member}
@@ -24,51 +24,52 @@ module _ (w : World) (names : List Named) (g : Env) (scope : IsKnownScope w name
   -- a place of a shape
   record Reached (s : Shape) (v : Value) : Type 0 where
     shape : s ≡ shape_of v.type
-    known : IsKnown w.structs (shape_of v.type)
+    known : IsKnown w (shape_of v.type)
     place : is_place v.seat ≡ true
     outside : v.seat ≡ InBlock → ⊥
 
-  part_reached : (tag f : List ℕ) (rs : List Region) (at : Seat) (v : Value) → is_place at ≡ true → (at ≡ InBlock → ⊥) → HasPart g tag rs f at v
+  part_reached : (tag f : List ℕ) (rs : List Region) (at : Seat) (v : Value) → has_tag w.structs tag ≡ true → is_place at ≡ true
+      → (at ≡ InBlock → ⊥) → HasPart g tag rs f at v
       → Reached (member_shape w (StructShape tag) f) v
-  part_reached tag f rs at v p o h =
-      let k : KnownMember w tag f h.type = scope.members tag f h.part h.type h.found h.typed in
+  part_reached tag f rs at v there p o h =
+      let k : KnownMember w tag f h.type = scope.members tag f h.part h.type there h.found h.typed in
       let same : shape_of h.type ≡ shape_of v.type = sym (shape_renamed (argument rs) h.type) ∙ ap (λ (t : StaticType). shape_of t) (sym h.is.0) in
       record {
         shape = k.shape ∙ same;
-        known = subst (λ s. IsKnown w.structs s) same k.known;
+        known = subst (λ s. IsKnown w s) same k.known;
         place = ap (λ (s : Seat). is_place s) h.is.1 ∙ p;
         outside = λ z. o (sym h.is.1 ∙ z);
       }
 
-  member_reached : (t : StaticType) (at : Seat) (s : Shape) (f : List ℕ) (v : Value) → s ≡ shape_of t → is_place at ≡ true
+  member_reached : (t : StaticType) (at : Seat) (s : Shape) (f : List ℕ) (v : Value) → s ≡ shape_of t → IsKnown w (shape_of t) → is_place at ≡ true
       → (at ≡ InBlock → ⊥) → MemberOf g f t at v → Reached (member_shape w s f) v
-  member_reached (Struct tag rs) at s f v q p o h = subst (λ z. Reached (member_shape w z f) v) (sym q) (part_reached tag f rs at v p o h)
-  member_reached _ at s f v q p o h = absurd h
+  member_reached (Struct tag rs) at s f v q k p o h = subst (λ z. Reached (member_shape w z f) v) (sym q) (part_reached tag f rs at v k p o h)
+  member_reached _ at s f v q k p o h = absurd h
 
   -- what `->` is behind leads to a struct
-  arrow_reached : (t : StaticType) (s : Shape) (f : List ℕ) (v : Value) → s ≡ shape_of t → IsKnownValue w.structs t → ArrowTo g f t v
-      → IsNoStruct s × Reached (member_shape w (pointee s) f) v
+  arrow_reached : (t : StaticType) (s : Shape) (f : List ℕ) (v : Value) → s ≡ shape_of t → IsKnownValue w t → ArrowTo g f t v
+      → IsOperandShape s × Reached (member_shape w (pointee s) f) v
   arrow_reached (Thin n r (Struct tag rs)) s f v q k h = (
-    subst (λ z. IsNoStruct z) (sym q) tt,
-    subst (λ z. Reached (member_shape w (pointee z) f) v) (sym q) (part_reached tag f rs (In r) v refl (λ z. cc) h.1),
+    subst (λ z. IsOperandShape z) (sym q) tt,
+    subst (λ z. Reached (member_shape w (pointee z) f) v) (sym q) (part_reached tag f rs (In r) v k.1 refl (λ z. cc) h.1),
   )
   arrow_reached (Fat r (Struct tag rs)) s f v q k h = (
-    subst (λ z. IsNoStruct z) (sym q) tt,
-    subst (λ z. Reached (member_shape w (pointee z) f) v) (sym q) (part_reached tag f rs (In r) v refl (λ z. cc) h.1),
+    subst (λ z. IsOperandShape z) (sym q) tt,
+    subst (λ z. Reached (member_shape w (pointee z) f) v) (sym q) (part_reached tag f rs (In r) v k refl (λ z. cc) h.1),
   )
   arrow_reached (Unique n t) s f v q k h = absurd (let z : shapes.Alone ≡ shapes.Shared = k.0 in cc)
   arrow_reached _ s f v q k h = absurd h
 
-  object_reached : (s : Shape) (v : Value) → Reached s v → IsObject w.structs s
-  object_reached s v h = subst (λ z. IsObject w.structs z) (sym h.shape) (known_object w.structs (shape_of v.type) h.known)
+  object_reached : (s : Shape) (v : Value) → Reached s v → IsObject w.unions w.structs s
+  object_reached s v h = subst (λ z. IsObject w.unions w.structs z) (sym h.shape) (known_object w (shape_of v.type) h.known)
 
   -- what a subscript is behind leads to elements
-  element_reached : (t : StaticType) (s : Shape) (v : Value) → s ≡ shape_of t → IsKnownValue w.structs t → Spans g t v → IsNoStruct s × Reached (pointee s) v
+  element_reached : (t : StaticType) (s : Shape) (v : Value) → s ≡ shape_of t → IsKnownValue w t → Spans g t v → IsOperandShape s × Reached (pointee s) v
   element_reached (Fat r t) s v q k h = (
-    subst (λ z. IsNoStruct z) (sym q) tt,
+    subst (λ z. IsOperandShape z) (sym q) tt,
     record {
       shape = ap pointee q ∙ ap (λ (u : StaticType). shape_of u) (sym h.1.0);
-      known = subst (λ (u : StaticType). IsKnown w.structs (shape_of u)) (sym h.1.0) k;
+      known = subst (λ (u : StaticType). IsKnown w (shape_of u)) (sym h.1.0) k;
       place = ap (λ (s : Seat). is_place s) h.1.1;
       outside = λ z. let y : In r ≡ InBlock = sym h.1.1 ∙ z in cc;
     },
@@ -94,19 +95,19 @@ module _ (w : World) (names : List Named) (g : Env) (scope : IsKnownScope w name
       let y = both_is (Of a) (judge g e) (indexed g) z.0 z.1 in
       let x : a ≡ y.0 = of_is a y.0 y.2 in
       let d = indexed_is g y.0 y.1 z.0 y.4 in
-      let m = element_reached a.type s z.0 h.shape (known_value w.structs a.type h.known)
+      let m = element_reached a.type s z.0 h.shape (known_value w a.type h.known)
       (subst (λ (c : Value). Spans g c.type z.0) (sym x) d.1) in
       let rest = members_taken es z.0 v (pointee s) m.1 i.1 (subst (λ (y : Verdict Value). judge_suffixes g y es ≡ Of v) z.1 p) in
       ((m.0, (index_taken e y.1 d.0 (i.0 y.1 y.3), (object_reached (pointee s) z.0 m.1, rest.0))), rest.1)
   members_taken (Dot f es) a v s h i p =
       let z : (b : Value) × (member g f a ≡ Of b) = suffixes_first g (member g f a) es v p in
       let m = member_is g f a.at a.type a.seat z.0 z.1 in
-      let r : Reached (member_shape w s f.text) z.0 = member_reached a.type a.seat s f.text z.0 h.shape m.0 h.outside m.1 in
+      let r : Reached (member_shape w s f.text) z.0 = member_reached a.type a.seat s f.text z.0 h.shape h.known m.0 h.outside m.1 in
       let rest = members_taken es z.0 v (member_shape w s f.text) r i (subst (λ (y : Verdict Value). judge_suffixes g y es ≡ Of v) z.1 p) in
       ((object_reached (member_shape w s f.text) z.0 r, rest.0), rest.1)
   members_taken (Arrow f es) a v s h i p =
       let z : (b : Value) × (arrow g f a ≡ Of b) = suffixes_first g (arrow g f a) es v p in
-      let m = arrow_reached a.type s f.text z.0 h.shape (known_value w.structs a.type h.known) (arrow_is g f a.at a.type z.0 z.1) in
+      let m = arrow_reached a.type s f.text z.0 h.shape (known_value w a.type h.known) (arrow_is g f a.at a.type z.0 z.1) in
       let rest = members_taken es z.0 v (member_shape w (pointee s) f.text) m.1 i (subst (λ (y : Verdict Value). judge_suffixes g y es ≡ Of v) z.1 p) in
       ((m.0, (object_reached (member_shape w (pointee s) f.text) z.0 m.1, rest.0)), rest.1)
 
@@ -158,4 +159,4 @@ module _ (w : World) (names : List Named) (g : Env) (scope : IsKnownScope w name
   suffixed_taken e es a v h i p some =
       let r = suffixes_taken e es a v h i p some in
       taken_place w names (Expression.Suffixed e es) v v.type refl r.1.outside (record { takes = r.0; shape = r.1.shape; known = r.1.known })
-      (known_value w.structs v.type r.1.known) (λ z. (r.0, z)) (λ z. z) (λ z. z)
+      (known_value w v.type r.1.known) (λ z. (r.0, z)) (λ z. z) (λ z. z)

@@ -11,8 +11,8 @@ use Rattle.source_lowering.specs.Lowerable.{AreObjects, AreStructs, HasMember, I
 use Rattle.source_meaning.proofs.Layouts.{laid_above}
 use Rattle.source_meaning.specs.Programs.{global_shape}
 use Rattle.source_meaning.specs.Shapes as shapes
-use Rattle.source_meaning.specs.Shapes.{Layout, Part, Shape, StructShape, has_tag, part_shapes}
-use Rattle.source_meaning.specs.Sizes.{Extent, extent_by, laid_out, no_extent, rounded_up, struct_extent, union_extent}
+use Rattle.source_meaning.specs.Shapes.{Layout, Part, Shape, StructShape, has_tag, part_shapes, parts_of}
+use Rattle.source_meaning.specs.Sizes.{Extent, extent_by, laid_out, largest, no_extent, rounded_up, struct_extent, union_extent}
 use Rattle.source_meaning.specs.Steps.{World}
 use Rattle.type_proof.specs.Judged.{arrayed, named}
 use Rattle.source_typing.specs.Declarations.{can_be, declare, fitting, fitting_local, if_sized, local_type, type_in_scope, unset_type, what_of}
@@ -41,9 +41,13 @@ value_positive f g (shapes.FatShape t) h = omega arith
 value_positive f g shapes.HandleShape h = omega arith
 value_positive f g _ h = absurd h
 
+-- a union has those of the number of its member
+union_positive : (n : ℕ) → 1 ≤ rounded_up (4 + n) 4
+union_positive n = omega arith
+
 -- where each struct has one
 shape_positive : (unions structs : List Layout) (s : Shape)
-    → ((tag : List ℕ) → has_tag structs tag ≡ true → 1 ≤ (struct_extent unions structs tag).size) → IsObject structs s
+    → ((tag : List ℕ) → has_tag structs tag ≡ true → 1 ≤ (struct_extent unions structs tag).size) → IsObject unions structs s
     → 1 ≤ (extent_by (struct_extent unions structs) (union_extent unions) s).size
 shape_positive unions structs (StructShape tag) each h = each tag h
 shape_positive unions structs shapes.IntShape each h = omega arith
@@ -52,13 +56,14 @@ shape_positive unions structs shapes.CharShape each h = omega arith
 shape_positive unions structs (shapes.ThinShape b o t) each h = omega arith
 shape_positive unions structs (shapes.FatShape t) each h = omega arith
 shape_positive unions structs shapes.HandleShape each h = omega arith
+shape_positive unions structs (shapes.UnionShape tag) each h = union_positive (largest (extent_by no_extent no_extent) 0 (parts_of unions tag))
 shape_positive unions structs _ each h = absurd h
 
 -- a struct has those of its first member
-laid_positive : (extent : Shape → Extent) (structs : List Layout) (so_far : Extent) (ps : List Part) → HasMember ps → AreObjects structs (part_shapes ps)
-    → ((s : Shape) → IsObject structs s → 1 ≤ (extent s).size) → 1 ≤ (laid_out extent so_far ps).size
-laid_positive extent structs so_far [] h o each = absurd h
-laid_positive extent structs so_far (p ∷ ps) h o each =
+laid_positive : (extent : Shape → Extent) (unions structs : List Layout) (so_far : Extent) (ps : List Part) → HasMember ps
+    → AreObjects unions structs (part_shapes ps) → ((s : Shape) → IsObject unions structs s → 1 ≤ (extent s).size) → 1 ≤ (laid_out extent so_far ps).size
+laid_positive extent unions structs so_far [] h o each = absurd h
+laid_positive extent unions structs so_far (p ∷ ps) h o each =
     let e : Extent = extent p.shape in
     let first : 1 ≤ e.size = each p.shape o.0 in
     let more : rounded_up so_far.size e.align + e.size ≤ (laid_out extent so_far (p ∷ ps)).size =
@@ -74,13 +79,14 @@ struct_positive unions (l ∷ earlier) a tag h = by (bytes_eq l.tag tag) (λ k. 
     extent : Shape → Extent
     extent = extent_by (struct_extent unions earlier) (union_extent unions)
 
-    by : (b : Bool) → (has_tag earlier tag ≡ true → 1 ≤ (struct_extent unions earlier tag).size) → ((s : Shape) → IsObject earlier s → 1 ≤ (extent s).size)
+    by : (b : Bool) → (has_tag earlier tag ≡ true → 1 ≤ (struct_extent unions earlier tag).size)
+        → ((s : Shape) → IsObject unions earlier s → 1 ≤ (extent s).size)
         → (if b then true else has_tag earlier tag) ≡ true
         → 1 ≤ (if b then laid_out extent (no_extent tag) l.parts else struct_extent unions earlier tag).size
-    by true others each h = laid_positive extent earlier (no_extent tag) l.parts a.0.some a.0.members each
+    by true others each h = laid_positive extent unions earlier (no_extent tag) l.parts a.0.some a.0.members each
     by false others each h = others h
 
-pub object_positive : (unions structs : List Layout) → AreStructs unions structs → (s : Shape) → IsObject structs s
+pub object_positive : (unions structs : List Layout) → AreStructs unions structs → (s : Shape) → IsObject unions structs s
     → 1 ≤ (extent_by (struct_extent unions structs) (union_extent unions) s).size
 object_positive unions structs a s o = shape_positive unions structs s (struct_positive unions structs a) o
 
@@ -146,7 +152,8 @@ global_few g x p = subst (λ fs. if_clean fs (typed_size g x (global_type g x)) 
 pub count_few : (n size : ℕ) → 1 ≤ size → n * size ≤ 4096 → n < 2 ^ 32
 count_few n size p h = let few : n ≤ 4096 = few_elements n size 4096 p h in omega (arith, few)
 
-pub elements_few : (w : World) (i : Initial) (s : Shape) → AreStructs w.unions w.structs → IsObject w.structs s → (extent_of w (global_shape i s)).size ≤ 4096
+pub elements_few : (w : World) (i : Initial) (s : Shape) → AreStructs w.unions w.structs → IsObject w.unions w.structs s
+    → (extent_of w (global_shape i s)).size ≤ 4096
     → IsFew i
 elements_few w Initial.Unset s a o h = tt
 elements_few w (Initial.Elements n) s a o h = count_few n (extent_of w s).size (object_positive w.unions w.structs a s o) h

@@ -7,7 +7,7 @@ use Rattle.cyc_tree.specs.declared.expression.Operator.TheVariants as operator
 use Rattle.cyc_tree.specs.declared.expression.Prefix.{Prefix}
 use Rattle.cyc_tree.specs.declared.expression.Prefix.TheVariants as prefix
 use Rattle.cyc_tree.specs.Tree.{Expression}
-use Rattle.source_lowering.specs.Lowerable.{IsNoStruct, Takes, TakesAssigned, TakesRun, TakesWhole}
+use Rattle.source_lowering.specs.Lowerable.{IsOperandShape, Takes, TakesAssigned, TakesRun, TakesWhole}
 use Rattle.source_lowering.specs.Lowered.{Named, static_shape}
 use Rattle.source_meaning.specs.Memory.{AsInt, IntegerType}
 use Rattle.source_meaning.specs.Operators.{operator_shape}
@@ -29,9 +29,9 @@ use Rattle.source_typing.proofs.PlacesFit.{PointsTo, assigned_is, contents_is}
 use Rattle.type_proof.proofs.expressions.Integers.{integer_is, on_integers_is, operator_shaped}
 use Rattle.type_proof.proofs.expressions.Pointers.{equality_shape}
 use Rattle.type_proof.proofs.expressions.WordRules.{value_of}
-use Rattle.accepted_proof.proofs.Known.{IsKnownValue, IsWord, converts_struct, converts_word, integer_word, known_value, testable_word, word_shape}
+use Rattle.accepted_proof.proofs.Known.{IsKnownValue, IsWord, converts_whole, converts_word, integer_word, known_value, testable_word, word_shape}
 use Rattle.accepted_proof.proofs.lowered.Forms.{IsTaken, TakenAs, TakenPlace, TakenWord, taken_place, taken_word, word_as, word_is}
-use Rattle.accepted_proof.proofs.lowered.Calls.{struct_taken}
+use Rattle.accepted_proof.proofs.lowered.Calls.{whole_taken}
 
 -- ---- what operators give is no place
 
@@ -80,13 +80,13 @@ pointer_word (Fat r t) e = tt
 pointer_word (Unique n t) e = tt
 pointer_word (Handle r) e = tt
 pointer_word (Key r) e = tt
-pointer_word (Union tag rs) e = tt
+pointer_word (Union tag rs) e = absurd cc
 
-integer_known : (structs : List shapes.Layout) (t : StaticType) → IsInteger t → IsKnownValue structs t
-integer_known structs Int e = tt
-integer_known structs Unsigned e = tt
-integer_known structs Char e = tt
-integer_known structs _ e = absurd cc
+integer_known : (w : World) (t : StaticType) → IsInteger t → IsKnownValue w t
+integer_known w Int e = tt
+integer_known w Unsigned e = tt
+integer_known w Char e = tt
+integer_known w _ e = absurd cc
 
 moved_shape : (o : Operator) (to s : Shape) → is_move o ≡ true → operator_shape o (shapes.FatShape to) s ≡ shapes.FatShape to
 moved_shape operator.Add to s e = refl
@@ -94,16 +94,16 @@ moved_shape operator.Subtract to s e = refl
 moved_shape _ to s e = absurd cc
 
 -- two words, and the word that they give, by its shape
-pub record AreJoined (structs : List shapes.Layout) (o : Operator) (s t u : StaticType) : Type 0 where
+pub record AreJoined (w : World) (o : Operator) (s t u : StaticType) : Type 0 where
   pub first : IsWord s
   pub second : IsWord t
   pub word : IsWord u
-  pub known : IsKnownValue structs u
+  pub known : IsKnownValue w u
   pub shape : operator_shape o (shape_of s) (shape_of t) ≡ shape_of u
 
-pub are_joined : (structs : List shapes.Layout) (g : Env) (o : Operator) (s t u : StaticType) → Operates g o s t u → IsKnownValue structs s
-    → AreJoined structs o s t u
-are_joined structs g o s t u (OnIntegers a b) k =
+pub are_joined : (w : World) (g : Env) (o : Operator) (s t u : StaticType) → Operates g o s t u → IsKnownValue w s
+    → AreJoined w o s t u
+are_joined w g o s t u (OnIntegers a b) k =
     let x : (i : IntegerType) × (s ≡ integer_type i) = integer_is s a in
     let y : (i : IntegerType) × (t ≡ integer_type i) = integer_is t b in
     let result : IsInteger (on_integers o s t) = subst (λ (z : StaticType). IsInteger (on_integers o z t)) (sym x.1)
@@ -112,14 +112,14 @@ are_joined structs g o s t u (OnIntegers a b) k =
       first = integer_word s a;
       second = integer_word t b;
       word = integer_word (on_integers o s t) result;
-      known = integer_known structs (on_integers o s t) result;
+      known = integer_known w (on_integers o s t) result;
       shape = subst (λ (z : StaticType). operator_shape o (shape_of z) (shape_of t) ≡ shape_of (on_integers o z t)) (sym x.1)
           (subst (λ (z : StaticType). operator_shape o (shape_of (integer_type x.0)) (shape_of z) ≡ shape_of (on_integers o (integer_type x.0) z)) (sym y.1)
           (operator_shaped o x.0 y.0));
     }
-are_joined structs g o s t u (OnFat {r = r} {t = to} a b) k =
+are_joined w g o s t u (OnFat {r = r} {t = to} a b) k =
     record { first = tt; second = integer_word t b; word = tt; known = k; shape = moved_shape o (shape_of to) (shape_of t) a }
-are_joined structs g o s t u (WithNull e p) k =
+are_joined w g o s t u (WithNull e p) k =
     record {
       first = pointer_word s p;
       second = tt;
@@ -127,7 +127,7 @@ are_joined structs g o s t u (WithNull e p) k =
       known = tt;
       shape = equality_shape o (shape_of s) (shapes.ThinShape true shapes.Shared shapes.VoidShape) e;
     }
-are_joined structs g o s t u (NullWith e p) k =
+are_joined w g o s t u (NullWith e p) k =
     record {
       first = tt;
       second = pointer_word t p;
@@ -135,7 +135,7 @@ are_joined structs g o s t u (NullWith e p) k =
       known = tt;
       shape = equality_shape o (shapes.ThinShape true shapes.Shared shapes.VoidShape) (shape_of t) e;
     }
-are_joined structs g o s t u (OnThin e l q z) k =
+are_joined w g o s t u (OnThin e l q z) k =
     record { first = tt; second = tt; word = tt; known = tt; shape = equality_shape o (shape_of s) (shape_of t) e }
 
 module _ (w : World) (names : List Named) where
@@ -156,7 +156,7 @@ module _ (w : World) (names : List Named) where
       let s : operator_shape p IntShape (shape_of a.type) ≡ shape_of (promoted a.type) =
       subst (λ z. operator_shape p IntShape (shape_of z) ≡ shape_of (promoted z)) (sym i.1) (same i.0) in
       taken_word w names (Expression.Prefixed at o e) v (promoted a.type) r.1 (no_place v (fits_seat (is_integer a.type) at at (promoted a.type) v q))
-      (integer_word (promoted a.type) again) (integer_known w.structs (promoted a.type) again)
+      (integer_word (promoted a.type) again) (integer_known w (promoted a.type) again)
       (record { takes = takes k.takes; shape = shape ∙ (ap (λ z. operator_shape p IntShape z) k.shape ∙ s) }) run
     where
       by : (i : IntegerType) → IsInteger (promoted (integer_type i))
@@ -180,17 +180,17 @@ module _ (w : World) (names : List Named) where
       → IsTaken w names (Expression.Prefixed at prefix.Dereference e) v
   pointed_taken g at e a v h q = by a.type h.known h.value q
     where
-      by : (t : StaticType) → IsKnownValue w.structs t → TakenAs w names t e → PointsTo g t v → IsTaken w names (Expression.Prefixed at prefix.Dereference e) v
+      by : (t : StaticType) → IsKnownValue w t → TakenAs w names t e → PointsTo g t v → IsTaken w names (Expression.Prefixed at prefix.Dereference e) v
       by (Thin n r t) k d q =
           let p : TakenPlace w names (Expression.Prefixed at prefix.Dereference e) t =
           record { takes = d.takes; shape = ap pointee d.shape; known = k.1 } in
           taken_place w names (Expression.Prefixed at prefix.Dereference e) v t q.1.0
-          (λ z. let y : In r ≡ InBlock = sym q.1.1 ∙ z in cc) p (known_value w.structs t k.1) (λ z. (d.takes, z)) (λ z. z) (λ z. z)
+          (λ z. let y : In r ≡ InBlock = sym q.1.1 ∙ z in cc) p (known_value w t k.1) (λ z. (d.takes, z)) (λ z. z) (λ z. z)
       by (Fat r t) k d q =
           let p : TakenPlace w names (Expression.Prefixed at prefix.Dereference e) t =
           record { takes = d.takes; shape = ap pointee d.shape; known = k } in
           taken_place w names (Expression.Prefixed at prefix.Dereference e) v t q.1.0
-          (λ z. let y : In r ≡ InBlock = sym q.1.1 ∙ z in cc) p (known_value w.structs t k) (λ z. (d.takes, z)) (λ z. z) (λ z. z)
+          (λ z. let y : In r ≡ InBlock = sym q.1.1 ∙ z in cc) p (known_value w t k) (λ z. (d.takes, z)) (λ z. z) (λ z. z)
       by (Unique n t) k d q = absurd (let z : shapes.Alone ≡ shapes.Shared = k.0 in cc)
       by _ k d q = absurd q
 
@@ -225,7 +225,7 @@ module _ (w : World) (names : List Named) where
 
   -- ---- assignments
 
-  assigned_shape : (s : Shape) (to from : Expression) → IsNoStruct s → Takes w names (Expression.Assign to from) → TakesAssigned w names s to from
+  assigned_shape : (s : Shape) (to from : Expression) → IsOperandShape s → Takes w names (Expression.Assign to from) → TakesAssigned w names s to from
   assigned_shape (StructShape tag) to from h k = absurd h
   assigned_shape shapes.IntShape to from h k = k
   assigned_shape shapes.UnsignedShape to from h k = k
@@ -235,7 +235,7 @@ module _ (w : World) (names : List Named) where
   assigned_shape (shapes.FatShape t) to from h k = k
   assigned_shape shapes.HandleShape to from h k = k
   assigned_shape shapes.KeyShape to from h k = k
-  assigned_shape (shapes.UnionShape tag) to from h k = k
+  assigned_shape (shapes.UnionShape tag) to from h k = absurd h
   assigned_shape (shapes.ArrayShape n t) to from h k = k
 
   assigned_seat : (b : Bool) (g : Env) (a c v : Value) → assigned_in b g a c ≡ Of v → v.seat ≡ Nowhere
@@ -247,10 +247,10 @@ module _ (w : World) (names : List Named) where
       → v.seat ≡ Nowhere → IsWord a.type → v.type ≡ a.type → IsTaken w names (Expression.Assign to from) v
   word_assigned g to from a c v h p q s i t =
       let k : TakenWord w names from c.type = word_is w names c.type from (converts_word g.regions c.type a.type q i) h.value in
-      let none : IsNoStruct (static_shape w names to) = subst (λ z. IsNoStruct z) (sym p.shape) (word_shape a.type i) in
+      let none : IsOperandShape (static_shape w names to) = subst (λ z. IsOperandShape z) (sym p.shape) (word_shape a.type i) in
       let takes : Takes w names (Expression.Assign to from) = (p.takes, (k.takes, none)) in
       record {
-        known = subst (λ z. IsKnownValue w.structs z) (sym t) (known_value w.structs a.type p.known);
+        known = subst (λ z. IsKnownValue w z) (sym t) (known_value w a.type p.known);
         value = subst (λ z. TakenAs w names z (Expression.Assign to from)) (sym t)
             (word_as w names a.type (Expression.Assign to from) i (record { takes = takes; shape = p.shape }));
         run = assigned_shape (static_shape w names to) to from none takes;
@@ -263,10 +263,25 @@ module _ (w : World) (names : List Named) where
       → TakenPlace w names to (Struct tag rs) → Converts g.regions c.type (Struct tag rs) → v.seat ≡ Nowhere → v.type ≡ Void
       → IsTaken w names (Expression.Assign to from) v
   struct_assigned g to from a c v tag rs h p q s t =
-      let same : c.type ≡ Struct tag rs = converts_struct g.regions c.type (Struct tag rs) q tt in
-      let whole : TakesWhole w names from = struct_taken w names (Struct tag rs) from tt (subst (λ z. TakenAs w names z from) same h.value) in
+      let same : c.type ≡ Struct tag rs = converts_whole g.regions c.type (Struct tag rs) q tt in
+      let whole : TakesWhole w names from = whole_taken w names (Struct tag rs) from tt (subst (λ z. TakenAs w names z from) same h.value) in
       record {
-        known = subst (λ z. IsKnownValue w.structs z) (sym t) tt;
+        known = subst (λ z. IsKnownValue w z) (sym t) tt;
+        value = subst (λ z. TakenAs w names z (Expression.Assign to from)) (sym t) tt;
+        run = subst (λ z. TakesAssigned w names z to from) (sym p.shape) (p.takes, (whole, p.known));
+        place = λ z. absurd (no_place v s z);
+        outside = λ z. let y : Nowhere ≡ InBlock = sym s ∙ z in cc;
+      }
+
+  -- so is a union
+  union_assigned : (g : Env) (to from : Expression) (a c v : Value) (tag : List ℕ) (rs : List Region) → IsTaken w names from c
+      → TakenPlace w names to (Union tag rs) → Converts g.regions c.type (Union tag rs) → v.seat ≡ Nowhere → v.type ≡ Void
+      → IsTaken w names (Expression.Assign to from) v
+  union_assigned g to from a c v tag rs h p q s t =
+      let same : c.type ≡ Union tag rs = converts_whole g.regions c.type (Union tag rs) q tt in
+      let whole : TakesWhole w names from = whole_taken w names (Union tag rs) from tt (subst (λ z. TakenAs w names z from) same h.value) in
+      record {
+        known = subst (λ z. IsKnownValue w z) (sym t) tt;
         value = subst (λ z. TakenAs w names z (Expression.Assign to from)) (sym t) tt;
         run = subst (λ z. TakesAssigned w names z to from) (sym p.shape) (p.takes, (whole, p.known));
         place = λ z. absurd (no_place v s z);
@@ -294,7 +309,7 @@ module _ (w : World) (names : List Named) where
           → IsTaken w names (Expression.Assign to from) v
       by (Struct tag rs) z p q t = struct_assigned g to from a c v tag rs k p q seat t
       by Void z p q t = absurd p.known
-      by Null z p q t = absurd (let y : Rattle.accepted_proof.proofs.Known.IsKnown w.structs shapes.VoidShape = p.known.1 in y)
+      by Null z p q t = absurd (let y : Rattle.accepted_proof.proofs.Known.IsKnown w shapes.VoidShape = p.known.1 in y)
       by Int z p q t = same Int z p q tt t
       by Unsigned z p q t = same Unsigned z p q tt t
       by Char z p q t = same Char z p q tt t
@@ -303,4 +318,4 @@ module _ (w : World) (names : List Named) where
       by (Unique n u) z p q t = absurd (let y : shapes.Alone ≡ shapes.Shared = p.known.0 in cc)
       by (Handle r) z p q t = same (Handle r) z p q tt t
       by (Key r) z p q t = absurd p.known
-      by (Union tag rs) z p q t = absurd p.known
+      by (Union tag rs) z p q t = union_assigned g to from a c v tag rs k p q seat t

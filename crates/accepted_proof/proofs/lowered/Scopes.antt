@@ -14,13 +14,13 @@ use Rattle.source_typing.specs.Declarations.{with_region}
 use Rattle.source_typing.specs.Making.{Goal, inside, with_counter}
 use Rattle.source_typing.specs.Regions.{with_scope}
 use Rattle.source_typing.specs.Scope.{Env, block_entered, in_scope, meant}
-use Rattle.source_typing.specs.Statements.{in_a_loop}
-use Rattle.source_typing.specs.Tables.{Arrayed, Counter, Entry, OfBuiltin, OfFunction, OfOther, OfTag, OfValue, Stored, Unknown, What}
+use Rattle.source_typing.specs.Statements.{in_a_loop, in_a_switch}
+use Rattle.source_typing.specs.Tables.{Arrayed, Counter, Entry, OfBuiltin, OfFunction, OfOther, OfTag, OfValue, Stored, Tag, Unknown, What}
 use Rattle.source_typing.specs.Types.{StaticType, shape_of}
 use Rattle.source_typing.specs.Verdicts.{Verdict}
 use Rattle.accepted_proof.proofs.Known.{IsKnown}
-use Rattle.accepted_proof.proofs.lowered.Forms.{AreKnown, IsKnownScope, KnownEntry}
-use Rattle.accepted_proof.proofs.lowered.Types.{TagsThere}
+use Rattle.accepted_proof.proofs.lowered.Forms.{AreKnown, IsKnownScope, KnownEntry, KnownKind}
+use Rattle.accepted_proof.proofs.lowered.Types.{AreSound, TagThere, TagsThere}
 
 -- a name of a shape, wherever it is
 abbrev named_at : List ℕ → Shape → Home → Named
@@ -40,8 +40,20 @@ module _ (w : World) where
   entry_kept names others x OfOther q h = h
 
   -- each tag in scope is the program's
-  pub scope_tags : (names : List Named) (g : Env) → IsKnownScope w names g → TagsThere w.structs (in_scope g)
-  scope_tags names g scope x t e = (scope.entries x (OfTag t) e).there
+  kind_there : (b : Bool) (x : List ℕ) (t : Tag) → KnownKind w b x t → TagThere w b x
+  kind_there false x t k = k.there
+  kind_there true x t k = k.there
+
+  kind_sound : (b : Bool) (x : List ℕ) (t : Tag) → KnownKind w b x t → t.sound ≡ true
+  kind_sound false x t k = k.sound
+  kind_sound true x t k = k.sound
+
+  pub scope_tags : (names : List Named) (g : Env) → IsKnownScope w names g → TagsThere w (in_scope g)
+  scope_tags names g scope x t e = kind_there t.is_union x t (scope.entries x (OfTag t) e)
+
+  -- and without fault
+  pub scope_sound : (names : List Named) (g : Env) → IsKnownScope w names g → AreSound (in_scope g)
+  scope_sound names g scope x t e = kind_sound t.is_union x t (scope.entries x (OfTag t) e)
 
   -- ---- one more local
 
@@ -49,7 +61,12 @@ module _ (w : World) where
   scope_named : (names : List Named) (g : Env) (x : tree.Name) (what : What) (s : Shape) (home : Home)
       → ((others : List Named) (y : List ℕ) → named_shape w others y ≡ s → KnownEntry w others y (OfValue what)) → IsKnownScope w names g
       → IsKnownScope w (named_at x.text s home ∷ names) (named g x what)
-  scope_named names g x what s home k scope = record { entries = λ y e p. by y e (bytes_eq x.text y) refl p; members = scope.members; sizes = scope.sizes }
+  scope_named names g x what s home k scope = record {
+    entries = λ y e p. by y e (bytes_eq x.text y) refl p;
+    members = scope.members;
+    choices = scope.choices;
+    sizes = scope.sizes;
+  }
     where
       by : (y : List ℕ) (e : Entry) (b : Bool) → bytes_eq x.text y ≡ b → (if b then Some (OfValue what) else meant g y) ≡ Some e
           → KnownEntry w (named_at x.text s home ∷ names) y e
@@ -63,12 +80,12 @@ module _ (w : World) where
           (ap (λ (b : Bool). shape_by (if b then Some (named_at x.text s home) else local_named names y) (bound_to w.globals y)) r)
           (scope.entries y e p)
 
-  pub scope_local : (names : List Named) (g : Env) (x : tree.Name) (t : StaticType) (s : Shape) (index : ℕ) → s ≡ shape_of t → IsKnown w.structs (shape_of t)
+  pub scope_local : (names : List Named) (g : Env) (x : tree.Name) (t : StaticType) (s : Shape) (index : ℕ) → s ≡ shape_of t → IsKnown w (shape_of t)
       → IsKnownScope w names g → IsKnownScope w (named_here x.text s index ∷ names) (extended g x t)
   scope_local names g x t s index q k scope = scope_named names g x (Stored t g.frame) s (InBlock 0 index) (λ others y z. (z ∙ q, k)) scope
 
   pub scope_array : (names : List Named) (g : Env) (x : tree.Name) (t : StaticType) (s : Shape) (count index : ℕ) → s ≡ shape_of t
-      → IsKnown w.structs (shape_of t) → IsKnownScope w names g
+      → IsKnown w (shape_of t) → IsKnownScope w names g
       → IsKnownScope w (named_here x.text (ArrayShape count s) index ∷ names) (arrayed g x t)
   scope_array names g x t s count index q k scope =
       scope_named names g x (Arrayed t g.frame) (ArrayShape count s) (InBlock 0 index)
@@ -95,25 +112,29 @@ module _ (w : World) where
   scope_block names g scope = record {
     entries = λ x e p. entry_kept names (outward names) x e (outward_shape names x (bound_to w.globals x)) (scope.entries x e p);
     members = scope.members;
+    choices = scope.choices;
     sizes = scope.sizes;
   }
 
+  pub scope_switch : (names : List Named) (g : Env) → IsKnownScope w names g → IsKnownScope w names (in_a_switch g)
+  scope_switch names g scope = record { entries = scope.entries; members = scope.members; choices = scope.choices; sizes = scope.sizes }
+
   pub scope_loop : (names : List Named) (g : Env) → IsKnownScope w names g → IsKnownScope w names (in_a_loop g)
-  scope_loop names g scope = record { entries = scope.entries; members = scope.members; sizes = scope.sizes }
+  scope_loop names g scope = record { entries = scope.entries; members = scope.members; choices = scope.choices; sizes = scope.sizes }
 
   -- where a region begins, and within an operand of `rnew`
   pub scope_region : (names : List Named) (r : tree.RegionName) (g : Env) → IsKnownScope w names g → IsKnownScope w names (with_region r with_scope g)
-  scope_region names (tree.Named n) g scope = record { entries = scope.entries; members = scope.members; sizes = scope.sizes }
-  scope_region names (tree.Heap at) g scope = record { entries = scope.entries; members = scope.members; sizes = scope.sizes }
-  scope_region names (tree.Unique at) g scope = record { entries = scope.entries; members = scope.members; sizes = scope.sizes }
+  scope_region names (tree.Named n) g scope = record { entries = scope.entries; members = scope.members; choices = scope.choices; sizes = scope.sizes }
+  scope_region names (tree.Heap at) g scope = record { entries = scope.entries; members = scope.members; choices = scope.choices; sizes = scope.sizes }
+  scope_region names (tree.Unique at) g scope = record { entries = scope.entries; members = scope.members; choices = scope.choices; sizes = scope.sizes }
 
   pub scope_inside : (names : List Named) (goal : Verdict Goal) (g : Env) → IsKnownScope w names g → IsKnownScope w names (inside goal g)
-  scope_inside names goal g scope = record { entries = scope.entries; members = scope.members; sizes = scope.sizes }
+  scope_inside names goal g scope = record { entries = scope.entries; members = scope.members; choices = scope.choices; sizes = scope.sizes }
 
   -- ---- parameters
 
   pub scope_all : (ps : List Part) (ts : List StaticType) (index : ℕ) (names : List Named) (g : Env) → part_shapes ps ≡ map (λ (t : StaticType). shape_of t) ts
-      → AreKnown w.structs ts → IsKnownScope w names g → IsKnownScope w (parameter_names ps index names) (with_all ps ts g)
+      → AreKnown w ts → IsKnownScope w names g → IsKnownScope w (parameter_names ps index names) (with_all ps ts g)
   scope_all [] [] index names g q k scope = scope
   scope_all (p ∷ ps) (t ∷ ts) index names g q k scope =
       let a : p.shape ≡ shape_of t = cc in

@@ -63,7 +63,7 @@ module _ (w : World) (names : List Named) (g : Env) (scope : IsKnownScope w name
     pub is : a ≡ Of first
     pub first_word : IsWord first.type
     pub word : IsWord v.type
-    pub known : IsKnownValue w.structs v.type
+    pub known : IsKnownValue w v.type
     pub seat : v.seat ≡ Nowhere
     pub shape : (s : Shape) → s ≡ shape_of first.type → linked_shape w names es s ≡ shape_of v.type
 
@@ -71,20 +71,20 @@ module _ (w : World) (names : List Named) (g : Env) (scope : IsKnownScope w name
   AreLinked NoLinks a v = (a ≡ Of v)
   AreLinked (MoreLinks o e es) a v = Joined (MoreLinks o e es) a v
 
-  pub linked_more : (o : Operator) (e : Expression) (es : Links) (a : Verdict Value) (x y c v : Value) → a ≡ Of x → IsKnownValue w.structs x.type → Is e y
+  pub linked_more : (o : Operator) (e : Expression) (es : Links) (a : Verdict Value) (x y c v : Value) → a ≡ Of x → IsKnownValue w x.type → Is e y
       → applied g o x y ≡ Of c → both a (judge g e) (applied g o) ≡ Of c → AreLinked es (both a (judge g e) (applied g o)) v
       → Joined (MoreLinks o e es) a v
   linked_more o e es a x y c v p n h q b k =
-      let j : AreJoined w.structs o x.type y.type c.type = are_joined w.structs g o x.type y.type c.type (applied_to_is g o x.at x.type y.type c q) n in
+      let j : AreJoined w o x.type y.type c.type = are_joined w g o x.type y.type c.type (applied_to_is g o x.at x.type y.type c q) n in
       let t : TakenWord w names e y.type = word_is w names y.type e j.second h.value in
       by es k j t
     where
-      joined_shape : AreJoined w.structs o x.type y.type c.type → TakenWord w names e y.type → (s : Shape) → s ≡ shape_of x.type
+      joined_shape : AreJoined w o x.type y.type c.type → TakenWord w names e y.type → (s : Shape) → s ≡ shape_of x.type
           → operator_shape o s (static_shape w names e) ≡ shape_of c.type
       joined_shape j t s z =
           ap (λ u. operator_shape o u (static_shape w names e)) z ∙ (ap (λ u. operator_shape o (shape_of x.type) u) t.shape ∙ j.shape)
 
-      by : (es : Links) → AreLinked es (both a (judge g e) (applied g o)) v → AreJoined w.structs o x.type y.type c.type → TakenWord w names e y.type
+      by : (es : Links) → AreLinked es (both a (judge g e) (applied g o)) v → AreJoined w o x.type y.type c.type → TakenWord w names e y.type
           → Joined (MoreLinks o e es) a v
       by NoLinks k j t =
           let z : c ≡ v = of_is c v (sym b ∙ k) in
@@ -94,7 +94,7 @@ module _ (w : World) (names : List Named) (g : Env) (scope : IsKnownScope w name
             is = p;
             first_word = j.first;
             word = subst (λ (y : Value). IsWord y.type) z j.word;
-            known = subst (λ (y : Value). IsKnownValue w.structs y.type) z j.known;
+            known = subst (λ (y : Value). IsKnownValue w y.type) z j.known;
             seat = ap (λ (y : Value). y.seat) (sym z) ∙ applied_seat g o x.at x.type y.type c q;
             shape = λ s u. joined_shape j t s u ∙ ap (λ (y : Value). shape_of y.type) z;
           }
@@ -120,8 +120,8 @@ module _ (w : World) (names : List Named) (g : Env) (scope : IsKnownScope w name
       let t : TakenWord w names e a.type = word_is w names a.type e (testable_word a.type (ap (λ (y : Value). is_testable y.type) z ∙ k.first.2)) h.value in
       taken_word w names x v Int k.type (no_place v k.seat) tt tt (word (t.takes, k.takes)) run
 
-  pub known_first : (a x : Value) (e : Expression) → Is e a → Of a ≡ Of x → IsKnownValue w.structs x.type
-  known_first a x e h q = subst (λ (y : Value). IsKnownValue w.structs y.type) (of_is a x q) h.known
+  pub known_first : (a x : Value) (e : Expression) → Is e a → Of a ≡ Of x → IsKnownValue w x.type
+  known_first a x e h q = subst (λ (y : Value). IsKnownValue w y.type) (of_is a x q) h.known
 
   pub links_whole : (e : Expression) (es : Links) (a v : Value) → Is e a → Joined es (judge g e) v → judge g e ≡ Of a → Is (Expression.Chain e es) v
   links_whole e es a v h k p =

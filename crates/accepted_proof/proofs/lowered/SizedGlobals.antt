@@ -1,10 +1,12 @@
 -- A global without fault has as many bytes by the rules as by its meaning, where the rules lay out the structs of the program.
-use Rattle.std.proofs.Common.{◌≡◌, ℕ, suc, ◌*◌, true, false, Option, Some, None, List, [], ◌∷◌, sym, ap, ap₂, ◌∙◌}
+use Rattle.std.proofs.Common.{◌≡◌, ℕ, suc, ◌+◌, ◌*◌, Bool, true, false, max, Option, Some, None, List, [], ◌∷◌, refl, sym, ap, ◌∙◌}
+use Rattle.std.specs.Prelude.{bytes_eq, if◌then◌else◌}
 use Rattle.cyc_tree.specs.Tree as tree
 use Rattle.cyc_tree.specs.Tree.{Item}
 use Rattle.source_lowering.specs.Layouts.{extent_of}
 use Rattle.source_meaning.specs.Programs.{global_shape}
-use Rattle.source_meaning.specs.Shapes.{Layout, Shape, settled, written}
+use Rattle.source_meaning.specs.Shapes.{ArrayShape, Layout, Part, Shape, StructShape, UnionShape, parts_of, settled, written}
+use Rattle.source_meaning.specs.Sizes.{Extent, extent_by, laid_out, no_extent, rounded_up, struct_extent, union_extent}
 use Rattle.source_meaning.specs.Steps.{World}
 use Rattle.source_typing.specs.Extents.{layouts_of, size_by, size_of, variable_size}
 use Rattle.source_typing.specs.Functions.{function_faults}
@@ -18,6 +20,7 @@ use Rattle.source_typing.proofs.Inversion.{none_of_both}
 use Rattle.source_typing.specs.Types.{StaticType, shape_of}
 use Rattle.accepted_proof.proofs.Globals.{GlobalGood, counted_shape, global_good, shape_here, size_by_entry}
 use Rattle.accepted_proof.proofs.good.Types.{KnowsTags}
+use Rattle.accepted_proof.proofs.lowered.StructSizes.{union_alike}
 
 abbrev pub IsSized : World → Tables → ℕ → Item → Type 0
 IsSized w g i (tree.StructItem s) = Unit {0}
@@ -29,10 +32,48 @@ abbrev pub AreSized : World → Tables → ℕ → List Item → Type 0
 AreSized w g i [] = Unit {0}
 AreSized w g i (x ∷ is) = IsSized w g i x × AreSized w g (suc i) is
 
-module _ (w : World) (g : Tables) (structs : layouts_of false g ≡ w.structs) (unions : layouts_of true g ≡ w.unions) where
+-- unions that have the same members, in whatever order
+abbrev pub SameUnions : List Layout → List Layout → Type 0
+SameUnions ls ms = (tag : List ℕ) → parts_of ls tag ≡ parts_of ms tag
+
+-- what is measured alike by structs and unions is so in all shapes
+shape_same : (f h c d : List ℕ → Extent) (s : Shape) → ((tag : List ℕ) → f tag ≡ h tag) → ((tag : List ℕ) → c tag ≡ d tag)
+    → extent_by f c s ≡ extent_by h d s
+shape_same f h c d (StructShape tag) a b = a tag
+shape_same f h c d (UnionShape tag) a b = b tag
+shape_same f h c d (ArrayShape n s) a b =
+    ap (λ (e : Extent). record { size = n * e.size; align = e.align }) (shape_same f h c d s a b)
+shape_same f h c d _ a b = refl
+
+laid_same : (e d : Shape → Extent) (so_far : Extent) (ps : List Part) → ((s : Shape) → e s ≡ d s) → laid_out e so_far ps ≡ laid_out d so_far ps
+laid_same e d so_far [] h = refl
+laid_same e d so_far (p ∷ ps) h =
+    ap (λ (x : Extent). laid_out e (record { size = rounded_up so_far.size x.align + x.size; align = max so_far.align x.align }) ps) (h p.shape)
+    ∙ laid_same e d (record { size = rounded_up so_far.size (d p.shape).align + (d p.shape).size; align = max so_far.align (d p.shape).align }) ps h
+
+structs_same : (ls ms structs : List Layout) (tag : List ℕ) → SameUnions ls ms → struct_extent ls structs tag ≡ struct_extent ms structs tag
+structs_same ls ms [] tag k = refl
+structs_same ls ms (l ∷ structs) tag k = by (bytes_eq l.tag tag) (λ x. structs_same ls ms structs x k)
+  where
+    by : (b : Bool) → ((x : List ℕ) → struct_extent ls structs x ≡ struct_extent ms structs x)
+        → (if b then laid_out (extent_by (struct_extent ls structs) (union_extent ls)) (no_extent tag) l.parts else struct_extent ls structs tag)
+        ≡ (if b then laid_out (extent_by (struct_extent ms structs) (union_extent ms)) (no_extent tag) l.parts else struct_extent ms structs tag)
+    by true others =
+        laid_same (extent_by (struct_extent ls structs) (union_extent ls)) (extent_by (struct_extent ms structs) (union_extent ms)) (no_extent tag) l.parts
+        (λ s. shape_same (struct_extent ls structs) (struct_extent ms structs) (union_extent ls) (union_extent ms) s others
+        (λ x. union_alike ls ms x (k x)))
+    by false others = others tag
+
+pub size_same : (structs ls ms : List Layout) (t : StaticType) → SameUnions ls ms → size_by structs ls t ≡ size_by structs ms t
+size_same structs ls ms t k =
+    ap (λ (e : Extent). e.size) (shape_same (struct_extent ls structs) (struct_extent ms structs) (union_extent ls) (union_extent ms) (shape_of t)
+    (λ x. structs_same ls ms structs x k) (λ x. union_alike ls ms x (k x)))
+
+module _ (w : World) (g : Tables) (structs : layouts_of false g ≡ w.structs) (unions : SameUnions (layouts_of true g) w.unions) where
   -- an object, or an array of so many
-  object_sized : (t : StaticType) → (extent_of w (shape_of t)).size ≡ size_of g t
-  object_sized t = sym (ap₂ (λ (ls ms : List Layout). size_by ls ms t) structs unions)
+  pub object_sized : (t : StaticType) → (extent_of w (shape_of t)).size ≡ size_of g t
+  object_sized t =
+      sym (ap (λ (ls : List Layout). size_by ls (layouts_of true g) t) structs ∙ size_same w.structs (layouts_of true g) w.unions t unions)
 
   counted_sized : (o : Option ℕ) (t : StaticType) → (extent_of w (counted_shape o (shape_of t))).size ≡ variable_size g o t
   counted_sized None t = object_sized t

@@ -1,4 +1,4 @@
--- How the rules measure a struct: the structs that they lay out for it are those before it, so its bytes are those that it means.
+-- How the rules measure a struct: the structs and unions that they lay out for it are those before it, so its bytes are those that it means.
 use Rattle.std.proofs.Common.{◌≡◌, ◌≤◌, ℕ, suc, Bool, true, false, max, List, [], ◌∷◌, ◌++◌, refl, sym, subst, ap, ap₂, ◌∙◌}
 use Rattle.std.specs.Prelude.{Option, ◌+◌, ◌&&◌, ◌||◌, bytes_eq, codes, if◌then◌else◌, is_some, map, not}
 use Rattle.std.proofs.lemmas.Bool.{false≢true, leb-true, not-true}
@@ -7,21 +7,21 @@ use Rattle.cyc_tree.specs.Tree as tree
 use Rattle.cyc_tree.specs.Tree.{Item}
 use Rattle.source_meaning.specs.Programs.{layout_of}
 use Rattle.source_meaning.specs.Shapes as shapes
-use Rattle.source_meaning.specs.Shapes.{Layout, Shape, part_of}
-use Rattle.source_meaning.specs.Sizes.{Extent, extent_by, laid_out, no_extent, rounded_up, struct_extent, union_extent}
+use Rattle.source_meaning.specs.Shapes.{Layout, Shape, part_of, parts_of}
+use Rattle.source_meaning.specs.Sizes.{Extent, extent_by, laid_out, largest, no_extent, rounded_up, struct_extent, union_extent}
 use Rattle.type_proof.proofs.invariant.Layouts.{same_text}
 use Rattle.type_proof.specs.Flat.{Declared}
-use Rattle.type_proof.specs.Structs.{AreMemberTypes, AreMembers, IsMemberType, declares}
+use Rattle.type_proof.specs.Structs.{AreInOrder, AreLaidOut, AreMemberTypes, AreMembers, IsMemberType, declares}
 use Rattle.source_typing.specs.Extents.{fits_bytes, is_named_before, known_shape, layouts_of, layouts_onto, meant_first, part_shapes}
 use Rattle.source_typing.specs.Faults.{name_rule, size_rule, test}
 use Rattle.source_typing.specs.Programs.{Judged, bare_from, builtins, entries, first_from, is_seen, name_of, second_names}
-use Rattle.source_typing.specs.Tables.{Named, Part, Tables}
+use Rattle.source_typing.specs.Tables.{Named, Part, Tables, parts_in}
 use Rattle.source_typing.specs.Tags.{all_typed, struct_bytes, struct_sized, tag_parts}
-use Rattle.source_typing.specs.Types.{Char, Fat, Handle, Int, Key, Null, StaticType, Struct, Thin, Union, Unique, Unsigned, Void, shape_of}
+use Rattle.source_typing.specs.Types.{StaticType, Struct, Union, shape_of}
 use Rattle.source_typing.proofs.Inversion.{none_of_both, test_is}
 use Rattle.accepted_proof.proofs.HeadTags.{TablesAlike}
 use Rattle.accepted_proof.proofs.Named.{AreNamed, IsNamed}
-use Rattle.accepted_proof.proofs.TagOrder.{AreSorted}
+use Rattle.accepted_proof.proofs.MemberTypes.{AreLaidTypes, IsLaidType}
 
 -- ---- each name once
 
@@ -52,7 +52,7 @@ bare_once seen i (x ∷ is) p =
 -- so the entries of the items, once they are judged
 named_name : (j : Judged) (x : Item) → IsNamed j x → j.entry.name ≡ (name_of x).text
 named_name j (tree.StructItem s) n = ap (λ (m : Named). m.name) n.is
-named_name j (tree.UnionItem s) n = absurd n
+named_name j (tree.UnionItem s) n = ap (λ (m : Named). m.name) n.is
 named_name j (tree.GlobalItem x) n = ap (λ (m : Named). m.name) n
 named_name j (tree.FunctionItem f) n = ap (λ (m : Named). m.name) n
 
@@ -103,15 +103,8 @@ pub layouts_both : (union : Bool) (ls : List Layout) (g h : Tables) → layouts_
 layouts_both union ls [] h = refl
 layouts_both union ls (n ∷ g) h = layouts_both union (layouts_onto union ls (n ∷ [])) g h
 
-no_unions : (h : Tables) (i : ℕ) (is : List Item) (ls : List Layout) → AreSorted is → layouts_onto true ls (first_from h i is) ≡ ls
-no_unions h i [] ls k = refl
-no_unions h i (tree.StructItem s ∷ is) ls k = no_unions h (suc i) is ls k.1
-no_unions h i (tree.UnionItem s ∷ is) ls k = absurd k.0
-no_unions h i (tree.GlobalItem x ∷ is) ls k = no_unions h (suc i) is ls k.1
-no_unions h i (tree.FunctionItem f ∷ is) ls k = no_unions h (suc i) is ls k.1
-
 -- the tables by which an item is judged: these are judged before it, and it and those behind it aren't
-module _ (done : Tables) (h : Tables) (i : ℕ) (is : List Item) (sorted : AreSorted is) (b : Tables) (alike : TablesAlike (done ++ first_from h i is) b)
+module _ (done : Tables) (h : Tables) (i : ℕ) (is : List Item) (b : Tables) (alike : TablesAlike (done ++ first_from h i is) b)
     (once : AreOnce (codes "getchar" ∷ codes "putchar" ∷ []) b)
   where
     meant : (union : Bool) → layouts_of union (builtins (done ++ first_from h i is)) ≡ layouts_onto union (layouts_onto union [] done) (first_from h i is)
@@ -120,8 +113,8 @@ module _ (done : Tables) (h : Tables) (i : ℕ) (is : List Item) (sorted : AreSo
         (builtins_meant (done ++ first_from h i is) (once_alike (codes "getchar" ∷ codes "putchar" ∷ []) (done ++ first_from h i is) b alike once))
         ∙ layouts_both union [] done (first_from h i is)
 
-    pub unions_none : layouts_onto true [] done ≡ [] → layouts_of true (builtins (done ++ first_from h i is)) ≡ []
-    unions_none e = meant true ∙ (ap (λ (ls : List Layout). layouts_onto true ls (first_from h i is)) e ∙ no_unions h i is [] sorted)
+    pub unions_are : layouts_of true (builtins (done ++ first_from h i is)) ≡ layouts_onto true (layouts_onto true [] done) (first_from h i is)
+    unions_are = meant true
 
     pub structs_are : (found : List Layout) → layouts_onto false [] done ≡ found
         → layouts_of false (builtins (done ++ first_from h i is)) ≡ layouts_onto false found (first_from h i is)
@@ -143,20 +136,40 @@ seen_still seen y x e = by (bytes_eq y x)
     by false = e
 
 pub later_passed : (unions ls : List Layout) (h : Tables) (i : ℕ) (is : List Item) (seen : List (List ℕ)) (tag : List ℕ) → second_names seen is ≡ []
-    → AreSorted is → is_seen seen tag ≡ true → struct_extent unions (layouts_onto false ls (first_from h i is)) tag ≡ struct_extent unions ls tag
-later_passed unions ls h i [] seen tag p k e = refl
-later_passed unions ls h i (tree.StructItem s ∷ is) seen tag p k e =
+    → is_seen seen tag ≡ true → struct_extent unions (layouts_onto false ls (first_from h i is)) tag ≡ struct_extent unions ls tag
+later_passed unions ls h i [] seen tag p e = refl
+later_passed unions ls h i (tree.StructItem s ∷ is) seen tag p e =
     let n : NewName seen (tree.StructItem s) is = new_name seen (tree.StructItem s) is p in
-    later_passed unions (record { tag = s.tag.text; parts = [] } ∷ ls) h (suc i) is (s.tag.text ∷ seen) tag n.others k.1 (seen_still seen s.tag.text tag e)
+    later_passed unions (record { tag = s.tag.text; parts = [] } ∷ ls) h (suc i) is (s.tag.text ∷ seen) tag n.others (seen_still seen s.tag.text tag e)
     ∙ ap (λ (b : Bool). if b then laid_out (extent_by (struct_extent unions ls) (union_extent unions)) (no_extent tag) [] else struct_extent unions ls tag)
     (seen_apart seen s.tag.text tag n.new e)
-later_passed unions ls h i (tree.UnionItem s ∷ is) seen tag p k e = absurd k.0
-later_passed unions ls h i (tree.GlobalItem x ∷ is) seen tag p k e =
+later_passed unions ls h i (tree.UnionItem s ∷ is) seen tag p e =
+    let n : NewName seen (tree.UnionItem s) is = new_name seen (tree.UnionItem s) is p in
+    later_passed unions ls h (suc i) is (s.tag.text ∷ seen) tag n.others (seen_still seen s.tag.text tag e)
+later_passed unions ls h i (tree.GlobalItem x ∷ is) seen tag p e =
     let n : NewName seen (tree.GlobalItem x) is = new_name seen (tree.GlobalItem x) is p in
-    later_passed unions ls h (suc i) is (x.name.text ∷ seen) tag n.others k.1 (seen_still seen x.name.text tag e)
-later_passed unions ls h i (tree.FunctionItem f ∷ is) seen tag p k e =
+    later_passed unions ls h (suc i) is (x.name.text ∷ seen) tag n.others (seen_still seen x.name.text tag e)
+later_passed unions ls h i (tree.FunctionItem f ∷ is) seen tag p e =
     let n : NewName seen (tree.FunctionItem f) is = new_name seen (tree.FunctionItem f) is p in
-    later_passed unions ls h (suc i) is (f.name.text ∷ seen) tag n.others k.1 (seen_still seen f.name.text tag e)
+    later_passed unions ls h (suc i) is (f.name.text ∷ seen) tag n.others (seen_still seen f.name.text tag e)
+
+-- the members of a union that was seen
+pub union_passed : (ls : List Layout) (h : Tables) (i : ℕ) (is : List Item) (seen : List (List ℕ)) (tag : List ℕ) → second_names seen is ≡ []
+    → is_seen seen tag ≡ true → parts_of (layouts_onto true ls (first_from h i is)) tag ≡ parts_of ls tag
+union_passed ls h i [] seen tag p e = refl
+union_passed ls h i (tree.StructItem s ∷ is) seen tag p e =
+    let n : NewName seen (tree.StructItem s) is = new_name seen (tree.StructItem s) is p in
+    union_passed ls h (suc i) is (s.tag.text ∷ seen) tag n.others (seen_still seen s.tag.text tag e)
+union_passed ls h i (tree.UnionItem s ∷ is) seen tag p e =
+    let n : NewName seen (tree.UnionItem s) is = new_name seen (tree.UnionItem s) is p in
+    union_passed (record { tag = s.tag.text; parts = [] } ∷ ls) h (suc i) is (s.tag.text ∷ seen) tag n.others (seen_still seen s.tag.text tag e)
+    ∙ ap (λ (b : Bool). if b then [] else parts_of ls tag) (seen_apart seen s.tag.text tag n.new e)
+union_passed ls h i (tree.GlobalItem x ∷ is) seen tag p e =
+    let n : NewName seen (tree.GlobalItem x) is = new_name seen (tree.GlobalItem x) is p in
+    union_passed ls h (suc i) is (x.name.text ∷ seen) tag n.others (seen_still seen x.name.text tag e)
+union_passed ls h i (tree.FunctionItem f ∷ is) seen tag p e =
+    let n : NewName seen (tree.FunctionItem f) is = new_name seen (tree.FunctionItem f) is p in
+    union_passed ls h (suc i) is (f.name.text ∷ seen) tag n.others (seen_still seen f.name.text tag e)
 
 -- ---- members
 
@@ -178,46 +191,68 @@ are_typed [] (q ∷ qs) ts h = absurd h
 are_typed (p ∷ ps) [] ts h = absurd h
 are_typed (p ∷ ps) (q ∷ qs) [] h = absurd h
 
-laid_alike : (e d : Shape → Extent) (so_far : Extent) (ds : List Declared) (ps : List Part) (qs : List shapes.Part) (ts : List StaticType) → AreMembers ps qs ts
-    → AreMemberTypes ds ts → ((t : StaticType) → IsMemberType ds t → e (shape_of t) ≡ d (shape_of t)) → laid_out e so_far qs ≡ laid_out d so_far qs
-laid_alike e d so_far ds [] [] [] h o each = refl
-laid_alike e d so_far ds (p ∷ ps) (q ∷ qs) (t ∷ ts) h o each =
-    let a : e q.shape ≡ d q.shape = ap e h.2 ∙ (each t o.0 ∙ sym (ap d h.2)) in
+laid_alike : (e d : Shape → Extent) (so_far : Extent) (ds us : List Declared) (ps : List Part) (qs : List shapes.Part) (ts : List StaticType)
+    → AreMembers ps qs ts → AreMemberTypes ds ts → AreLaidTypes us ts
+    → ((t : StaticType) → IsMemberType ds t → IsLaidType us t → e (shape_of t) ≡ d (shape_of t)) → laid_out e so_far qs ≡ laid_out d so_far qs
+laid_alike e d so_far ds us [] [] [] h o l each = refl
+laid_alike e d so_far ds us (p ∷ ps) (q ∷ qs) (t ∷ ts) h o l each =
+    let a : e q.shape ≡ d q.shape = ap e h.2 ∙ (each t o.0 l.0 ∙ sym (ap d h.2)) in
     ap (λ (x : Extent). laid_out e (record { size = rounded_up so_far.size x.align + x.size; align = max so_far.align x.align }) qs) a
-    ∙ laid_alike e d (record { size = rounded_up so_far.size (d q.shape).align + (d q.shape).size; align = max so_far.align (d q.shape).align }) ds ps qs ts
-    h.3 o.1 each
-laid_alike e d so_far ds [] [] (t ∷ ts) h o each = absurd h
-laid_alike e d so_far ds [] (q ∷ qs) ts h o each = absurd h
-laid_alike e d so_far ds (p ∷ ps) [] ts h o each = absurd h
-laid_alike e d so_far ds (p ∷ ps) (q ∷ qs) [] h o each = absurd h
+    ∙ laid_alike e d (record { size = rounded_up so_far.size (d q.shape).align + (d q.shape).size; align = max so_far.align (d q.shape).align }) ds us ps qs
+    ts h.3 o.1 l.1 each
+laid_alike e d so_far ds us [] [] (t ∷ ts) h o l each = absurd h
+laid_alike e d so_far ds us [] (q ∷ qs) ts h o l each = absurd h
+laid_alike e d so_far ds us (p ∷ ps) [] ts h o l each = absurd h
+laid_alike e d so_far ds us (p ∷ ps) (q ∷ qs) [] h o l each = absurd h
 
--- a struct that was declared has the same bytes in both
-abbrev pub MeasuredAlike : List Declared → List Layout → List Layout → Type 0
-MeasuredAlike ds ls ms = (tag : List ℕ) → declares ds tag ≡ true → struct_extent [] ls tag ≡ struct_extent [] ms tag
+-- a union that was declared has the same members in both, and so as many bytes
+abbrev pub UnionsAlike : List Declared → List Layout → List Layout → Type 0
+UnionsAlike us ls ms = (tag : List ℕ) → declares us tag ≡ true → parts_of ls tag ≡ parts_of ms tag
 
-member_extent : (ds : List Declared) (ls ms : List Layout) (t : StaticType) → MeasuredAlike ds ls ms → IsMemberType ds t
-    → extent_by (struct_extent [] ls) (union_extent []) (shape_of t) ≡ extent_by (struct_extent [] ms) (union_extent []) (shape_of t)
-member_extent ds ls ms Int k h = refl
-member_extent ds ls ms Unsigned k h = refl
-member_extent ds ls ms Char k h = refl
-member_extent ds ls ms Void k h = refl
-member_extent ds ls ms Null k h = refl
-member_extent ds ls ms (Thin n r t) k h = refl
-member_extent ds ls ms (Fat r t) k h = refl
-member_extent ds ls ms (Unique n t) k h = refl
-member_extent ds ls ms (Handle r) k h = refl
-member_extent ds ls ms (Key r) k h = refl
-member_extent ds ls ms (Struct tag rs) k h = k tag h
-member_extent ds ls ms (Union tag rs) k h = refl
+-- so has a struct
+abbrev pub MeasuredAlike : List Declared → List Layout → List Layout → List Layout → List Layout → Type 0
+MeasuredAlike ds lu ls mu ms = (tag : List ℕ) → declares ds tag ≡ true → struct_extent lu ls tag ≡ struct_extent mu ms tag
+
+pub union_alike : (lu mu : List Layout) (tag : List ℕ) → parts_of lu tag ≡ parts_of mu tag → union_extent lu tag ≡ union_extent mu tag
+union_alike lu mu tag e =
+    ap (λ (ps : List shapes.Part). record { size = rounded_up (4 + largest (extent_by no_extent no_extent) 0 ps) 4; align = 4 }) e
+
+member_extent : (ds us : List Declared) (lu ls mu ms : List Layout) (t : StaticType) → MeasuredAlike ds lu ls mu ms → UnionsAlike us lu mu
+    → IsMemberType ds t → IsLaidType us t
+    → extent_by (struct_extent lu ls) (union_extent lu) (shape_of t) ≡ extent_by (struct_extent mu ms) (union_extent mu) (shape_of t)
+member_extent ds us lu ls mu ms (Struct tag rs) k n h l = k tag h
+member_extent ds us lu ls mu ms (Union tag rs) k n h l = union_alike lu mu tag (n tag l)
+member_extent ds us lu ls mu ms _ k n h l = refl
+
+-- all structs are made of unions that were declared
+abbrev pub AllLaidTypes : List Declared → List Declared → Type 0
+AllLaidTypes us [] = Unit {0}
+AllLaidTypes us (d ∷ ds) = AreLaidTypes us d.parts × AllLaidTypes us ds
+
+pub structs_alike : (T : Tables) (ds us : List Declared) (lu mu ls : List Layout) → AreLaidOut T ds ls → AreInOrder ds → AllLaidTypes us ds
+    → UnionsAlike us lu mu → (tag : List ℕ) → struct_extent lu ls tag ≡ struct_extent mu ls tag
+structs_alike T [] us lu mu [] h o l n tag = refl
+structs_alike T (d ∷ ds) us lu mu (x ∷ ls) h o l n tag = by (bytes_eq x.tag tag) (λ y. structs_alike T ds us lu mu ls h.2 o.2 l.1 n y)
+  where
+    by : (b : Bool) → ((y : List ℕ) → struct_extent lu ls y ≡ struct_extent mu ls y)
+        → (if b then laid_out (extent_by (struct_extent lu ls) (union_extent lu)) (no_extent tag) x.parts else struct_extent lu ls tag)
+        ≡ (if b then laid_out (extent_by (struct_extent mu ls) (union_extent mu)) (no_extent tag) x.parts else struct_extent mu ls tag)
+    by true others =
+        laid_alike (extent_by (struct_extent lu ls) (union_extent lu)) (extent_by (struct_extent mu ls) (union_extent mu)) (no_extent tag) ds us
+        (parts_in T d.tag) x.parts d.parts h.1 o.1 l.0 (λ t a c. member_extent ds us lu ls mu ls t (λ y e. others y) n a c)
+    by false others = others tag
+structs_alike T [] us lu mu (x ∷ ls) h o l n tag = absurd h
+structs_alike T (d ∷ ds) us lu mu [] h o l n tag = absurd h
 
 -- ---- the bytes of a struct
 
 -- a struct that the rules find small enough is so where it is laid out
-pub struct_small : (g : Tables) (i : ℕ) (s : tree.Structure) (ds : List Declared) (found : List Layout) (ts : List StaticType)
+pub struct_small : (g : Tables) (i : ℕ) (s : tree.Structure) (ds us : List Declared) (unions found : List Layout) (ts : List StaticType)
     → struct_sized g false s (tag_parts g i false s) ≡ [] → AreMembers (tag_parts g i false s) (map part_of s.members) ts → AreMemberTypes ds ts
-    → layouts_of true g ≡ [] → MeasuredAlike ds (layouts_of false g) found → (struct_extent [] (layout_of s ∷ found) s.tag.text).size ≤ 4096
-struct_small g i s ds found ts p h o none alike =
-    leb-true (struct_extent [] (layout_of s ∷ found) s.tag.text).size 4096 (subst (λ (n : ℕ). fits_bytes n ≡ true) same fits)
+    → AreLaidTypes us ts → UnionsAlike us (layouts_of true g) unions → MeasuredAlike ds (layouts_of true g) (layouts_of false g) unions found
+    → (struct_extent unions (layout_of s ∷ found) s.tag.text).size ≤ 4096
+struct_small g i s ds us unions found ts p h o l same_unions alike =
+    leb-true (struct_extent unions (layout_of s ∷ found) s.tag.text).size 4096 (subst (λ (n : ℕ). fits_bytes n ≡ true) same fits)
   where
     ps : List Part
     ps = tag_parts g i false s
@@ -225,10 +260,13 @@ struct_small g i s ds found ts p h o none alike =
     qs : List shapes.Part
     qs = map part_of s.members
 
+    lu : List Layout
+    lu = layouts_of true g
+
     bytes : List Layout → List shapes.Part → List Layout → Bool → ℕ
-    bytes unions parts ls b =
-        (if b then laid_out (extent_by (struct_extent unions ls) (union_extent unions)) (no_extent s.tag.text) parts
-        else struct_extent unions ls s.tag.text).size
+    bytes others parts ls b =
+        (if b then laid_out (extent_by (struct_extent others ls) (union_extent others)) (no_extent s.tag.text) parts
+        else struct_extent others ls s.tag.text).size
 
     of : (b : Bool) → not b || fits_bytes (struct_bytes g s ps) ≡ true → b ≡ true → fits_bytes (struct_bytes g s ps) ≡ true
     of true e q = e
@@ -237,12 +275,12 @@ struct_small g i s ds found ts p h o none alike =
     fits : fits_bytes (struct_bytes g s ps) ≡ true
     fits = of (all_typed ps) (test_is (not (all_typed ps) || fits_bytes (struct_bytes g s ps)) size_rule s.tag.at p) (are_typed ps qs ts h)
 
-    same : struct_bytes g s ps ≡ (struct_extent [] (layout_of s ∷ found) s.tag.text).size
+    same : struct_bytes g s ps ≡ (struct_extent unions (layout_of s ∷ found) s.tag.text).size
     same =
-        ap (λ (ls : List Layout). bytes ls (part_shapes ps) (layouts_of false g) (bytes_eq s.tag.text s.tag.text)) none
-        ∙ (ap (λ (zs : List shapes.Part). bytes [] zs (layouts_of false g) (bytes_eq s.tag.text s.tag.text)) (same_parts ps qs ts h)
-        ∙ (ap (λ (b : Bool). bytes [] qs (layouts_of false g) b) (same_text s.tag.text)
+        ap (λ (zs : List shapes.Part). bytes lu zs (layouts_of false g) (bytes_eq s.tag.text s.tag.text)) (same_parts ps qs ts h)
+        ∙ (ap (λ (b : Bool). bytes lu qs (layouts_of false g) b) (same_text s.tag.text)
         ∙ (ap (λ (e : Extent). e.size)
-        (laid_alike (extent_by (struct_extent [] (layouts_of false g)) (union_extent [])) (extent_by (struct_extent [] found) (union_extent []))
-        (no_extent s.tag.text) ds ps qs ts h o (λ t k. member_extent ds (layouts_of false g) found t alike k))
-        ∙ sym (ap (λ (b : Bool). bytes [] qs found b) (same_text s.tag.text)))))
+        (laid_alike (extent_by (struct_extent lu (layouts_of false g)) (union_extent lu)) (extent_by (struct_extent unions found) (union_extent unions))
+        (no_extent s.tag.text) ds us ps qs ts h o l
+        (λ t a c. member_extent ds us lu (layouts_of false g) unions found t alike same_unions a c))
+        ∙ sym (ap (λ (b : Bool). bytes unions qs found b) (same_text s.tag.text))))

@@ -1,21 +1,21 @@
 -- A type that is taken, whose tag is one of the program's: each struct in its shape is one too, and lowering takes the type.
-use Rattle.std.proofs.Common.{◌≡◌, ℕ, true, false, Option, Some, None, List, [], ◌∷◌, refl, sym, subst}
+use Rattle.std.proofs.Common.{◌≡◌, ℕ, Bool, true, false, Option, Some, None, List, [], ◌∷◌, refl, sym, subst}
 use Rattle.std.proofs.lemmas.Bool.{and_parts}
 use Rattle.cyc_tree.specs.declared.name.Sign.{Sign}
 use Rattle.cyc_tree.specs.declared.name.Sign.TheVariants as sign
 use Rattle.cyc_tree.specs.Tree as tree
 use Rattle.cyc_tree.specs.Tree.{Pointer, TypeName}
 use Rattle.source_lowering.specs.Lowerable as lowering
-use Rattle.source_lowering.specs.Lowerable.{GivesNothing, GivesWord, HasBeginning, IsKnownIn, IsNoStruct, IsObjectBase, IsTarget, TakesResult}
+use Rattle.source_lowering.specs.Lowerable.{GivesNothing, GivesWord, HasBeginning, IsKnownIn, IsOperandShape, IsObjectBase, IsTarget, TakesResult}
 use Rattle.source_lowering.specs.Taken.{AreShared, HasFirst, IsIntType, IsSharedRegion, IsVoidType}
 use Rattle.source_meaning.specs.Shapes.{
+  Alone,
   ArrayShape,
   CharShape,
   FatShape,
   HandleShape,
   IntShape,
   KeyShape,
-  Layout,
   Shape,
   Shared,
   StructShape,
@@ -31,16 +31,17 @@ use Rattle.source_meaning.specs.Shapes.{
   signed_shape,
   written,
 }
+use Rattle.source_meaning.specs.Steps.{World}
 use Rattle.type_proof.specs.Entries.{IsObjectType, IsPlain}
 use Rattle.source_typing.specs.Faults.{Fault}
 use Rattle.source_typing.specs.Tables.{Entry, OfBuiltin, OfFunction, OfOther, OfTag, OfValue, Tables, Tag, find, has_beginning}
 use Rattle.source_typing.specs.Taken.{takes_base, takes_pointers, takes_type}
 use Rattle.accepted_programs.specs.Supported.{supported}
-use Rattle.source_typing.specs.Types.{Char, Fat, Handle, Int, PartialType, StaticType, Struct, Thin, Union, Unsigned, Void, shape_of}
+use Rattle.source_typing.specs.Types.{Char, Fat, Handle, Int, PartialType, StaticType, Struct, Thin, Union, Unique, Unsigned, Void, same_bool, shape_of}
 use Rattle.source_typing.specs.Verdicts.{Faulty, Verdict, after, faults_of}
-use Rattle.source_typing.specs.Written.{Found, tag_of, written_on, written_with}
+use Rattle.source_typing.specs.Written.{Found, if_sound, of_kind, tag_of, written_on, written_with}
 use Rattle.source_lowering.proofs.statements.WrittenTypes.{owner_shared}
-use Rattle.accepted_proof.proofs.good.Types.{signed_open, pointers_shared}
+use Rattle.accepted_proof.proofs.good.Types.{KnowsTags, MeansKnown, pointers_shared}
 use Rattle.accepted_proof.proofs.Known.{IsKnown, IsWord, word_shape}
 use Rattle.accepted_proof.proofs.lowered.Forms.{IsGiven}
 use Rattle.accepted_proof.proofs.MemberTypes.{IsPointerShape, sign_pointer, still_pointer}
@@ -49,13 +50,25 @@ use Rattle.accepted_proof.proofs.Settling.{IsOpen}
 -- ---- tags
 
 -- each tag of these tables is one of the program's
-abbrev pub TagsThere : List Layout → Tables → Type 0
-TagsThere structs g = (x : List ℕ) (t : Tag) → find g x ≡ Some (OfTag t) → has_tag structs x ≡ true
+abbrev pub TagThere : World → Bool → List ℕ → Type 0
+TagThere w false x = (has_tag w.structs x ≡ true)
+TagThere w true x = (has_tag w.unions x ≡ true)
 
--- a struct of the program, where a type begins with one
-abbrev pub BaseThere : List Layout → tree.Base → Type 0
-BaseThere structs (tree.Struct tag rs) = (has_tag structs tag.text ≡ true)
-BaseThere structs b = Unit {0}
+abbrev pub TagsThere : World → Tables → Type 0
+TagsThere w g = (x : List ℕ) (t : Tag) → find g x ≡ Some (OfTag t) → TagThere w t.is_union x
+
+-- each is without fault
+abbrev pub AreSound : Tables → Type 0
+AreSound g = (x : List ℕ) (t : Tag) → find g x ≡ Some (OfTag t) → t.sound ≡ true
+
+pub known_sound : (g : Tables) → KnowsTags g → AreSound g
+known_sound g k x t e = subst (λ (o : Option Entry). MeansKnown o) e (k x)
+
+-- a struct or a union of the program, where a type begins with one
+abbrev pub BaseThere : World → tree.Base → Type 0
+BaseThere w (tree.Struct tag rs) = TagThere w false tag.text
+BaseThere w (tree.Union tag rs) = TagThere w true tag.text
+BaseThere w b = Unit {0}
 
 -- the rest of a judgement has the faults of a type
 abbrev pub Keeps : {A : Type 0} → (Verdict PartialType → Verdict A) → Type 0
@@ -68,145 +81,158 @@ pub twice_keeps : {A B : Type 0} (k : PartialType → Verdict A) (l : A → Verd
 twice_keeps k l f fs e = cc
 
 -- where that has none, the type's tag was found
-pub base_there : {A : Type 0} (structs : List Layout) (g : Tables) (t : TypeName) (fs : List Found × List Fault) (rest : Verdict PartialType → Verdict A)
-    → TagsThere structs g → Keeps rest → faults_of (rest (written_with g t fs)) ≡ [] → BaseThere structs t.base
-base_there structs g t (fs, bad) rest tags keeps p = by t.base p
+pub base_there : {A : Type 0} (w : World) (g : Tables) (t : TypeName) (fs : List Found × List Fault) (rest : Verdict PartialType → Verdict A)
+    → TagsThere w g → AreSound g → Keeps rest → faults_of (rest (written_with g t fs)) ≡ [] → BaseThere w t.base
+base_there w g t (fs, bad) rest tags known keeps p = by t.base p
   where
-    found : (tag : tree.Name) (o : Option Entry) → find g tag.text ≡ o → faults_of (rest (written_on t fs bad (tag_of o false tag.at))) ≡ []
-        → has_tag structs tag.text ≡ true
-    found tag None q p = absurd (keeps _ _ p)
-    found tag (Some (OfTag z)) q p = tags tag.text z q
-    found tag (Some (OfValue v)) q p = absurd (keeps _ _ p)
-    found tag (Some (OfFunction s)) q p = absurd (keeps _ _ p)
-    found tag (Some (OfBuiltin n)) q p = absurd (keeps _ _ p)
-    found tag (Some OfOther) q p = absurd (keeps _ _ p)
+    -- a tag without fault is of the kind that is written
+    of : (z : Tag) (tag : tree.Name) (a b : Bool) → z.is_union ≡ a → TagThere w z.is_union tag.text
+        → faults_of (rest (written_on t fs bad (of_kind (same_bool a b) z tag.at))) ≡ [] → TagThere w b tag.text
+    of z tag true true e h p = subst (λ c. TagThere w c tag.text) e h
+    of z tag false false e h p = subst (λ c. TagThere w c tag.text) e h
+    of z tag true false e h p = absurd (keeps _ _ p)
+    of z tag false true e h p = absurd (keeps _ _ p)
 
-    by : (b : tree.Base) → faults_of (rest (written_on t fs bad (Rattle.source_typing.specs.Written.base_of g b))) ≡ [] → BaseThere structs b
-    by (tree.Struct tag rs) p = found tag (find g tag.text) refl p
+    found : (tag : tree.Name) (kind : Bool) (o : Option Entry) → find g tag.text ≡ o
+        → faults_of (rest (written_on t fs bad (tag_of o kind tag.at))) ≡ [] → TagThere w kind tag.text
+    found tag kind None q p = absurd (keeps _ _ p)
+    found tag kind (Some (OfTag z)) q p =
+        of z tag z.is_union kind refl (tags tag.text z q)
+        (subst (λ b. faults_of (rest (written_on t fs bad (if_sound b (of_kind (same_bool z.is_union kind) z tag.at)))) ≡ []) (known tag.text z q) p)
+    found tag kind (Some (OfValue v)) q p = absurd (keeps _ _ p)
+    found tag kind (Some (OfFunction s)) q p = absurd (keeps _ _ p)
+    found tag kind (Some (OfBuiltin n)) q p = absurd (keeps _ _ p)
+    found tag kind (Some OfOther) q p = absurd (keeps _ _ p)
+
+    by : (b : tree.Base) → faults_of (rest (written_on t fs bad (Rattle.source_typing.specs.Written.base_of g b))) ≡ [] → BaseThere w b
+    by (tree.Struct tag rs) p = found tag false (find g tag.text) refl p
     by tree.Int p = tt
     by tree.Unsigned p = tt
     by tree.Char p = tt
     by tree.Void p = tt
-    by (tree.Union tag rs) p = tt
+    by (tree.Union tag rs) p = found tag true (find g tag.text) refl p
     by (tree.Handle r) p = tt
     by (tree.Key r) p = tt
 
 -- ---- shapes
 
--- an integer, a struct of the program, a handle, nothing, or a shared pointer to these
-abbrev pub IsReached : List Layout → Shape → Type 0
-IsReached structs IntShape = Unit {0}
-IsReached structs UnsignedShape = Unit {0}
-IsReached structs CharShape = Unit {0}
-IsReached structs VoidShape = Unit {0}
-IsReached structs (ThinShape may_be_null owner to) = (owner ≡ Shared) × IsReached structs to
-IsReached structs (FatShape to) = IsReached structs to
-IsReached structs HandleShape = Unit {0}
-IsReached structs KeyShape = ⊥
-IsReached structs (StructShape tag) = (has_tag structs tag ≡ true)
-IsReached structs (UnionShape tag) = ⊥
-IsReached structs (ArrayShape count of) = ⊥
+-- an integer, a struct or a union of the program, a handle, nothing, or a shared pointer to these
+abbrev pub IsReached : World → Shape → Type 0
+IsReached w IntShape = Unit {0}
+IsReached w UnsignedShape = Unit {0}
+IsReached w CharShape = Unit {0}
+IsReached w VoidShape = Unit {0}
+IsReached w (ThinShape may_be_null owner to) = (owner ≡ Shared) × IsReached w to
+IsReached w (FatShape to) = IsReached w to
+IsReached w HandleShape = Unit {0}
+IsReached w KeyShape = ⊥
+IsReached w (StructShape tag) = (has_tag w.structs tag ≡ true)
+IsReached w (UnionShape tag) = (has_tag w.unions tag ≡ true)
+IsReached w (ArrayShape count of) = ⊥
 
-pub reached_target : (structs : List Layout) (s : Shape) → IsReached structs s → IsTarget s
-reached_target structs IntShape h = tt
-reached_target structs UnsignedShape h = tt
-reached_target structs CharShape h = tt
-reached_target structs VoidShape h = tt
-reached_target structs (ThinShape may_be_null owner to) h = (h.0, reached_target structs to h.1)
-reached_target structs (FatShape to) h = reached_target structs to h
-reached_target structs HandleShape h = tt
-reached_target structs (StructShape tag) h = tt
-reached_target structs _ h = absurd h
+pub reached_target : (w : World) (s : Shape) → IsReached w s → IsTarget s
+reached_target w IntShape h = tt
+reached_target w UnsignedShape h = tt
+reached_target w CharShape h = tt
+reached_target w VoidShape h = tt
+reached_target w (ThinShape may_be_null owner to) h = (h.0, reached_target w to h.1)
+reached_target w (FatShape to) h = reached_target w to h
+reached_target w HandleShape h = tt
+reached_target w (StructShape tag) h = tt
+reached_target w (UnionShape tag) h = tt
+reached_target w _ h = absurd h
 
-reached_in : (structs : List Layout) (s : Shape) → IsReached structs s → IsKnownIn structs s
-reached_in structs (StructShape tag) h = h
-reached_in structs _ h = tt
+reached_in : (w : World) (s : Shape) → IsReached w s → IsKnownIn w.unions w.structs s
+reached_in w (StructShape tag) h = h
+reached_in w (UnionShape tag) h = h
+reached_in w _ h = tt
 
 -- an object's shape has nothing under its pointers
-pub reached_known : (structs : List Layout) (u : StaticType) → IsObjectType u → IsReached structs (shape_of u) → IsKnown structs (shape_of u)
-reached_known structs Int o h = tt
-reached_known structs Unsigned o h = tt
-reached_known structs Char o h = tt
-reached_known structs (Thin b r t) o h = (h.0, reached_known structs t o h.1)
-reached_known structs (Fat r t) o h = reached_known structs t o h
-reached_known structs (Struct tag rs) o h = h
-reached_known structs (Union tag rs) o h = absurd h
-reached_known structs (Handle r) o h = tt
-reached_known structs _ o h = absurd o
+pub reached_known : (w : World) (u : StaticType) → IsObjectType u → IsReached w (shape_of u) → IsKnown w (shape_of u)
+reached_known w Int o h = tt
+reached_known w Unsigned o h = tt
+reached_known w Char o h = tt
+reached_known w (Thin b r t) o h = (h.0, reached_known w t o h.1)
+reached_known w (Fat r t) o h = reached_known w t o h
+reached_known w (Unique b t) o h = absurd (let unowned : Alone ≡ Shared = h.0 in cc)
+reached_known w (Struct tag rs) o h = h
+reached_known w (Union tag rs) o h = h
+reached_known w (Handle r) o h = tt
+reached_known w _ o h = absurd o
 
-module _ (structs : List Layout) where
-  signed_reached : (x : Sign) (r : Option tree.RegionName) (s : Shape) → IsSharedRegion r → IsReached structs (settled s)
-      → IsReached structs (settled (signed_shape x (owner_of r) s))
+module _ (w : World) where
+  signed_reached : (x : Sign) (r : Option tree.RegionName) (s : Shape) → IsSharedRegion r → IsReached w (settled s)
+      → IsReached w (settled (signed_shape x (owner_of r) s))
   signed_reached sign.Nullable r s h o = (owner_shared r h, o)
   signed_reached sign.NotNull r s h o = (owner_shared r h, o)
   signed_reached sign.Fat r s h o = o
 
-  all_reached : (ps : List Pointer) (s : Shape) → AreShared ps → IsReached structs (settled s) → IsReached structs (settled (pointed ps s))
+  all_reached : (ps : List Pointer) (s : Shape) → AreShared ps → IsReached w (settled s) → IsReached w (settled (pointed ps s))
   all_reached [] s k h = h
   all_reached (p ∷ ps) s k h =
       all_reached ps (signed_shape p.sign (owner_of p.region) s) k.1 (signed_reached p.sign p.region s k.0 h)
 
   -- what is written of a type that is taken
-  pub type_reached : (t : TypeName) → takes_type supported t ≡ true → BaseThere structs t.base → IsReached structs (settled (written t))
+  pub type_reached : (t : TypeName) → takes_type supported t ≡ true → BaseThere w t.base → IsReached w (settled (written t))
   type_reached t e h =
       let a = and_parts (takes_base supported t.base) (takes_pointers supported t.pointers) e in
       all_reached t.pointers (base_shape t.base) (pointers_shared supported refl t.pointers a.1) (by t.base a.0 h)
     where
-      by : (b : tree.Base) → takes_base supported b ≡ true → BaseThere structs b → IsReached structs (settled (base_shape b))
+      by : (b : tree.Base) → takes_base supported b ≡ true → BaseThere w b → IsReached w (settled (base_shape b))
       by tree.Int q h = tt
       by tree.Unsigned q h = tt
       by tree.Char q h = tt
       by tree.Void q h = tt
       by (tree.Struct tag rs) q h = h
-      by (tree.Union tag rs) q h = absurd cc
+      by (tree.Union tag rs) q h = h
       by (tree.Handle r) q h = tt
       by (tree.Key r) q h = absurd cc
 
   -- and of an object's
-  pub written_known : (t : TypeName) (u : StaticType) → takes_type supported t ≡ true → BaseThere structs t.base → IsObjectType u
-      → settled (written t) ≡ shape_of u → IsKnown structs (shape_of u)
-  written_known t u e h o s = reached_known structs u o (subst (λ z. IsReached structs z) s (type_reached t e h))
+  pub written_known : (t : TypeName) (u : StaticType) → takes_type supported t ≡ true → BaseThere w t.base → IsObjectType u
+      → settled (written t) ≡ shape_of u → IsKnown w (shape_of u)
+  written_known t u e h o s = reached_known w u o (subst (λ z. IsReached w z) s (type_reached t e h))
 
   -- ---- types as lowering takes them
 
-  signed_under : (x : Sign) (r : Option tree.RegionName) (s : Shape) → IsKnown structs (settled (signed_shape x (owner_of r) s))
-      → IsKnown structs (settled s)
+  signed_under : (x : Sign) (r : Option tree.RegionName) (s : Shape) → IsKnown w (settled (signed_shape x (owner_of r) s))
+      → IsKnown w (settled s)
   signed_under sign.Nullable r s h = h.1
   signed_under sign.NotNull r s h = h.1
   signed_under sign.Fat r s h = h
 
-  known_under : (ps : List Pointer) (s : Shape) → IsKnown structs (settled (pointed ps s)) → IsKnown structs (settled s)
+  known_under : (ps : List Pointer) (s : Shape) → IsKnown w (settled (pointed ps s)) → IsKnown w (settled s)
   known_under [] s h = h
   known_under (p ∷ ps) s h = signed_under p.sign p.region s (known_under ps (signed_shape p.sign (owner_of p.region) s) h)
 
-  object_base : (b : tree.Base) → takes_base supported b ≡ true → IsKnown structs (settled (base_shape b)) → IsObjectBase b
+  object_base : (b : tree.Base) → takes_base supported b ≡ true → IsKnown w (settled (base_shape b)) → IsObjectBase b
   object_base tree.Int q h = tt
   object_base tree.Unsigned q h = tt
   object_base tree.Char q h = tt
   object_base tree.Void q h = absurd h
   object_base (tree.Struct tag rs) q h = tt
-  object_base (tree.Union tag rs) q h = absurd h
+  object_base (tree.Union tag rs) q h = tt
   object_base (tree.Handle r) q h = tt
   object_base (tree.Key r) q h = absurd h
 
   -- the type of a variable
-  pub object_type : (t : TypeName) (u : StaticType) → takes_type supported t ≡ true → BaseThere structs t.base → IsObjectType u
-      → settled (written t) ≡ shape_of u → lowering.IsObjectType structs t
+  pub object_type : (t : TypeName) (u : StaticType) → takes_type supported t ≡ true → BaseThere w t.base → IsObjectType u
+      → settled (written t) ≡ shape_of u → lowering.IsObjectType w.unions w.structs t
   object_type t u e h o s =
       let a = and_parts (takes_base supported t.base) (takes_pointers supported t.pointers) e in
-      let k : IsKnown structs (settled (written t)) = subst (λ z. IsKnown structs z) (sym s) (written_known t u e h o s) in
+      let k : IsKnown w (settled (written t)) = subst (λ z. IsKnown w z) (sym s) (written_known t u e h o s) in
       record {
         pointers = pointers_shared supported refl t.pointers a.1;
         base = object_base t.base a.0 (known_under t.pointers (base_shape t.base) k);
-        known = reached_in structs (settled (written t)) (type_reached t e h);
+        known = reached_in w (settled (written t)) (type_reached t e h);
       }
 
   -- that of a parameter
-  pub word_type : (t : TypeName) (u : StaticType) → takes_type supported t ≡ true → BaseThere structs t.base → IsObjectType u → IsWord u
+  pub word_type : (t : TypeName) (u : StaticType) → takes_type supported t ≡ true → BaseThere w t.base → IsObjectType u → IsWord u
       → settled (written t) ≡ shape_of u → lowering.IsWordType t
-  word_type t u e h o w s =
-      let k : lowering.IsObjectType structs t = object_type t u e h o s in
-      record { pointers = k.pointers; base = k.base; word = subst (λ z. IsNoStruct z) (sym s) (word_shape u w) }
+  word_type t u e h o i s =
+      let k : lowering.IsObjectType w.unions w.structs t = object_type t u e h o s in
+      record { pointers = k.pointers; base = k.base; word = subst (λ z. IsOperandShape z) (sym s) (word_shape u i) }
 
 -- ---- `void` and `int`
 
@@ -258,18 +284,19 @@ int_written t e s =
     by (tree.Key r) [] q s = absurd cc
 
 -- the type of a result
-pub result_takes : (structs : List Layout) (t : TypeName) (u : StaticType) → takes_type supported t ≡ true → BaseThere structs t.base → IsPlain u
-    → IsGiven structs u → settled (written t) ≡ shape_of u → TakesResult t
-result_takes structs t Void e h o w s = GivesNothing (void_written t e s)
-result_takes structs t Int e h o w s = GivesWord (word_type structs t Int e h o w.0 s)
-result_takes structs t Unsigned e h o w s = GivesWord (word_type structs t Unsigned e h o w.0 s)
-result_takes structs t Char e h o w s = GivesWord (word_type structs t Char e h o w.0 s)
-result_takes structs t (Thin b r u) e h o w s = GivesWord (word_type structs t (Thin b r u) e h o w.0 s)
-result_takes structs t (Fat r u) e h o w s = GivesWord (word_type structs t (Fat r u) e h o w.0 s)
-result_takes structs t (Struct tag rs) e h o w s = absurd w.0
-result_takes structs t (Union tag rs) e h o w s = GivesWord (word_type structs t (Union tag rs) e h o w.0 s)
-result_takes structs t (Handle r) e h o w s = GivesWord (word_type structs t (Handle r) e h o w.0 s)
-result_takes structs t _ e h o w s = absurd o
+pub result_takes : (w : World) (t : TypeName) (u : StaticType) → takes_type supported t ≡ true → BaseThere w t.base → IsPlain u
+    → IsGiven w u → settled (written t) ≡ shape_of u → TakesResult t
+result_takes w t Void e h o i s = GivesNothing (void_written t e s)
+result_takes w t Int e h o i s = GivesWord (word_type w t Int e h o i.0 s)
+result_takes w t Unsigned e h o i s = GivesWord (word_type w t Unsigned e h o i.0 s)
+result_takes w t Char e h o i s = GivesWord (word_type w t Char e h o i.0 s)
+result_takes w t (Thin b r u) e h o i s = GivesWord (word_type w t (Thin b r u) e h o i.0 s)
+result_takes w t (Fat r u) e h o i s = GivesWord (word_type w t (Fat r u) e h o i.0 s)
+result_takes w t (Unique b u) e h o i s = GivesWord (word_type w t (Unique b u) e h o i.0 s)
+result_takes w t (Struct tag rs) e h o i s = absurd i.0
+result_takes w t (Union tag rs) e h o i s = absurd i.0
+result_takes w t (Handle r) e h o i s = GivesWord (word_type w t (Handle r) e h o i.0 s)
+result_takes w t _ e h o i s = absurd o
 
 -- ---- beginnings
 
@@ -280,6 +307,7 @@ begins_first g Unsigned o e = tt
 begins_first g Char o e = tt
 begins_first g (Thin b r t) o e = subst (λ z. HasFirst (ThinShape z Shared (shape_of t))) (sym e) tt
 begins_first g (Fat r t) o e = tt
+begins_first g (Unique b t) o e = subst (λ z. HasFirst (ThinShape z Alone (shape_of t))) (sym e) tt
 begins_first g (Struct tag rs) o e = tt
 begins_first g (Union tag rs) o e = absurd cc
 begins_first g (Handle r) o e = absurd cc
@@ -291,6 +319,11 @@ type_open t e =
     let a = and_parts (takes_base supported t.base) (takes_pointers supported t.pointers) e in
     all_open t.pointers (base_shape t.base) (pointers_shared supported refl t.pointers a.1) (by t.base a.0)
   where
+    signed_open : (x : Sign) (r : Option tree.RegionName) (s : Shape) → IsSharedRegion r → IsOpen s → IsOpen (signed_shape x (owner_of r) s)
+    signed_open sign.Nullable r s h o = (owner_shared r h, o)
+    signed_open sign.NotNull r s h o = (owner_shared r h, o)
+    signed_open sign.Fat r s h o = o
+
     all_open : (ps : List Pointer) (s : Shape) → AreShared ps → IsOpen s → IsOpen (pointed ps s)
     all_open [] s k h = h
     all_open (p ∷ ps) s k h = all_open ps (signed_shape p.sign (owner_of p.region) s) k.1 (signed_open p.sign p.region s k.0 h)
@@ -301,6 +334,6 @@ type_open t e =
     by tree.Char q = tt
     by tree.Void q = tt
     by (tree.Struct tag rs) q = tt
-    by (tree.Union tag rs) q = absurd cc
+    by (tree.Union tag rs) q = tt
     by (tree.Handle r) q = tt
     by (tree.Key r) q = absurd cc

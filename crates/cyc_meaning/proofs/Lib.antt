@@ -1,2 +1,3 @@
 pub mod Agreeing
+pub mod Beginning
 pub mod Carried

@@ -16,7 +16,9 @@ use Rattle.cyc_tree.specs.Tree.{Program}
 use Rattle.rv32_machine.specs.State.{stack_base}
 use Rattle.rv32_machine.specs.Arrays.{Arrays, IsStart, areas_of, state_of, first_register, stack_length}
 use Rattle.compile_proof.proofs.Joined.{never_stuck}
+use Rattle.source_meaning.specs.Programs.{unions_of}
 use Rattle.source_lowering.specs.Programs.{program_code}
+use Rattle.source_lowering.specs.Lowerable.{HaveFewMembers}
 use Rattle.source_typing.specs.Answers.{program_faults}
 use Rattle.accepted_programs.specs.Supported.{supported}
 use Rattle.accepted_programs.specs.Accepted.{IsAccepted}
@@ -78,10 +80,10 @@ module _ (program : Program) (code statics : List ℕ) (parts : Contents) (layer
         unheld = λ number. ap (λ (h : Holdings). h.standing number) starts.held;
       }
 
-  pub implemented : IsAccepted program → IsImplementedBy program parts
-  implemented accepted arena start small starts input are_bytes =
+  pub implemented : IsAccepted program → HaveFewMembers (unions_of program) → IsImplementedBy program parts
+  implemented accepted few arena start small starts input are_bytes =
       let faultless : program_faults supported program ≡ [] = no_faults program accepted in
-      let all = accepted_do program faultless in
+      let all = accepted_do program faultless few in
       let does = all.promised in
       let begun : Begins (areas_of start) (place_of (lines_of program)) (lines_of program) (program_code program).data_objects (state_of start) =
       begins_as start (place_of (lines_of program)) (lines_of program) (program_code program).data_objects (first_machine arena start small starts) all.plain
@@ -98,10 +100,10 @@ is_code program code long within =
     record { some = omega (arith, long); within = within; whole_words = omega (arith, long, words) }
 
 -- the data are never over theirs
-pub data_fit : (program : Program) → IsAccepted program
+pub data_fit : (program : Program) → IsAccepted program → HaveFewMembers (unions_of program)
     → data_limit < length (data_bytes (data_offsets (program_code program).data_objects) 0 (program_code program).data_objects) → ⊥
-data_fit program accepted large =
-    let does = accepted_do program (no_faults program accepted) in
+data_fit program accepted few large =
+    let does = accepted_do program (no_faults program accepted) few in
     let within = does.data_within in
     let objects = (program_code program).data_objects in
     let long = data_length (data_offsets objects) 0 objects does.plain in

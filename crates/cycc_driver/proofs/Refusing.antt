@@ -42,7 +42,7 @@ codeless_image (fault.Lent place) text program accepted why = absurd why
 codeless_image (fault.Copy place) text program accepted why = absurd why
 codeless_image (fault.Size place) text program accepted why = absurd why
 codeless_image (fault.TooLarge place) text program accepted why =
-    let bounded = (accepted_do program (no_faults program accepted.accepted)).promised.code in
+    let bounded = (accepted_do program (no_faults program accepted.accepted) why.few).promised.code in
     let paid = tokens_pay program accepted.spelled.tokens accepted.spelled.parsed in
     let long = why.long in
     record { program = program; accepted = accepted; large = omega (arith, bounded, paid, long); line = why.line; column = why.column }

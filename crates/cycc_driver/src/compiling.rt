@@ -4,7 +4,9 @@ ghost use Rattle.std.specs.Prelude.{◌≡◌, ◌⊎◌, ◌<◌, ◌≤◌, �
 ghost use Rattle.cyc_tree.specs.Tree.{Program as Tree};
 ghost use Rattle.cyc_image.specs.Format.{Contents, Fits, code_limit, data_limit};
 ghost use Rattle.cyc_core.specs.Trees.{program_tree};
+ghost use Rattle.source_meaning.specs.Programs.{unions_of};
 ghost use Rattle.source_lowering.specs.Programs.{program_code};
+ghost use Rattle.source_lowering.specs.Lowerable.{HaveFewMembers};
 ghost use Rattle.accepted_programs.specs.Accepted.{IsAccepted};
 ghost use Rattle.cycc_driver.specs.Texts.{IsTextOf, IsAcceptedAs};
 ghost use Rattle.cycc_driver.specs.Refusals.{IsRefusedFor, HasNoImageFor, AreSame, code_bound};
@@ -114,6 +116,8 @@ struct Placed {
 fn core_of(alloc: Global, checked: &Checked) -> Result<Core, CompileFault>
     ensures code { IfOk result (λ core. program_tree core ≡ program_code checked.now) }
     ensures accepted { IfOk result (λ _. IsAccepted checked.now) }
+    // a word counts the members of each of its unions
+    ensures few { IfOk result (λ _. HaveFewMembers (unions_of checked.now)) }
     ensures memory { IfErr result (λ fault. fault ≡ CompileFault.Memory) }
 {
     // a checked program is an accepted one

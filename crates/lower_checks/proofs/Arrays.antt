@@ -45,7 +45,7 @@ made_shapes w names e = values_by (static_shape w names e) (whole_values w names
 
 -- what is asked of an element
 abbrev pub TakesElement : World → List Named → Expression → Type 0
-TakesElement w names e = IsObject w.structs (static_shape w names e) × TakesMember (static_shape w names e) (TakesWhole w names e) (Takes w names e)
+TakesElement w names e = IsObject w.unions w.structs (static_shape w names e) × TakesMember (static_shape w names e) (TakesWhole w names e) (Takes w names e)
 
 pub array_tree : (index : Name) (count element : Box code.Expression Global)
     → made_tree (form.Array index count element) ≡ Made.Array (name_tree index) (expression_tree count.value) (expression_tree element.value)

@@ -1,6 +1,7 @@
 mod Arguments
 mod Arrays
 mod Bodies
+mod Clauses
 mod Following
 mod Items
 mod Linking
@@ -22,6 +23,7 @@ mod Tables
 mod Bytes
 mod Taken
 mod Texts
+mod UnionCells
 mod Wholes
 mod Writing
 pub use Rattle.accepted_proof.proofs.Joined

@@ -3,10 +3,11 @@ use Rattle.std.proofs.Common.{◌≡◌, ℕ, zero, suc, ◌≤◌, ⊎_elim, Li
 use Rattle.std.specs.Prelude.{map, slice_get}
 use Rattle.cyc_tree.specs.Tree.{Program}
 use Rattle.source_meaning.specs.Steps.{Routine, World}
-use Rattle.source_meaning.specs.Programs.{world_of}
+use Rattle.source_meaning.specs.Programs.{unions_of, world_of}
 use Rattle.core_meaning.specs.Core.{Function}
 use Rattle.core_meaning.specs.Core as core
 use Rattle.source_lowering.specs.Programs.{function_code, program_code}
+use Rattle.source_lowering.specs.Lowerable.{HaveFewMembers}
 use Rattle.source_lowering.specs.Bounds.{FramesFit, core_bound, frame_bound}
 use Rattle.source_lowering.proofs.Programs.{programs_same}
 use Rattle.source_lowering.proofs.bounds.Bounded.{code_bounded, program_frames_bounded}
@@ -25,9 +26,9 @@ frame_fits w (r ∷ rs) zero f g fit is_source is_core =
     subst (λ (z : Function). core_bound z ≤ frame_bound w f) made (subst (λ (z : Routine). core_bound (function_code w r) ≤ frame_bound w z) same fit.0)
 frame_fits w (r ∷ rs) (suc number) f g fit is_source is_core = frame_fits w rs number f g fit.1 is_source is_core
 
-promised : (p : Program) → IsAccepted p → IsLoweringOf p (program_code p)
-promised p accepted =
-    let lowerable = is_lowerable p accepted in
+promised : (p : Program) → IsAccepted p → HaveFewMembers (unions_of p) → IsLoweringOf p (program_code p)
+promised p accepted few =
+    let lowerable = is_lowerable p accepted few in
     record {
       does = λ input bytes never n. ⊎_elim (λ stuck. absurd (never n stuck)) (λ same. same) (programs_same p lowerable input bytes n);
       frames = λ number f g is_source is_core.
@@ -39,5 +40,5 @@ promised p accepted =
     }
 
 -- whichever way the Core is written
-pub is_lowering : (p : Program) (c : core.Program) → IsAccepted p → c ≡ program_code p → IsLoweringOf p c
-is_lowering p c accepted same = subst (λ (z : core.Program). IsLoweringOf p z) (sym same) (promised p accepted)
+pub is_lowering : (p : Program) (c : core.Program) → IsAccepted p → HaveFewMembers (unions_of p) → c ≡ program_code p → IsLoweringOf p c
+is_lowering p c accepted few same = subst (λ (z : core.Program). IsLoweringOf p z) (sym same) (promised p accepted few)

@@ -30,5 +30,6 @@ reached_member w from further f shape_is cells_is bytes_is =
 pub no_member : (structs : List Layout) (tag f : List ℕ) → has_tag structs tag ≡ false → part_shape (parts_of structs tag) f ≡ VoidShape
 no_member structs tag f none = ap (λ (ps : List Part). part_shape ps f) (no_parts structs tag none)
 
-pub no_members : (structs : List Layout) (tag f : List ℕ) → has_tag structs tag ≡ false → IsObject structs (part_shape (parts_of structs tag) f) → ⊥
-no_members structs tag f none h = subst (λ (ps : List Part). IsObject structs (part_shape ps f)) (no_parts structs tag none) h
+pub no_members : (unions structs : List Layout) (tag f : List ℕ) → has_tag structs tag ≡ false
+    → IsObject unions structs (part_shape (parts_of structs tag) f) → ⊥
+no_members unions structs tag f none h = subst (λ (ps : List Part). IsObject unions structs (part_shape ps f)) (no_parts structs tag none) h

@@ -39,27 +39,27 @@ one_global s (Initial.Elements count) of is = absurd (no_array s count of is)
 one_global s (Initial.Given c) of is = sym is
 
 -- the elements of a global array are objects
-pub array_global : (structs : List Layout) (initial : Initial) (s : Shape) (count : ℕ) (of : Shape) → ArrayShape count of ≡ global_shape initial s
-    → IsObject structs s → IsObject structs of
-array_global structs Initial.Unset s count of is object = absurd (subst (λ (z : Shape). IsObject structs z) (sym is) object)
-array_global structs (Initial.Elements n) s count of is object =
+pub array_global : (unions structs : List Layout) (initial : Initial) (s : Shape) (count : ℕ) (of : Shape) → ArrayShape count of ≡ global_shape initial s
+    → IsObject unions structs s → IsObject unions structs of
+array_global unions structs Initial.Unset s count of is object = absurd (subst (λ (z : Shape). IsObject unions structs z) (sym is) object)
+array_global unions structs (Initial.Elements n) s count of is object =
     let same : s ≡ of = cc is in
-    subst (λ (z : Shape). IsObject structs z) same object
-array_global structs (Initial.Given c) s count of is object = absurd (subst (λ (z : Shape). IsObject structs z) (sym is) object)
+    subst (λ (z : Shape). IsObject unions structs z) same object
+array_global unions structs (Initial.Given c) s count of is object = absurd (subst (λ (z : Shape). IsObject unions structs z) (sym is) object)
 
 -- ---- locals
 
 pub block_variables : (w : World) (result : Shape) (names : List Named) (index : ℕ) (items : BlockItems) → TakesItems w result names index items
-    → AreVariables w.structs (block_shapes items)
+    → AreVariables w.unions w.structs (block_shapes items)
 block_variables w result names index NoItems h = tt
 block_variables w result names index (Declare d others) h =
     (shape_object w names d h.0, block_variables w result (named_here (tree.local_of d).text (local_shape d) index ∷ names) (suc index) others h.1)
 block_variables w result names index (Execute s others) h = block_variables w result names index others h.1
 
 -- the parameters of a function, and further locals
-pub parameter_variables : (structs : List Layout) (ms : List Member) (ss : List Shape) → AreWords ms → AreVariables structs ss
-    → AreVariables structs (part_shapes (map part_of ms) ++ ss)
-parameter_variables structs [] ss h more = more
-parameter_variables structs (m ∷ ms) ss h more =
+pub parameter_variables : (unions structs : List Layout) (ms : List Member) (ss : List Shape) → AreWords ms → AreVariables unions structs ss
+    → AreVariables unions structs (part_shapes (map part_of ms) ++ ss)
+parameter_variables unions structs [] ss h more = more
+parameter_variables unions structs (m ∷ ms) ss h more =
     let s = settled (written m.of) in
-    (object_named structs s (value_object structs s (value_settled m.of h.0)), parameter_variables structs ms ss h.1 more)
+    (object_named unions structs s (value_object unions structs s (value_settled m.of h.0)), parameter_variables unions structs ms ss h.1 more)

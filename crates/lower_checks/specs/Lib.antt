@@ -1,3 +1,5 @@
+pub mod Cells
+pub mod Firsts
 pub mod Marks
 pub mod Numbers
 pub mod Promise
@@ -7,6 +9,7 @@ pub mod Scoped
 pub mod Signs
 pub mod Structs
 pub mod Tables
+pub mod Unions
 pub mod Views
 pub mod Visible
 pub mod Writing

@@ -1,36 +1,32 @@
--- What the code knows of a program's structs: their members, and where their cells lie.
-use Rattle.std.specs.Prelude.{◌≡◌, ℕ, ◌+◌, ◌-◌, false, true, List, [], ◌∷◌, ◌++◌, length, map, Option, Some, None, bytes_eq, is_some}
+-- What the code knows of a program's structs: their members, and where their cells lie, by its unions.
+use Rattle.std.specs.Prelude.{◌≡◌, ℕ, ◌+◌, ◌-◌, false, true, List, [], ◌∷◌, ◌++◌, length, map, Option, Some, None, bytes_eq, is_some, option_map}
 use Rattle.indexmap.specs.IndexMap.{get_by}
 use Rattle.cyc_tree.specs.View.{member_tree}
-use Rattle.source_meaning.specs.Shapes.{Shape, IntShape, UnsignedShape, CharShape, ThinShape, FatShape, HandleShape, StructShape, Part, Layout, part_of, parts_of, has_tag}
+use Rattle.source_meaning.specs.Shapes.{Shape, CharShape, FatShape, StructShape, UnionShape, Part, Layout, part_of, parts_of, has_tag}
 use Rattle.source_meaning.specs.Sizes.{Extent, rounded_up, struct_cells, struct_extent}
 use Rattle.source_meaning.specs.Placing.{Placed, struct_placed}
 use Rattle.source_lowering.specs.Lowerable.{IsVariable}
 use Rattle.cyc_core.specs.Trees.{bytes_of, cell_bytes}
 use Rattle.cyc_core.specs.declared.layout.CellLayout.{CellLayout}
 use Rattle.cyc_core.specs.declared.operation.Cell.{Cell}
-use Rattle.cyc_core.specs.declared.operation.Cell.TheVariants as cell
+use Rattle.lower_checks.specs.Cells.{cell_for}
+use Rattle.lower_checks.specs.Unions.{KnowsUnions, first_union, union_in, union_room}
 use Rattle.lower_checks.specs.declared.layouts.Known.{Known}
 use Rattle.lower_checks.specs.declared.layouts.Room.{Room}
 use Rattle.lower_checks.specs.declared.layouts.Structs.{Structs}
-
--- what a cell of a shape is made for; nothing where it is no integer, no pointer and no handle
-abbrev pub cell_for : Shape → Option Cell
-cell_for IntShape = Some cell.Word
-cell_for UnsignedShape = Some cell.Word
-cell_for CharShape = Some cell.Byte
-cell_for (ThinShape may_be_null owner to) = Some cell.Pointer
-cell_for (FatShape to) = Some cell.Fat
-cell_for HandleShape = Some cell.Handle
-cell_for _ = None
 
 -- a cell, so many bytes from the first
 pub record CellAt : Type 0 where
   pub offset : ℕ
   pub cell : Option Cell
 
-abbrev pub placed_cell : Placed → CellAt
-placed_cell p = record { offset = p.offset; cell = cell_for p.shape }
+-- what a cell of a shape is made for, where these are the unions
+abbrev pub cell_in : List Layout → Shape → Option Cell
+cell_in unions (UnionShape tag) = option_map (λ u. u.cell) (first_union unions tag)
+cell_in unions s = cell_for s
+
+abbrev pub placed_cell : List Layout → Placed → CellAt
+placed_cell unions p = record { offset = p.offset; cell = cell_in unions p.shape }
 
 abbrev pub laid_cell : CellLayout → CellAt
 laid_cell c = record { offset = c.offset; cell = Some c.cell }
@@ -61,19 +57,19 @@ all_filled bytes (c ∷ cs) = filled c (next_cell bytes cs) ∷ all_filled bytes
 
 -- ---- what has room
 
--- an integer, a pointer, a handle, or one of these structs
-abbrev pub HasRoom : List Layout → Shape → Type 0
-HasRoom structs (StructShape tag) = (has_tag structs tag ≡ true)
-HasRoom structs s = (is_some (cell_for s) ≡ true)
+-- an integer, a pointer, a handle, or one of these unions and structs
+abbrev pub HasRoom : (unions structs : List Layout) → Shape → Type 0
+HasRoom unions structs (StructShape tag) = (has_tag structs tag ≡ true)
+HasRoom unions structs s = (is_some (cell_in unions s) ≡ true)
 
-abbrev pub HaveRoom : List Layout → List Part → Type 0
-HaveRoom structs [] = Unit {0}
-HaveRoom structs (p ∷ ps) = HasRoom structs p.shape × HaveRoom structs ps
+abbrev pub HaveRoom : (unions structs : List Layout) → List Part → Type 0
+HaveRoom unions structs [] = Unit {0}
+HaveRoom unions structs (p ∷ ps) = HasRoom unions structs p.shape × HaveRoom unions structs ps
 
 -- what names stand for
-abbrev pub AreVariables : List Layout → List Shape → Type 0
-AreVariables structs [] = Unit {0}
-AreVariables structs (s ∷ ss) = IsVariable structs s × AreVariables structs ss
+abbrev pub AreVariables : (unions structs : List Layout) → List Shape → Type 0
+AreVariables unions structs [] = Unit {0}
+AreVariables unions structs (s ∷ ss) = IsVariable unions structs s × AreVariables unions structs ss
 
 -- ---- what is known of one struct
 
@@ -84,28 +80,29 @@ abbrev pub known_room : Known → Extent
 known_room k = bytes_and k.layout.value.bytes (bytes_of k.align)
 
 -- a struct in code is the one of this tag
-pub record IsKnown (structs : List Layout) (tag : List ℕ) (k : Known) : Type 0 where
+pub record IsKnown (unions structs : List Layout) (tag : List ℕ) (k : Known) : Type 0 where
   pub has : has_tag structs tag ≡ true
   pub parts : parts_of structs tag ≡ member_parts k
-  pub members : HaveRoom structs (member_parts k)
+  pub members : HaveRoom unions structs (member_parts k)
   pub count : length (struct_cells structs tag) ≡ length k.layout.value.cells.items
-  pub room : (unions : List Layout) → struct_extent unions structs tag ≡ known_room k
-  pub cells : (unions : List Layout) → map placed_cell (struct_placed unions structs tag) ≡ map laid_cell k.layout.value.cells.items
+  pub room : struct_extent unions structs tag ≡ known_room k
+  pub cells : map (placed_cell unions) (struct_placed unions structs tag) ≡ map laid_cell k.layout.value.cells.items
   -- between cells there are their bytes of padding
   pub filled : k.layout.value.cells.items ≡ all_filled k.layout.value.bytes k.layout.value.cells.items
 
 -- what is found at a tag: nothing where no struct has it
-abbrev pub IsFound : List Layout → List ℕ → Option Known → Type 0
-IsFound structs tag None = (has_tag structs tag ≡ false)
-IsFound structs tag (Some k) = IsKnown structs tag k
+abbrev pub IsFound : (unions structs : List Layout) → List ℕ → Option Known → Type 0
+IsFound unions structs tag None = (has_tag structs tag ≡ false)
+IsFound unions structs tag (Some k) = IsKnown unions structs tag k
 
 -- what a table has at a tag
 abbrev pub struct_in : Structs → List ℕ → Option Known
 struct_in table tag = get_by (λ key. bytes_eq tag key.now) table.by_tag
 
--- the table has these structs, and no others
-pub record Knows (table : Structs) (structs : List Layout) : Type 0 where
-  pub knows : (tag : List ℕ) → IsFound structs tag (struct_in table tag)
+-- the table has these unions and structs, and no others
+pub record Knows (table : Structs) (unions structs : List Layout) : Type 0 where
+  pub unions_are : KnowsUnions table.unions unions
+  pub knows : (tag : List ℕ) → IsFound unions structs tag (struct_in table tag)
 
 -- ---- what is known of a shape by the table
 
@@ -121,16 +118,22 @@ abbrev pub room_in : Structs → Shape → Extent
 room_in table CharShape = bytes_and 1 1
 room_in table (FatShape to) = bytes_and 12 4
 room_in table (StructShape tag) = room_if (struct_in table tag)
+room_in table (UnionShape tag) = union_room (union_in table.unions tag)
 room_in table s = bytes_and 4 4
+
+-- what the table says that a cell is made for
+abbrev pub table_cell : Structs → Shape → Option Cell
+table_cell table (UnionShape tag) = option_map (λ u. u.cell) (union_in table.unions tag)
+table_cell table s = cell_for s
 
 abbrev pub cells_in : Structs → Shape → List CellAt
 cells_in table (StructShape tag) = cells_if (struct_in table tag)
-cells_in table s = record { offset = 0; cell = cell_for s } ∷ []
+cells_in table s = record { offset = 0; cell = table_cell table s } ∷ []
 
--- an integer, a pointer, a handle, or a struct of the table
+-- an integer, a pointer, a handle, or a union or a struct of the table
 abbrev pub IsLaid : Structs → Shape → Type 0
 IsLaid table (StructShape tag) = (is_some (struct_in table tag) ≡ true)
-IsLaid table s = (is_some (cell_for s) ≡ true)
+IsLaid table s = (is_some (table_cell table s) ≡ true)
 
 abbrev pub AreLaid : Structs → List Part → Type 0
 AreLaid table [] = Unit {0}

@@ -1,22 +1,19 @@
 -- What the tables of names have.
 use Rattle.std.specs.Prelude.{◌≡◌, ℕ, suc, List, [], ◌∷◌, Option, Some, None, option_map, length, bytes_eq, if◌then◌else◌}
-use Rattle.indexmap.specs.IndexMap.{get_by}
 use Rattle.cyc_tree.specs.Tree as tree
 use Rattle.cyc_tree.specs.View.{function_tree}
 use Rattle.source_meaning.specs.Places.{bound_to}
 use Rattle.source_meaning.specs.Programs.{globals_from, structs_from, unions_of}
 use Rattle.source_meaning.specs.Steps.{Entity}
 use Rattle.source_meaning.specs.Strings.{Literal, program_strings}
+use Rattle.source_lowering.specs.Lowerable.{AreUnions}
+use Rattle.lower_checks.specs.Firsts.{first_in}
 use Rattle.lower_checks.specs.Structs.{Knows}
 use Rattle.lower_checks.specs.Views.{found_entity}
 use Rattle.lower_checks.specs.declared.first.Firsts.{Firsts}
 use Rattle.lower_checks.specs.declared.layouts.Structs.{Structs}
 use Rattle.lower_checks.specs.declared.table.Callee.{Callee}
 use Rattle.lower_checks.specs.declared.table.Found.{Found}
-
--- what a table has at a name
-abbrev pub first_in : {V : Type 0} → Firsts V → List ℕ → Option V
-first_in firsts name = get_by (λ key. bytes_eq name key.now) firsts.by_name
 
 -- a function, with its number among the functions
 pub record Numbered : Type 0 where
@@ -41,13 +38,13 @@ function_in functions name = option_map callee_tree (first_in functions name)
 abbrev pub global_in : Firsts Found → List ℕ → Option Entity
 global_in globals name = option_map found_entity (first_in globals name)
 
--- The tables have the first function and the first global of each name, the structs and the strings, whose objects lie behind those of the globals; there are
--- no unions.
+-- The tables have the first function and the first global of each name, the structs with the unions, and the strings, whose objects lie behind those of the
+-- globals.
 pub record AreTables (p : tree.Program) (functions : Firsts Callee) (globals : Firsts Found) (structs : Structs) (strings : List Literal) (behind : ℕ) : Type 0
   where
     pub functions_are : (name : List ℕ) → function_in functions name ≡ first_function p 0 name
     pub globals_are : (name : List ℕ) → global_in globals name ≡ bound_to (globals_from p 0) name
-    pub structs_are : Knows structs (structs_from p [])
-    pub no_unions : unions_of p ≡ []
+    pub structs_are : Knows structs (unions_of p) (structs_from p [])
+    pub values : AreUnions (unions_of p)
     pub strings_are : strings ≡ program_strings p
     pub behind_globals : behind ≡ length (globals_from p 0)

@@ -105,4 +105,4 @@ abbrev pub text_value : code_text.Text → Scalar
 text_value t = span_at t.count (heap_spot t.object)
 
 abbrev pub regions_tree : code_regions.RegionsAround → programs.RegionsAround
-regions_tree r = record { all = r.all; inner = r.inner }
+regions_tree r = record { all = r.all; broken = r.broken; continued = r.continued }

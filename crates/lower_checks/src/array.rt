@@ -43,7 +43,7 @@ use cyc_tree::{Expression, Name};
 /// Appends what asks for a block for so many objects of a shape as the next temporary says, in the region of the handle in a temporary,
 /// which gets a pointer to the first one; and the number of the first element.
 fn lower_block(program: &Table<'_>, shape: &Shape<'_>, body: &mut Body<'_>, to: Temporary)
-    requires taken { IsSound body.old → IsObject (world_of program.now).structs (shape_tree shape.now) }
+    requires taken { IsSound body.old → IsObject (world_of program.now).unions (world_of program.now).structs (shape_tree shape.now) }
     ensures { Emits body.old body.new
         (core.Do (core.RegionAlloc to.0 to.0 (to.0 + 1) (layout_of (world_of program.now) (shape_tree shape.now))) ∷ core.Do (core.Constant (to.0 + 2) 0) ∷ []) }
 {
@@ -57,9 +57,9 @@ fn lower_block(program: &Table<'_>, shape: &Shape<'_>, body: &mut Body<'_>, to: 
 }
 
 /// Appends what stores a value of a shape, which is in the third temporary behind an array's pointer and in those behind it, in the
-/// element of the number in the second one; or what copies the struct there to which that temporary leads.
+/// element of the number in the second one; or what copies the struct or the union there to which that temporary leads.
 fn lower_stored(program: &Table<'_>, shape: &Shape<'_>, body: &mut Body<'_>, to: Temporary)
-    requires taken { IsSound body.old → IsObject (world_of program.now).structs (shape_tree shape.now) }
+    requires taken { IsSound body.old → IsObject (world_of program.now).unions (world_of program.now).structs (shape_tree shape.now) }
     ensures { Emits body.old body.new (element_by (world_of program.now) (shape_tree shape.now) to.0 [] []) }
 {
     let number = body.further(to, 2);
@@ -69,7 +69,7 @@ fn lower_stored(program: &Table<'_>, shape: &Shape<'_>, body: &mut Body<'_>, to:
     let size = extent(program, *shape).size;
     body.operation(Operation::Element(at, to, number, cells, size));
     match shape {
-        Shape::Struct(_) => lower_copy(program, shape, body, at, value),
+        Shape::Struct(_) | Shape::Union(_) => lower_copy(program, shape, body, at, value),
         _ => lower_stores(body, &Reached::at_once(*shape), at, value),
     }
 }
@@ -113,7 +113,7 @@ fn lower_each<'p>(
     requires taken { let w = world_in scope.now in
         let names = names_in scope.now in
         let e = expression_tree element.now in
-        IsSound body.old → IsObject w.structs (static_shape w names e) × TakesMember (static_shape w names e) (TakesWhole w names e) (Takes w names e) }
+        IsSound body.old → IsObject w.unions w.structs (static_shape w names e) × TakesMember (static_shape w names e) (TakesWhole w names e) (Takes w names e) }
     ensures writes { let w = world_in scope.now in
         let names = names_in scope.now in
         let e = expression_tree element.entry.now in
@@ -124,7 +124,7 @@ fn lower_each<'p>(
 {
     let value = body.further(to, 3);
     match shape {
-        Shape::Struct(_) => {
+        Shape::Struct(_) | Shape::Union(_) => {
             lower_whole(scope, element, body, value);
             lower_stored(scope.program, shape, body, to);
         }
@@ -147,7 +147,7 @@ fn lower_elements<'p>(
     requires taken { let w = world_in scope.now in
         let names = names_in scope.now in
         let e = expression_tree element.now in
-        IsSound body.old → IsObject w.structs (static_shape w names e) × TakesMember (static_shape w names e) (TakesWhole w names e) (Takes w names e) }
+        IsSound body.old → IsObject w.unions w.structs (static_shape w names e) × TakesMember (static_shape w names e) (TakesWhole w names e) (Takes w names e) }
     ensures writes { let w = world_in scope.now in
         let names = names_in scope.now in
         let e = expression_tree element.entry.now in
@@ -183,7 +183,7 @@ pub fn lower_array<'p>(
     requires taken { let w = world_in scope.now in
         let names = number_named (name_tree index.now).text (to.0 + 2) ∷ names_in scope.now in
         let e = expression_tree element.now in
-        IsSound body.old → IsObject w.structs (static_shape w names e) × TakesMember (static_shape w names e) (TakesWhole w names e) (Takes w names e) }
+        IsSound body.old → IsObject w.unions w.structs (static_shape w names e) × TakesMember (static_shape w names e) (TakesWhole w names e) (Takes w names e) }
     ensures writes { let w = world_in scope.now in
         let names = number_named (name_tree index.entry.now).text (to.0 + 2) ∷ names_in scope.now in
         let e = expression_tree element.entry.now in

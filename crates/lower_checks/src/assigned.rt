@@ -1,4 +1,4 @@
-// Expressions as statements: a struct that is assigned, made or read, or a word whose value is dropped.
+// Expressions as statements: a struct or a union that is assigned, made or read, or a word whose value is dropped.
 
 ghost use Rattle.std.specs.Prelude.{◌+◌, ◌++◌, ◌∷◌, [], length};
 ghost use Rattle.core_meaning.specs.Core as core;
@@ -14,7 +14,7 @@ ghost use Rattle.source_lowering.specs.Whole.{
   whole_values,
 };
 ghost use Rattle.source_lowering.specs.Lowerable.{
-  IsStructShape,
+  IsWholeShape,
   TakesDropped,
   TakesPlace,
   TakesRun,
@@ -34,7 +34,7 @@ use crate::whole::lower_whole;
 use cyc_core::Temporary;
 use cyc_tree::Expression;
 
-/// Appends what evaluates a struct, and copies it to a place of its type; appends the shapes of the unnamed values, those of the value
+/// Appends what evaluates a struct or a union, and copies it to a place of its type; appends the shapes of the unnamed values, those of the value
 /// first.
 fn lower_assigned<'p>(
     scope: &Scope<'_, 'p>,
@@ -46,7 +46,7 @@ fn lower_assigned<'p>(
     requires taken { let w = world_in scope.now in
         let names = names_in scope.now in
         let p = expression_tree place.now in
-        IsSound body.old → TakesPlace w names p × (TakesWhole w names (expression_tree value.now) × IsStructShape w.structs (static_shape w names p)) }
+        IsSound body.old → TakesPlace w names p × (TakesWhole w names (expression_tree value.now) × IsWholeShape w.unions w.structs (static_shape w names p)) }
     ensures writes { let w = world_in scope.now in
         let names = names_in scope.now in
         let p = expression_tree place.entry.now in
@@ -82,7 +82,7 @@ fn lower_dropped<'p>(
         Writes body.old body.new (dropped_code w names s e to.0 (next_of body.old)) (dropped_values w names s e) }
 {
     match body.known(shape_of(scope, expression)) {
-        Shape::Struct(_) => lower_whole(scope, expression, body, to),
+        Shape::Struct(_) | Shape::Union(_) => lower_whole(scope, expression, body, to),
         _ => {
             lower_expression(scope, expression, body, to);
         }
@@ -106,7 +106,9 @@ pub fn lower_run<'p>(
     match expression {
         Expression::Assign(place, value) => {
             match body.known(shape_of(scope, place)) {
-                Shape::Struct(_) => lower_assigned(scope, place, value, body, to),
+                Shape::Struct(_) | Shape::Union(_) => {
+                    lower_assigned(scope, place, value, body, to)
+                }
                 _ => {
                     lower_expression(scope, expression, body, to);
                 }
@@ -133,7 +135,8 @@ pub fn lower_run<'p>(
         | Expression::NewIn(_, _, _)
         | Expression::Chain(_, _)
         | Expression::AllOf(_, _)
-        | Expression::AnyOf(_, _) => lower_dropped(scope, expression, body, to),
-        Expression::UniqueRegion(_) | Expression::MakeUnion(_, _, _) => body.never(),
+        | Expression::AnyOf(_, _)
+        | Expression::MakeUnion(_, _, _) => lower_dropped(scope, expression, body, to),
+        Expression::UniqueRegion(_) => body.never(),
     }
 }

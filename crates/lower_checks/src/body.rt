@@ -162,6 +162,27 @@ impl<'p> Body<'p> {
         self.within(locals, inside);
     }
 
+    // what a break leaves, as the tree of its parts
+    fn leaving(&mut self, inside: Vec<Statement>)
+        ensures { Emits self.old self.new (core.Leave (statements_of (map statement_tree inside.items)) ∷ []) }
+    {
+        self.emit(Statement::Leave(inside));
+    }
+
+    /// Appends statements that a break leaves.
+    pub fn leaves(&mut self, inside: Vec<Statement>)
+        ensures { Emits self.old self.new (core.Leave (all_of (map statement_tree inside.items)) ∷ []) }
+    {
+        self.leaving(inside);
+    }
+
+    /// Appends a break.
+    pub fn breaks(&mut self)
+        ensures { Emits self.old self.new (core.Break ∷ []) }
+    {
+        self.emit(Statement::Break);
+    }
+
     /// Appends the shape of a further unnamed value.
     pub fn add(&mut self, shape: &Shape<'p>)
         ensures { Writes self.old self.new [] (shape_tree shape.now ∷ []) }

@@ -156,7 +156,7 @@ pub fn first_datum(
 ) -> Result<Datum, LowerFault>
     ensures datum { let w = world_of program.now in
         IfOk result (λ datum. datum_tree datum ≡ global_datum w (initial_tree initial.now) (shape_tree shape.entry)) }
-    ensures taken { IsObject (world_of program.now).structs (shape_tree shape.entry) →
+    ensures taken { IsObject (world_of program.now).unions (world_of program.now).structs (shape_tree shape.entry) →
         TakesGlobal (shape_tree shape.entry) (initial_tree initial.now) → NeverRefused result }
 {
     match shape {

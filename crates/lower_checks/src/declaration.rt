@@ -7,7 +7,7 @@ ghost use Rattle.source_meaning.specs.Programs.{world_of};
 ghost use Rattle.source_lowering.specs.Layouts.{layout_of, local_of};
 ghost use Rattle.source_lowering.specs.Programs.{declaration_code, declaration_values, initial_values, local_shape, source_code, unset_code, value_code};
 ghost use Rattle.source_lowering.specs.Whole.{expression_values, is_made, whole_values};
-ghost use Rattle.source_lowering.specs.Lowerable.{IsObject, IsStructShape, IsVariable, TakesDeclaration, TakesValue, TakesWhole};
+ghost use Rattle.source_lowering.specs.Lowerable.{IsObject, IsWholeShape, IsVariable, TakesDeclaration, TakesValue, TakesWhole};
 ghost use Rattle.lower_checks.specs.Scoped.{names_in, world_in};
 ghost use Rattle.lower_checks.specs.Views.{shape_tree, stored_tree};
 ghost use Rattle.lower_checks.specs.Writing.{Emits, IsSound, Writes, next_of};
@@ -47,13 +47,14 @@ pub fn declared<'p>(
     }
 }
 
-/// Whether an expression makes a struct.
+/// Whether an expression makes a struct or a union.
 #[cycle(made)]
 fn is_made(program: &Table<'_>, expression: &Expression) -> bool
     ensures { result ≡ is_made (world_of program.now) (expression_tree expression.now) }
 {
     match expression {
         Expression::Call(name, _) => makes(program, &name.text),
+        Expression::MakeUnion(_, _, _) => true,
         Expression::Grouped(_, inner) => is_made(program, inner),
         _ => false,
     }
@@ -67,7 +68,7 @@ fn lower_clear(
     to: Temporary,
     index: u32,
 )
-    requires taken { IsSound body.old → IsVariable (world_of program.now).structs (stored_tree stored.now) }
+    requires taken { IsSound body.old → IsVariable (world_of program.now).unions (world_of program.now).structs (stored_tree stored.now) }
     ensures { let l = local_of (world_of program.now) (stored_tree stored.now) in
         Emits body.old body.new (core.Do (core.LocalAddress to.0 0 index) ∷ core.Do (core.Clear to.0 l.layout l.count) ∷ []) }
 {
@@ -87,7 +88,7 @@ fn lower_unset(
     to: Temporary,
     index: u32,
 )
-    requires taken { IsSound body.old → IsVariable (world_of program.now).structs (stored_tree stored.now) }
+    requires taken { IsSound body.old → IsVariable (world_of program.now).unions (world_of program.now).structs (stored_tree stored.now) }
     ensures { Emits body.old body.new (unset_code (world_of program.now) (stored_tree stored.now) to.0 index) }
 {
     match stored {
@@ -102,7 +103,7 @@ fn lower_unset(
     }
 }
 
-/// Appends what leaves a pointer to the struct that an initializer makes or names in a temporary; appends the shapes of the
+/// Appends what leaves a pointer to the struct or the union that an initializer makes or names in a temporary; appends the shapes of the
 /// unnamed values.
 fn lower_source<'p>(
     scope: &Scope<'_, 'p>,
@@ -124,9 +125,9 @@ fn lower_source<'p>(
     }
 }
 
-/// Appends what gives the local of a number a copy of the struct that its initializer makes or names; appends the shapes of the unnamed
-/// values.
-fn lower_struct<'p>(
+/// Appends what gives the local of a number a copy of the struct or the union that its initializer makes or names; appends the shapes of
+/// the unnamed values.
+fn lower_copied_in<'p>(
     scope: &Scope<'_, 'p>,
     shape: &Shape<'_>,
     value: &'p Expression,
@@ -135,7 +136,7 @@ fn lower_struct<'p>(
     index: u32,
 )
     requires taken { let w = world_in scope.now in
-        IsSound body.old → IsStructShape w.structs (shape_tree shape.now) × TakesWhole w (names_in scope.now) (expression_tree value.now) }
+        IsSound body.old → IsWholeShape w.unions w.structs (shape_tree shape.now) × TakesWhole w (names_in scope.now) (expression_tree value.now) }
     ensures writes { let w = world_in scope.now in
         let names = names_in scope.now in
         let e = expression_tree value.entry.now in
@@ -162,7 +163,7 @@ fn lower_set<'p>(
 )
     requires taken { let w = world_in scope.now in
         let s = shape_tree shape.now in
-        IsSound body.old → IsObject w.structs s × TakesValue w (names_in scope.now) s (expression_tree value.now) }
+        IsSound body.old → IsObject w.unions w.structs s × TakesValue w (names_in scope.now) s (expression_tree value.now) }
     ensures writes { let w = world_in scope.now in
         let names = names_in scope.now in
         let e = expression_tree value.entry.now in
@@ -170,7 +171,9 @@ fn lower_set<'p>(
         Writes body.old body.new (value_code w names s e to.0 index (next_of body.old)) (initial_values w names s e) }
 {
     match shape {
-        Shape::Struct(_) => lower_struct(scope, shape, value, body, to, index),
+        Shape::Struct(_) | Shape::Union(_) => {
+            lower_copied_in(scope, shape, value, body, to, index)
+        }
         _ => {
             let from = lower_expression(scope, value, body, to);
             lower_conversion(scope.program, body, shape, &from, to);

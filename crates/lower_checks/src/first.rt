@@ -3,7 +3,7 @@
 ghost use Rattle.std.specs.Prelude.{◌≡◌, ℕ, List, Some, None, if◌then◌else◌, OnOk};
 ghost use Rattle.std.specs.Str.{bytes_eq};
 ghost use Rattle.source_meaning.specs.Places.{or_else};
-ghost use Rattle.lower_checks.specs.Tables.{first_in};
+ghost use Rattle.lower_checks.specs.Firsts.{first_in};
 
 use indexmap::IndexMap;
 use std::alloc::{AllocError, Global};

@@ -1,19 +1,20 @@
-// The structs of a program by their tags: members, and where cells lie.
+// The structs and the tagged unions of a program by their tags: members, and where cells lie.
 
-ghost use Rattle.std.specs.Prelude.{◌≡◌, ◌+◌, ◌++◌, ◌∷◌, [], List, ℕ, IfOk, OnOk, None, Some, true, is_some, map, max, option_copied};
+ghost use Rattle.std.specs.Prelude.{◌≡◌, ◌+◌, ◌++◌, ◌∷◌, [], List, ℕ, IfOk, OnOk, None, Some, true, is_some, map, max, option_copied, option_map};
 ghost use Rattle.cyc_core.specs.Trees.{bytes_of};
 ghost use Rattle.cyc_tree.specs.View.{member_tree, structure_tree};
 ghost use Rattle.source_meaning.specs.Shapes.{Layout as Rules, part_of};
 ghost use Rattle.source_meaning.specs.Programs.{layout_of};
 ghost use Rattle.source_meaning.specs.Sizes.{laid_out, rounded_up};
 ghost use Rattle.source_lowering.specs.Lowerable.{IsStruct};
+ghost use Rattle.lower_checks.specs.Cells.{cell_for};
+ghost use Rattle.lower_checks.specs.Unions.{KnowsUnions, union_in, union_tree};
 ghost use Rattle.lower_checks.specs.Structs.{
   AreLaid,
   IsLaid,
   Knows,
   all_filled,
   bytes_and,
-  cell_for,
   cells_in,
   filled,
   laid_cell,
@@ -23,12 +24,15 @@ ghost use Rattle.lower_checks.specs.Structs.{
   room_in,
   room_tree,
   struct_in,
+  table_cell,
 };
 ghost use Rattle.lower_checks.specs.Views.{shape_tree};
 ghost use Rattle.lower_checks.specs.Refusals.{NeverRefused};
 
 use crate::fault::LowerFault;
+use crate::first::Firsts;
 use crate::shape::Shape;
+use crate::unions::Union;
 use cyc_core::{Cell, CellLayout, Layout, Width};
 use cyc_tree::{Member, Structure};
 use indexmap::IndexMap;
@@ -50,10 +54,11 @@ pub struct Known<'p> {
     pub layout: Rc<Layout>,
 }
 
-/// The structs of a program by their tags.
+/// The structs of a program by their tags, and its unions.
 #[derive(Drop)]
 pub struct Structs<'p> {
     by_tag: IndexMap<&'p [u8], Known<'p>>,
+    unions: Firsts<'p, Union<'p>>,
 }
 
 /// Members that are laid: their cells, and their bytes.
@@ -64,7 +69,7 @@ struct Laying {
 }
 
 /// What a cell of a shape is made for. Refuses what is no integer, no pointer and no handle.
-fn cell_of(shape: Shape<'_>) -> Result<Cell, LowerFault>
+pub fn cell_of(shape: Shape<'_>) -> Result<Cell, LowerFault>
     ensures cell { IfOk result (λ cell. cell_for (shape_tree shape.entry) ≡ Some cell) }
     ensures taken { is_some (cell_for (shape_tree shape.entry)) ≡ true → NeverRefused result }
 {
@@ -200,12 +205,35 @@ fn known_of<'p>(
 }
 
 impl<'p> Structs<'p> {
-    /// No structs.
-    pub fn new(alloc: Global) -> Self
-        ensures { (tag : List ℕ) → struct_in result tag ≡ None }
+    /// No structs, with these unions.
+    pub fn new(alloc: Global, unions: Firsts<'p, Union<'p>>) -> Self
+        ensures none { (tag : List ℕ) → struct_in result tag ≡ None }
+        ensures unions { result.unions ≡ unions.entry }
     {
         Structs {
             by_tag: IndexMap::new(alloc),
+            unions,
+        }
+    }
+
+    /// The union of a tag.
+    pub fn union_of(&self, tag: &[u8]) -> Option<Union<'p>>
+        ensures { option_map union_tree result ≡ union_in self.now.unions tag.now }
+    {
+        self.unions.of(tag)
+    }
+
+    /// What a cell of a shape is made for. Refuses what is no integer, no pointer, no handle and no union that is known.
+    fn cell(&self, shape: Shape<'_>) -> Result<Cell, LowerFault>
+        ensures cell { IfOk result (λ cell. table_cell self.now (shape_tree shape.entry) ≡ Some cell) }
+        ensures taken { is_some (table_cell self.now (shape_tree shape.entry)) ≡ true → NeverRefused result }
+    {
+        let Shape::Union(tag) = shape else {
+            return cell_of(shape);
+        };
+        match self.union_of(tag) {
+            Some(known) => Ok(known.cell),
+            None => Err(LowerFault::NotTaken),
         }
     }
 
@@ -216,7 +244,7 @@ impl<'p> Structs<'p> {
         self.by_tag.get(tag)
     }
 
-    /// The bytes of a shape. Refuses what is no integer, no pointer, no handle and no struct that is known.
+    /// The bytes of a shape. Refuses what is no integer, no pointer, no handle and no union or struct that is known.
     fn room(&self, shape: Shape<'_>) -> Result<Room, LowerFault>
         ensures room { IfOk result (λ room. room_tree room ≡ room_in self.now (shape_tree shape.entry)) }
         ensures laid { OnOk result (IsLaid self.now (shape_tree shape.entry)) }
@@ -231,14 +259,14 @@ impl<'p> Structs<'p> {
                 None => Err(LowerFault::NotTaken),
             };
         }
-        let cell = cell_of(shape)?;
+        let cell = self.cell(shape)?;
         Ok(Room {
             size: cell.bytes(),
             align: cell.width(),
         })
     }
 
-    /// Appends the cells of a shape, so many bytes on. Refuses what is no integer, no pointer, no handle and no struct that is known.
+    /// Appends the cells of a shape, so many bytes on. Refuses what is no integer, no pointer, no handle and no union or struct that is known.
     fn push_shape(
         &self,
         cells: &mut Vec<CellLayout>,
@@ -255,7 +283,7 @@ impl<'p> Structs<'p> {
                 None => Err(LowerFault::NotTaken),
             };
         }
-        let cell = cell_of(shape)?;
+        let cell = self.cell(shape)?;
         push_cell(
             cells,
             CellLayout {
@@ -266,7 +294,7 @@ impl<'p> Structs<'p> {
         )
     }
 
-    /// Lays one more member. Refuses what is no integer, no pointer, no handle and no struct that is known.
+    /// Lays one more member. Refuses what is no integer, no pointer, no handle and no union or struct that is known.
     fn lay(&self, laying: &mut Laying, shape: Shape<'_>) -> Result<(), LowerFault>
         ensures size { let room = room_in self.now (shape_tree shape.entry) in
             OnOk result (laying.new.room.size ≡ rounded_up laying.old.room.size room.align + room.size) }
@@ -291,7 +319,7 @@ impl<'p> Structs<'p> {
         Ok(())
     }
 
-    /// Lays members. Refuses what is no integer, no pointer, no handle and no struct that is known.
+    /// Lays members. Refuses what is no integer, no pointer, no handle and no union or struct that is known.
     fn lay_all(&self, alloc: Global, members: &[Member]) -> Result<Laying, LowerFault>
         ensures room { let parts = map part_of (map member_tree members.now) in
             IfOk result (λ laying.
@@ -316,11 +344,14 @@ impl<'p> Structs<'p> {
     }
 
     /// Adds a struct behind the others. Refuses one whose tag another one has, and one with a member that is no integer, no
-    /// pointer, no handle and no earlier struct.
+    /// pointer, no handle, no union and no earlier struct.
     #[tactic(auto, using(crate::proofs::Structs::new_tag, crate::proofs::Structs::members_laid))]
     pub fn add(&mut self, alloc: Global, structure: &'p Structure) -> Result<(), LowerFault>
-        ensures added { OnOk result ((structs : List Rules) → Knows self.old structs → Knows self.new (layout_of (structure_tree structure.entry.now) ∷ structs)) }
-        ensures taken { (unions structs : List Rules) → Knows self.old structs → IsStruct unions structs (layout_of (structure_tree structure.entry.now)) → NeverRefused result }
+        ensures added { OnOk result
+            ((unions structs : List Rules) → Knows self.old unions structs →
+            Knows self.new unions (layout_of (structure_tree structure.entry.now) ∷ structs)) }
+        ensures taken { (unions structs : List Rules) → Knows self.old unions structs →
+            IsStruct unions structs (layout_of (structure_tree structure.entry.now)) → NeverRefused result }
     {
         if self.of(&structure.tag.text).is_some() {
             return Err(LowerFault::NotTaken);

@@ -5,7 +5,7 @@ ghost use Rattle.core_meaning.specs.Core as core;
 ghost use Rattle.cyc_tree.specs.View.{declaration_tree, expression_tree};
 ghost use Rattle.cyc_core.specs.Trees.{statement_tree};
 ghost use Rattle.source_lowering.specs.Lowered.{conversion_code, expression_code, expression_values, results_in, static_shape};
-ghost use Rattle.source_lowering.specs.Programs.{in_loop, leaving_code, no_regions, regions_with};
+ghost use Rattle.source_lowering.specs.Programs.{in_loop, in_switch, leaving_code, no_regions, regions_with};
 ghost use Rattle.source_lowering.specs.Lowerable.{Takes};
 ghost use Rattle.lower_checks.specs.Scoped.{names_in, world_in};
 ghost use Rattle.lower_checks.specs.Views.{regions_tree, shape_tree};
@@ -19,12 +19,13 @@ use crate::values::lower_conversion;
 use cyc_core::{Operation, Statement, Temporary};
 use cyc_tree::{Declaration, Expression};
 
-/// The regions around a statement: how many of its function are in scope, whose handles are in the first temporaries, and how many of
-/// these were opened within the innermost loop.
+/// The regions around a statement: how many of its function are in scope, whose handles are in the first temporaries, how many of these
+/// were opened within what a `break` leaves, the innermost loop or `switch`, and how many within the innermost loop.
 #[derive(Clone, Copy)]
 pub struct RegionsAround {
     pub all: u32,
-    pub inner: u32,
+    pub broken: u32,
+    pub continued: u32,
 }
 
 impl RegionsAround {
@@ -32,7 +33,11 @@ impl RegionsAround {
     pub fn none() -> RegionsAround
         ensures { regions_tree result ≡ no_regions }
     {
-        RegionsAround { all: 0, inner: 0 }
+        RegionsAround {
+            all: 0,
+            broken: 0,
+            continued: 0,
+        }
     }
 
     /// Within a loop.
@@ -41,7 +46,19 @@ impl RegionsAround {
     {
         RegionsAround {
             all: self.all,
-            inner: 0,
+            broken: 0,
+            continued: 0,
+        }
+    }
+
+    /// Within a `switch`.
+    pub fn in_switch(self) -> RegionsAround
+        ensures { regions_tree result ≡ in_switch (regions_tree self) }
+    {
+        RegionsAround {
+            all: self.all,
+            broken: 0,
+            continued: self.continued,
         }
     }
 
@@ -53,7 +70,8 @@ impl RegionsAround {
         match declaration {
             Declaration::Region(_, _, _) => RegionsAround {
                 all: body.sum(self.all, 1),
-                inner: body.sum(self.inner, 1),
+                broken: body.sum(self.broken, 1),
+                continued: body.sum(self.continued, 1),
             },
             _ => self,
         }

@@ -45,7 +45,7 @@ fn lower_request(
     to: Temporary,
     count: Temporary,
 )
-    requires taken { IsSound body.old → IsObject (world_of program.now).structs (shape_tree shape.now) }
+    requires taken { IsSound body.old → IsObject (world_of program.now).unions (world_of program.now).structs (shape_tree shape.now) }
     ensures { Emits body.old body.new (request_code (world_of program.now) (shape_tree shape.now) to.0 count.0) }
 {
     let layout = object_layout(body.alloc, program, *shape);
@@ -57,16 +57,16 @@ fn lower_request(
 }
 
 /// Appends what asks for a block for one object of a shape, in the region of the handle in a temporary, which gets a pointer to it, and
-/// gives it the value in the next temporary and those behind it, or the struct to which the pointer there leads.
+/// gives it the value in the next temporary and those behind it, or the struct or the union to which the pointer there leads.
 fn lower_object(program: &Table<'_>, shape: &Shape<'_>, body: &mut Body<'_>, to: Temporary)
-    requires taken { IsSound body.old → IsObject (world_of program.now).structs (shape_tree shape.now) }
+    requires taken { IsSound body.old → IsObject (world_of program.now).unions (world_of program.now).structs (shape_tree shape.now) }
     ensures { Emits body.old body.new (new_code_by (world_of program.now) (shape_tree shape.now) to.0 [] []) }
 {
     let value = body.further(to, 1);
     let count = body.further(value, shape.words());
     lower_request(program, shape, body, to, count);
     match shape {
-        Shape::Struct(_) => lower_copy(program, shape, body, to, value),
+        Shape::Struct(_) | Shape::Union(_) => lower_copy(program, shape, body, to, value),
         _ => lower_stores(body, &Reached::at_once(*shape), to, value),
     }
 }
@@ -83,7 +83,7 @@ fn lower_one<'p>(
     requires taken { let w = world_in scope.now in
         let names = names_in scope.now in
         let e = expression_tree value.now in
-        IsSound body.old → IsObject w.structs (static_shape w names e) × TakesMember (static_shape w names e) (TakesWhole w names e) (Takes w names e) }
+        IsSound body.old → IsObject w.unions w.structs (static_shape w names e) × TakesMember (static_shape w names e) (TakesWhole w names e) (Takes w names e) }
     ensures writes { let w = world_in scope.now in
         let names = names_in scope.now in
         let e = expression_tree value.entry.now in
@@ -98,7 +98,7 @@ fn lower_one<'p>(
     let shape = body.known(shape_of(scope, value));
     let address = body.known(shape.address());
     match &shape {
-        Shape::Struct(_) => {
+        Shape::Struct(_) | Shape::Union(_) => {
             lower_whole(scope, value, body, next);
             lower_object(scope.program, &shape, body, to);
             address

@@ -97,7 +97,7 @@ fn member<'p>(
         IfOk result (λ reached. reached.cells ≡ cells_before (cells_of w) (struct_parts w (shape_tree shape.now)) name.now) }
     ensures bytes { let w = world_of program.now in
         IfOk result (λ reached. reached.bytes ≡ bytes_before (extent_of w) 0 (struct_parts w (shape_tree shape.now)) name.now) }
-    ensures taken { let w = world_of program.now in IsObject w.structs (member_shape w (shape_tree shape.now) name.now) → NeverRefused result }
+    ensures taken { let w = world_of program.now in IsObject w.unions w.structs (member_shape w (shape_tree shape.now) name.now) → NeverRefused result }
 {
     match shape {
         Shape::Struct(tag) => match program.struct_of(tag) {
@@ -117,7 +117,7 @@ fn dot<'p>(
 ) -> Result<Reached<'p>, LowerFault>
     ensures place { let w = world_of program.now in
         IfOk result (λ further. reached_place further ≡ member_place w (reached_place reached.now) name.now) }
-    ensures taken { let w = world_of program.now in IsObject w.structs (member_shape w (shape_tree reached.now.shape) name.now) → NeverRefused result }
+    ensures taken { let w = world_of program.now in IsObject w.unions w.structs (member_shape w (shape_tree reached.now.shape) name.now) → NeverRefused result }
 {
     let further = member(program, &reached.shape, name)?;
     Ok(Reached {
@@ -149,7 +149,7 @@ pub fn lower_dot<'p>(
     name: &[u8],
     body: &mut Body<'_>,
 ) -> Reached<'p>
-    requires taken { let w = world_of program.now in IsSound body.old → IsObject w.structs (member_shape w (shape_tree reached.now.shape) name.now) }
+    requires taken { let w = world_of program.now in IsSound body.old → IsObject w.unions w.structs (member_shape w (shape_tree reached.now.shape) name.now) }
     ensures stays { Stays body.old body.new }
     ensures place { IsSound body.new → reached_place result ≡ member_place (world_of program.now) (reached_place reached.now) name.now }
 {
@@ -165,7 +165,7 @@ pub fn lower_arrow<'p>(
     body: &mut Body<'_>,
     to: Temporary,
 ) -> Reached<'p>
-    requires taken { let w = world_of program.now in IsSound body.old → IsObject w.structs (member_shape w (pointee (shape_tree shape.now)) name.now) }
+    requires taken { let w = world_of program.now in IsSound body.old → IsObject w.unions w.structs (member_shape w (pointee (shape_tree shape.now)) name.now) }
     ensures code { Emits body.old body.new (reach_code (world_of program.now) (shape_tree shape.now) to.0) }
     ensures place { IsSound body.new →
         reached_place result ≡ member_place (world_of program.now) (place_at_once (pointee (shape_tree shape.now))) name.now }

@@ -1,12 +1,13 @@
 // Layouts, locals and unnamed values, by their shapes.
 
-ghost use Rattle.std.specs.Prelude.{◌≡◌, ◌∷◌, [], IfOk, map};
+ghost use Rattle.std.specs.Prelude.{◌≡◌, ◌∷◌, [], IfOk, map, true};
 ghost use Rattle.core_meaning.specs.Core as core;
 ghost use Rattle.cyc_core.specs.Trees.{layout_tree, local_tree, part_layout};
 ghost use Rattle.source_meaning.specs.Programs.{world_of};
+ghost use Rattle.source_meaning.specs.Shapes.{StructShape, UnionShape, has_tag};
 ghost use Rattle.source_lowering.specs.Layouts.{layout_of, local_of};
 ghost use Rattle.source_lowering.specs.Programs.{locals_of};
-ghost use Rattle.source_lowering.specs.Lowerable.{AreObjects, IsObject, IsStructShape, IsVariable};
+ghost use Rattle.source_lowering.specs.Lowerable.{AreObjects, IsObject, IsWholeShape, IsVariable};
 ghost use Rattle.lower_checks.specs.Structs.{AreVariables};
 ghost use Rattle.lower_checks.specs.Views.{shape_tree, stored_tree};
 ghost use Rattle.lower_checks.specs.Refusals.{NeverRefused};
@@ -21,21 +22,45 @@ use cyc_core::{Cell, CellLayout, Layout, Local, Statement, Temporary};
 use std::alloc::Global;
 use std::rc::Rc;
 
-/// The layout of a struct. Refuses all other shapes, and a tag that no struct has.
-fn struct_layout(program: &Table<'_>, shape: Shape<'_>) -> Result<Rc<Layout>, LowerFault>
-    ensures layout { IfOk result (λ layout. layout_tree layout.value ≡ layout_of (world_of program.now) (shape_tree shape.entry)) }
-    ensures taken { IsStructShape (world_of program.now).structs (shape_tree shape.entry) → NeverRefused result }
+/// The layout of the struct of a tag. Refuses a tag that no struct has.
+fn struct_layout(program: &Table<'_>, tag: &[u8]) -> Result<Rc<Layout>, LowerFault>
+    ensures layout { IfOk result (λ layout. layout_tree layout.value ≡ layout_of (world_of program.now) (StructShape tag.now)) }
+    ensures taken { has_tag (world_of program.now).structs tag.now ≡ true → NeverRefused result }
 {
-    let Shape::Struct(tag) = shape else {
-        return Err(LowerFault::NotTaken);
-    };
     match program.struct_of(tag) {
         Some(known) => Ok(known.layout.clone()?),
         None => Err(LowerFault::NotTaken),
     }
 }
 
-/// Appends a copy of a struct of a shape to where the first pointer leads, from where the second leads.
+/// What the cell of the union of a tag is made for. Refuses a tag that no union has.
+fn union_cell(program: &Table<'_>, tag: &[u8]) -> Result<Cell, LowerFault>
+    ensures cell { IfOk result (λ cell. part_layout cell ≡ layout_of (world_of program.now) (UnionShape tag.now)) }
+    ensures taken { has_tag (world_of program.now).unions tag.now ≡ true → NeverRefused result }
+{
+    match program.union_of(tag) {
+        Some(known) => Ok(known.cell),
+        None => Err(LowerFault::NotTaken),
+    }
+}
+
+/// The layout of a struct or a union. Refuses all other shapes, and a tag that none of the kind has.
+fn whole_layout(
+    alloc: Global,
+    program: &Table<'_>,
+    shape: Shape<'_>,
+) -> Result<Rc<Layout>, LowerFault>
+    ensures layout { IfOk result (λ layout. layout_tree layout.value ≡ layout_of (world_of program.now) (shape_tree shape.entry)) }
+    ensures taken { IsWholeShape (world_of program.now).unions (world_of program.now).structs (shape_tree shape.entry) → NeverRefused result }
+{
+    match shape {
+        Shape::Struct(tag) => struct_layout(program, tag),
+        Shape::Union(tag) => cell_layout(alloc, union_cell(program, tag)?),
+        _ => Err(LowerFault::NotTaken),
+    }
+}
+
+/// Appends a copy of a struct or a union of a shape to where the first pointer leads, from where the second leads.
 pub fn lower_copy(
     program: &Table<'_>,
     shape: &Shape<'_>,
@@ -43,10 +68,10 @@ pub fn lower_copy(
     to: Temporary,
     from: Temporary,
 )
-    requires taken { IsSound body.old → IsStructShape (world_of program.now).structs (shape_tree shape.now) }
+    requires taken { IsSound body.old → IsWholeShape (world_of program.now).unions (world_of program.now).structs (shape_tree shape.now) }
     ensures { Emits body.old body.new (core.Do (core.Copy to.0 from.0 (layout_of (world_of program.now) (shape_tree shape.now))) ∷ []) }
 {
-    match struct_layout(program, *shape) {
+    match whole_layout(body.alloc, program, *shape) {
         Ok(layout) => body.emit(Statement::Copy(to, from, layout)),
         Err(fault) => body.note(fault),
     }
@@ -73,14 +98,14 @@ pub fn cell_layout(alloc: Global, cell: Cell) -> Result<Rc<Layout>, LowerFault>
     }
 }
 
-/// The layout of an object of a shape. Refuses what is no integer, no pointer, no handle and no struct of the program.
+/// The layout of an object of a shape. Refuses what is no integer, no pointer, no handle and no union or struct of the program.
 pub fn object_layout(
     alloc: Global,
     program: &Table<'_>,
     shape: Shape<'_>,
 ) -> Result<Rc<Layout>, LowerFault>
     ensures layout { IfOk result (λ layout. layout_tree layout.value ≡ layout_of (world_of program.now) (shape_tree shape.entry)) }
-    ensures taken { IsObject (world_of program.now).structs (shape_tree shape.entry) → NeverRefused result }
+    ensures taken { IsObject (world_of program.now).unions (world_of program.now).structs (shape_tree shape.entry) → NeverRefused result }
 {
     match shape {
         Shape::Char => cell_layout(alloc, Cell::Byte),
@@ -88,15 +113,16 @@ pub fn object_layout(
         Shape::Thin(_, _, _) | Shape::Address(_, _) => cell_layout(alloc, Cell::Pointer),
         Shape::Fat(_) => cell_layout(alloc, Cell::Fat),
         Shape::Handle => cell_layout(alloc, Cell::Handle),
-        Shape::Struct(_) => struct_layout(program, shape),
+        Shape::Struct(tag) => struct_layout(program, tag),
+        Shape::Union(tag) => cell_layout(alloc, union_cell(program, tag)?),
         _ => Err(LowerFault::NotTaken),
     }
 }
 
-/// An object of a shape as a local. Refuses what is no integer, no pointer, no handle and no struct of the program.
+/// An object of a shape as a local. Refuses what is no integer, no pointer, no handle and no union or struct of the program.
 fn value_of(program: &Table<'_>, shape: Shape<'_>) -> Result<Local, LowerFault>
     ensures local { IfOk result (λ local. local_tree local ≡ local_of (world_of program.now) (shape_tree shape.entry)) }
-    ensures taken { IsObject (world_of program.now).structs (shape_tree shape.entry) → NeverRefused result }
+    ensures taken { IsObject (world_of program.now).unions (world_of program.now).structs (shape_tree shape.entry) → NeverRefused result }
 {
     match shape {
         Shape::Char => Ok(Local::Scalar(Cell::Byte)),
@@ -104,13 +130,14 @@ fn value_of(program: &Table<'_>, shape: Shape<'_>) -> Result<Local, LowerFault>
         Shape::Thin(_, _, _) | Shape::Address(_, _) => Ok(Local::Scalar(Cell::Pointer)),
         Shape::Fat(_) => Ok(Local::Scalar(Cell::Fat)),
         Shape::Handle => Ok(Local::Scalar(Cell::Handle)),
-        Shape::Struct(_) => Ok(Local::Whole(struct_layout(program, shape)?, 1)),
+        Shape::Struct(tag) => Ok(Local::Whole(struct_layout(program, tag)?, 1)),
+        Shape::Union(tag) => Ok(Local::Scalar(union_cell(program, tag)?)),
         _ => Err(LowerFault::NotTaken),
     }
 }
 
-/// The layout of what a name stands for, and of how many elements it is. Refuses what is no integer, no pointer, no handle, no struct of
-/// the program and no array of these.
+/// The layout of what a name stands for, and of how many elements it is. Refuses what is no integer, no pointer, no handle, no union or
+/// struct of the program and no array of these.
 pub fn stored_layout(
     alloc: Global,
     program: &Table<'_>,
@@ -118,7 +145,7 @@ pub fn stored_layout(
 ) -> Result<(Rc<Layout>, u32), LowerFault>
     ensures layout { IfOk result (λ found. layout_tree found.0.value ≡ (local_of (world_of program.now) (stored_tree stored.entry)).layout) }
     ensures count { IfOk result (λ found. found.1 ≡ (local_of (world_of program.now) (stored_tree stored.entry)).count) }
-    ensures taken { IsVariable (world_of program.now).structs (stored_tree stored.entry) → NeverRefused result }
+    ensures taken { IsVariable (world_of program.now).unions (world_of program.now).structs (stored_tree stored.entry) → NeverRefused result }
 {
     match stored {
         Stored::One(shape) => Ok((object_layout(alloc, program, shape)?, 1)),
@@ -126,10 +153,10 @@ pub fn stored_layout(
     }
 }
 
-/// A local. Refuses what is no integer, no pointer, no handle, no struct of the program and no array of these.
+/// A local. Refuses what is no integer, no pointer, no handle, no union or struct of the program and no array of these.
 fn local_of(alloc: Global, program: &Table<'_>, stored: Stored<'_>) -> Result<Local, LowerFault>
     ensures local { IfOk result (λ local. local_tree local ≡ local_of (world_of program.now) (stored_tree stored.entry)) }
-    ensures taken { IsVariable (world_of program.now).structs (stored_tree stored.entry) → NeverRefused result }
+    ensures taken { IsVariable (world_of program.now).unions (world_of program.now).structs (stored_tree stored.entry) → NeverRefused result }
 {
     match stored {
         Stored::One(shape) => value_of(program, shape),
@@ -140,14 +167,14 @@ fn local_of(alloc: Global, program: &Table<'_>, stored: Stored<'_>) -> Result<Lo
     }
 }
 
-/// Unnamed values of these shapes. Refuses what is no integer, no pointer, no handle and no struct of the program.
+/// Unnamed values of these shapes. Refuses what is no integer, no pointer, no handle and no union or struct of the program.
 pub fn values_of(
     alloc: Global,
     program: &Table<'_>,
     shapes: &[Shape<'_>],
 ) -> Result<Vec<Local>, LowerFault>
     ensures locals { IfOk result (λ locals. map local_tree locals.items ≡ locals_of (world_of program.now) (map shape_tree shapes.now)) }
-    ensures taken { AreObjects (world_of program.now).structs (map shape_tree shapes.now) → NeverRefused result }
+    ensures taken { AreObjects (world_of program.now).unions (world_of program.now).structs (map shape_tree shapes.now) → NeverRefused result }
 {
     let mut locals = Vec::new(alloc);
     'each: for shape in shapes {
@@ -159,14 +186,14 @@ pub fn values_of(
     Ok(locals)
 }
 
-/// Locals. Refuses what is no integer, no pointer, no handle, no struct of the program and no array of these.
+/// Locals. Refuses what is no integer, no pointer, no handle, no union or struct of the program and no array of these.
 pub fn locals_of(
     alloc: Global,
     program: &Table<'_>,
     all: &[Stored<'_>],
 ) -> Result<Vec<Local>, LowerFault>
     ensures locals { IfOk result (λ locals. map local_tree locals.items ≡ locals_of (world_of program.now) (map stored_tree all.now)) }
-    ensures taken { AreVariables (world_of program.now).structs (map stored_tree all.now) → NeverRefused result }
+    ensures taken { AreVariables (world_of program.now).unions (world_of program.now).structs (map stored_tree all.now) → NeverRefused result }
 {
     let mut locals = Vec::new(alloc);
     'each: for stored in all {

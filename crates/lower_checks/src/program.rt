@@ -4,10 +4,10 @@ ghost use Rattle.std.specs.Prelude.{◌≡◌, ◌++◌, IfOk, map};
 ghost use Rattle.cyc_tree.specs.View.{global_tree};
 ghost use Rattle.cyc_core.specs.Trees.{datum_tree, function_tree, program_tree};
 ghost use Rattle.source_meaning.specs.Shapes.{written, settled};
-ghost use Rattle.source_meaning.specs.Programs.{world_of, functions_of, global_shape};
+ghost use Rattle.source_meaning.specs.Programs.{world_of, functions_of, global_shape, unions_of};
 ghost use Rattle.source_meaning.specs.Strings.{program_strings};
 ghost use Rattle.source_lowering.specs.Programs.{function_code, global_datum, data_of, program_code, string_datum};
-ghost use Rattle.source_lowering.specs.Lowerable.{IsLowerable, IsObjectType, TakesGlobal, TakesProgram};
+ghost use Rattle.source_lowering.specs.Lowerable.{HaveFewMembers, IsLowerable, IsObjectType, TakesGlobal, TakesProgram};
 ghost use Rattle.lower_checks.specs.Promise.{IsLoweringOf};
 ghost use Rattle.lower_checks.specs.Refusals.{NeverRefused};
 
@@ -18,17 +18,18 @@ use crate::objects::object_layout;
 use crate::stored::Stored;
 use crate::table::{Table, function_number, global_stored};
 use crate::text::lower_strings;
+use crate::unions::few_members;
 use accepted_programs::Checked;
 use cyc_core::{Datum, Function, Program};
 use cyc_tree::{Global as Declared, Item, Program as Source};
 use std::alloc::{AllocError, Global};
 
-/// A global, with what it begins with. Refuses what is no integer, no pointer, no struct of the program and no array of these.
+/// A global, with what it begins with. Refuses what is no integer, no pointer, no union or struct of the program and no array of these.
 fn lower_global(alloc: Global, program: &Table<'_>, global: &Declared) -> Result<Datum, LowerFault>
     ensures datum { let g = global_tree global.now in
         IfOk result (λ datum. datum_tree datum ≡ global_datum (world_of program.now) g.initial (global_shape g.initial (settled (written g.of)))) }
     ensures taken { let g = global_tree global.now in
-        IsObjectType (world_of program.now).structs g.of → TakesGlobal (settled (written g.of)) g.initial → NeverRefused result }
+        IsObjectType (world_of program.now).unions (world_of program.now).structs g.of → TakesGlobal (settled (written g.of)) g.initial → NeverRefused result }
 {
     match global_stored(global) {
         Stored::One(shape) => first_datum(alloc, program, shape, &global.initial),
@@ -39,7 +40,7 @@ fn lower_global(alloc: Global, program: &Table<'_>, global: &Declared) -> Result
     }
 }
 
-/// The globals, in their order. Refuses a union, and a global that is no integer, no pointer, no struct of the program and no array of these.
+/// The globals, in their order. Refuses a global that is no integer, no pointer, no union or struct of the program and no array of these.
 fn lower_globals(alloc: Global, program: &Table<'_>) -> Result<Vec<Datum>, LowerFault>
     ensures globals { IfOk result (λ globals. map datum_tree globals.items ≡ data_of (world_of program.now) program.now) }
     ensures taken { TakesProgram (world_of program.now) program.now → NeverRefused result }
@@ -55,7 +56,7 @@ fn lower_globals(alloc: Global, program: &Table<'_>) -> Result<Vec<Datum>, Lower
             }
             Item::Function(_) => {}
             Item::Struct(_) => {}
-            Item::Union(_) => return Err(LowerFault::NotTaken),
+            Item::Union(_) => {}
         }
     }
     Ok(globals)
@@ -107,8 +108,8 @@ fn lower_known(alloc: Global, program: &Table<'_>) -> Result<Program, LowerFault
     })
 }
 
-/// The Core of a program's tree, which has nothing else than functions, globals and locals of integers, of structs, of handles, of
-/// pointers to these and of arrays of them, strings, and the heap and lexical regions.
+/// The Core of a program's tree, which has nothing else than functions, globals and locals of integers, of structs, of tagged unions, of
+/// handles, of pointers to these and of arrays of them, strings, the heap and lexical regions, and arrays that are made there.
 fn lower_tree(alloc: Global, program: &Source) -> Result<Program, LowerFault>
     requires taken { IsLowerable program.now }
     ensures code { IfOk result (λ core. program_tree core ≡ program_code program.now) }
@@ -118,15 +119,21 @@ fn lower_tree(alloc: Global, program: &Source) -> Result<Program, LowerFault>
     lower_known(alloc, &table)
 }
 
-/// The Core of a checked program. Fails only where no host memory is left, or a number of temporaries, locals, functions or
-/// globals is over the greatest u32.
+/// The Core of a checked program. Fails only where no host memory is left, or a number of temporaries, locals, functions, globals or
+/// members of a union is over the greatest u32.
 pub fn lower(alloc: Global, checked: &Checked) -> Result<Program, AllocError>
     // it does what the source does, and its frames and its code are within the source's bounds
     ensures promised { IfOk result (λ core. IsLoweringOf checked.now (program_tree core)) }
     // it is the one by the definition
     ensures code { IfOk result (λ core. program_tree core ≡ program_code checked.now) }
+    // a word counts the members of each of its unions
+    ensures few { IfOk result (λ _. HaveFewMembers (unions_of checked.now)) }
 {
-    match lower_tree(alloc, checked.program()) {
+    let program = checked.program();
+    if let Err(_) = few_members(program.items()) {
+        return Err(AllocError);
+    }
+    match lower_tree(alloc, program) {
         Ok(core) => Ok(core),
         Err(LowerFault::Memory) => Err(AllocError),
         // each form of a checked program is taken

@@ -217,6 +217,7 @@ pub fn shape_of<'p>(
         Expression::Assign(place, _) => shape_of(scope, place),
         Expression::NumElts(_, _) => Ok(Shape::Unsigned),
         Expression::Text(_, _) => Ok(Shape::text()),
-        Expression::UniqueRegion(_) | Expression::MakeUnion(_, _, _) => Ok(Shape::Void),
+        Expression::MakeUnion(tag, _, _) => Ok(Shape::Union(&tag.text)),
+        Expression::UniqueRegion(_) => Ok(Shape::Void),
     }
 }

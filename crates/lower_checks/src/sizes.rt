@@ -69,7 +69,7 @@ pub fn extent(program: &Table<'_>, shape: Shape<'_>) -> Room
         | Shape::Key => words(1),
         Shape::Fat(_) => words(3),
         Shape::Struct(tag) => struct_extent(program, tag),
-        Shape::Union(_) => program.union_room(),
+        Shape::Union(tag) => program.union_room(tag),
     }
 }
 

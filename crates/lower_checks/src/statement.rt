@@ -25,6 +25,7 @@ use crate::objects::locals_of;
 use crate::scope::Scope;
 use crate::shape::Shape;
 use crate::stored::{Stored, add_stored};
+use crate::switch::lower_switch;
 use crate::table::Table;
 use cyc_core::{Statement, Temporary};
 use cyc_tree::{BlockItem, Expression, Name, Statement as Source};
@@ -108,8 +109,11 @@ fn lower_statement<'p>(
             let turn = lower_part(program, shape, locals, turn, body, around.in_loop());
             body.turns(test, to, turn);
         }
-        Source::Break(_) => lower_left(body, around, around.inner, Statement::Break),
-        Source::Continue(_) => lower_left(body, around, around.inner, Statement::Continue),
+        Source::Switch(_, place, clauses) => {
+            lower_switch(program, shape, locals, clauses, place, body, around)
+        }
+        Source::Break(_) => lower_left(body, around, around.broken, Statement::Break),
+        Source::Continue(_) => lower_left(body, around, around.continued, Statement::Continue),
         Source::Return(_, None) => lower_left(body, around, around.all, Statement::Return(None)),
         Source::Return(_, Some(value)) => {
             lower_return(
@@ -125,10 +129,7 @@ fn lower_statement<'p>(
                 around,
             )
         }
-        Source::Exchange(_, _)
-        | Source::Switch(_, _, _)
-        | Source::FreeUnique(_, _)
-        | Source::FreeKey(_, _) => body.never(),
+        Source::Exchange(_, _) | Source::FreeUnique(_, _) | Source::FreeKey(_, _) => body.never(),
     }
 }
 
@@ -172,7 +173,7 @@ fn lower_part<'p>(
 }
 
 /// Begins a block.
-fn enter(locals: &mut Locals<'_>, body: &mut Body<'_>)
+pub fn enter(locals: &mut Locals<'_>, body: &mut Body<'_>)
     ensures stays { Stays body.old body.new }
     ensures entered { IsSound body.new → locals.new ≡ None ∷ locals.old }
 {
@@ -188,7 +189,7 @@ pub fn lower_inside(
     body: &mut Body<'_>,
     inside: Vec<Statement>,
 )
-    requires taken { IsSound body.old → AreVariables (world_of program.now).structs (map stored_tree all.now) }
+    requires taken { IsSound body.old → AreVariables (world_of program.now).unions (world_of program.now).structs (map stored_tree all.now) }
     ensures { Emits body.old body.new
         (core.Block (locals_of (world_of program.now) (map stored_tree all.now)) (all_of (map statement_tree inside.items)) ∷ []) }
 {
@@ -200,7 +201,7 @@ pub fn lower_inside(
 
 /// Appends a block with what its items do; appends the shapes of the unnamed values.
 #[cycle(statement)]
-fn lower_block<'p>(
+pub fn lower_block<'p>(
     program: &Table<'p>,
     shape: &Shape<'_>,
     locals: &mut Locals<'p>,

@@ -2,8 +2,8 @@
 
 ghost use Rattle.std.specs.Prelude.{◌≡◌, ℕ, suc, List, ◌∷◌, [], IfOk, OnOk, IfSome, length, map, option_copied, option_map};
 ghost use Rattle.cyc_tree.specs.Tree as tree;
-ghost use Rattle.cyc_tree.specs.View.{program_tree, function_tree, global_tree};
-ghost use Rattle.source_meaning.specs.Shapes.{StructShape, written, settled};
+ghost use Rattle.cyc_tree.specs.View.{program_tree, function_tree, global_tree, member_tree};
+ghost use Rattle.source_meaning.specs.Shapes.{StructShape, UnionShape, part_of, part_shapes, written, settled};
 ghost use Rattle.source_meaning.specs.Places.{bound_to, or_else, string_at};
 ghost use Rattle.source_meaning.specs.Strings.{program_strings};
 ghost use Rattle.listed_strings.specs.Listing.{literal_of};
@@ -12,18 +12,21 @@ ghost use Rattle.source_meaning.specs.Programs.{functions_of, routine_of, global
 ghost use Rattle.source_lowering.specs.Lowered.{number_of};
 ghost use Rattle.source_meaning.specs.Sizes.{union_extent};
 ghost use Rattle.lower_checks.specs.Structs.{IsFound, Knows, room_tree};
-ghost use Rattle.lower_checks.specs.Views.{found_entity, stored_tree, text_value};
+ghost use Rattle.lower_checks.specs.Views.{found_entity, shape_tree, stored_tree, text_value};
 ghost use Rattle.lower_checks.specs.Tables.{first_function, function_in, global_in};
-ghost use Rattle.cyc_core.specs.Trees.{layout_tree};
+ghost use Rattle.lower_checks.specs.Unions.{first_union, union_by, union_tree};
+ghost use Rattle.cyc_core.specs.Trees.{layout_tree, part_layout};
 ghost use Rattle.source_lowering.specs.Layouts.{layout_of};
-ghost use Rattle.source_lowering.specs.Lowerable.{AreStructs, TakesProgram};
+ghost use Rattle.source_lowering.specs.Lowerable.{AreStructs, AreUnions, AreValues};
 ghost use Rattle.lower_checks.specs.Refusals.{NeverRefused};
 
 use crate::fault::LowerFault;
 use crate::first::Firsts;
 use crate::layouts::{Known, Room, Structs, sum};
 use crate::names::after;
+use crate::shape::Shape;
 use crate::stored::Stored;
+use crate::unions::{Union, first_unions};
 use cyc_core::Width;
 use cyc_tree::{Function, Global as Declared, Initial, Item};
 use listed_strings::{Literal, Strings};
@@ -155,32 +158,28 @@ fn first_globals<'p>(alloc: Global, items: &'p [Item]) -> Result<Firsts<'p, Foun
     Ok(globals)
 }
 
-/// The structs, each behind those that its members are. Refuses two of one tag, structs with other members than integers, pointers,
-/// handles and earlier structs, and unions.
+/// The unions, and the structs, each behind those that its members are. Refuses unions with other members than integers, pointers and
+/// handles, two structs of one tag, and structs with other members than these, unions and earlier structs.
 fn all_structs<'p>(alloc: Global, items: &'p [Item]) -> Result<Structs<'p>, LowerFault>
-    ensures structs { IfOk result (λ structs. Knows structs (structs_from (program_tree items.entry.now) [])) }
-    ensures unions { OnOk result (unions_of (program_tree items.entry.now) ≡ []) }
-    ensures taken { let p = program_tree items.entry.now in
-        AreStructs (world_of p).unions (world_of p).structs → TakesProgram (world_of p) p → NeverRefused result }
+    ensures structs { let p = program_tree items.entry.now in IfOk result (λ structs. Knows structs (unions_of p) (structs_from p [])) }
+    ensures taken { let w = world_of (program_tree items.entry.now) in AreUnions w.unions → AreStructs w.unions w.structs → NeverRefused result }
 {
-    let mut structs = Structs::new(alloc);
+    let mut structs = Structs::new(alloc, first_unions(alloc, items)?);
     'each: for item in items {
-        match item {
-            Item::Struct(structure) => structs.add(alloc, structure)?,
-            Item::Union(_) => return Err(LowerFault::NotTaken),
-            Item::Function(_) | Item::Global(_) => {}
+        if let Item::Struct(structure) = item {
+            structs.add(alloc, structure)?;
         }
     }
     Ok(structs)
 }
 
 impl<'p> Table<'p> {
-    /// The tables of a program. Refuses a union, two structs of one tag, and a struct with a member that is no integer, no pointer, no
-    /// handle and no earlier struct.
+    /// The tables of a program. Refuses a union with a member that is no integer, no pointer and no handle, two structs of one tag, and a
+    /// struct with a member that is none of these, no union and no earlier struct.
     pub fn new(alloc: Global, items: &'p [Item]) -> Result<Self, LowerFault>
+        requires unions { AreUnions (unions_of (program_tree items.now)) }
         ensures program { IfOk result (λ table. table ≡ program_tree items.entry.now) }
-        ensures taken { let p = program_tree items.entry.now in
-            AreStructs (world_of p).unions (world_of p).structs → TakesProgram (world_of p) p → NeverRefused result }
+        ensures taken { let w = world_of (program_tree items.entry.now) in AreUnions w.unions → AreStructs w.unions w.structs → NeverRefused result }
     {
         let behind = globals_many(items)?;
         let functions = first_functions(alloc, items)?;
@@ -206,20 +205,41 @@ impl<'p> Table<'p> {
 
     /// The struct of a tag.
     pub fn struct_of(&self, tag: &[u8]) -> Option<&Known<'p>>
-        ensures found { IsFound (structs_from self.now []) tag.now (option_copied result) }
+        ensures found { IsFound (unions_of self.now) (structs_from self.now []) tag.now (option_copied result) }
         ensures layout { IfSome (option_copied result) (λ k. layout_tree k.layout.value ≡ layout_of (world_of self.now) (StructShape tag.now)) }
     {
         self.structs.of(tag)
     }
 
-    /// The bytes of a union, as there is none: a word for its tag.
-    pub fn union_room(&self) -> Room
-        ensures { (tag : List ℕ) → room_tree result ≡ union_extent (world_of self.now).unions tag }
+    /// The union of a tag.
+    pub fn union_of(&self, tag: &[u8]) -> Option<Union<'p>>
+        ensures found { option_map union_tree result ≡ first_union (unions_of self.now) tag.now }
+        ensures layout { IfSome result (λ u. part_layout u.cell ≡ layout_of (world_of self.now) (UnionShape tag.now)) }
     {
-        // so says the table's invariant
-        let _ = &self.items;
+        self.structs.union_of(tag)
+    }
+
+    /// The union of a shape, if it is one of the program's.
+    pub fn union_at(&self, shape: Shape<'_>) -> Option<Union<'p>>
+        ensures found { option_map union_tree result ≡ union_by (unions_of self.now) (shape_tree shape.entry) }
+        ensures values { IfSome result (λ u. AreValues (part_shapes (map part_of (map member_tree u.members.now)))) }
+    {
+        match shape {
+            Shape::Union(tag) => self.structs.union_of(tag),
+            _ => None,
+        }
+    }
+
+    /// The bytes of the union of a tag; where there is none, of a word for a tag.
+    pub fn union_room(&self, tag: &[u8]) -> Room
+        ensures { room_tree result ≡ union_extent (unions_of self.now) tag.now }
+    {
+        let size = match self.structs.union_of(tag) {
+            Some(known) => known.cell.bytes(),
+            None => 4,
+        };
         Room {
-            size: 4,
+            size,
             align: Width::Word,
         }
     }

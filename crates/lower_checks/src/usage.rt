@@ -77,7 +77,7 @@ fn of_statement(statement: &Statement) -> u64
         Statement::While(test, t, body) => {
             u64::max(up_to(*t), u64::max(temporaries(test), temporaries(body)))
         }
-        Statement::Block(_, body) => temporaries(body),
+        Statement::Block(_, body) | Statement::Leave(body) => temporaries(body),
         Statement::Copy(to, from, _) => u64::max(up_to(*to), up_to(*from)),
         Statement::Clear(pointer, _, _) => up_to(*pointer),
         Statement::RegionAlloc(to, handle, count, _) => {
@@ -109,7 +109,7 @@ fn passed_in(statement: &Statement) -> usize
     match statement {
         Statement::If(_, these, those) => usize::max(passed(these), passed(those)),
         Statement::While(test, _, body) => usize::max(passed(test), passed(body)),
-        Statement::Block(_, body) => passed(body),
+        Statement::Block(_, body) | Statement::Leave(body) => passed(body),
         Statement::Call(_, _, arguments) => arguments.len(),
         Statement::Do(_)
         | Statement::Copy(..)

@@ -1,9 +1,9 @@
-// Structs as values: made of their members, or copied from a place.
+// Structs and tagged unions as values: made of their members, or copied from a place.
 
 ghost use Rattle.std.specs.Prelude.{◌≡◌, ◌+◌, ◌++◌, ◌∷◌, suc, true, map};
 ghost use Rattle.core_meaning.specs.Core as core;
 ghost use Rattle.cyc_tree.specs.View.{member_tree, expression_tree, expressions_of};
-ghost use Rattle.source_meaning.specs.Shapes.{StructShape, part_of, parts_of};
+ghost use Rattle.source_meaning.specs.Shapes.{StructShape, UnionShape, has_tag, part_of, part_shape, parts_of};
 ghost use Rattle.source_meaning.specs.Programs.{world_of};
 ghost use Rattle.source_lowering.specs.Lowered.{
   copied_code,
@@ -15,14 +15,17 @@ ghost use Rattle.source_lowering.specs.Lowered.{
   members_code,
   place_code,
   static_shape,
+  member_number,
   struct_member_code,
+  union_code,
   values_by,
   whole_code,
   whole_values,
   word_member_code,
 };
 ghost use Rattle.source_lowering.specs.Lowerable.{
-  IsStructShape,
+  IsMember,
+  IsWholeShape,
   Takes,
   TakesMade,
   TakesMember,
@@ -45,8 +48,9 @@ use crate::shape::Shape;
 use crate::shaped::shape_of;
 use crate::sizes::{count, extent};
 use crate::table::Table;
+use crate::unions::member_named;
 use crate::values::lower_conversion;
-use crate::words::lower_stores;
+use crate::words::{lower_held_stores, lower_set_tag, lower_stores};
 use cyc_core::{Operation, Temporary};
 use cyc_tree::{Expression, Member, Prefix};
 
@@ -58,7 +62,7 @@ struct Slot {
     bytes: u32,
 }
 
-/// Appends what copies a struct of a shape from where the pointer in a temporary leads to the unnamed value of a number, and leaves a
+/// Appends what copies a struct or a union of a shape from where the pointer in a temporary leads to the unnamed value of a number, and leaves a
 /// pointer to that value in the temporary.
 fn lower_copied(
     program: &Table<'_>,
@@ -67,7 +71,7 @@ fn lower_copied(
     value: u32,
     to: Temporary,
 )
-    requires taken { IsSound body.old → IsStructShape (world_of program.now).structs (shape_tree shape.now) }
+    requires taken { IsSound body.old → IsWholeShape (world_of program.now).unions (world_of program.now).structs (shape_tree shape.now) }
     ensures { Emits body.old body.new (copied_code (world_of program.now) (shape_tree shape.now) to.0 value) }
 {
     let next = body.further(to, 1);
@@ -76,9 +80,9 @@ fn lower_copied(
     body.operation(Operation::OwnAddress(to, value));
 }
 
-/// Appends what copies a struct to where a member goes, from where the pointer in the next temporary leads.
+/// Appends what copies a struct or a union to where a member goes, from where the pointer in the next temporary leads.
 fn lower_struct_member(program: &Table<'_>, shape: &Shape<'_>, body: &mut Body<'_>, slot: Slot)
-    requires taken { IsSound body.old → IsStructShape (world_of program.now).structs (shape_tree shape.now) }
+    requires taken { IsSound body.old → IsWholeShape (world_of program.now).unions (world_of program.now).structs (shape_tree shape.now) }
     ensures { Emits body.old body.new (struct_member_code (world_of program.now) (shape_tree shape.now) slot.to.0 slot.cells slot.bytes) }
 {
     let from = body.further(slot.to, 1);
@@ -108,14 +112,14 @@ fn lower_word_member(
     lower_stores(body, &reached, slot.to, value);
 }
 
-/// Appends what copies the struct that an expression names to a further unnamed value, and leaves a pointer to that value in a
+/// Appends what copies the struct or the union that an expression names to a further unnamed value, and leaves a pointer to that value in a
 /// temporary; appends the shapes of the unnamed values.
 #[cycle(expression)]
 fn lower_read<'p>(scope: &Scope<'_, 'p>, place: &'p Expression, body: &mut Body<'p>, to: Temporary)
     requires taken { let w = world_in scope.now in
         let names = names_in scope.now in
         let e = expression_tree place.now in
-        IsSound body.old → TakesPlace w names e × IsStructShape w.structs (static_shape w names e) }
+        IsSound body.old → TakesPlace w names e × IsWholeShape w.unions w.structs (static_shape w names e) }
     ensures writes { let w = world_in scope.now in
         let names = names_in scope.now in
         let e = expression_tree place.entry.now in
@@ -129,8 +133,8 @@ fn lower_read<'p>(scope: &Scope<'_, 'p>, place: &'p Expression, body: &mut Body<
     lower_copied(scope.program, &shape, body, value, to);
 }
 
-/// Appends what makes an unnamed value of an expression that is a struct, and leaves a pointer to it in a temporary; appends the shapes
-/// of the unnamed values. The next unnamed value's number is how many there are.
+/// Appends what makes an unnamed value of an expression that is a struct or a union, and leaves a pointer to it in a temporary; appends
+/// the shapes of the unnamed values. The next unnamed value's number is how many there are.
 #[cycle(expression)]
 pub fn lower_whole<'p>(
     scope: &Scope<'_, 'p>,
@@ -146,6 +150,9 @@ pub fn lower_whole<'p>(
 {
     match expression {
         Expression::Call(name, arguments) => lower_made(scope, &name.text, arguments, body, to),
+        Expression::MakeUnion(tag, member, value) => {
+            lower_union(scope, &tag.text, &member.text, value, body, to)
+        }
         Expression::Grouped(_, inner) => lower_whole(scope, inner, body, to),
         Expression::Variable(_)
         | Expression::Suffixed(_, _)
@@ -187,6 +194,70 @@ fn lower_made<'p>(
     }
 }
 
+/// Appends what makes the union to which the pointer in a temporary leads hold the member of a name, whose value, of another shape as yet,
+/// is in the next temporaries.
+fn lower_held(
+    program: &Table<'_>,
+    members: &[Member],
+    member: &[u8],
+    from: &Shape<'_>,
+    body: &mut Body<'_>,
+    to: Temporary,
+)
+    requires taken { IsSound body.old → IsMember (map part_of (map member_tree members.now)) member.now }
+    ensures { let parts = map part_of (map member_tree members.now) in
+        Emits body.old body.new
+        (union_code (world_of program.now) (part_shape parts member.now) (shape_tree from.now) (member_number parts member.now) to.0) }
+{
+    match member_named(members, member) {
+        Ok(Some(chosen)) => {
+            let value = body.further(to, 1);
+            let free = body.further(value, chosen.shape.words());
+            lower_conversion(program, body, &chosen.shape, from, value);
+            lower_set_tag(body, to, free, chosen.number);
+            lower_held_stores(body, &chosen.shape, to, value);
+        }
+        Ok(None) => body.never(),
+        Err(fault) => body.note(fault),
+    }
+}
+
+/// Appends what makes an unnamed value of the union of a tag, which holds the member of a name, and leaves a pointer to it in a temporary;
+/// appends the shapes of the unnamed values.
+#[cycle(expression)]
+fn lower_union<'p>(
+    scope: &Scope<'_, 'p>,
+    tag: &'p [u8],
+    member: &[u8],
+    value: &'p Expression,
+    body: &mut Body<'p>,
+    to: Temporary,
+)
+    requires taken { let w = world_in scope.now in
+        IsSound body.old → (has_tag w.unions tag.now ≡ true) ×
+        (IsMember (parts_of w.unions tag.now) member.now × Takes w (names_in scope.now) (expression_tree value.now)) }
+    ensures writes { let w = world_in scope.now in
+        let number = next_of body.old in
+        let names = names_in scope.now in
+        let parts = parts_of w.unions tag.entry.now in
+        let e = expression_tree value.entry.now in
+        Writes body.old body.new
+        (core.Do (core.OwnAddress to.0 number) ∷ (expression_code w names e (to.0 + 1) (suc number) ++
+        union_code w (part_shape parts member.now) (static_shape w names e) (member_number parts member.now) to.0))
+        (UnionShape tag.entry.now ∷ expression_values w names e) }
+{
+    match scope.program.union_of(tag) {
+        Some(known) => {
+            let own = body.value(&Shape::Union(tag));
+            body.operation(Operation::OwnAddress(to, own));
+            let next = body.further(to, 1);
+            let from = lower_expression(scope, value, body, next);
+            lower_held(scope.program, known.members, member, &from, body, to);
+        }
+        None => body.never(),
+    }
+}
+
 /// Appends what gives the members of a struct, to which the pointer in a temporary leads, the values of arguments, each where its member
 /// lies; appends the shapes of the unnamed values.
 #[cycle(expression)]
@@ -199,7 +270,7 @@ fn lower_members<'p>(
 )
     requires taken { let w = world_in scope.now in
         let parts = map part_of (map member_tree members.now) in
-        IsSound body.old → HaveRoom w.structs parts × TakesMade w (names_in scope.now) parts (expressions_of (map expression_tree arguments.now)) }
+        IsSound body.old → HaveRoom w.unions w.structs parts × TakesMade w (names_in scope.now) parts (expressions_of (map expression_tree arguments.now)) }
     ensures writes { let w = world_in scope.now in
         let names = names_in scope.now in
         let parts = map part_of (map member_tree members.now) in
@@ -239,7 +310,7 @@ fn lower_member<'p>(
     requires taken { let w = world_in scope.now in
         let names = names_in scope.now in
         let e = expression_tree argument.now in
-        IsSound body.old → HasRoom w.structs (shape_tree shape.now) × TakesMember (shape_tree shape.now) (TakesWhole w names e) (Takes w names e) }
+        IsSound body.old → HasRoom w.unions w.structs (shape_tree shape.now) × TakesMember (shape_tree shape.now) (TakesWhole w names e) (Takes w names e) }
     ensures writes { let w = world_in scope.now in
         let names = names_in scope.now in
         let e = expression_tree argument.entry.now in
@@ -250,7 +321,7 @@ fn lower_member<'p>(
 {
     let next = body.further(slot.to, 1);
     match shape {
-        Shape::Struct(_) => {
+        Shape::Struct(_) | Shape::Union(_) => {
             lower_whole(scope, argument, body, next);
             lower_struct_member(scope.program, shape, body, slot);
         }

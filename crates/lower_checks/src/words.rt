@@ -2,7 +2,7 @@
 
 ghost use Rattle.std.specs.Prelude.{◌≡◌, ◌*◌};
 ghost use Rattle.cyc_core.specs.Trees.{distance_tree};
-ghost use Rattle.source_lowering.specs.Lowered.{distance, loads_code, stores_code, width_of};
+ghost use Rattle.source_lowering.specs.Lowered.{distance, held_loads, held_stores, loads_code, stores_code, tag_load, tag_store, width_of};
 ghost use Rattle.source_lowering.specs.Members.{part_at};
 ghost use Rattle.lower_checks.specs.Views.{shape_tree};
 ghost use Rattle.lower_checks.specs.Writing.{Emits, IsSound, Stays};
@@ -73,5 +73,71 @@ pub fn lower_stores(body: &mut Body<'_>, reached: &Reached<'_>, pointer: Tempora
             body.operation(Operation::Store(pointer, third, index));
         }
         _ => body.operation(Operation::Store(pointer, distance_of(reached), from)),
+    }
+}
+
+/// How far it is to a part of a union, which lies so many bytes behind its tag.
+fn held_part(part: u32, bytes: u32) -> Distance
+    requires { bytes ≡ 4 * part }
+    ensures { distance_tree result ≡ part_at 0 0 part }
+{
+    Distance {
+        cells: 0,
+        bytes,
+        part,
+        width: Width::Word,
+    }
+}
+
+/// Appends what reads the tag of the union to which the pointer in the second temporary leads into the first.
+pub fn lower_tag(body: &mut Body<'_>, to: Temporary, pointer: Temporary)
+    ensures { Emits body.old body.new (tag_load to.0 pointer.0) }
+{
+    body.operation(Operation::Load(to, pointer, held_part(0, 0)));
+}
+
+/// Appends what makes the union to which a pointer leads hold the member of a number, by way of a temporary.
+pub fn lower_set_tag(body: &mut Body<'_>, pointer: Temporary, by: Temporary, number: u32)
+    ensures { Emits body.old body.new (tag_store pointer.0 by.0 number) }
+{
+    body.operation(Operation::Constant(by, number));
+    body.operation(Operation::Store(pointer, held_part(0, 0), by));
+}
+
+/// Appends what reads the member of a shape that the union holds to which the pointer in a temporary leads, into that temporary and those
+/// behind it.
+pub fn lower_held_loads(body: &mut Body<'_>, shape: &Shape<'_>, to: Temporary)
+    ensures { Emits body.old body.new (held_loads (shape_tree shape.now) to.0) }
+{
+    match shape {
+        Shape::Fat(_) => {
+            let count = body.further(to, 1);
+            let index = body.further(to, 2);
+            body.operation(Operation::Load(index, to, held_part(3, 12)));
+            body.operation(Operation::Load(count, to, held_part(2, 8)));
+            body.operation(Operation::Load(to, to, held_part(1, 4)));
+        }
+        _ => body.operation(Operation::Load(to, to, held_part(1, 4))),
+    }
+}
+
+/// Appends what stores the value of a shape in a temporary and those behind it as the member of the union to which another pointer leads.
+pub fn lower_held_stores(
+    body: &mut Body<'_>,
+    shape: &Shape<'_>,
+    pointer: Temporary,
+    from: Temporary,
+)
+    ensures { Emits body.old body.new (held_stores (shape_tree shape.now) pointer.0 from.0) }
+{
+    match shape {
+        Shape::Fat(_) => {
+            let count = body.further(from, 1);
+            let index = body.further(from, 2);
+            body.operation(Operation::Store(pointer, held_part(1, 4), from));
+            body.operation(Operation::Store(pointer, held_part(2, 8), count));
+            body.operation(Operation::Store(pointer, held_part(3, 12), index));
+        }
+        _ => body.operation(Operation::Store(pointer, held_part(1, 4), from)),
     }
 }

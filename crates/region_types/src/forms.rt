@@ -17,7 +17,7 @@ pub fn supported() -> Taken
         arrays: true,
         strings: true,
         filled: true,
-        unions: false,
+        unions: true,
         unique: false,
         keys: false,
     }

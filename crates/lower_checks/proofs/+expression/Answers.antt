@@ -9,10 +9,10 @@ use Rattle.cyc_tree.specs.declared.expression.Expression as code_expression
 use Rattle.cyc_tree.specs.declared.expression.Expression.TheFolds.{the_lemmas}
 use Rattle.source_meaning.specs.Conversions.{cells_of}
 use Rattle.source_meaning.specs.Operators.{operator_shape}
-use Rattle.source_meaning.specs.Shapes.{FatShape, Shape, StructShape, part_of, parts_of, pointee}
+use Rattle.source_meaning.specs.Shapes.{FatShape, Part, Shape, StructShape, UnionShape, part_of, part_shape, parts_of, pointee}
 use Rattle.source_meaning.specs.Sizes.{Extent, rounded_up}
 use Rattle.source_lowering.specs.Layouts.{extent_of, layout_of}
-use Rattle.source_lowering.specs.Lowerable.{Takes, TakesAll, TakesLinks, TakesMade, TakesMembers, TakesPlace, TakesSuffixes}
+use Rattle.source_lowering.specs.Lowerable.{IsMember, Takes, TakesAll, TakesLinks, TakesMade, TakesMembers, TakesPlace, TakesSuffixes}
 use Rattle.source_lowering.proofs.expressions.Indices.{TakesIndices, indices_taken}
 use Rattle.source_lowering.specs.Members.{words_in}
 use Rattle.source_lowering.specs.Lowered.{
@@ -36,9 +36,9 @@ use Rattle.source_lowering.specs.Lowered.{
   loads_code,
   made_values,
   member_code,
+  member_number,
   members_code,
   new_code,
-  new_code_by,
   new_shape,
   new_values,
   next_number,
@@ -52,6 +52,7 @@ use Rattle.source_lowering.specs.Lowered.{
   stores_code,
   suffix_values,
   truth_code,
+  union_code,
   values_by,
   whole_code,
   whole_values,
@@ -72,6 +73,7 @@ use Rattle.source_lowering.proofs.expressions.Homes.{element_shape}
 use Rattle.lower_checks.specs.Numbers.{numbers_in}
 use Rattle.lower_checks.specs.Scoped.{names_in, world_in}
 use Rattle.lower_checks.specs.Structs.{HaveRoom, room_tree}
+use Rattle.lower_checks.specs.Unions.{union_tree}
 use Rattle.lower_checks.specs.Views.{shape_tree}
 use Rattle.lower_checks.specs.Visible.{names_of}
 use Rattle.lower_checks.specs.Writing.{IsEmitted, IsLeft, IsSound, IsWritten, next_of}
@@ -93,7 +95,9 @@ use Rattle.lower_checks.proofs.Parts.{
   suffixed_value,
 }
 use Rattle.lower_checks.proofs.Following.{index_written, suffixed_written}
-use Rattle.lower_checks.proofs.Making.{struct_made}
+use Rattle.lower_checks.proofs.Making.{IsWholeOne, room_whole, whole_made}
+use Rattle.lower_checks.proofs.Clauses.{parts_known}
+use Rattle.lower_checks.proofs.UnionCells.{none_has}
 use Rattle.lower_checks.proofs.Suffixes.{
   begun_place,
   each_taken,
@@ -827,7 +831,7 @@ whole::lower_members-each-preserved t c sound =
       to = invariant.to;
       left = subst (λ x. IsLeft a z code (members_code w names more_parts others d x c.sum-in-each.result (next_of z)) every those) (sym cells_are)
           (subst (λ x. IsLeft a z code (members_code w names more_parts others d more_cells x (next_of z)) every those) (sym bytes_are) counted);
-      room = (subst (HaveRoom w.structs) parts_are invariant.room).1;
+      room = (subst (HaveRoom w.unions w.structs) parts_are invariant.room).1;
       taken = (subst (λ x. TakesMade w names x (MoreExpressions e others)) parts_are (subst (TakesMade w names parts) here invariant.taken)).1;
     }
 
@@ -883,6 +887,83 @@ whole::lower_made-returns-in-Some t c = record {
       subst (λ ps. IsWritten a z (here ++ members_code w names ps es d 0 0 (suc own)) (StructShape tag ∷ made_values w names ps es)) (sym parts_are)
       (write_write a o z here (members_code w names parts es d 0 0 (suc own)) (here ++ members_code w names parts es d 0 0 (suc own)) (StructShape tag ∷ [])
       (made_values w names parts es) (StructShape tag ∷ made_values w names parts es) first members refl refl);
+}
+
+-- the value of a union's member comes behind the union's address
+pub whole::lower_union-lower_held-requires : goal.whole::lower_union-lower_held-requires
+whole::lower_union-lower_held-requires t c = record {
+  taken = λ sound.
+      let w = world_in c.args.scope.now in
+      let three = c.lower_expression-from.ensures.writes sound in
+      let two = c.further-next.ensures.stays three.sound in
+      let one = c.operation.ensures two.sound in
+      let a = (c.value-own.ensures.writes one.sound).sound in
+      let parts_are = parts_known w (UnionShape c.args.tag.now) (union_tree c.in-Some.known) (sym c.in-Some.ensures.found) in
+      subst (λ ps. IsMember ps c.args.member.now) (sym parts_are) (c.requires.taken a).1.0;
+}
+
+pub whole::lower_union-never-requires : goal.whole::lower_union-never-requires
+whole::lower_union-never-requires t c sound =
+    none_has (world_in c.args.scope.now).unions c.args.tag.now c.union_of.result c.in-None.is c.union_of.ensures.found (c.requires.taken sound).0
+
+pub whole::lower_union-returns-in-None : goal.whole::lower_union-returns-in-None
+whole::lower_union-returns-in-None t c = record {
+  writes = λ sound.
+      absurd (none_has (world_in c.args.scope.now).unions c.args.tag.now c.union_of.result c.in-None.is c.union_of.ensures.found (c.requires.taken sound).0);
+}
+
+-- a member that is a struct or a union, and has room, is one of the program's
+pub whole::lower_member-lower_struct_member-requires : goal.whole::lower_member-lower_struct_member-requires
+whole::lower_member-lower_struct_member-requires t c = record {
+  taken = λ sound.
+      let w = world_in c.args.scope.now in
+      let s = shape_tree c.args.shape.now in
+      let one : IsWholeOne s = search rules in
+      let a = (c.further-next.ensures.stays (c.lower_whole.ensures.writes sound).sound).sound in
+      room_whole w.unions w.structs s one (c.requires.taken a).0;
+}
+
+pub whole::lower_union-returns-in-Some : goal.whole::lower_union-returns-in-Some
+whole::lower_union-returns-in-Some t c = record {
+  writes = λ sound.
+      let w = world_in c.args.scope.now in
+      let names = names_in c.args.scope.now in
+      let d = c.args.to.0 in
+      let a = c.args.body.now in
+      let own = next_of a in
+      let tag = c.args.tag.now in
+      let member = c.args.member.now in
+      let e = expression_tree c.args.value.now in
+      let s = static_shape w names e in
+      let v = c.value-own.new.self in
+      let o = c.operation.new.self in
+      let g = c.further-next.new.self in
+      let x = c.lower_expression-from.new.body in
+      let z = c.lower_held.new.body in
+      let next = c.further-next.result.0 in
+      let parts = map part_of (map member_tree c.in-Some.known.members.now) in
+      let parts_are : parts_of w.unions tag ≡ parts = sym (parts_known w (UnionShape tag) (union_tree c.in-Some.known) (sym c.in-Some.ensures.found)) in
+      let five = c.lower_held.ensures sound in
+      let four = c.lower_expression-from.ensures.writes five.sound in
+      let three = c.further-next.ensures.stays four.sound in
+      let two = c.operation.ensures three.sound in
+      let one = c.value-own.ensures.writes two.sound in
+      let here = Do (OwnAddress d own) ∷ [] in
+      let address = subst (λ n. IsEmitted v o (Do (OwnAddress d n) ∷ [])) (c.value-own.ensures.number two.sound) two in
+      let number : next_of o ≡ suc own = omega (arith, emitted_next v o here address, next_is a v [] (UnionShape tag ∷ []) one) in
+      let at_is : next ≡ d + 1 = c.further-next.ensures.further four.sound in
+      let values = expression_values w names e in
+      let begun =
+      subst (λ n. IsWritten o x (expression_code w names e n (next_of o)) values) at_is (moved o g x (λ n. expression_code w names e next n) values three four) in
+      let value = expression_code w names e (d + 1) (suc own) in
+      let valued = subst (λ n. IsWritten o x (expression_code w names e (d + 1) n) values) number begun in
+      let holding : List Part → Shape → List Statement = λ ps from. union_code w (part_shape ps member) from (member_number ps member) d in
+      let held = subst (λ r. IsEmitted x z (holding parts r)) (c.lower_expression-from.ensures.shape five.sound) five in
+      let first = write_emit a v o [] here here (UnionShape tag ∷ []) one address refl in
+      let second = write_emit o x z value (holding parts s) (value ++ holding parts s) values valued held refl in
+      subst (λ ps. IsWritten a z (here ++ (value ++ holding ps s)) (UnionShape tag ∷ values)) (sym parts_are)
+      (write_write a o z here (value ++ holding parts s) (here ++ (value ++ holding parts s)) (UnionShape tag ∷ []) values (UnionShape tag ∷ values) first second
+      refl refl);
 }
 
 -- what is written through a pointer
@@ -1006,23 +1087,22 @@ made::lower_one-returns-in-Struct-clause-writes t c sound =
     let k = c.known-shape.new.self in
     let m = c.known-address.new.self in
     let b = c.lower_whole.new.body in
-    let z = c.lower_object.new.body in
+    let z = c.lower_object-in-Struct.new.body in
     let next = c.further-next.result.0 in
     let shape = shape_tree c.known-shape.result in
-    let five = c.lower_object.ensures sound in
+    let five = c.lower_object-in-Struct.ensures sound in
     let four = c.lower_whole.ensures.writes five.sound in
     let three = c.known-address.ensures.stays four.sound in
     let two = c.known-shape.ensures.stays three.sound in
     let one = c.further-next.ensures.stays two.sound in
     let shape_is = subst (λ r. IfOk r (λ x. shape_tree x ≡ s)) (c.known-shape.ensures.known three.sound) c.shape_of.ensures.shape in
-    let struct_is : s ≡ StructShape c.in-Struct.field-0.now = sym shape_is ∙ ap shape_tree c.in-Struct.is in
     let next_is : next ≡ d + 1 = c.further-next.ensures.further two.sound in
     let values = whole_values w names e in
     let written =
     subst (λ n. IsWritten a b (whole_code w names e n own) values) next_is
     (moved a m b (λ n. whole_code w names e next n) values (same_same a g m one (same_same g k m two three)) four) in
-    struct_made w names e a b z d c.in-Struct.field-0.now struct_is written
-    (subst (λ x. IsEmitted b z (new_code_by w x d [] [])) (shape_is ∙ struct_is) five)
+    let one_whole : IsWholeOne shape = search rules in
+    whole_made w names e a b z d shape one_whole (sym shape_is) written five
 
 -- an array is made: its count comes first, in the temporary behind the handle
 pub made::lower_new-returns-in-Array-clause-writes : goal.made::lower_new-returns-in-Array-clause-writes

@@ -100,6 +100,6 @@ invariant-whole::lower_members-each l =
       left : IsLeft l.initial.body l.body (members_code w names parts all l.fn.to.0 0 0 (next_of l.initial.body))
           (members_code w names parts_left others l.fn.to.0 l.slot.cells l.slot.bytes (next_of l.body)) (made_values w names parts all)
           (made_values w names parts_left others);
-      room : HaveRoom w.structs parts_left;
+      room : HaveRoom w.unions w.structs parts_left;
       taken : TakesMade w names parts_left others;
     }

@@ -19,6 +19,7 @@ returns-in-Err-TooLarge-clause-refused c =
     let lines = c.in_ok-labelled.ensures.code ∙ ap (select.program_code far) c.in_ok-core.ensures.code in
     let large = c.in-Err-TooLarge.ensures.too_large.0 (ap (λ (f : PlaceFault). Err f) c.in-Err-TooLarge.field-0-is) in
     record {
+      few = c.in_ok-core.ensures.few;
       long = subst (λ (ls : List Line). code_limit < code_length ls) lines large;
       line = refl;
       column = refl;
@@ -40,10 +41,10 @@ returns-in-Ok-data-clause-implemented c = λ parts is_code is_statics from_first
       has = subst (λ (ls : List Line). IsCodeOf ls bytes) lines (placed.has c.in_ok-labelled.ensures.once);
       places = subst (λ (ls : List Line). (label : ℕ) → IsPlace (place_of ls label)) lines placed.places;
       statics_are = c.in-Ok-data.ensures.bytes ∙ ap (λ (p : core.Program). data_bytes (data_offsets p.data_objects) 0 p.data_objects) c.in_ok-core.ensures.code;
-    } is_code is_statics from_first fits c.in_ok-core.ensures.accepted
+    } is_code is_statics from_first fits c.in_ok-core.ensures.accepted c.in_ok-core.ensures.few
 
 pub unreachable-requires : goal.unreachable-requires
 unreachable-requires c =
     let large = c.in-Err-TooLarge-data.ensures.too_large.0 (ap (λ (f : PlaceFault). Err f) c.in-Err-TooLarge-data.field-0-is) in
-    data_fit c.args.checked.now c.in_ok-core.ensures.accepted
+    data_fit c.args.checked.now c.in_ok-core.ensures.accepted c.in_ok-core.ensures.few
     (subst (λ (p : core.Program). data_limit < length (data_bytes (data_offsets p.data_objects) 0 p.data_objects)) c.in_ok-core.ensures.code large)

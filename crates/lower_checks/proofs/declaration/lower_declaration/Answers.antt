@@ -16,7 +16,7 @@ lower_unset-requires c = record {
       let names = names_in c.args.scope.now in
       let of = type_tree c.in-Local-default-default-None.of in
       let both = subst (λ (d : Declaration). TakesDeclaration w names d) (ap declaration_tree c.in-Local-default-default-None.is) (c.requires.taken sound) in
-      subst (IsVariable w.structs) (sym c.one.ensures) (object_named w.structs (settled (written of)) (object_settled w.structs of both.0));
+      subst (IsVariable w.unions w.structs) (sym c.one.ensures) (object_named w.unions w.structs (settled (written of)) (object_settled w.unions w.structs of both.0));
 }
 
 pub lower_unset-requires-in-Local-default-default-Array : goal.lower_unset-requires-in-Local-default-default-Array
@@ -27,8 +27,8 @@ lower_unset-requires-in-Local-default-default-Array c = record {
       let of = type_tree c.in-Local-default-default-Array.of in
       let both = subst (λ (d : Declaration). TakesDeclaration w names d) (ap declaration_tree c.in-Local-default-default-Array.is) (c.requires.taken sound) in
       let small : c.in-Local-default-default-Array.count < 2 ^ 32 = search rules in
-      subst (IsVariable w.structs) (sym c.array.ensures)
-      (omega (arith, small, c.in-Local-default-default-Array.count-is), object_settled w.structs of both.0);
+      subst (IsVariable w.unions w.structs) (sym c.array.ensures)
+      (omega (arith, small, c.in-Local-default-default-Array.count-is), object_settled w.unions w.structs of both.0);
 }
 
 pub lower_set-requires : goal.lower_set-requires
@@ -42,7 +42,7 @@ lower_set-requires c = record {
       let initial = rw c.in-Local-default-default-Value.is at c.in-Local-default-default-Value.field-2-is in
       let given = subst (λ (i : Initializer). TakesInitializer w names (settled (written of)) i) (ap initializer_tree initial) both.1 in
       let shaped = subst (λ (s : Shape). TakesValue w names s e) (sym c.of.ensures) given in (
-        subst (IsObject w.structs) (sym c.of.ensures) (object_settled w.structs of both.0),
+        subst (IsObject w.unions w.structs) (sym c.of.ensures) (object_settled w.unions w.structs of both.0),
         rw c.in-Local-default-default-Value.field-2-is shaped,
       );
 }

@@ -59,13 +59,13 @@ lower_inside-requires c = record {
       ∙ ap (λ ss. map stored_tree ss ++ part_shapes r.parameters) c.new-all.ensures.items in
       let shapes_are : shapes ≡ taken ++ block_shapes f.body =
       c.lower_items.ensures.shapes filled ∙ ap (λ bs. taken ++ block_shapes (items_of (map item_tree bs))) c.deref-2.ensures.value in
-      let declared : AreVariables w.structs (block_shapes f.body) =
+      let declared : AreVariables w.unions w.structs (block_shapes f.body) =
       block_variables w r.result (parameter_names r.parameters 0 []) (length r.parameters) f.body c.requires.taken.body in
-      let all : AreVariables w.structs (part_shapes r.parameters ++ block_shapes f.body) =
-      parameter_variables w.structs f.parameters (block_shapes f.body) c.requires.taken.parameters declared in
+      let all : AreVariables w.unions w.structs (part_shapes r.parameters ++ block_shapes f.body) =
+      parameter_variables w.unions w.structs f.parameters (block_shapes f.body) c.requires.taken.parameters declared in
       let same : map stored_tree c.deref-3.result.now ≡ part_shapes r.parameters ++ block_shapes f.body =
       ap (map stored_tree) c.deref-3.ensures.value ∙ shapes_are ∙ ap (λ ss. ss ++ block_shapes f.body) taken_is in
-      subst (AreVariables w.structs) (sym same) all;
+      subst (AreVariables w.unions w.structs) (sym same) all;
 }
 
 pub returns-clause-code : goal.returns-clause-code

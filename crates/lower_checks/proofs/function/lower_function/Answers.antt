@@ -12,9 +12,9 @@ pub returns-in_err-own-clause-memory : goal.returns-in_err-own-clause-memory
 returns-in_err-own-clause-memory c =
     let w = world_of c.args.program.now in
     let f = routine_of (source_tree c.args.function.now) in
-    let objects : AreObjects w.structs (routine_values w f) =
+    let objects : AreObjects w.unions w.structs (routine_values w f) =
     item_objects w f.result (parameter_names f.parameters 0 []) (length f.parameters) f.body c.requires.taken.body in
     let values_are : map shape_tree c.deref-4.result.now ≡ routine_values w f =
     ap (map shape_tree) c.deref-4.ensures.value ∙ c.lower_body-code.ensures.values c.if-failed.false in
-    let values : AreObjects w.structs (map shape_tree c.deref-4.result.now) = subst (AreObjects w.structs) (sym values_are) objects in
+    let values : AreObjects w.unions w.structs (map shape_tree c.deref-4.result.now) = subst (AreObjects w.unions w.structs) (sym values_are) objects in
     search rules

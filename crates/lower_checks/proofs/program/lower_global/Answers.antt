@@ -24,7 +24,7 @@ returns-in-One-clause-taken c =
     let of = type_tree c.args.global.now.of in
     let initial = initial_tree c.args.global.now.initial in
     let is = one_global c.in-One.shape initial (settled (written of)) (sym (ap stored_tree c.in-One.is) ∙ c.global_stored.ensures) in
-    c.first_datum.ensures.taken (subst (IsObject w.structs) is (object_settled w.structs of object)) (subst (λ (s : Shape). TakesGlobal s initial) is takes)
+    c.first_datum.ensures.taken (subst (IsObject w.unions w.structs) is (object_settled w.unions w.structs of object)) (subst (λ (s : Shape). TakesGlobal s initial) is takes)
 
 pub returns-in_err-layout-in-Array-clause-taken : goal.returns-in_err-layout-in-Array-clause-taken
 returns-in_err-layout-in-Array-clause-taken c =
@@ -33,6 +33,6 @@ returns-in_err-layout-in-Array-clause-taken c =
     let of = type_tree c.args.global.now.of in
     let initial = initial_tree c.args.global.now.initial in
     let is = sym (ap stored_tree c.in-Array.is) ∙ c.global_stored.ensures in
-    let element = array_global w.structs initial (settled (written of)) c.in-Array.count (written_shape c.in-Array.of) is (object_settled w.structs of object) in
-    let taken = c.in_err-layout-in-Array.ensures.taken (subst (IsObject w.structs) (sym c.shape.ensures) element) in
+    let element = array_global w.unions w.structs initial (settled (written of)) c.in-Array.count (written_shape c.in-Array.of) is (object_settled w.unions w.structs of object) in
+    let taken = c.in_err-layout-in-Array.ensures.taken (subst (IsObject w.unions w.structs) (sym c.shape.ensures) element) in
     search rules

@@ -4,7 +4,7 @@ use Rattle.source_meaning.specs.Shapes.{Shape}
 use Rattle.source_meaning.specs.Steps.{Variable}
 use Rattle.source_meaning.specs.Places.{bound_to, or_else}
 use Rattle.source_meaning.specs.Programs.{globals_from, heap_spot}
-use Rattle.lower_checks.specs.Tables.{first_in}
+use Rattle.lower_checks.specs.Firsts.{first_in}
 use Rattle.lower_checks.specs.declared.table.Found.{Found}
 use Rattle.lower_checks.proofs.Tables.{global_kept}
 use Rattle.lower_checks.proofs.table.add_global.Goals as goal

@@ -11,9 +11,9 @@ use Rattle.lower_checks.proofs.layouts.Structs.add.Goals as goal
 
 pub returns-in-Ok-clause-added : goal.returns-in-Ok-clause-added
 returns-in-Ok-clause-added c =
-    λ structs knows.
+    λ unions structs knows.
     let old = c.args.self.now in
-    let new : Structs = record { by_tag = c.insert.new.self } in
+    let new : Structs = record { by_tag = c.insert.new.self; unions = old.unions } in
     let k = c.in_ok-known.known in
     let l = layout_of (structure_tree c.args.structure.now) in
     let added : (tag : List ℕ) → struct_in new tag ≡ (if bytes_eq l.tag tag then Some k else struct_in old tag) =
@@ -24,7 +24,7 @@ returns-in-Ok-clause-added c =
     made_of old l k c.in_ok-laying.laying c.deref-3.result c.deref-2.result c.args.structure.now.members.items refl c.deref-3.ensures.value
     c.deref-2.ensures.value c.in_ok-known.ensures.members c.in_ok-known.ensures.size c.in_ok-known.ensures.align c.in_ok-known.ensures.cells
     c.in_ok-laying.ensures.room c.in_ok-laying.ensures.cells c.in_ok-laying.ensures.laid in
-    knows_more old new l k structs made added knows
+    knows_more old new l k unions structs made refl added knows
 
 -- members of a struct that is taken can be laid
 pub returns-in_err-laying-clause-taken : goal.returns-in_err-laying-clause-taken

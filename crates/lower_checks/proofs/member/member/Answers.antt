@@ -1,0 +1,23 @@
+use Rattle.std.proofs.Common.{◌≡◌, Bor, Option, false, subst}
+use Rattle.std.specs.Prelude.{option_copied}
+use Rattle.source_meaning.specs.Shapes.{has_tag}
+use Rattle.source_meaning.specs.Programs.{world_of}
+use Rattle.source_lowering.specs.Lowered.{member_shape}
+use Rattle.source_lowering.specs.Lowerable.{IsObject}
+use Rattle.lower_checks.specs.Structs.{IsFound}
+use Rattle.lower_checks.specs.Views.{shape_tree}
+use Rattle.lower_checks.specs.declared.layouts.Known.{Known}
+use Rattle.lower_checks.specs.declared.shape.Shape.{Shape}
+use Rattle.lower_checks.proofs.Reaching.{no_members}
+use Rattle.lower_checks.proofs.member.member.Goals as goal
+
+pub returns-in-None-clause-taken : goal.returns-in-None-clause-taken
+returns-in-None-clause-taken c =
+    λ object.
+    let w = world_of c.args.program.now in
+    let tag = c.in-Struct.tag.now in
+    let name = c.args.name.now in
+    let none : has_tag w.structs tag ≡ false =
+    subst (λ (o : Option (Bor Known)). IsFound w.unions w.structs tag (option_copied o)) c.in-None.is c.struct_of.ensures.found in
+    let here = subst (λ (s : Shape). IsObject w.unions w.structs (member_shape w (shape_tree s) name)) c.in-Struct.is object in
+    absurd (no_members w.unions w.structs tag name none here)

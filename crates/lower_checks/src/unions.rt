@@ -1,0 +1,109 @@
+// The tagged unions of a program by their tags: their members, and what their cells are made for.
+
+ghost use Rattle.std.specs.Prelude.{◌≡◌, ℕ, List, IfOk, IfSome, Some, map, option_map};
+ghost use Rattle.cyc_tree.specs.View.{member_tree, program_tree};
+ghost use Rattle.source_meaning.specs.Shapes.{part_of, part_position, part_shape, part_shapes};
+ghost use Rattle.source_meaning.specs.Programs.{unions_of, world_of};
+ghost use Rattle.source_lowering.specs.Layouts.{has_fat};
+ghost use Rattle.source_lowering.specs.Lowerable.{AreUnions, AreValues, HasMember, HaveFewMembers};
+ghost use Rattle.lower_checks.specs.Refusals.{NeverRefused};
+ghost use Rattle.lower_checks.specs.Unions.{AreUnionsLaid, HaveCells, cell_by, first_union, union_in};
+ghost use Rattle.lower_checks.specs.Views.{shape_tree};
+
+use crate::fault::LowerFault;
+use crate::first::Firsts;
+use crate::layouts::cell_of;
+use crate::names::{after, number};
+use crate::shape::Shape;
+use cyc_core::Cell;
+use cyc_tree::{Item, Member};
+use std::alloc::Global;
+
+/// A tagged union: its members, and what its one cell is made for.
+#[derive(Clone, Copy)]
+pub struct Union<'p> {
+    pub members: &'p [Member],
+    pub cell: Cell,
+}
+
+/// A member of a union that was found by its name: its number, from 0 on, and the shape of its type.
+#[derive(Clone, Copy)]
+pub struct Chosen<'p> {
+    pub number: u32,
+    pub shape: Shape<'p>,
+}
+
+/// What the cell of a union with these members is made for. Refuses no members, and a member that is no integer, no pointer and no handle.
+fn union_cell(members: &[Member]) -> Result<Cell, LowerFault>
+    ensures cell { IfOk result (λ cell. cell ≡ cell_by (has_fat (map part_of (map member_tree members.now)))) }
+    ensures laid { IfOk result (λ _. HaveCells (map part_of (map member_tree members.now))) }
+    ensures taken { let parts = map part_of (map member_tree members.now) in HasMember parts → AreValues (part_shapes parts) → NeverRefused result }
+{
+    if members.is_empty() {
+        return Err(LowerFault::NotTaken);
+    }
+    let mut cell = Cell::Tagged;
+    'each: for member in members {
+        if let Cell::Fat = cell_of(Shape::of(&member.of))? {
+            cell = Cell::TaggedFat;
+        }
+    }
+    Ok(cell)
+}
+
+/// The first union of each tag. Refuses a union with a member that is no integer, no pointer and no handle.
+pub fn first_unions<'p>(
+    alloc: Global,
+    items: &'p [Item],
+) -> Result<Firsts<'p, Union<'p>>, LowerFault>
+    ensures first { IfOk result (λ unions. (tag : List ℕ) → union_in unions tag ≡ first_union (unions_of (program_tree items.entry.now)) tag) }
+    ensures laid { IfOk result (λ _. AreUnionsLaid (unions_of (program_tree items.entry.now))) }
+    ensures taken { AreUnions (unions_of (program_tree items.entry.now)) → NeverRefused result }
+{
+    let mut unions = Firsts::new(alloc);
+    'each: for item in items {
+        if let Item::Union(union) = item {
+            let members = &union.members;
+            let cell = union_cell(members)?;
+            unions.add(&union.tag.text, Union { members, cell })?;
+        }
+    }
+    Ok(unions)
+}
+
+/// Fails where a union has more members than a u32 counts.
+pub fn few_members(items: &[Item]) -> Result<(), LowerFault>
+    ensures few { IfOk result (λ _. HaveFewMembers (unions_of (program_tree items.now))) }
+    ensures taken { NeverRefused result }
+{
+    'each: for item in items {
+        if let Item::Union(union) = item {
+            number(union.members.len())?;
+        }
+    }
+    Ok(())
+}
+
+/// The member of a name among these, if there is one. Fails only where its number is over the greatest u32.
+pub fn member_named<'p>(
+    members: &'p [Member],
+    name: &[u8],
+) -> Result<Option<Chosen<'p>>, LowerFault>
+    ensures number { let parts = map part_of (map member_tree members.entry.now) in
+        IfOk result (λ found. option_map (λ m. m.number) found ≡ part_position parts name.now) }
+    ensures shape { let parts = map part_of (map member_tree members.entry.now) in
+        IfOk result (λ found. IfSome found (λ m. shape_tree m.shape ≡ part_shape parts name.now)) }
+    ensures taken { NeverRefused result }
+{
+    let mut number = 0;
+    'each: for member in members {
+        if member.name.text.as_slice() == name {
+            return Ok(Some(Chosen {
+                number,
+                shape: Shape::of(&member.of),
+            }));
+        }
+        number = after(number)?;
+    }
+    Ok(None)
+}

@@ -13,7 +13,7 @@ use Rattle.cyc_words.specs.declared.faults.Kind.{Kind}
 use Rattle.cyc_words.specs.Events.{Event, ByteRead, ByteWritten, SourceEvent, Visible, Called, Returned, visible, output, bytes_read}
 use Rattle.step_trees.specs.Trees.{Calls, Turns}
 use Rattle.source_meaning.specs.Shapes.{parts_of, Owner, Shared, Alone, Shape, IntShape, UnsignedShape, CharShape, VoidShape, ThinShape, FatShape, ArrayShape, UnionShape, HandleShape, KeyShape, part_position, part_shape, part_shapes, pointee, has_tag, written, settled_by, same_shape}
-use Rattle.source_meaning.specs.Memory.{Region, Frame, Born, Spot, Span, Scalar, IntegerType, AsInt, AsUnsigned, AsChar, Integer, Thin, Wide, HandleOf, KeyOf, Tagged, Content, Holds, Blank, Gone, Lent, Object, State, Live, Closed, Dead, Memory, beyond, any_moved, cell_at, is_live, is_closed, is_of, with_state, blank_object}
+use Rattle.source_meaning.specs.Memory.{Region, Frame, Born, Spot, Span, Scalar, IntegerType, AsInt, AsUnsigned, AsChar, Integer, Thin, Wide, HandleOf, KeyOf, Tagged, Content, Holds, Blank, Gone, Lent, Object, State, Live, Closed, Dead, Memory, beyond, any_moved, cell_at, is_live, is_closed, is_of, with_state, blank_object, is_moved}
 use Rattle.source_meaning.specs.Steps.{Entity, Variable, Fixed, Routine, World, Scope, Flow, Falls, Breaks, Continues, Returns, Step, Stops, Says, Reads, Pays, Act, give, ◌>>=◌, ◌>>◌, stuck, raise, take_turn, need, check, choose, finally, run}
 use Rattle.source_meaning.specs.Operators.{operated, is_true}
 use Rattle.source_meaning.specs.Conversions.{cells_of, element, thin_to_thin, fat_to_thin, thin_leads, fat_leads, converted_scalar, converted, one, integer, accessed}
@@ -462,7 +462,7 @@ initialised_quiet scope name s e rest x y = record {
 }
 
 operand_of_quiet : (e : Option Entity) → Quiet (operand_of e)
-operand_of_quiet (Some (Variable s at)) = give_quiet _
+operand_of_quiet (Some (Variable s at)) = record { go = λ next m h. (check_quiet (is_moved s)).go _ m (λ a m1. h _ m1) }
 operand_of_quiet (Some (Fixed s v)) = stuck_quiet
 operand_of_quiet None = stuck_quiet
 

@@ -1,5 +1,5 @@
 -- What small programs do, computed: what no rule gives a meaning
-use Rattle.std.proofs.Common.{◌≡◌, Some, None, [], ◌∷◌, refl}
+use Rattle.std.proofs.Common.{◌≡◌, ℕ, false, Some, None, [], ◌∷◌, refl}
 use Rattle.std.specs.Prelude.{codes}
 use Rattle.cyc_tree.specs.declared.name.Sign.TheVariants.{Nullable, NotNull, Fat}
 use Rattle.cyc_tree.specs.declared.expression.Operator.TheVariants.{Equal}
@@ -7,6 +7,9 @@ use Rattle.cyc_tree.specs.declared.expression.Prefix.TheVariants.{Dereference, A
 use Rattle.cyc_tree.specs.Tree as tree
 use Rattle.cyc_tree.specs.Tree.{Expression, NoExpressions, MoreExpressions, NoLinks, MoreLinks, NoSuffixes, Dot, One, Initializer, Statement, NoItems, Program}
 use Rattle.cyc_words.specs.Events.{RegionNew, RegionAlloc, RegionFree, UniqueAlloc, UniqueFree, KeyNew, KeyOpen, KeyClose, KeyFree, Visible, Called, SourceEnding}
+use Rattle.source_meaning.specs.Memory.{Memory, Born, is_live}
+use Rattle.source_meaning.specs.Steps.{Step, Stops}
+use Rattle.source_meaning.specs.Regions.{region_freed, key_closed}
 use Rattle.source_meaning.specs.Programs.{source}
 use Rattle.source_meaning.proofs.Trees.{named, variable, number, pointer, typed, ◌▸◌, ◌▹◌, function, gives}
 
@@ -313,8 +316,8 @@ closed_region_asked_runs : source closed_region_asked [] 0 ≡ gives (Called (co
 closed_region_asked_runs = refl
 
 -- int main() { region<`r> h; int *`r p = rnew(h) 5; ufree(p); return 0; }
-abbrev freed_region_left : Program
-freed_region_left =
+abbrev shared_freed : Program
+shared_freed =
     tree.FunctionItem (function (typed tree.Int []) (named "main") [] (
     (tree.Region 0 (tree.Named (named "r")) (named "h")) ▹
     (tree.Local (typed tree.Int ((pointer Nullable (Some (tree.Named (named "r")))) ∷ [])) (named "p") (Initializer.Value (Expression.NewIn 0 (variable "h") (One (number 5))))) ▹
@@ -322,12 +325,12 @@ freed_region_left =
     (Statement.Return 0 (Some (number 0))) ▸
     NoItems)) ∷ []
 
-freed_region_left_runs : source freed_region_left [] 0 ≡ gives (Called (codes "main") ∷ Visible (RegionNew 1) ∷ Visible (RegionAlloc 1 4) ∷ Visible (UniqueFree 1) ∷ []) SourceEnding.Stuck
-freed_region_left_runs = refl
+shared_freed_runs : source shared_freed [] 0 ≡ gives (Called (codes "main") ∷ Visible (RegionNew 1) ∷ Visible (RegionAlloc 1 4) ∷ []) SourceEnding.Stuck
+shared_freed_runs = refl
 
 -- int main() { let NewDynamicRegion{<`r> k} = new_ukey(); { region<`r> h = open(k); int *`r p = rnew(h) 5; ufree(p); } return 0; }
-abbrev freed_region_closed : Program
-freed_region_closed =
+abbrev shared_freed_opened : Program
+shared_freed_opened =
     tree.FunctionItem (function (typed tree.Int []) (named "main") [] (
     (tree.NewKey 0 (tree.Named (named "r")) (named "k")) ▹
     (Statement.Block 0 (
@@ -338,5 +341,27 @@ freed_region_closed =
     (Statement.Return 0 (Some (number 0))) ▸
     NoItems)) ∷ []
 
-freed_region_closed_runs : source freed_region_closed [] 0 ≡ gives (Called (codes "main") ∷ Visible (KeyNew 1) ∷ Visible (KeyOpen 1) ∷ Visible (RegionAlloc 1 4) ∷ Visible (UniqueFree 1) ∷ []) SourceEnding.Stuck
-freed_region_closed_runs = refl
+shared_freed_opened_runs : source shared_freed_opened [] 0 ≡ gives (Called (codes "main") ∷ Visible (KeyNew 1) ∷ Visible (KeyOpen 1) ∷ Visible (RegionAlloc 1 4) ∷ []) SourceEnding.Stuck
+shared_freed_opened_runs = refl
+
+-- int main() { region<`r> h; int *`r p = rnew(h) 5; { let alias<`s> int *`s q = p; } return 0; }
+abbrev shared_aliased : Program
+shared_aliased =
+    tree.FunctionItem (function (typed tree.Int []) (named "main") [] (
+    (tree.Region 0 (tree.Named (named "r")) (named "h")) ▹
+    (tree.Local (typed tree.Int ((pointer Nullable (Some (tree.Named (named "r")))) ∷ [])) (named "p") (Initializer.Value (Expression.NewIn 0 (variable "h") (One (number 5))))) ▹
+    (Statement.Block 0 (
+    (tree.Alias 0 (tree.Named (named "s")) (typed tree.Int ((pointer Nullable (Some (tree.Named (named "s")))) ∷ [])) (named "q") (named "p")) ▹
+    NoItems)) ▸
+    (Statement.Return 0 (Some (number 0))) ▸
+    NoItems)) ∷ []
+
+shared_aliased_runs : source shared_aliased [] 0 ≡ gives (Called (codes "main") ∷ Visible (RegionNew 1) ∷ Visible (RegionAlloc 1 4) ∷ []) SourceEnding.Stuck
+shared_aliased_runs = refl
+
+-- what isn't live is neither freed nor closed
+dead_freed : (r : ℕ) (next : Unit {0} → Memory → Step) (m : Memory) → is_live m (Born r) ≡ false → region_freed r next m ≡ Stops SourceEnding.Stuck
+dead_freed r next m dead = rw dead refl
+
+dead_closed : (r : ℕ) (next : Unit {0} → Memory → Step) (m : Memory) → is_live m (Born r) ≡ false → key_closed r next m ≡ Stops SourceEnding.Stuck
+dead_closed r next m dead = rw dead refl

@@ -2,7 +2,7 @@
 use Rattle.std.specs.Prelude.{ℕ, ◌+◌, Option, Some, None, List, [], ◌∷◌}
 use Rattle.cyc_words.specs.Events.{RegionNew, RegionFree, UniqueFree, KeyNew, KeyOpen, KeyClose, KeyFree}
 use Rattle.source_meaning.specs.Shapes.{Shape, HandleShape, KeyShape, settled_by}
-use Rattle.source_meaning.specs.Memory.{Region, Frame, Born, Spot, Scalar, Thin, HandleOf, KeyOf, Holds, Gone, Lent, Object, blank_object, Live, Closed, Dead, is_live, is_closed, with_state}
+use Rattle.source_meaning.specs.Memory.{Region, Frame, Born, Spot, Scalar, Thin, HandleOf, KeyOf, Holds, Gone, Lent, Object, blank_object, Live, Closed, Dead, is_live, is_closed, is_moved, with_state}
 use Rattle.source_meaning.specs.Steps.{Entity, Variable, Fixed, Scope, Flow, Act, give, ◌>>=◌, ◌>>◌, stuck, show, memory, set_memory, check, finally}
 use Rattle.source_meaning.specs.Conversions.{cells_of, converted, converted_scalar}
 use Rattle.source_meaning.specs.Values.{read_cell, write_cells, put_content}
@@ -45,9 +45,9 @@ pub record Operand : Type 0 where
   pub shape : Shape
   pub at : Spot
 
--- a variable is an operand, and what never changes is none
+-- A variable that can't be copied is an operand of what frees, lends and opens; one that can be, and what never changes, is none.
 abbrev pub operand_of : Option Entity → Act Operand
-operand_of (Some (Variable s at)) = give (record { shape = s; at = at })
+operand_of (Some (Variable s at)) = check (is_moved s) >> give (record { shape = s; at = at })
 operand_of (Some (Fixed s v)) = stuck
 operand_of None = stuck
 

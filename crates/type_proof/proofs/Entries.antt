@@ -41,7 +41,7 @@ object_plain (Thin n r t) e = e
 object_plain (Fat r t) e = e
 object_plain (Unique n t) e = e
 object_plain (Handle r) e = tt
-object_plain (Key r) e = absurd e
+object_plain (Key r) e = tt
 object_plain (Struct tag rs) e = e
 object_plain (Union tag rs) e = e
 

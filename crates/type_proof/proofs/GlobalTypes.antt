@@ -63,7 +63,8 @@ objects_shaped (Fat r t) u e h = inr (λ z. cc)
 objects_shaped (Unique n t) (Unique m u) e h = uniques_shaped n m t u (objects_shaped t u e h)
 objects_shaped (Unique n t) Null e h = absurd h
 objects_shaped (Unique n t) u e h = inr (λ z. cc)
-objects_shaped (Key r) u e h = absurd e
+objects_shaped (Key r) (Key q) e h = inl refl
+objects_shaped (Key r) u e h = inr (λ z. cc)
 objects_shaped (Union x rs) (Union y qs) e h = elim (cases_Bool (bytes_eq x y)) [
   | inl z ↦ inl (ap UnionShape ((bytes_eq-Decides x y).0 z))
   | inr z ↦ inr (λ k. let same : x ≡ y = cc in false≢true (sym z ∙ (ap (λ (a : List ℕ). bytes_eq a y) same ∙ same_text y)))
@@ -92,7 +93,7 @@ begins_shaped n g (Thin b r t) e = refl
 begins_shaped n g (Fat r t) e = refl
 begins_shaped n g (Unique b t) e = refl
 begins_shaped n g (Handle r) e = refl
-begins_shaped n g (Key r) e = absurd e
+begins_shaped n g (Key r) e = refl
 begins_shaped zero g (Struct tag rs) e = refl
 begins_shaped (suc n) g (Struct tag rs) e = refl
 begins_shaped n g (Union tag rs) e = refl
@@ -116,7 +117,7 @@ to_shape (Thin b r t) c e h = h
 to_shape (Fat r t) c e h = h
 to_shape (Unique b t) c e h = h
 to_shape (Handle r) c e h = h
-to_shape (Key r) c e h = absurd e
+to_shape (Key r) c e h = h
 to_shape (Struct tag rs) c e h = h
 to_shape (Union tag rs) c e h = h
 
@@ -130,7 +131,7 @@ from_shape (Thin b r t) c e h = h
 from_shape (Fat r t) c e h = h
 from_shape (Unique b t) c e h = h
 from_shape (Handle r) c e h = h
-from_shape (Key r) c e h = absurd e
+from_shape (Key r) c e h = h
 from_shape (Struct tag rs) c e h = h
 from_shape (Union tag rs) c e h = h
 

@@ -169,7 +169,7 @@ char_shaped (Thin n r t) e z = absurd cc
 char_shaped (Fat r t) e z = absurd cc
 char_shaped (Unique n t) e z = absurd cc
 char_shaped (Handle r) e z = absurd cc
-char_shaped (Key r) e z = absurd e
+char_shaped (Key r) e z = absurd cc
 char_shaped (Struct tag rs) e z = absurd cc
 char_shaped (Union tag rs) e z = absurd cc
 
@@ -340,7 +340,7 @@ module _ {B : Type 0} (d : Tables) (n : ℕ) (world : World) (tables : typing.Ta
       by (Fat r t) e x there go b = fat r t e c x f there go
       by (Unique z t) e x there go b = alone z t e b c x there go
       by (Handle r) e x there go b = absurd x
-      by (Key r) e x there go b = absurd e
+      by (Key r) e x there go b = absurd x
       by (Struct tag rs) e x there go b = absurd x
       by (Union tag rs) e x there go b = absurd x
 

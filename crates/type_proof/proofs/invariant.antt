@@ -28,4 +28,5 @@ pub mod Unions
 pub mod Copyable
 pub mod NamesMore
 pub mod Aliases
+pub mod Keys
 pub mod Exchanges

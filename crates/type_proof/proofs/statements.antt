@@ -17,6 +17,8 @@ pub mod Exchanged
 pub mod Lending
 pub mod AliasScope
 pub mod Aliased
+pub mod Keyed
+pub mod Opened
 pub mod Blocks
 pub mod Parameters
 pub mod Functions

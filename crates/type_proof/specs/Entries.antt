@@ -1,14 +1,13 @@
--- What the names of a program of integers, pointers, unique ones too, structs, unions, arrays, strings and regions mean: variables, arrays, functions that
--- take such values, structs, unions, and the two functions that every program has.
+-- What the names of a program mean: variables, arrays, functions that take such values, structs, unions, and the two functions that every program has.
 use Rattle.std.specs.Prelude.{◌≡◌, ℕ, true, false, ◌⊎◌, Some, List, [], ◌∷◌, map, bytes_eq, codes}
 use Rattle.source_meaning.specs.Shapes.{part_shapes, has_tag}
 use Rattle.source_meaning.specs.Steps.{Routine, World}
 use Rattle.source_meaning.specs.Calls.{function_of}
 use Rattle.source_typing.specs.Tables as typing
 use Rattle.source_typing.specs.Tables.{Entry, OfValue, OfTag, OfFunction, OfBuiltin, Stored, Arrayed, Signature, Tag, find}
-use Rattle.source_typing.specs.Types.{StaticType, Int, Unsigned, Char, Void, Thin, Fat, Unique, Handle, Struct, Union, shape_of}
+use Rattle.source_typing.specs.Types.{StaticType, Int, Unsigned, Char, Void, Thin, Fat, Unique, Handle, Key, Struct, Union, shape_of}
 
--- What a variable may be of: an integer, a pointer to what a variable may be of, a unique one too, a handle, a struct, or a union.
+-- What a variable may be of: an integer, a pointer to what a variable may be of, a unique one too, a handle, a key, a struct, or a union.
 abbrev pub IsObjectType : StaticType → Type 0
 IsObjectType Int = Unit {0}
 IsObjectType Unsigned = Unit {0}
@@ -17,6 +16,7 @@ IsObjectType (Thin n r t) = IsObjectType t
 IsObjectType (Fat r t) = IsObjectType t
 IsObjectType (Unique n t) = IsObjectType t
 IsObjectType (Handle r) = Unit {0}
+IsObjectType (Key r) = Unit {0}
 IsObjectType (Struct tag rs) = Unit {0}
 IsObjectType (Union tag rs) = Unit {0}
 IsObjectType _ = ⊥
@@ -24,6 +24,7 @@ IsObjectType _ = ⊥
 -- a word's type: that of an integer or a pointer
 abbrev pub IsWordType : StaticType → Type 0
 IsWordType (Handle r) = ⊥
+IsWordType (Key r) = ⊥
 IsWordType (Struct tag rs) = ⊥
 IsWordType (Union tag rs) = ⊥
 IsWordType t = IsObjectType t

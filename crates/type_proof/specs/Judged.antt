@@ -1,5 +1,4 @@
--- Which statements of integers, pointers, unique ones too, structs, unions, arrays, strings and lexical regions are in order: the judgement of each of their
--- expressions, where it stands.
+-- Which statements are in order, of the whole language: the judgement of each of their expressions, where it stands.
 use Rattle.std.specs.Prelude.{◌≡◌, ℕ, Bool, true, false, ◌||◌, ◌&&◌, Some, None, List, [], ◌∷◌}
 use Rattle.cyc_tree.specs.Operands.{ExpressionHasOperands}
 use Rattle.cyc_tree.specs.Tree as tree
@@ -10,22 +9,22 @@ use Rattle.source_typing.specs.Converts.{Converts}
 use Rattle.source_typing.specs.Declarations.{declare, with_region}
 use Rattle.source_typing.specs.Exchanges.{acts, exchangeable}
 use Rattle.source_typing.specs.Expressions.{judge}
-use Rattle.source_typing.specs.Regions.{Region, with_name, with_scope}
+use Rattle.source_typing.specs.Regions.{Region, opened, with_name, with_scope}
 use Rattle.source_typing.specs.Places.{variable}
 use Rattle.source_typing.specs.Scope.{Env, Value, block_entered, meant, next_region}
 use Rattle.source_typing.specs.Statements.{Chosen, chosen, clauses_fit, clause_scope, in_a_loop, in_a_switch}
 use Rattle.source_typing.specs.Tables.{What, Stored, Arrayed, Part, argument, has_beginning, part_in, parts_in}
-use Rattle.source_typing.specs.Taken.{Taken, taken, with_filled}
-use Rattle.source_typing.specs.Types.{StaticType, Void, Handle, Thin, Union, Unique, is_testable, renamed, shape_of}
+use Rattle.source_typing.specs.Taken.{Taken, taken, whole}
+use Rattle.source_typing.specs.Types.{StaticType, Void, Handle, Key, Thin, Union, Unique, is_testable, renamed, shape_of}
 use Rattle.source_typing.specs.Ways.{ways_of, ways_of_items}
 use Rattle.source_typing.specs.Verdicts.{Of}
 use Rattle.type_proof.specs.Entries.{IsObjectType}
 use Rattle.type_proof.specs.Members.{HasStructMembers}
 use Rattle.source_typing.specs.Named.{TypeBelow}
 
--- the forms that safety is proved of so far, which may be more than a program is accepted with
+-- the forms that safety is proved of, which are all, and may be more than a program is accepted with
 abbrev pub safe_forms : Taken
-safe_forms = record with_filled { unions = true; unique = true }
+safe_forms = whole
 
 -- an expression of these forms that is in order, and what it is
 pub record Accepted (g : Env) (e : Expression) : Type 0 where
@@ -102,13 +101,30 @@ pub record AliasOpened (g : Env) (at : ℕ) (r : tree.RegionName) (of : TypeName
   pub shape : settled_by (written of) (shape_of (Unique operand.nullable operand.to)) ≡ shape_of (Thin operand.nullable (next_region g) operand.to)
   pub scope : (declare g (tree.Alias at r of x p)).scope ≡ extended (with_region r (with_name true) g) x (Thin operand.nullable (next_region g) operand.to)
 
+-- a name that is of a key
+pub record KeyOperand (g : Env) (x : tree.Name) : Type 0 where
+  pub value : Value
+  pub judged : variable x.at (meant g x.text) ≡ Of value
+  pub region : Region
+  pub is : value.type ≡ Key region
+
+-- a dynamic region, whose name and key are in scope from here on; the region is closed
+abbrev pub KeyDeclared : Env → ℕ → tree.RegionName → tree.Name → Type 0
+KeyDeclared g at r x = ((declare g (tree.NewKey at r x)).scope ≡ extended (with_region r (with_name false) g) x (Key (next_region g)))
+
+-- a key's region, which is live from here on, and its handle
+pub record KeyOpened (g : Env) (at : ℕ) (r : tree.RegionName) (x k : tree.Name) : Type 0 where
+  pub operand : KeyOperand g k
+  pub scope : (declare g (tree.Open at r x k)).scope ≡ extended (record g { regions = opened operand.region g.regions }) x (Handle operand.region)
+
 abbrev pub DeclarationJudged : Env → tree.Declaration → Type 0
 DeclarationJudged g (tree.Local of x Initializer.Unset) = LocalUnset g of x
 DeclarationJudged g (tree.Local of x (Initializer.Elements count)) = LocalArray g of x count
 DeclarationJudged g (tree.Local of x (Initializer.Value e)) = LocalSet g of x e
 DeclarationJudged g (tree.Region at r x) = RegionOpened g at r x
 DeclarationJudged g (tree.Alias at r of x p) = AliasOpened g at r of x p
-DeclarationJudged g _ = ⊥
+DeclarationJudged g (tree.NewKey at r x) = KeyDeclared g at r x
+DeclarationJudged g (tree.Open at r x k) = KeyOpened g at r x k
 
 -- a result that converts to the type that the function gives
 pub record Returned (g : Env) (e : Expression) : Type 0 where
@@ -170,7 +186,7 @@ abbrev mutual
   StatementJudged g reached (Statement.Return at (Some e)) = Returned g e
   StatementJudged g reached (Statement.Exchange a b) = Exchanging g a b
   StatementJudged g reached (Statement.FreeUnique at p) = UniqueOperand g p
-  StatementJudged g reached _ = ⊥
+  StatementJudged g reached (Statement.FreeKey at k) = KeyOperand g k
 
   pub ItemsJudged : Env → Bool → BlockItems → Type 0
   ItemsJudged g reached NoItems = Unit {0}

@@ -1,5 +1,4 @@
--- Which programs of integers, pointers, unique ones too, structs, unions, arrays, strings and regions are in order: their structs, unions, globals, functions
--- and `main`, by what their names mean.
+-- Which programs are in order: their structs, unions, globals, functions and `main`, by what their names mean.
 use Rattle.std.specs.Prelude.{◌≡◌, ℕ, true, false, ◌⊎◌, Some, List, [], ◌∷◌, codes}
 use Rattle.cyc_tree.specs.Tree as tree
 use Rattle.cyc_tree.specs.Tree.{Constant, Initial, Item, Program}
@@ -14,7 +13,7 @@ use Rattle.source_typing.specs.Regions.{Region, TheHeap, entry_regions}
 use Rattle.source_typing.specs.Scope.{Env, InRegion, block_entered}
 use Rattle.source_typing.specs.Tables as typing
 use Rattle.source_typing.specs.Tables.{OfValue, OfFunction, Stored, Arrayed, Signature, find, has_beginning}
-use Rattle.source_typing.specs.Types.{StaticType, Int, Void, Thin, Fat, Unique, Handle, Struct, Union, shape_of}
+use Rattle.source_typing.specs.Types.{StaticType, Int, Void, Thin, Fat, Unique, Handle, Key, Struct, Union, shape_of}
 use Rattle.source_typing.specs.Ways.{ways_of_items}
 use Rattle.type_proof.specs.Entries.{IsObjectType, Function, PlainTables}
 use Rattle.type_proof.specs.Judged.{extended, ItemsJudged}
@@ -74,12 +73,13 @@ IsNullConstant (Constant.Null at) = Unit {0}
 IsNullConstant c = ⊥
 
 -- the first value of a global of a type: a pointer's is `NULL` or a string, a unique pointer's is `NULL`, and an integer's is a number; there is none of a
--- handle, a struct or a union
+-- handle, a key, a struct or a union
 abbrev pub IsFirst : StaticType → Constant → Type 0
 IsFirst (Thin n r t) c = IsPointerConstant (shape_of t) c
 IsFirst (Fat r t) c = IsPointerConstant (shape_of t) c
 IsFirst (Unique n t) c = IsNullConstant c
 IsFirst (Handle r) c = ⊥
+IsFirst (Key r) c = ⊥
 IsFirst (Struct tag rs) c = ⊥
 IsFirst (Union tag rs) c = ⊥
 IsFirst t c = IsNumber c
@@ -130,7 +130,7 @@ pub record MainFound (world : World) (tables : typing.Tables) : Type 0 where
   pub types : function.types ≡ []
   pub gives : function.gives ≡ Int
 
--- A program of integers, pointers, unique ones too, structs, unions, arrays, strings and regions in which nothing is at fault, by these tables of its names.
+-- A program in which nothing is at fault, by these tables of its names.
 pub record ProgramJudged (p : Program) (tables : typing.Tables) : Type 0 where
   pub structs : StructsJudged (world_of p) tables
   pub unions : UnionsJudged (world_of p) tables

@@ -2,8 +2,7 @@
 
 ghost use Rattle.type_proof.specs.Programs.{NeverStuck};
 
-/// A law, with nothing to run: a program of integers, pointers, unique ones too, structs, tagged
-/// unions, arrays, made ones too, strings, the heap and lexical regions that is in order is never
+/// A law, with nothing to run: a program that is in order, of any forms of the language, is never
 /// stuck, on any input and with any fuel.
 pub fn never_stuck()
     ensures { NeverStuck }

@@ -3,7 +3,7 @@
 use Rattle.std.proofs.Common.{◌≡◌, ◌<◌, ℕ, Bool, true, false, inl, inr, Some, None, List, [], ◌∷◌, refl, sym, ◌∙◌, ap, subst}
 use Rattle.std.specs.Prelude.{◌*◌, length}
 use Rattle.cyc_words.specs.declared.faults.Kind.TheVariants.{NullException}
-use Rattle.source_meaning.specs.Shapes.{Shared, Alone, Shape, ThinShape, FatShape, HandleShape, StructShape, UnionShape}
+use Rattle.source_meaning.specs.Shapes.{Shared, Alone, Shape, ThinShape, FatShape, HandleShape, KeyShape, StructShape, UnionShape}
 use Rattle.source_meaning.specs.Memory as memory
 use Rattle.source_meaning.specs.Memory.{Region, Spot, Span, Scalar, Memory, beyond}
 use Rattle.source_meaning.specs.Steps.{World, Act, ◌>>=◌, ◌>>◌, give, check}
@@ -272,6 +272,17 @@ module _ {B : Type 0} (n : ℕ) (d : Tables) (world : World) (f : NameOf → Reg
       subst (λ (y : Scalar). Runs n (converted world HandleShape HandleShape (y ∷ []) >>= h) m Q) (sym x.0.is)
       (record { by = λ next p. (go (memory.HandleOf x.0.birth ∷ []) typed).by next p })
 
+  -- so does a key, with its right
+  key_goes : (r : NameOf) (vs : List Scalar) → HaveTypes d w holder vs (cells_type d f (Key r)) → Going (Key r)
+      → Runs n (converted world KeyShape KeyShape vs >>= h) m Q
+  key_goes r [] x go = absurd x
+  key_goes r (v ∷ u ∷ us) x go = absurd x.1
+  key_goes r (v ∷ []) x go =
+      let typed : HaveTypes d w holder (memory.KeyOf x.0.birth ∷ []) (cells_type d f (Key r)) =
+      subst (λ (y : Scalar). HaveTypes d w holder (y ∷ []) (cells_type d f (Key r))) x.0.is x in
+      subst (λ (y : Scalar). Runs n (converted world KeyShape KeyShape (y ∷ []) >>= h) m Q) (sym x.0.is)
+      (record { by = λ next p. (go (memory.KeyOf x.0.birth ∷ []) typed).by next p })
+
   same_goes : (t : StaticType) (vs : List Scalar) → IsObjectType t → HaveTypes d w holder vs (cells_type d f t) → Going t
       → Runs n (converted world (shape_of t) (shape_of t) vs >>= h) m Q
   same_goes Int vs e x go = integer_goes Int Int vs refl refl x go
@@ -283,7 +294,7 @@ module _ {B : Type 0} (n : ℕ) (d : Tables) (world : World) (f : NameOf → Reg
   same_goes (Fat r t) vs e x go = fat_goes r r t vs e (λ at z. z) x go
   same_goes (Unique a t) vs e x go = unique_goes a a t vs e x go
   same_goes (Handle r) vs e x go = handle_goes r vs x go
-  same_goes (Key r) vs e x go = absurd e
+  same_goes (Key r) vs e x go = key_goes r vs x go
   same_goes (Struct tag rs) vs e x go = struct_goes tag rs vs x go
   same_goes (Union tag rs) vs e x go = union_goes tag rs vs x go
 

@@ -1,5 +1,4 @@
--- Each expression of integers, pointers, unique ones too, structs, unions, arrays, strings and regions that is in order runs safely and gives a value of its
--- type.
+-- Each expression that is in order runs safely and gives a value of its type.
 use Rattle.std.proofs.Common.{◌≡◌, ℕ, Bool, true, false, ◌⊎◌, inl, List, [], ◌∷◌, refl, sym, ap, subst, ◌≤◌}
 use Rattle.std.specs.Prelude.{◌&&◌, not, length, nat_lt}
 use Rattle.cyc_tree.specs.Operands.{ExpressionHasOperands, AllHaveOperands, LinksHaveOperands, SuffixesHaveOperands, MadeHasOperands}

@@ -39,7 +39,7 @@ object_below n rs (Thin c r t) e h = (argument_below n rs r h, object_below n rs
 object_below n rs (Fat r t) e h = (argument_below n rs r h, object_below n rs t e h)
 object_below n rs (Unique c t) e h = object_below n rs t e h
 object_below n rs (Handle r) e h = argument_below n rs r h
-object_below n rs (Key r) e h = absurd e
+object_below n rs (Key r) e h = argument_below n rs r h
 object_below n rs (Struct tag qs) e h = arguments_below n rs qs h
 object_below n rs (Union tag qs) e h = arguments_below n rs qs h
 
@@ -53,7 +53,7 @@ plain_below n rs (Thin c r t) e h = object_below n rs (Thin c r t) e h
 plain_below n rs (Fat r t) e h = object_below n rs (Fat r t) e h
 plain_below n rs (Unique c t) e h = object_below n rs (Unique c t) e h
 plain_below n rs (Handle r) e h = object_below n rs (Handle r) e h
-plain_below n rs (Key r) e h = absurd e
+plain_below n rs (Key r) e h = object_below n rs (Key r) e h
 plain_below n rs (Struct tag qs) e h = object_below n rs (Struct tag qs) e h
 plain_below n rs (Union tag qs) e h = object_below n rs (Union tag qs) e h
 
@@ -171,6 +171,22 @@ handle_below n at r (Some (Key q)) h = tt
 handle_below n at r (Some (Struct tag rs)) h = tt
 handle_below n at r (Some (Union tag rs)) h = tt
 
+-- and so does a key's
+key_below : (n at : ℕ) (r : NameOf) (u : Option StaticType) → PartBelow n u → FitsBelow n (fits_of at (Key r) u)
+key_below n at r None h = tt
+key_below n at r (Some Int) h = tt
+key_below n at r (Some Unsigned) h = tt
+key_below n at r (Some Char) h = tt
+key_below n at r (Some Void) h = tt
+key_below n at r (Some Null) h = tt
+key_below n at r (Some (Thin c q t)) h = tt
+key_below n at r (Some (Fat q t)) h = tt
+key_below n at r (Some (Unique c t)) h = tt
+key_below n at r (Some (Handle q)) h = tt
+key_below n at r (Some (Key q)) h = (h, tt)
+key_below n at r (Some (Struct tag rs)) h = tt
+key_below n at r (Some (Union tag rs)) h = tt
+
 fits_below : (n at : ℕ) (t : StaticType) (u : Option StaticType) → IsObjectType t → PartBelow n u → FitsBelow n (fits_of at t u)
 fits_below n at Int u e h = tt
 fits_below n at Unsigned u e h = tt
@@ -185,7 +201,7 @@ fits_below n at (Fat r t) u e h =
     (outer_below n u h, tt)
 fits_below n at (Unique c t) u e h = fits_below n at t (pointee_of u) e (pointee_below n u h)
 fits_below n at (Handle r) u e h = handle_below n at r u h
-fits_below n at (Key r) u e h = absurd e
+fits_below n at (Key r) u e h = key_below n at r u h
 fits_below n at (Struct tag rs) u e h = fit_below n at rs (arguments_of false tag u) (same_below n tag u h)
 fits_below n at (Union tag rs) u e h = fit_below n at rs (arguments_of true tag u) (union_below n tag u h)
 

@@ -11,7 +11,7 @@ use Rattle.source_typing.specs.Verdicts.{Of, Verdict, other_kind}
 use Rattle.source_typing.specs.Places as places
 use Rattle.source_typing.specs.Places.{variable}
 use Rattle.cyc_tree.specs.Tree as tree
-use Rattle.source_typing.specs.Scope.{Env, Local, Value, Seat, Nowhere, In, value, meant, find_local, with_locals, is_place}
+use Rattle.source_typing.specs.Scope.{Env, Local, Value, Seat, Nowhere, In, meant, find_local, with_locals, is_place}
 use Rattle.source_typing.specs.Tables as typing
 use Rattle.source_typing.specs.Tables.{Entry, What, find, is_copyable, OfValue, OfTag, OfFunction, OfBuiltin, OfOther, Stored, Arrayed, Counter, Unknown}
 use Rattle.source_typing.specs.Types.{StaticType, Int, Unsigned, Char, Void, Null, Fat, integer_type, shape_of}

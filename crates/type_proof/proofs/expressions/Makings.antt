@@ -50,7 +50,7 @@ makeable_object (Thin n r t) p e = p
 makeable_object (Fat r t) p e = p
 makeable_object (Unique n t) p e = p
 makeable_object (Handle r) p e = tt
-makeable_object (Key r) p e = absurd p
+makeable_object (Key r) p e = absurd cc
 makeable_object (Struct tag rs) p e = p
 makeable_object (Union tag rs) p e = p
 

@@ -60,7 +60,7 @@ module _ (n : ℕ) (d : Tables) (g : Env) (scope : Scope) (f : NameOf → Region
   variable_sense (Fat r t) at e = refl
   variable_sense (Unique c t) at e = refl
   variable_sense (Handle r) at e = refl
-  variable_sense (Key r) at e = absurd e
+  variable_sense (Key r) at e = refl
   variable_sense (Struct tag rs) at e = refl
   variable_sense (Union tag rs) at e = refl
 
@@ -150,7 +150,7 @@ module _ (n : ℕ) (d : Tables) (g : Env) (scope : Scope) (f : NameOf → Region
   given_typed (Fat r t) vs w w' by e z h = values_copied d w w' by by vs (cells_type d f (Fat r t)) z (refl, tt) h
   given_typed (Unique c t) vs w w' by e z h = tt
   given_typed (Handle r) vs w w' by e z h = values_copied d w w' by by vs (cells_type d f (Handle r)) z (refl, tt) h
-  given_typed (Key r) vs w w' by e z h = absurd e
+  given_typed (Key r) vs w w' by e z h = tt
   given_typed (Struct tag rs) vs w w' by e z h = tt
   given_typed (Union tag rs) vs w w' by e z h = tt
 

@@ -46,7 +46,7 @@ testable_word (Thin n r t) p e = p
 testable_word (Fat r t) p e = p
 testable_word (Unique n t) p e = p
 testable_word (Handle r) p e = absurd cc
-testable_word (Key r) p e = absurd p
+testable_word (Key r) p e = absurd cc
 testable_word (Struct tag rs) p e = absurd cc
 testable_word (Union tag rs) p e = absurd cc
 
@@ -84,14 +84,14 @@ compared_seat g at (Thin n r t) (Thin m s u) v p q e = thin_seat g at (is_same t
 compared_seat g at (Thin n r t) (Fat s u) v p q e = null_seat false at v e
 compared_seat g at (Thin n r t) (Unique m u) v p q e = null_seat false at v e
 compared_seat g at (Thin n r t) (Handle s) v p q e = null_seat false at v e
-compared_seat g at (Thin n r t) (Key s) v p q e = absurd q
+compared_seat g at (Thin n r t) (Key s) v p q e = null_seat false at v e
 compared_seat g at (Thin n r t) (Struct tag rs) v p q e = null_seat false at v e
 compared_seat g at (Thin n r t) (Union tag rs) v p q e = null_seat false at v e
 compared_seat g at (Fat r t) b v p q e = null_seat ((is_pointer (Fat r t) && is_null b) || (is_null (Fat r t) && is_pointer b)) at v e
 compared_seat g at (Unique n t) b v p q e =
     null_seat ((is_pointer (Unique n t) && is_null b) || (is_null (Unique n t) && is_pointer b)) at v e
 compared_seat g at (Handle r) b v p q e = null_seat ((is_pointer (Handle r) && is_null b) || (is_null (Handle r) && is_pointer b)) at v e
-compared_seat g at (Key r) b v p q e = absurd p
+compared_seat g at (Key r) b v p q e = null_seat ((is_pointer (Key r) && is_null b) || (is_null (Key r) && is_pointer b)) at v e
 compared_seat g at (Struct tag rs) b v p q e =
     null_seat ((is_pointer (Struct tag rs) && is_null b) || (is_null (Struct tag rs) && is_pointer b)) at v e
 compared_seat g at (Union tag rs) b v p q e =
@@ -121,7 +121,7 @@ applied_seat g o at (Thin n r t) b v p q e = joined_seat (is_integer (Thin n r t
 applied_seat g o at (Fat r t) b v p q e = moved_seat (is_move o && is_integer b) g o at r t b v p q e
 applied_seat g o at (Unique n t) b v p q e = joined_seat (is_integer (Unique n t) && is_integer b) g o at (Unique n t) b v p q e
 applied_seat g o at (Handle r) b v p q e = joined_seat (is_integer (Handle r) && is_integer b) g o at (Handle r) b v p q e
-applied_seat g o at (Key r) b v p q e = absurd p
+applied_seat g o at (Key r) b v p q e = joined_seat (is_integer (Key r) && is_integer b) g o at (Key r) b v p q e
 applied_seat g o at (Struct tag rs) b v p q e = joined_seat (is_integer (Struct tag rs) && is_integer b) g o at (Struct tag rs) b v p q e
 applied_seat g o at (Union tag rs) b v p q e = joined_seat (is_integer (Union tag rs) && is_integer b) g o at (Union tag rs) b v p q e
 
@@ -130,11 +130,12 @@ pub fitted : (b : Bool) (at place : ℕ) (t : StaticType) (v : Value) → after 
 fitted true at place t v e = (refl, value_of place t v e)
 fitted false at place t v e = absurd cc
 
--- what an assignment gives: the stored value, but of a struct, a union or a unique pointer nothing
+-- what an assignment gives: the stored value, but of a struct, a union, a unique pointer or a key nothing
 abbrev pub given_type : StaticType → StaticType
 given_type (Struct tag rs) = Void
 given_type (Union tag rs) = Void
 given_type (Unique n t) = Void
+given_type (Key r) = Void
 given_type t = t
 
 pub assigned_object : (g : Env) (t : StaticType) → IsObjectType t → assigned_type g t ≡ given_type t
@@ -147,7 +148,7 @@ assigned_object g (Thin n r t) e = refl
 assigned_object g (Fat r t) e = refl
 assigned_object g (Unique n t) e = refl
 assigned_object g (Handle r) e = refl
-assigned_object g (Key r) e = absurd e
+assigned_object g (Key r) e = refl
 assigned_object g (Struct tag rs) e = refl
 assigned_object g (Union tag rs) e = refl
 
@@ -161,7 +162,7 @@ given_simple (Thin n r t) e = e
 given_simple (Fat r t) e = e
 given_simple (Unique n t) e = tt
 given_simple (Handle r) e = tt
-given_simple (Key r) e = absurd e
+given_simple (Key r) e = tt
 given_simple (Struct tag rs) e = tt
 given_simple (Union tag rs) e = tt
 
@@ -175,7 +176,7 @@ given_below n (Thin c r t) e h = h
 given_below n (Fat r t) e h = h
 given_below n (Unique c t) e h = tt
 given_below n (Handle r) e h = h
-given_below n (Key r) e h = absurd e
+given_below n (Key r) e h = tt
 given_below n (Struct tag rs) e h = tt
 given_below n (Union tag rs) e h = tt
 
@@ -189,7 +190,7 @@ given_shaped (Thin c r t) s e h n = h
 given_shaped (Fat r t) s e h n = h
 given_shaped (Unique c t) s e h n = absurd (n refl)
 given_shaped (Handle r) s e h n = h
-given_shaped (Key r) s e h n = absurd e
+given_shaped (Key r) s e h n = absurd (n refl)
 given_shaped (Struct tag rs) s e h n = absurd (n refl)
 given_shaped (Union tag rs) s e h n = absurd (n refl)
 
@@ -277,7 +278,7 @@ contents_is g at (Fat r t) v p e =
 contents_is g at (Unique n t) v p e =
     record { seat = InBlock; to = t; is = IsUnique; live = tt; value_is = of_is (record { at = at; type = t; seat = InBlock }) v e }
 contents_is g at (Handle r) v p e = absurd cc
-contents_is g at (Key r) v p e = absurd p
+contents_is g at (Key r) v p e = absurd cc
 contents_is g at (Struct tag rs) v p e = absurd cc
 contents_is g at (Union tag rs) v p e = absurd cc
 

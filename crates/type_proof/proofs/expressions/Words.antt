@@ -29,7 +29,7 @@ object_simple (Thin n r t) e = e
 object_simple (Fat r t) e = e
 object_simple (Unique n t) e = e
 object_simple (Handle r) e = tt
-object_simple (Key r) e = absurd e
+object_simple (Key r) e = tt
 object_simple (Struct tag rs) e = e
 object_simple (Union tag rs) e = e
 
@@ -43,7 +43,7 @@ plain_simple (Thin n r t) e = e
 plain_simple (Fat r t) e = e
 plain_simple (Unique n t) e = e
 plain_simple (Handle r) e = tt
-plain_simple (Key r) e = absurd e
+plain_simple (Key r) e = tt
 plain_simple (Struct tag rs) e = e
 plain_simple (Union tag rs) e = e
 
@@ -91,7 +91,7 @@ object_renamed h (Thin n r t) e = object_renamed h t e
 object_renamed h (Fat r t) e = object_renamed h t e
 object_renamed h (Unique n t) e = object_renamed h t e
 object_renamed h (Handle r) e = tt
-object_renamed h (Key r) e = absurd e
+object_renamed h (Key r) e = tt
 object_renamed h (Struct tag rs) e = tt
 object_renamed h (Union tag rs) e = tt
 
@@ -105,7 +105,7 @@ plain_renamed h (Thin n r t) e = object_renamed h t e
 plain_renamed h (Fat r t) e = object_renamed h t e
 plain_renamed h (Unique n t) e = object_renamed h t e
 plain_renamed h (Handle r) e = tt
-plain_renamed h (Key r) e = absurd e
+plain_renamed h (Key r) e = tt
 plain_renamed h (Struct tag rs) e = tt
 plain_renamed h (Union tag rs) e = tt
 
@@ -124,7 +124,7 @@ object_twice f h (Thin n r t) e = ap (Thin n (f (h r))) (object_twice f h t e)
 object_twice f h (Fat r t) e = ap (Fat (f (h r))) (object_twice f h t e)
 object_twice f h (Unique n t) e = ap (Unique n) (object_twice f h t e)
 object_twice f h (Handle r) e = refl
-object_twice f h (Key r) e = absurd e
+object_twice f h (Key r) e = refl
 object_twice f h (Struct tag rs) e = ap (Struct tag) (map_twice f h rs)
 object_twice f h (Union tag rs) e = ap (Union tag) (map_twice f h rs)
 
@@ -138,7 +138,7 @@ plain_twice f h (Thin n r t) e = object_twice f h (Thin n r t) e
 plain_twice f h (Fat r t) e = object_twice f h (Fat r t) e
 plain_twice f h (Unique n t) e = object_twice f h (Unique n t) e
 plain_twice f h (Handle r) e = refl
-plain_twice f h (Key r) e = absurd e
+plain_twice f h (Key r) e = refl
 plain_twice f h (Struct tag rs) e = ap (Struct tag) (map_twice f h rs)
 plain_twice f h (Union tag rs) e = ap (Union tag) (map_twice f h rs)
 
@@ -155,7 +155,7 @@ shape_itself (Fat r t) e = shape_itself t e
 shape_itself (Unique true t) e = shape_itself t e
 shape_itself (Unique false t) e = shape_itself t e
 shape_itself (Handle r) e = refl
-shape_itself (Key r) e = absurd e
+shape_itself (Key r) e = refl
 shape_itself (Struct tag rs) e = same_text tag
 shape_itself (Union tag rs) e = same_text tag
 

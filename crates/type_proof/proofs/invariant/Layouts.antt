@@ -243,7 +243,7 @@ module _ (tables : typing.Tables) where
   type_begins ds each n f (Fat r t) o l e = (record { value = memory.Wide None; first = refl; typed = λ d w by. inl refl }, tt)
   type_begins ds each n f (Unique c t) o l e = (unique_begins c (renamed f t) e, tt)
   type_begins ds each n f (Handle r) o l e = absurd (false≢true e)
-  type_begins ds each n f (Key r) o l e = absurd o
+  type_begins ds each n f (Key r) o l e = absurd (false≢true e)
   type_begins ds each zero f (Struct tag rs) o l e = no_cells ds tag (map f rs) l
   type_begins ds each (suc n) f (Struct tag rs) o l e = each n tag (map f rs) l e
   type_begins ds each n f (Union tag rs) o l e = absurd (false≢true e)

@@ -1,13 +1,13 @@
--- The names of aliases.
+-- The names of aliases and keys.
 use Rattle.std.proofs.Common.{◌≡◌, ◌+◌, Bool, true, false, inl, inr, sym, subst, ℕ}
 use Rattle.std.specs.Prelude.{if◌then◌else◌}
 use Rattle.std.proofs.lemmas.Bool.{cases_Bool, false≢true}
 use Rattle.source_meaning.specs.Memory.{Region, Live, Memory}
-use Rattle.source_typing.specs.Regions.{TheHeap, Level, same_id, Regions, with_name}
+use Rattle.source_typing.specs.Regions.{TheHeap, Level, same_id, Regions, opened, with_name}
 use Rattle.type_proof.specs.Flat.{Tables}
 use Rattle.type_proof.proofs.invariant.Facts.{if_cases}
 use Rattle.type_proof.proofs.invariant.Invariant.{heap, Ghost, Known, Inv}
-use Rattle.type_proof.proofs.invariant.Names.{NameOf, NamesOk, Below, Stands, Outlasts, naming, below_up, below_more, new_below, named_cases}
+use Rattle.type_proof.proofs.invariant.Names.{NameOf, NamesOk, Below, Stands, Outlasts, naming, below_up, below_more, new_below, named_cases, same_only}
 
 -- a name for a region that is there: only the heap outlives it
 pub names_named : (d : Tables) (g : Regions) (f : NameOf → Region) (k : ℕ) (w : Ghost) (m : Memory) (q : Region) (live : Bool) → Inv d w m → Known m q
@@ -63,3 +63,19 @@ names_named d g f k w m q live i born lives stays h = record {
       | inr e ↦ (λ v. subst (λ (z : Bool). w.above (if z then q else f a) (f b) ≡ true) (sym e)
           (h.order a b (subst (λ (z : Bool). (if z then false else g.order a b) ≡ true) e v)))
     ]
+
+-- a key's region is live while it is open
+pub names_opened : (g : Regions) (f : NameOf → Region) (k : ℕ) (w : Ghost) (m : Memory) (r : NameOf) → Below g.count r → m.state (f r) ≡ Live
+    → Stands k (w.owner (f r)) → NamesOk g f k w m → NamesOk (opened r g) f k w m
+names_opened g f k w m r below l s h = record {
+  heap_is = h.heap_is;
+  known = h.known;
+  lasting = h.lasting;
+  order = h.order;
+  bounded = λ a. if_cases (same_id a r) true (g.live a) (λ z. z ≡ true → Below g.count a)
+      (λ e v. subst (λ (x : NameOf). Below g.count x) (sym (same_only a r e)) below) (λ e v. h.bounded a v);
+  live = λ a. if_cases (same_id a r) true (g.live a) (λ z. z ≡ true → m.state (f a) ≡ Live)
+      (λ e v. subst (λ (x : NameOf). m.state (f x) ≡ Live) (sym (same_only a r e)) l) (λ e v. h.live a v);
+  stands = λ a. if_cases (same_id a r) true (g.live a) (λ z. z ≡ true → Stands k (w.owner (f a)))
+      (λ e v. subst (λ (x : NameOf). Stands k (w.owner (f x))) (sym (same_only a r e)) s) (λ e v. h.stands a v);
+}

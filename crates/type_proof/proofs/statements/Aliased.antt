@@ -26,7 +26,7 @@ use Rattle.type_proof.proofs.invariant.Alikes.{TypeBelow, cells_type, renamed_al
 use Rattle.type_proof.proofs.invariant.Invariant.{RunType, Owner, InCell, Flying, Nobody, Private, Ghost, HasType, CellOk, Inv}
 use Rattle.type_proof.proofs.invariant.Runs.{Safe, Runs}
 use Rattle.type_proof.proofs.invariant.After.{After}
-use Rattle.type_proof.proofs.invariant.Cells.{cell, seen, runs_read}
+use Rattle.type_proof.proofs.invariant.Cells.{seen, runs_read}
 use Rattle.type_proof.proofs.invariant.Names.{NameOf, naming}
 use Rattle.type_proof.proofs.invariant.Objects.{runs_made}
 use Rattle.type_proof.proofs.invariant.Received.{kept_as, kept_type}

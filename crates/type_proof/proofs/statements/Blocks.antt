@@ -3,7 +3,7 @@ use Rattle.std.proofs.Common.{◌≡◌, ℕ, Bool, true, false, ◌⊎◌, inl,
 use Rattle.std.specs.Prelude.{length, ◌++◌}
 use Rattle.cyc_tree.specs.Tree as tree
 use Rattle.cyc_tree.specs.Tree.{Expression, Initializer, Statement, BlockItems, NoItems, Declare, Execute, Clauses, NoClauses, MoreClauses, Case, Default}
-use Rattle.source_meaning.specs.Shapes.{ArrayShape, HandleShape}
+use Rattle.source_meaning.specs.Shapes.{ArrayShape, HandleShape, KeyShape}
 use Rattle.source_meaning.specs.Memory.{Region, Frame, Born, Memory}
 use Rattle.source_meaning.specs.Steps.{Variable, World, Scope, Flow, Act, Falls, Breaks, Continues, Returns, give, take_turn}
 use Rattle.source_meaning.specs.Places.{or_else, with_binding}
@@ -13,13 +13,13 @@ use Rattle.source_meaning.specs.Expressions.{sense}
 use Rattle.source_meaning.specs.Statements.{statement, block_items}
 use Rattle.source_typing.specs.Scope.{Env, Value, block_entered, next_region}
 use Rattle.source_typing.specs.Tables as typing
-use Rattle.source_typing.specs.Types.{StaticType, Void, Handle, Thin, Union, renamed, shape_of}
+use Rattle.source_typing.specs.Types.{StaticType, Void, Handle, Key, Thin, Union, renamed, shape_of}
 use Rattle.source_typing.specs.Flow.{use_of}
 use Rattle.source_typing.specs.Left.{left, declares, turn_of, back_of, left_by, left_by_items, left_by_clauses, switched_left}
 use Rattle.source_typing.specs.States.{States, loop_head}
 use Rattle.source_typing.specs.Statements.{Chosen, chosen, in_a_loop, in_a_switch}
 use Rattle.type_proof.specs.Flat.{Tables}
-use Rattle.type_proof.specs.Judged.{AliasOpened, extended, arrayed, LocalUnset, LocalArray, LocalSet, StatementJudged, ItemsJudged, ClausesJudged, on_union}
+use Rattle.type_proof.specs.Judged.{AliasOpened, KeyOpened, extended, arrayed, LocalUnset, LocalArray, LocalSet, StatementJudged, ItemsJudged, ClausesJudged, on_union}
 use Rattle.type_proof.proofs.invariant.Invariant.{RunType, Ghost, Inv}
 use Rattle.type_proof.proofs.invariant.Growth.{grows_refl}
 use Rattle.type_proof.proofs.invariant.Names.{NameOf, naming}
@@ -41,9 +41,11 @@ use Rattle.flow_summaries.proofs.Expressions.{uses_told}
 use Rattle.flow_summaries.proofs.Statements.{exits_told, items_told}
 use Rattle.type_proof.proofs.statements.Declared.{leaves_unset, leaves_array, leaves_set, leaves_region}
 use Rattle.type_proof.proofs.statements.Exchanged.{leaves_exchange}
-use Rattle.type_proof.proofs.statements.Freed.{leaves_free}
+use Rattle.type_proof.proofs.statements.Freed.{leaves_free, leaves_free_key}
 use Rattle.type_proof.proofs.statements.Aliased.{leaves_alias}
-use Rattle.type_proof.proofs.statements.AliasScope.{aliasing, surrounds_alias, with_name_is}
+use Rattle.type_proof.proofs.statements.Keyed.{leaves_key}
+use Rattle.type_proof.proofs.statements.Opened.{leaves_open}
+use Rattle.type_proof.proofs.statements.AliasScope.{aliasing, opening, surrounds_alias, surrounds_name, surrounds_open, with_name_is, with_named, with_named_is}
 use Rattle.type_proof.proofs.statements.Switched.{HoldsMember, AllLeave, switch_leaves}
 use Rattle.type_proof.proofs.statements.Clauses.{case_here, default_here, its_clause, none_falls}
 use Rattle.type_proof.proofs.statements.Unreached.{falls_nowhere, clauses_fall_nowhere}
@@ -155,7 +157,8 @@ module _ (n : ℕ) (d : Tables) (world : World) (tables : typing.Tables) (invoke
       statement_leaves (Statement.Return at (Some e)) g scope f h j fs = leaves_return n d world tables invokes b gives at g scope f e h j fs
       statement_leaves (Statement.FreeUnique at p) g scope f h j fs =
           leaves_free n d gives g scope f b at p (agrees_here d world tables g scope f gives h) h.binds j
-      statement_leaves (Statement.FreeKey at p) g scope f h j fs = absurd j
+      statement_leaves (Statement.FreeKey at p) g scope f h j fs =
+          leaves_free_key n d gives g scope f b at p (agrees_here d world tables g scope f gives h) h.binds j
 
       pub items_leave : (items : BlockItems) (g : Env) (scope : Scope) (f : NameOf → Region) → Surrounds d world tables g scope f gives
           → ItemsJudged g true items
@@ -202,7 +205,17 @@ module _ (n : ℕ) (d : Tables) (world : World) (tables : typing.Tables) (invoke
           (naming f g.regions.count (Born a))
           (surrounds_local d world tables (lexical g (names_with r g)) scope (naming f g.regions.count (Born a)) x t at gives h1 tt (omega arith) there)
           (subst (λ (y : Env). ItemsJudged y true others) same j.1) fs))
-      items_leave (Declare (tree.Open at r x y) others) g scope f h j fs = absurd j.0
+      items_leave (Declare (tree.Open at r x y) others) g scope f h j fs =
+          let o : KeyOpened g at r x y = j.0 in
+          let q : NameOf = o.operand.region in
+          subst (λ (e : Env). Leaves n d gives g scope f b (λ s. declares g e (tree.Open at r x y) (λ q. left_by_items e others q) s)
+          (block_items (Declare (tree.Open at r x y) others) scope)) (sym o.scope)
+          (leaves_open n d world tables invokes b gives g scope f x y (left_by_items (extended (opening g q) x (Handle q)) others)
+          (block_items others) h at o.operand
+          (λ under l there.
+          items_leave others (extended (opening g q) x (Handle q)) (with_binding scope x.text (Variable HandleShape l)) f
+          (surrounds_local d world tables (opening g q) scope f x (Handle q) l gives (surrounds_open d world tables g scope f gives q h) tt under there)
+          (subst (λ (e : Env). ItemsJudged e true others) o.scope j.1) fs))
       items_leave (Declare (tree.Alias at r of x y) others) g scope f h j fs =
           let o : AliasOpened g at r of x y = j.0 in
           let t : StaticType = Thin o.operand.nullable (next_region g) o.operand.to in
@@ -216,7 +229,18 @@ module _ (n : ℕ) (d : Tables) (world : World) (tables : typing.Tables) (invoke
           (surrounds_local d world tables (aliasing g (names_with r g)) scope (naming f g.regions.count q) x t l gives
           (surrounds_alias d world tables g scope f gives (names_with r g) q h) it (omega arith, type_up g.regions.count o.operand.to under) there)
           (subst (λ (e : Env). ItemsJudged e true others) same j.1) fs))
-      items_leave (Declare (tree.NewKey at r x) others) g scope f h j fs = absurd j.0
+      items_leave (Declare (tree.NewKey at r x) others) g scope f h j fs =
+          let t : StaticType = Key (next_region g) in
+          let outside : Env = with_named false g (names_with r g) in
+          let same = j.0 ∙ ap (λ (y : Env). extended y x t) (with_named_is false r g) in
+          subst (λ (y : Env). Leaves n d gives g scope f b (λ s. declares g y (tree.NewKey at r x) (λ t. left_by_items y others t) s)
+          (block_items (Declare (tree.NewKey at r x) others) scope)) (sym same)
+          (leaves_key n d world tables invokes b gives g scope f (names_with r g) x (left_by_items (extended outside x t) others) (block_items others) h
+          (λ a at there.
+          items_leave others (extended outside x t) (with_binding scope x.text (Variable KeyShape at)) (naming f g.regions.count (Born a))
+          (surrounds_local d world tables outside scope (naming f g.regions.count (Born a)) x t at gives
+          (surrounds_name false d world tables g scope f gives (names_with r g) (Born a) h) tt (omega arith) there)
+          (subst (λ (y : Env). ItemsJudged y true others) same j.1) fs))
       items_leave (Execute s others) g scope f h j fs =
           leaves_then n d gives g scope f b (left_by g s) (left_by_items g others) (exits_of g s) (exits_of_items g others) (statement s scope)
           (block_items others scope)

@@ -45,7 +45,7 @@ use Rattle.type_proof.proofs.statements.Surroundings.{Surrounds}
 
 -- ---- what the rules say
 
-all_five : (a b c d e : Bool) → a && b && c && d && e ≡ true → (a ≡ true) × (b ≡ true) × (c ≡ true) × (d ≡ true) × (e ≡ true)
+pub all_five : (a b c d e : Bool) → a && b && c && d && e ≡ true → (a ≡ true) × (b ≡ true) × (c ≡ true) × (d ≡ true) × (e ≡ true)
 all_five true true true true true h = (refl, refl, refl, refl, refl)
 all_five false b c d e h = absurd cc
 all_five true false c d e h = absurd cc
@@ -53,7 +53,7 @@ all_five true true false d e h = absurd cc
 all_five true true true false e h = absurd cc
 all_five true true true true false h = absurd cc
 
-same_is : (t u : StaticType) → is_same t u ≡ true → t ≡ u
+pub same_is : (t u : StaticType) → is_same t u ≡ true → t ≡ u
 same_is t u e = compare_is t u (by (compare t u) e)
   where
     by : (c : Match) → are_equal c ≡ true → c ≡ Equals

@@ -1,4 +1,4 @@
--- An alias: the pointer's local is lent to the end of the block, and held again then, on each way out.
+-- Aliases and opened keys: the local is lent to the end of the block, and held again then, on each way out.
 use Rattle.std.proofs.Common.{◌≡◌, ℕ, suc, Bool, true, ◌⊎◌, inl, inr, Option, Some, None, List, [], ◌∷◌, ◌++◌, refl, sym, ◌∙◌, ap, subst, arith}
 use Rattle.std.specs.Prelude.{option_map}
 use Rattle.cyc_tree.specs.Tree as tree
@@ -10,7 +10,7 @@ use Rattle.source_typing.specs.Left.{Left, on_ways, if_lent, lent_to, lending}
 use Rattle.source_typing.specs.Scope.{Env, Local}
 use Rattle.source_typing.specs.States.{State, Plain, Held, Gone, Lent, States, state_of, with_state, need_held, unless_lent}
 use Rattle.source_typing.specs.Types as types
-use Rattle.source_typing.specs.Types.{StaticType, Unique, renamed}
+use Rattle.source_typing.specs.Types.{StaticType, Unique, Key, renamed}
 use Rattle.type_proof.specs.Flat.{Tables, flat}
 use Rattle.type_proof.proofs.invariant.Invariant as invariant
 use Rattle.type_proof.proofs.invariant.Invariant.{RunType, heap, Nobody, Pinned, Flying, Private, Ghost, HasType, Inv, Grows}
@@ -19,17 +19,18 @@ use Rattle.type_proof.proofs.invariant.Runs.{Runs}
 use Rattle.type_proof.proofs.invariant.After.{After}
 use Rattle.type_proof.proofs.invariant.Births.{known_live}
 use Rattle.type_proof.proofs.invariant.Cells.{cell}
-use Rattle.type_proof.proofs.invariant.Names.{NameOf, NamesOk, Stands, naming, names_later, names_more}
+use Rattle.type_proof.proofs.invariant.Names.{NameOf, NamesOk, Below, Stands, naming, names_later, names_more}
 use Rattle.type_proof.proofs.invariant.Sound.{cells_type}
 use Rattle.type_proof.proofs.invariant.Facts.{at_spot}
-use Rattle.type_proof.proofs.invariant.NamesMore.{names_named}
+use Rattle.type_proof.proofs.invariant.NamesMore.{names_named, names_opened}
 use Rattle.type_proof.proofs.invariant.Rights.{HeldAt}
 use Rattle.type_proof.proofs.invariant.Aliases.{Ends, Aliased, runs_lending}
+use Rattle.type_proof.proofs.invariant.Keys.{with_key, runs_with_key}
 use Rattle.type_proof.proofs.invariant.LocalCells.{CellsStand, PrivateAt, held_free, free_private}
 use Rattle.type_proof.proofs.invariant.Standing.{Standing, Beside}
 use Rattle.type_proof.proofs.expressions.Uses.{Own, Setting, ours, here, alive, now}
 use Rattle.type_proof.proofs.statements.Flows.{ReturnOk, WayStands, WaysStand}
-use Rattle.source_typing.specs.Regions.{with_name}
+use Rattle.source_typing.specs.Regions.{opened, with_name}
 
 module _ (n : ℕ) (d : Tables) (gives : RunType) (g : Env) (scope : Scope) (f : NameOf → Region) (b : ℕ) (z : Setting d g scope f b b) (x : tree.Name)
   where
@@ -195,3 +196,41 @@ module _ (n : ℕ) (d : Tables) (gives : RunType) (g : Env) (scope : Scope) (f :
             stays : (r : Region) → (w1.owner r ≡ Pinned k) ⊎ (r ≡ heap) → Stands (suc k) (w1.owner r)
             stays r (inl q) = inr (k, omega arith, q)
             stays r (inr q) = inl (ap w1.owner q ∙ a.inv.heap_is_free)
+
+    -- an opened key, and what follows it in its block
+    pub open_leaves : (at : ℕ) (r : NameOf) (own : Own d g scope f x.text (Key r)) (rest : States → Left) (k : ℕ) (s : States) (w : Ghost) (m : Memory)
+        (v : Scalar) (body : ℕ → Act Flow) → Inv d w m → NamesOk g.regions f k w m → Below g.regions.count r → Standing d g scope f s w m
+        → w.owner own.at.region ≡ Nobody
+        → w.types own.at ≡ Some (Private (Key (f r)))
+        → m.cells own.at ≡ Some (cell (Key (f r)) (Holds v))
+        → (lending g at x rest s).faults ≡ []
+        → ((birth : ℕ) (w1 : Ghost) (m1 : Memory) → f r ≡ Born birth → Inv d w1 m1 → Grows k b w m w1 m1
+        → NamesOk (opened r g.regions) f (suc k) w1 m1
+        → Standing d g scope f (with_state g.locals x.text Lent s) w1 m1 → (rest (with_state g.locals x.text Lent s)).faults ≡ []
+        → Runs n (body birth) m1
+        (λ flow. After d (suc k) b w1 m1 (λ w' m'. WaysStand d gives g scope f (rest (with_state g.locals x.text Lent s)) flow w' m')))
+        → Runs n (with_key own.at body) m (λ flow. After d k b w m (λ w' m'. WaysStand d gives g scope f (lending g at x rest s) flow w' m'))
+    open_leaves at r own rest k s w m v body i names below st scoped typed holds e run =
+        let facts : Loan (Key r) own at rest s = loan (Key r) own at rest s w m st e in
+        subst (λ (l : Left). Runs n (with_key own.at body) m (λ flow. After d k b w m (λ w' m'. WaysStand d gives g scope f l flow w' m')))
+        (sym facts.2)
+        (runs_with_key d n k b w m own.at (f r) v body
+        (λ flow w' m'. WaysStand d gives g scope f (rest lent) flow w' m')
+        (λ flow w' m'. WaysStand d gives g scope f (on_ways (with_state g.locals x.text Held)
+        (record (rest lent) { faults = need_held x.at Held ++ (rest lent).faults })) flow w' m')
+        i (alive n d g scope f b b z x (Key r) own k w m names) scoped
+        (ours n d g scope f b b z x (Key r) own (omega arith)) typed holds
+        (λ birth w1 m1 is a. run birth w1 m1 is a.inv a.grows
+        (names_opened g.regions f (suc k) w1 m1 r below a.live (inr (k, omega arith, a.pinned))
+        (names_more g.regions f k w1 m1 (names_later d g.regions f k b w m w1 m1 a.inv a.grows names)))
+        (now n d g scope f b b z x (Key r) own s Lent w m w1 m1 st
+        (record {
+          types = a.grows.types;
+          cells = λ y u p q. a.cells y (λ c. p (ap (λ (o : Spot). o.region) c) (ap (λ (o : Spot). o.object) c));
+        })
+        (a.grows.types own.at (Private (Key (f r))) typed, tt))
+        facts.1)
+        (λ flow w2 m2 w3 m3 p ends there. ways_back (rest lent) (Key r) own v refl flow w2 m2 w3 m3 ends there p))
+      where
+        lent : States
+        lent = with_state g.locals x.text Lent s

@@ -1,4 +1,4 @@
-//! Tests of words, images, instructions, and selected and placed lines: what no clause of theirs says.
+//! Tests of words, images, instructions, selected and placed lines, and runs of these: what no clause of theirs says.
 //!
 //! A crate with tests is proved twice, so those of the crates that take long stand here, where nothing
 //! else is proved.
@@ -18,5 +18,9 @@ mod placed_lines;
 mod printed_names;
 #[cfg(test)]
 mod selected_lines;
+#[cfg(test)]
+mod unique_lines;
+#[cfg(test)]
+mod unique_runs;
 #[cfg(test)]
 mod word_arithmetic;

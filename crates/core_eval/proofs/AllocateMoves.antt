@@ -1,6 +1,6 @@
 -- A region gets a block, as Core does it.
-use Rattle.std.specs.Prelude.{slice_get, slice_set, option_map}
-use Rattle.std.proofs.Common.{◌≡◌, ℕ, zero, suc, ◌*◌, false, Option, Some, None, List, [], ◌∷◌, ◌++◌, length, refl, ap, ◌∙◌, sym, subst, arith}
+use Rattle.std.specs.Prelude.{if◌then◌else◌, slice_get, slice_set, option_map}
+use Rattle.std.proofs.Common.{◌≡◌, ℕ, zero, suc, ◌*◌, Bool, true, false, Option, Some, None, List, [], ◌∷◌, ◌++◌, length, refl, ap, ◌∙◌, sym, subst, arith}
 use Rattle.cyc_words.specs.Events as events
 use Rattle.core_meaning.specs.Memory as memory
 use Rattle.core_meaning.specs.Memory.{Region, Born, Content, Pointer, Part, is_live, with_object, blanks, first_spot}
@@ -16,7 +16,7 @@ use Rattle.core_eval.specs.declared.value.Value.{Value}
 use Rattle.core_eval.specs.declared.value.Value.TheVariants as value
 use Rattle.core_eval.specs.declared.value.Slot.{Slot}
 use Rattle.core_eval.specs.Values.{region_of, spot_of, content_of, temp_of, part_in, Shows}
-use Rattle.core_eval.specs.Regions.{Regions, region_at, grown_held, area_of, block_place}
+use Rattle.core_eval.specs.Regions.{Kept, Regions, still_held, region_at, is_open, open_objects, with_blocks, grown_held, area_of, block_place}
 use Rattle.core_eval.specs.Elements.{block_cells}
 use Rattle.core_eval.specs.Blocks.{Stored, born_objects, next_place, grown}
 use Rattle.core_eval.specs.Whole.{is_still}
@@ -25,7 +25,7 @@ use Rattle.core_eval.specs.Standing.{Known, Agrees, Gives}
 use Rattle.core_eval.specs.Costs.{IsMove}
 use Rattle.core_eval.proofs.Memories.{other_number, shows_object, shows_grown}
 use Rattle.core_eval.proofs.Elements.{block_parts}
-use Rattle.core_eval.proofs.Born.{held_there, heap_changed, region_changed, region_shows, born_agrees}
+use Rattle.core_eval.proofs.Born.{reached_there, kept_shows, heap_changed, region_changed, region_shows, born_agrees}
 use Rattle.core_eval.proofs.Changes.{stored_in, with_stored}
 use Rattle.core_eval.proofs.Laid.{live_is}
 use Rattle.core_eval.proofs.Moves.{becomes_saying, goes_wrong}
@@ -38,17 +38,27 @@ area_born : (d : ℕ) → region_of (area_of d) ≡ Born d
 area_born zero = refl
 area_born (suc n) = refl
 
--- a region that isn't there gets nothing
-same_none : (regions : Regions) (n : ℕ) → region_at regions n ≡ None → slice_set regions n None ≡ regions
-same_none [] n e = refl
-same_none (r ∷ regions) zero e = ap (λ o. o ∷ regions) (sym e)
-same_none (r ∷ regions) (suc n) e = ap (λ l. r ∷ l) (same_none regions n e)
+-- a region that stays what it is
+same_there : (regions : Regions) (n : ℕ) (held : Option Kept) → region_at regions n ≡ held → slice_set regions n held ≡ regions
+same_there [] n held e = refl
+same_there (r ∷ regions) zero held e = ap (λ o. o ∷ regions) (sym e)
+same_there (r ∷ regions) (suc n) held e = ap (λ l. r ∷ l) (same_there regions n held e)
 
 pub ungrown : (stored : Stored) (d : ℕ) (block : List Slot) → born_objects stored d ≡ None → grown stored d block ≡ stored
 ungrown stored zero block none = cc
 ungrown stored (suc n) block none =
-    ap (λ held. record stored { regions = slice_set stored.regions n (grown_held block held) }) none
-    ∙ ap (λ (rs : Regions). record stored { regions = rs }) (same_none stored.regions n none)
+    ap (λ (rs : Regions). record stored { regions = rs }) (by (region_at stored.regions n) refl none)
+  where
+    within : (kept : Kept) (b : Bool) → (if b then Some kept.objects else None) ≡ None
+        → (if b then with_blocks kept (kept.objects ++ block ∷ []) else kept) ≡ kept
+    within kept true e = cc
+    within kept false e = refl
+
+    by : (held : Option Kept) → region_at stored.regions n ≡ held → open_objects held ≡ None
+        → slice_set stored.regions n (grown_held block held) ≡ stored.regions
+    by None at e = same_there stored.regions n None at
+    by (Some kept) at e =
+        ap (λ (k : Kept). slice_set stored.regions n (Some k)) (within kept (is_open kept.standing) e) ∙ same_there stored.regions n (Some kept) at
 
 -- where there is no next place, there is no region
 pub unplaced : (stored : Stored) (d : ℕ) → next_place stored d ≡ None → born_objects stored d ≡ None
@@ -60,7 +70,7 @@ unplaced stored d e = by (born_objects stored d) e
 
 module _ (known : Known) (ws : List Wait) (marks : List Mark) (c : Config) (h : Agrees known ws marks c) where
   born_is : (d : ℕ) → is_live (c.memory.standing (Born d)) ≡ is_still (born_objects (stored_in known) d)
-  born_is zero = ap is_live h.globals.live
+  born_is zero = h.globals.live
   born_is (suc n) = live_is known ws marks c h (area.Region n)
 
   born_there : (d : ℕ) (objects : List (List Slot)) → born_objects (stored_in known) d ≡ Some objects
@@ -69,30 +79,37 @@ module _ (known : Known) (ws : List Wait) (marks : List Mark) (c : Config) (h : 
       let same : known.globals ≡ objects = cc in
       (subst (λ (os : List (List Slot)). Shows c.memory (Born 0) os) same h.globals, h.born.heap ∙ ap length same)
   born_there (suc n) objects has =
-      region_shows c.memory c.memory known.globals known.regions h.born n objects (held_there known.regions n objects has)
+      let is = reached_there known.regions n objects has in
+      let shows = region_shows c.memory c.memory known.globals known.regions h.born n is.kept is.there in (
+        subst (λ (os : List (List Slot)). Shows c.memory (Born (suc n)) os) (sym is.same) (kept_shows c.memory (Born (suc n)) is.kept shows is.opens),
+        shows.counted ∙ ap length (sym is.same),
+      )
 
   -- with a block more
-  grown_agrees : (d : ℕ) (objects : List (List Slot)) → born_objects (stored_in known) d ≡ Some objects → (o : ℕ → ℕ → Option Part) (block : List Slot)
+  pub grown_agrees : (d : ℕ) (objects : List (List Slot)) → born_objects (stored_in known) d ≡ Some objects → (o : ℕ → ℕ → Option Part) (block : List Slot)
       → ((k j : ℕ) → o k j ≡ part_in (slice_get block k) j)
       → Agrees (with_stored known (grown (stored_in known) d block)) ws marks (with_memory (with_object c.memory (Born d) o) c)
   grown_agrees zero objects has o block parts =
       let m = c.memory in
       let m' = with_object m (Born 0) o in
       born_agrees known ws marks c h m' (object_keeps m 0 o) (known.globals ++ block ∷ []) known.regions (shows_grown h.globals h.born.heap o block parts)
-      (heap_changed m m' known.globals known.regions h.born (object_others m 0 o) (known.globals ++ block ∷ [])
+      (heap_changed m m' known.globals known.regions h.born (object_others m 0 o) refl (known.globals ++ block ∷ [])
       (one_counted m (Born 0) o known.globals block h.born.heap))
   grown_agrees (suc n) objects has o block parts =
       let m = c.memory in
       let m' = with_object m (Born (suc n)) o in
-      let at = held_there known.regions n objects has in
-      let (was, counted) = born_there (suc n) objects has in
+      let is = reached_there known.regions n objects has in
+      let was = region_shows c.memory c.memory known.globals known.regions h.born n is.kept is.there in
+      let shows = shows_grown (kept_shows m (Born (suc n)) is.kept was is.opens) was.counted o block parts in
+      let more : Kept = with_blocks is.kept (is.kept.objects ++ block ∷ []) in
       subst
-      (λ (held : Option (List (List Slot))). Agrees (record known { regions = slice_set known.regions n (grown_held block held) }) ws marks (with_memory m' c))
-      (sym has)
-      (born_agrees known ws marks c h m' (object_keeps m (suc n) o) known.globals (slice_set known.regions n (Some (objects ++ block ∷ [])))
+      (λ (held : Option Kept). Agrees (record known { regions = slice_set known.regions n held }) ws marks (with_memory m' c))
+      (sym (ap (λ o. grown_held block (still_held o)) is.there
+      ∙ ap (λ b. Some (if b then with_blocks is.kept (is.kept.objects ++ block ∷ []) else is.kept)) is.opens))
+      (born_agrees known ws marks c h m' (object_keeps m (suc n) o) known.globals (slice_set known.regions n (Some more))
       (shows_object h.globals (Born (suc n)) (other_number 0 (suc n) (omega arith)) o)
-      (region_changed m m' known.globals known.regions h.born n (object_others m (suc n) o) (Some (objects ++ block ∷ [])) (Some objects) at
-      (shows_grown was counted o block parts, one_counted m (Born (suc n)) o objects block counted)))
+      (region_changed m m' known.globals known.regions h.born n (object_others m (suc n) o) (Some more) (Some is.kept) is.there
+      (record { standing = was.standing; holds = shows.holds; counted = one_counted m (Born (suc n)) o is.kept.objects block was.counted })))
 
 -- ---- moves
 

@@ -168,7 +168,7 @@ module _ (known : Known) (ws : List Wait) (locals : List code.Local) where
           sym h.entered,
           omega (arith, counted),
           all_shown (Frame a) locals (begun m) []
-              (record { live = ap (λ b. if b then Live else m.standing (Frame a)) (region_self (Frame a)); holds = λ i k j. h.fresh.missing a i k j (omega arith) })
+              (record { live = ap (λ b. is_live (if b then Live else m.standing (Frame a))) (region_self (Frame a)); holds = λ i k j. h.fresh.missing a i k j (omega arith) })
               (h.fresh.empty a (omega arith)),
           nested_still m m' a a c.blocks known.base known.blocks ws marks (omega arith)
               (λ k objects below shows. still (Frame k) objects (other_number k a (omega (arith, below))) shows) h.nested,

@@ -9,7 +9,7 @@ use Rattle.core_eval.specs.Values.{cells_of}
 use Rattle.core_eval.specs.Elements.{blank_object}
 use Rattle.core_eval.specs.declared.frame.Frame as frame_code
 use Rattle.core_eval.specs.declared.memory.Memory as memory_code
-use Rattle.core_eval.specs.Regions.{held_objects}
+use Rattle.core_eval.specs.Regions.{held_region}
 use Rattle.core_eval.specs.Blocks.{activation_of}
 use Rattle.core_eval.specs.Pendings.{Wait, Next, rest_of, returned_to}
 use Rattle.core_eval.specs.Standing.{Known, Stands, IsCall, known_of}
@@ -44,4 +44,4 @@ pub called_known : (f : frame_code.Frame) (m m' : memory_code.Memory) (g : frame
     }
 called_known f m m' g locals base blocks entered owns called globals regions =
     known_same (known_of g m') _ refl base (ap (λ bs. map activation_of bs.items) blocks) entered owns called (ap (λ gs. map cells_of gs.items) globals)
-    (ap (λ rs. map held_objects rs.items) regions)
+    (ap (λ rs. map held_region rs.items) regions)

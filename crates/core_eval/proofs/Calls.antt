@@ -89,7 +89,7 @@ module _ (known : Known) (ws : List Wait) (marks : List Mark) (temps : List Valu
       subst (λ (os : List (List Slot)). Shows (after_call m locals) (Own m.calls) os) (sym is)
       (all_shown (Own m.calls) locals (called_in m locals) []
       (record {
-        live = ap (λ b. if b then Live else m.standing (Own m.calls)) (region_self (Own m.calls));
+        live = ap (λ b. is_live (if b then Live else m.standing (Own m.calls))) (region_self (Own m.calls));
         holds = λ i k j. fresh.no_value m.calls i k j (omega arith);
       })
       (fresh.no_values m.calls (omega arith)))
@@ -251,6 +251,7 @@ module _ (p : code_program.Program) where
             ap is_live (standing_same (Own 0) ls (called_in begin_memory locals) (Own k) ∙ ap (λ b. if b then Live else Dead) apart);
         born = born_after begin_memory locals (map first_object p.globals.items) [] (record {
           births = refl;
+          lexical = refl;
           heap = length-map p.globals.items datum_tree ∙ sym (length-map p.globals.items first_object);
           each = λ n. refl;
           empty = λ n le. refl;

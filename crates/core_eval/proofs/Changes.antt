@@ -1,17 +1,18 @@
 -- A change of one area's objects, and what is known after it.
 use Rattle.std.specs.Prelude.{if◌then◌else◌, slice_get, slice_set, ◌&&◌, nat_eq}
-use Rattle.std.proofs.Common.{◌≡◌, ℕ, suc, false, Option, Some, List, length, refl, ap, ◌∙◌, sym, subst, arith}
+use Rattle.std.proofs.Common.{◌≡◌, ℕ, suc, true, false, Option, Some, List, length, refl, ap, ◌∙◌, sym, subst, arith}
 use Rattle.core_meaning.specs.Memory.{Region, Frame, Own, Born, Spot, Part, Memory, same_region, with_part}
 use Rattle.core_meaning.specs.Steps.{Config, with_memory}
 use Rattle.core_eval.specs.declared.value.Area.{Area}
 use Rattle.core_eval.specs.declared.value.Area.TheVariants as area
 use Rattle.core_eval.specs.declared.value.Slot.{Slot}
 use Rattle.core_eval.specs.Values.{region_of, spot_of, part_in, slot_at, Shows}
+use Rattle.core_eval.specs.Regions.{Kept, is_open, with_blocks}
 use Rattle.core_eval.specs.Blocks.{Activation, Stored, position_of}
 use Rattle.core_eval.specs.Pendings.{Wait, Mark}
 use Rattle.core_eval.specs.Standing.{Known, Agrees}
 use Rattle.core_eval.proofs.Memories.{other_number}
-use Rattle.core_eval.proofs.Born.{KeepsBorn, KeepsOthers, KeepsFrames, born_kept, heap_changed, region_changed, region_shows, born_agrees}
+use Rattle.core_eval.proofs.Born.{KeepsBorn, KeepsOthers, KeepsFrames, born_kept, heap_changed, region_changed, region_shows, kept_shows, born_agrees}
 use Rattle.core_eval.proofs.Owned.{owned_still, owned_shows, owned_put}
 use Rattle.core_eval.proofs.Nested.{nested_still, nested_shows, nested_put, position_there, position_put}
 
@@ -26,8 +27,8 @@ with_stored known after = record known { blocks = after.blocks; owns = after.own
 abbrev pub Replaces : Known → Area → (objects objects' : List (List Slot)) → Stored → Type 0
 Replaces known area.Globals objects objects' after = (objects ≡ known.globals) × (after ≡ record (stored_in known) { globals = objects' })
 Replaces known (area.Region n) objects objects' after =
-    (slice_get known.regions n ≡ Some (Some objects))
-    × (after ≡ record (stored_in known) { regions = slice_set known.regions n (Some objects') })
+    (kept : Kept) × (slice_get known.regions n ≡ Some (Some kept)) × (is_open kept.standing ≡ true) × (objects ≡ kept.objects)
+    × (after ≡ record (stored_in known) { regions = slice_set known.regions n (Some (with_blocks kept objects')) })
 Replaces known (area.Block n) objects objects' after =
     (p : ℕ) × (b : Activation) × (position_of known.blocks n ≡ Some p) × (slice_get known.blocks p ≡ Some b) × (objects ≡ b.objects)
     × (after ≡ record (stored_in known) { blocks = slice_set known.blocks p (record { number = b.number; objects = objects' }) })
@@ -50,8 +51,9 @@ module _ (known : Known) (ws : List Wait) (marks : List Mark) (c : Config) (h : 
   pub replaced_shows : (a : Area) (objects objects' : List (List Slot)) (after : Stored) → Replaces known a objects objects' after
       → Shows c.memory (region_of a) objects
   replaced_shows area.Globals objects objects' after (same, is) = subst (λ (os : List (List Slot)). Shows c.memory (Born 0) os) (sym same) h.globals
-  replaced_shows (area.Region n) objects objects' after (at, is) =
-      (region_shows c.memory c.memory known.globals known.regions h.born n objects at).0
+  replaced_shows (area.Region n) objects objects' after (kept, at, opens, same, is) =
+      subst (λ (os : List (List Slot)). Shows c.memory (Born (suc n)) os) (sym same)
+      (kept_shows c.memory (Born (suc n)) kept (region_shows c.memory c.memory known.globals known.regions h.born n kept at) opens)
   replaced_shows (area.Block n) objects objects' after (p, b, at, there, same, is) =
       let (below, shows) = nested_shows c.memory c.memory.activations c.blocks known.base known.blocks ws marks p b h.nested there in
       subst (λ (os : List (List Slot)). Shows c.memory (Frame n) os) (sym same)
@@ -108,17 +110,17 @@ module _ (known : Known) (ws : List Wait) (marks : List Mark) (c : Config) (h : 
         → Agrees (record known { globals = objects' }) ws marks (with_memory changed c)
     globals_agree objects' long others shows =
         born_agrees known ws marks c h changed (keeps_frames 0 others) objects' known.regions (record { live = h.globals.live; holds = shows })
-        (heap_changed c.memory changed known.globals known.regions h.born (keeps_others 0 others) objects' (h.born.heap ∙ sym long))
+        (heap_changed c.memory changed known.globals known.regions h.born (keeps_others 0 others) refl objects' (h.born.heap ∙ sym long))
 
-    region_agrees : (n : ℕ) (objects objects' : List (List Slot)) → slice_get known.regions n ≡ Some (Some objects) → length objects' ≡ length objects
+    region_agrees : (n : ℕ) (kept : Kept) (objects' : List (List Slot)) → slice_get known.regions n ≡ Some (Some kept) → length objects' ≡ length kept.objects
         → ElsewhereThan (Born (suc n)) → ((i k j : ℕ) → parts' (spot_of (Born (suc n)) i k) j ≡ part_in (slot_at objects' i k) j)
-        → Agrees (record known { regions = slice_set known.regions n (Some objects') }) ws marks (with_memory changed c)
-    region_agrees n objects objects' at long others shows =
-        let (was, counted) = region_shows c.memory c.memory known.globals known.regions h.born n objects at in
-        born_agrees known ws marks c h changed (keeps_frames (suc n) others) known.globals (slice_set known.regions n (Some objects'))
+        → Agrees (record known { regions = slice_set known.regions n (Some (with_blocks kept objects')) }) ws marks (with_memory changed c)
+    region_agrees n kept objects' at long others shows =
+        let was = region_shows c.memory c.memory known.globals known.regions h.born n kept at in
+        born_agrees known ws marks c h changed (keeps_frames (suc n) others) known.globals (slice_set known.regions n (Some (with_blocks kept objects')))
         (shows_other (Born (suc n)) (Born 0) known.globals others (other_number 0 (suc n) (omega arith)) h.globals)
-        (region_changed c.memory changed known.globals known.regions h.born n (keeps_others (suc n) others) (Some objects') (Some objects) at
-        (record { live = was.live; holds = shows }, counted ∙ sym long))
+        (region_changed c.memory changed known.globals known.regions h.born n (keeps_others (suc n) others) (Some (with_blocks kept objects'))
+        (Some kept) at (record { standing = was.standing; holds = shows; counted = was.counted ∙ sym long }))
 
     values_agree : (p : ℕ) (b : Activation) (objects' : List (List Slot)) → slice_get known.owns p ≡ Some b
         → ((t : Spot) (j : ℕ) → same_region t.region (Own b.number) ≡ false → parts' t j ≡ c.memory.parts t j)
@@ -184,9 +186,9 @@ module _ (known : Known) (ws : List Wait) (marks : List Mark) (c : Config) (h : 
     replaced_agrees area.Globals objects objects' after (same, is) long others shows =
         subst (λ (s : Stored). Agrees (with_stored known s) ws marks (with_memory changed c)) (sym is)
         (globals_agree objects' (long ∙ ap length same) others shows)
-    replaced_agrees (area.Region n) objects objects' after (at, is) long others shows =
+    replaced_agrees (area.Region n) objects objects' after (kept, at, opens, same, is) long others shows =
         subst (λ (s : Stored). Agrees (with_stored known s) ws marks (with_memory changed c)) (sym is)
-        (region_agrees n objects objects' at long others shows)
+        (region_agrees n kept objects' at (long ∙ ap length same) others shows)
     replaced_agrees (area.Block n) objects objects' after (p, b, at, there, same, is) long others shows =
         let number = block_number known.blocks n p b at there in
         subst (λ (s : Stored). Agrees (with_stored known s) ws marks (with_memory changed c)) (sym is)

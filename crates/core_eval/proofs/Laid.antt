@@ -47,10 +47,11 @@ use Rattle.core_eval.specs.declared.held.Held.TheVariants as held
 use Rattle.core_eval.specs.Values.{region_of, spot_of, place_spot, content_of, width_of, first_of, further_of, first_held, same_width, parts_from, part_in}
 use Rattle.core_eval.specs.Blocks.{Activation, position_of, slot_in}
 use Rattle.core_eval.specs.Regions.{region_at}
-use Rattle.core_eval.specs.Whole.{has_behind, has_parts, is_cell, are_cells, are_elements, slots_of, is_found, is_still, is_held, are_laid, has_elements}
+use Rattle.core_eval.specs.Whole.{has_behind, has_parts, is_cell, are_cells, are_elements, slots_of, is_found, is_held, are_laid, has_elements}
 use Rattle.core_eval.specs.Pendings.{Wait, Mark}
-use Rattle.core_eval.specs.Standing.{Known, Agrees, ShowsBlocks}
+use Rattle.core_eval.specs.Standing.{Known, Agrees}
 use Rattle.core_eval.proofs.Parts.{nothing_at, shape_of, shapes_from, shapes_by, cell_shapes, parts_as}
+use Rattle.core_eval.proofs.Born.{still_is}
 use Rattle.core_eval.proofs.Nested.{position_there}
 use Rattle.core_eval.proofs.Changes.{stored_in}
 use Rattle.core_eval.proofs.MemoryMoves.{shown, shown_values, area_part}
@@ -208,7 +209,7 @@ module _ (known : Known) (ws : List Wait) (marks : List Mark) (c : Config) (h : 
       let number = position_there known.blocks n p at in
       let some : Some b.number ≡ Some n = ap (option_map (λ b. b.number)) (sym e) ∙ number in
       let same : b.number ≡ n = cc in
-      ap (λ k. is_live (c.memory.standing (Frame k))) (sym same) ∙ ap is_live (shown known ws marks c h p b e).live
+      ap (λ k. is_live (c.memory.standing (Frame k))) (sym same) ∙ (shown known ws marks c h p b e).live
 
   values_at : (n p : ℕ) (o : Option Activation) → position_of known.owns n ≡ Some p → slice_get known.owns p ≡ o → is_live (c.memory.standing (Own n)) ≡ true
   values_at n p None at e =
@@ -218,16 +219,12 @@ module _ (known : Known) (ws : List Wait) (marks : List Mark) (c : Config) (h : 
       let number = position_there known.owns n p at in
       let some : Some b.number ≡ Some n = ap (option_map (λ b. b.number)) (sym e) ∙ number in
       let same : b.number ≡ n = cc in
-      ap (λ k. is_live (c.memory.standing (Own k))) (sym same) ∙ ap is_live (shown_values known ws marks c h p b e).live
+      ap (λ k. is_live (c.memory.standing (Own k))) (sym same) ∙ (shown_values known ws marks c h p b e).live
 
   -- which areas are live
   pub live_is : (a : Area) → is_live (c.memory.standing (region_of a)) ≡ is_held (stored_in known) a
-  live_is area.Globals = ap is_live h.globals.live
-  live_is (area.Region n) = by (region_at known.regions n) (h.born.each n)
-    where
-      by : (held : Option (List (List Slot))) → ShowsBlocks c.memory (Born (suc n)) held → is_live (c.memory.standing (Born (suc n))) ≡ is_still held
-      by None dead = ap is_live dead
-      by (Some objects) (shows, counted) = ap is_live shows.live
+  live_is area.Globals = h.globals.live
+  live_is (area.Region n) = still_is c.memory (Born (suc n)) (region_at known.regions n) (h.born.each n)
   live_is (area.Block n) = by (position_of known.blocks n) refl
     where
       by : (o : Option ℕ) → position_of known.blocks n ≡ o → is_live (c.memory.standing (Frame n)) ≡ is_found o

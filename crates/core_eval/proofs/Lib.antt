@@ -14,14 +14,17 @@ mod OperationMoves
 mod MemoryMoves
 mod StoreMoves
 mod RegionMoves
+mod TurnMoves
 mod Laid
 mod Leading
 mod AllocateMoves
+mod UniqueMoves
 mod Filled
 mod CopiedParts
 mod WholeParts
 mod WholeMoves
 mod Answered
+mod RegionAnswers
 mod EnterMoves
 mod BlockMoves
 mod LeaveMoves

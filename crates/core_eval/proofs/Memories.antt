@@ -177,7 +177,7 @@ reached_at m r i k b cells bytes j o w next kept there =
 
 module _ {m : Memory} {r : Region} {objects : List (List Slot)} (shows : Shows m r objects) where
   pub shown_part : (i k j : ℕ) → part_at m (spot_of r i k) j ≡ part_in (slot_at objects i k) j
-  shown_part i k j = ap (λ now. if is_live now then m.parts (spot_of r i k) j else None) shows.live ∙ shows.holds i k j
+  shown_part i k j = ap (λ b. if b then m.parts (spot_of r i k) j else None) shows.live ∙ shows.holds i k j
 
 -- no part that has a value
 pub found_missing : (byte j : ℕ) (w : Width) (next : Part → Step) (o : Option Slot) → value_of byte j w o ≡ None → found byte j w next o ≡ stuck
@@ -247,7 +247,7 @@ module _ {m : Memory} {q : Region} {objects : List (List Slot)} (shows : Shows m
   }
 
   pub shows_standing : (now : Standing) → Shows (with_standing m r now) q objects
-  shows_standing now = record { live = ap (λ b. if b then now else m.standing q) other ∙ shows.live; holds = shows.holds }
+  shows_standing now = record { live = ap (λ b. is_live (if b then now else m.standing q)) other ∙ shows.live; holds = shows.holds }
 
   pub shows_object : (o : ℕ → ℕ → Option Part) → Shows (with_object m r o) q objects
   shows_object o = record {

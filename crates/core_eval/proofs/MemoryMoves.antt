@@ -19,7 +19,7 @@ use Rattle.core_eval.specs.declared.value.Value.{Value}
 use Rattle.core_eval.specs.declared.value.Value.TheVariants as value
 use Rattle.core_eval.specs.declared.value.Slot.{Slot}
 use Rattle.core_eval.specs.Values.{region_of, spot_of, place_spot, content_of, temp_of, part_in, slot_at, Shows, values_in, is_fit, is_kept, value_of, same_area, same_cell}
-use Rattle.core_eval.specs.Regions.{region_at, slot_within}
+use Rattle.core_eval.specs.Regions.{Kept, region_at, live_at, is_open, open_objects, slot_within}
 use Rattle.core_eval.specs.Blocks.{
   Activation,
   Descends,
@@ -39,9 +39,10 @@ use Rattle.core_eval.specs.Blocks.{
   same_values,
 }
 use Rattle.core_eval.specs.Pendings.{Execute, Leave, Wait, Go, Wrong, Mark}
-use Rattle.core_eval.specs.Standing.{Known, Agrees, ShowsBlocks, Gives}
+use Rattle.core_eval.specs.Standing.{Known, Agrees, ShowsKept, ShowsBlocks, Gives}
 use Rattle.core_eval.specs.Costs.{IsMove}
 use Rattle.core_eval.proofs.Memories.{found_step, found, reached_at, shown_part}
+use Rattle.core_eval.proofs.Born.{open_is, kept_shows}
 use Rattle.core_eval.proofs.Owned.{owned_first, owned_descends, owned_shows}
 use Rattle.core_eval.proofs.Changes.{stored_in}
 use Rattle.core_eval.proofs.Nested.{nested_descends, nested_shows, nested_own, position_there}
@@ -128,13 +129,19 @@ module _ (known : Known) (ws : List Wait) (marks : List Mark) (c : Config) (h : 
       by (Some p) e = there p (slice_get known.owns p) refl (position_there known.owns n p e)
 
   -- a part of a block of a region
-  region_part : (n i k j : ℕ) → part_at c.memory (spot_of (Born (suc n)) i k) j ≡ part_in (slot_within (region_at known.regions n) i k) j
+  region_part : (n i k j : ℕ) → part_at c.memory (spot_of (Born (suc n)) i k) j ≡ part_in (slot_within (live_at known.regions n) i k) j
   region_part n i k j = by (region_at known.regions n) (h.born.each n)
     where
-      by : (held : Option (List (List Slot))) → ShowsBlocks c.memory (Born (suc n)) held
-          → part_at c.memory (spot_of (Born (suc n)) i k) j ≡ part_in (slot_within held i k) j
+      reached : (kept : Kept) (b : Bool) → is_open kept.standing ≡ b → ShowsKept c.memory (Born (suc n)) kept
+          → part_at c.memory (spot_of (Born (suc n)) i k) j ≡ part_in (slot_within (if b then Some kept.objects else None) i k) j
+      reached kept true opens shows = shown_part (kept_shows c.memory (Born (suc n)) kept shows opens) i k j
+      reached kept false closed shows =
+          ap (λ b. if b then c.memory.parts (spot_of (Born (suc n)) i k) j else None) (ap is_live shows.standing ∙ open_is kept.standing ∙ closed)
+
+      by : (held : Option Kept) → ShowsBlocks c.memory (Born (suc n)) held
+          → part_at c.memory (spot_of (Born (suc n)) i k) j ≡ part_in (slot_within (open_objects held) i k) j
       by None dead = ap (λ now. if is_live now then c.memory.parts (spot_of (Born (suc n)) i k) j else None) dead
-      by (Some objects) (shows, counted) = shown_part shows i k j
+      by (Some kept) shows = reached kept (is_open kept.standing) refl shows
 
   -- a part of an object of an area
   pub area_part : (a : Area) (i k j : ℕ) → part_at c.memory (spot_of (region_of a) i k) j ≡ part_in (slot_in (stored_in known) a i k) j

@@ -1,34 +1,28 @@
--- Regions are made and freed, and get blocks, as Core does it.
-use Rattle.std.specs.Prelude.{if◌then◌else◌, not, ◌&&◌, nat_eq, slice_set, option_map}
-use Rattle.std.proofs.Common.{◌≡◌, ◌≢◌, ℕ, zero, suc, ◌+◌, Bool, true, false, Option, Some, None, List, [], ◌∷◌, ◌++◌, length, refl, ap, ◌∙◌, sym, subst, arith}
-use Rattle.std.proofs.Math.Dec.{eqb-suc-zero}
+-- A region is born, as Core does it.
+use Rattle.std.specs.Prelude.{if◌then◌else◌, ◌&&◌, nat_eq}
+use Rattle.std.proofs.Common.{◌≡◌, ◌≢◌, ℕ, suc, ◌+◌, Bool, true, false, Option, Some, List, [], ◌∷◌, ◌++◌, length, refl, ap, ◌∙◌, sym, subst, arith}
 use Rattle.std.proofs.lemmas.Bool.Decides.{nat_tests}
 use Rattle.cyc_words.specs.Events as events
 use Rattle.core_meaning.specs.Memory as memory
 use Rattle.core_meaning.specs.Memory.{
   Region,
   Born,
-  Live,
-  Dead,
-  Content,
   Part,
   Memory,
-  is_lexical,
   with_standing,
   with_object,
 }
 use Rattle.core_meaning.specs.Core as core
 use Rattle.core_meaning.specs.Steps as steps
-use Rattle.core_meaning.specs.Steps.{Config, with_temp, with_memory, Step, checked, birth_of}
-use Rattle.core_meaning.specs.Operations.{born, says}
+use Rattle.core_meaning.specs.Steps.{Config, with_temp, with_memory, Step, Visible}
+use Rattle.core_meaning.specs.Operations.{born, does, says}
 use Rattle.core_eval.specs.declared.value.Value.{Value}
-use Rattle.core_eval.specs.declared.value.Value.TheVariants as value
 use Rattle.core_eval.specs.declared.value.Slot.{Slot}
-use Rattle.core_eval.specs.Values.{spot_of, content_of, temp_of}
-use Rattle.core_eval.specs.Regions.{Regions, region_at, free_held, freed}
-use Rattle.core_eval.specs.Whole.{is_still}
-use Rattle.core_eval.specs.Pendings.{Execute, Leave, Wait, Go, Wrong, Mark}
-use Rattle.core_eval.specs.Standing.{Known, Agrees, ShowsBlocks, AreBorn, Gives}
+use Rattle.core_eval.specs.Values.{spot_of}
+use Rattle.core_eval.specs.declared.region.Standing.{Standing}
+use Rattle.core_eval.specs.Regions.{Kept, region_at}
+use Rattle.core_eval.specs.Pendings.{Execute, Leave, Wait, Go, Mark}
+use Rattle.core_eval.specs.Standing.{Known, Agrees, IsSilent, ShowsBlocks, AreBorn, Gives, standing_of}
 use Rattle.core_eval.specs.Costs.{IsMove}
 use Rattle.core_eval.proofs.Lists.{length_more}
 use Rattle.core_eval.proofs.Memories.{other_number, shows_standing}
@@ -36,17 +30,15 @@ use Rattle.core_eval.proofs.Born.{
   KeepsFrames,
   KeepsOthers,
   region_grown,
-  held_there,
   blocks_same,
-  region_changed,
   born_agrees,
 }
-use Rattle.core_eval.proofs.Moves.{becomes_saying, goes_wrong}
+use Rattle.core_eval.proofs.Moves.{becomes_saying}
 use Rattle.core_eval.proofs.OperationMoves.{given, agrees_given}
 use Rattle.core_meaning.proofs.Spots.{region_self}
 
 -- nothing of blocks and functions changes where a region's standing does, or it gets an object
-standing_keeps : (m : Memory) (d : ℕ) (now : memory.Standing) → KeepsFrames m (with_standing m (Born d) now)
+pub standing_keeps : (m : Memory) (d : ℕ) (now : memory.Standing) → KeepsFrames m (with_standing m (Born d) now)
 standing_keeps m d now = record {
   activations = refl;
   calls = refl;
@@ -71,7 +63,7 @@ object_keeps m d o = record {
 }
 
 -- nor of other regions
-standing_others : (m : Memory) (d : ℕ) (now : memory.Standing) → KeepsOthers d m (with_standing m (Born d) now)
+pub standing_others : (m : Memory) (d : ℕ) (now : memory.Standing) → KeepsOthers d m (with_standing m (Born d) now)
 standing_others m d now = record {
   births = refl;
   standing = λ q other. ap (λ b. if b then now else m.standing (Born q)) (other_number q d other);
@@ -96,39 +88,42 @@ one_counted m r o objects block counted =
 
 -- ---- a region is born
 
-module _ (known : Known) (ws : List Wait) where
+module _ (known : Known) (ws : List Wait) (s : Standing) where
   -- what is known then
   abbrev pub with_birth : Known
-  with_birth = record known { regions = known.regions ++ Some [] ∷ [] }
+  with_birth = record known { regions = known.regions ++ Some (record { standing = s; objects = [] }) ∷ [] }
 
-  -- the memory in which it is live
+  -- the memory in which it is what it is
   each_born : (m : Memory) → AreBorn m known.globals known.regions → (n : ℕ) (b : Bool) → nat_eq n (length known.regions) ≡ b
-      → ShowsBlocks (born Live m) (Born (suc n)) (if b then Some [] else region_at known.regions n)
+      → ShowsBlocks (born (standing_of s) m) (Born (suc n)) (if b then Some (record { standing = s; objects = [] }) else region_at known.regions n)
   each_born m b n true e =
       let last : n ≡ length known.regions = grind (arith, nat_tests, e) in
       let births = b.births in
-      let here : nat_eq (suc n) m.births ≡ true = grind (arith, nat_tests, last, births) in (
-        record {
-          live = ap (λ t. if t then Live else m.standing (Born (suc n))) here;
-          holds = λ i k j. b.missing n i k j (omega (arith, last));
-        },
-        b.empty n (omega (arith, last)),
-      )
+      let here : nat_eq (suc n) m.births ≡ true = grind (arith, nat_tests, last, births) in
+      record {
+        standing = ap (λ t. if t then standing_of s else m.standing (Born (suc n))) here;
+        holds = λ i k j. b.missing n i k j (omega (arith, last));
+        counted = b.empty n (omega (arith, last));
+      }
   each_born m b n false e =
       let other : n ≢ length known.regions = grind (arith, nat_tests, e) in
       let births = b.births in
       let apart : nat_eq (suc n) m.births ≡ false = grind (arith, nat_tests, other, births) in
-      blocks_same m (born Live m) (Born (suc n)) (ap (λ t. if t then Live else m.standing (Born (suc n))) apart) refl (λ i k j. refl)
+      blocks_same m (born (standing_of s) m) (Born (suc n)) (ap (λ t. if t then standing_of s else m.standing (Born (suc n))) apart) refl (λ i k j. refl)
       (region_at known.regions n) (b.each n)
 
-  birth_agrees : (marks : List Mark) (c : Config) → Agrees known ws marks c → Agrees with_birth ws marks (with_memory (born Live c.memory) c)
+  pub birth_agrees : (marks : List Mark) (c : Config) → Agrees known ws marks c
+      → Agrees with_birth ws marks (with_memory (born (standing_of s) c.memory) c)
   birth_agrees marks c h =
       let m = c.memory in
+      let m' = born (standing_of s) m in
       let b = h.born in
       let births = b.births in
-      let long = length_more {A = Option (List (List Slot))} known.regions (Some []) in
-      let shows = shows_standing h.globals (Born m.births) (other_number 0 m.births (omega (arith, births))) Live in
-      born_agrees known ws marks c h (born Live m)
+      let one : Kept = record { standing = s; objects = [] } in
+      let long = length_more {A = Option Kept} known.regions (Some one) in
+      let first : nat_eq 0 m.births ≡ false = other_number 0 m.births (omega (arith, births)) in
+      let shows = shows_standing h.globals (Born m.births) first (standing_of s) in
+      born_agrees known ws marks c h m'
       (record {
         activations = refl;
         calls = refl;
@@ -139,92 +134,27 @@ module _ (known : Known) (ws : List Wait) where
         own_objects = λ k. refl;
         own_parts = λ n i k j. refl;
       })
-      known.globals (known.regions ++ Some [] ∷ []) (record { live = shows.live; holds = shows.holds })
+      known.globals (known.regions ++ Some one ∷ []) (record { live = shows.live; holds = shows.holds })
       (record {
         births = omega (arith, births, long);
+        lexical = ap (λ t. if t then standing_of s else m.standing (Born 0)) first ∙ b.lexical;
         heap = b.heap;
-        each = λ n. subst (ShowsBlocks (born Live m) (Born (suc n))) (sym (region_grown known.regions (Some []) n))
+        each = λ n. subst (ShowsBlocks m' (Born (suc n))) (sym (region_grown known.regions (Some one) n))
             (each_born m b n (nat_eq n (length known.regions)) refl);
         empty = λ n le. b.empty n (omega (arith, le, long));
         missing = λ n i k j le. b.missing n i k j (omega (arith, le, long));
       })
 
-  pub birth_moves : (temps : List Value) (t d : ℕ) → d ≡ suc (length known.regions) → Gives t (memory.Birth d) known.temps temps
-      → IsMove (Execute (core.Do (core.RegionNew t))) ws known (Go (Leave steps.Falls)) ws (given with_birth temps)
-  birth_moves temps t d is gives =
-      becomes_saying (core.RegionNew t) ws known (given with_birth temps) (λ c. events.RegionNew c.memory.births)
-      (λ c. with_temp t (memory.Birth c.memory.births) (with_memory (born Live c.memory) c)) (λ c. tt) (λ marks c h next. refl)
-      (λ marks c h. agrees_given with_birth temps ws t (memory.Birth c.memory.births)
-      (subst (λ (n : ℕ). Gives t (memory.Birth n) known.temps temps) (is ∙ sym h.born.births) gives) marks (with_memory (born Live c.memory) c)
-      (birth_agrees marks c h))
-
--- ---- a region is freed
-
-module _ (known : Known) (ws : List Wait) (x : ℕ) (v : Value) (read : content_of v ≡ temp_of known.temps x) where
-  module _ (d : ℕ) (is : v ≡ value.Birth d) where
-    held_birth : (marks : List Mark) (c : Config) → Agrees known ws marks c → c.temps x ≡ memory.Birth d
-    held_birth marks c h = h.temps x ∙ sym read ∙ ap content_of is
-
-    abbrev free_step : (c : Config) → (Config → Step) → Bool → Step
-    free_step c next b = checked b (says (events.RegionFree d) (next (with_memory (with_standing c.memory (Born d) Dead) c)))
-
-    frees : (marks : List Mark) (c : Config) → Agrees known ws marks c → (next : Config → Step)
-        → birth_of (c.temps x) (λ d. checked (not (nat_eq d 0) && is_lexical (c.memory.standing (Born d)))
-        (says (events.RegionFree d) (next (with_memory (with_standing c.memory (Born d) Dead) c))))
-        ≡ free_step c next (not (nat_eq d 0) && is_lexical (c.memory.standing (Born d)))
-    frees marks c h next =
-        ap (λ (u : Content). birth_of u (λ d. checked (not (nat_eq d 0) && is_lexical (c.memory.standing (Born d)))
-        (says (events.RegionFree d) (next (with_memory (with_standing c.memory (Born d) Dead) c))))) (held_birth marks c h)
-
-  -- the lexical region n, and what it has
-  module _ (n : ℕ) (is : v ≡ value.Birth (suc n)) where
-    lexical_is : (marks : List Mark) (c : Config) → Agrees known ws marks c
-        → (not (nat_eq (suc n) 0) && is_lexical (c.memory.standing (Born (suc n)))) ≡ is_still (region_at known.regions n)
-    lexical_is marks c h =
-        ap (λ b. not b && is_lexical (c.memory.standing (Born (suc n)))) (eqb-suc-zero n) ∙ by (region_at known.regions n) (h.born.each n)
-      where
-        by : (held : Option (List (List Slot))) → ShowsBlocks c.memory (Born (suc n)) held
-            → is_lexical (c.memory.standing (Born (suc n))) ≡ is_still held
-        by None dead = ap is_lexical dead
-        by (Some objects) (shows, counted) = ap is_lexical shows.live
-
-    freed_agrees : (objects : List (List Slot)) → region_at known.regions n ≡ Some objects → (marks : List Mark) (c : Config) → Agrees known ws marks c
-        → Agrees (record known { regions = slice_set known.regions n None }) ws marks (with_memory (with_standing c.memory (Born (suc n)) Dead) c)
-    freed_agrees objects has marks c h =
-        let m = c.memory in
-        let m' = with_standing m (Born (suc n)) Dead in
-        born_agrees known ws marks c h m' (standing_keeps m (suc n) Dead) known.globals (slice_set known.regions n None)
-        (shows_standing h.globals (Born (suc n)) (other_number 0 (suc n) (omega arith)) Dead)
-        (region_changed m m' known.globals known.regions h.born n (standing_others m (suc n) Dead) None (Some objects)
-        (held_there known.regions n objects has)
-        (ap (λ b. if b then Dead else m.standing (Born (suc n))) (region_self (Born (suc n)))))
-
-    region_freed : (regions' : Regions) (held : Option (List (List Slot))) → region_at known.regions n ≡ held
-        → option_map (slice_set known.regions n) (free_held held) ≡ Some regions'
-        → IsMove (Execute (core.Do (core.RegionFree x))) ws known (Go (Leave steps.Falls)) ws (record known { regions = regions' })
-    region_freed regions' None has e = cc
-    region_freed regions' (Some objects) has e =
-        let same : slice_set known.regions n None ≡ regions' = cc in
-        subst (λ (rs : Regions). IsMove (Execute (core.Do (core.RegionFree x))) ws known (Go (Leave steps.Falls)) ws (record known { regions = rs })) same
-        (becomes_saying (core.RegionFree x) ws known (record known { regions = slice_set known.regions n None }) (λ c. events.RegionFree (suc n))
-        (λ c. with_memory (with_standing c.memory (Born (suc n)) Dead) c) (λ c. tt)
-        (λ marks c h next. frees (suc n) is marks c h next ∙ ap (free_step (suc n) is c next) (lexical_is marks c h ∙ ap is_still has))
-        (freed_agrees objects has))
-
-    region_unfreed : (held : Option (List (List Slot))) → region_at known.regions n ≡ held
-        → option_map (slice_set known.regions n) (free_held held) ≡ None
-        → IsMove (Execute (core.Do (core.RegionFree x))) ws known Wrong ws known
-    region_unfreed None has e =
-        goes_wrong (core.RegionFree x) ws known (λ marks c h next.
-        frees (suc n) is marks c h next ∙ ap (free_step (suc n) is c next) (lexical_is marks c h ∙ ap is_still has))
-    region_unfreed (Some objects) has e = cc
-
-  pub free_moves : (d : ℕ) → v ≡ value.Birth d → (regions' : Regions) → freed known.regions d ≡ Some regions'
-      → IsMove (Execute (core.Do (core.RegionFree x))) ws known (Go (Leave steps.Falls)) ws (record known { regions = regions' })
-  free_moves zero is regions' e = cc
-  free_moves (suc n) is regions' e = region_freed n is regions' (region_at known.regions n) refl e
-
-  pub free_wrong : (d : ℕ) → v ≡ value.Birth d → freed known.regions d ≡ None → IsMove (Execute (core.Do (core.RegionFree x))) ws known Wrong ws known
-  free_wrong zero is e =
-      goes_wrong (core.RegionFree x) ws known (λ marks c h next. frees zero is marks c h next)
-  free_wrong (suc n) is e = region_unfreed n is (region_at known.regions n) refl e
+  -- an operation that gives a temporary the birth of a new region
+  module _ (o : core.Operation) (event : ℕ → events.Event) (silent : (d : ℕ) → IsSilent (Visible (event d))) (t : ℕ)
+      (does_so : (next : Config → Step) (c : Config) → does o next c
+      ≡ says (event c.memory.births) (next (with_temp t (memory.Birth c.memory.births) (with_memory (born (standing_of s) c.memory) c)))) where
+    pub birth_moves : (temps : List Value) (d : ℕ) → d ≡ suc (length known.regions) → Gives t (memory.Birth d) known.temps temps
+        → IsMove (Execute (core.Do o)) ws known (Go (Leave steps.Falls)) ws (given with_birth temps)
+    birth_moves temps d is gives =
+        becomes_saying o ws known (given with_birth temps) (λ c. event c.memory.births)
+        (λ c. with_temp t (memory.Birth c.memory.births) (with_memory (born (standing_of s) c.memory) c)) (λ c. silent c.memory.births)
+        (λ marks c h next. does_so next c)
+        (λ marks c h. agrees_given with_birth temps ws t (memory.Birth c.memory.births)
+        (subst (λ (n : ℕ). Gives t (memory.Birth n) known.temps temps) (is ∙ sym h.born.births) gives) marks (with_memory (born (standing_of s) c.memory) c)
+        (birth_agrees marks c h))

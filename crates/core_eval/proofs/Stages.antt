@@ -16,7 +16,7 @@ use Rattle.core_eval.specs.declared.memory.Memory as memory_code
 use Rattle.core_eval.specs.declared.value.Value.{Value}
 use Rattle.core_eval.specs.Values.{cells_of}
 use Rattle.core_eval.specs.Elements.{blank_object, first_object}
-use Rattle.core_eval.specs.Regions.{held_objects}
+use Rattle.core_eval.specs.Regions.{held_region}
 use Rattle.core_eval.specs.Blocks.{activation_of}
 use Rattle.core_eval.specs.Pendings.{Follow, Leave, Wait, Body, Next, Go, GetcharDue, PutcharDue, TurnDue, CallDue, Mark, rest_of, returned_to, coming}
 use Rattle.core_eval.specs.Standing.{Known, Agrees, Stands, StandsStill, Gives, IsCall, first_known, known_of}
@@ -166,4 +166,4 @@ pub first_is : (f : frame_code.Frame) (m : memory_code.Memory) (ds : List Datum)
     → m.entered ≡ 0 → map activation_of m.owns.items ≡ record { number = 0; objects = map blank_object locals } ∷ [] → m.called ≡ 1
     → map cells_of m.globals.items ≡ map first_object ds → m.regions.items ≡ [] → known_of f m ≡ first_known ds locals
 first_is f m ds locals temps base blocks entered owns called globals regions =
-    known_same (known_of f m) (first_known ds locals) temps base (ap (map activation_of) blocks) entered owns called globals (ap (map held_objects) regions)
+    known_same (known_of f m) (first_known ds locals) temps base (ap (map activation_of) blocks) entered owns called globals (ap (map held_region) regions)

@@ -1,7 +1,6 @@
 -- What the evaluator stores to locals and globals, as Core does it.
-use Rattle.std.specs.Prelude.{if◌then◌else◌, slice_get, slice_set, ◌||◌, option_map}
-use Rattle.std.proofs.Common.{◌≡◌, ℕ, zero, suc, ◌+◌, true, false, Option, Some, None, List, length, refl, ap, ◌∙◌, sym, arith}
-use Rattle.std.proofs.Math.Dec.{eqb-suc-zero}
+use Rattle.std.specs.Prelude.{if◌then◌else◌, slice_get, slice_set, option_map}
+use Rattle.std.proofs.Common.{◌≡◌, ℕ, ◌+◌, Bool, true, false, Option, Some, None, List, length, refl, ap, ◌∙◌, sym, arith}
 use Rattle.std.proofs.lemmas.List.{length-set}
 use Rattle.core_meaning.specs.Memory.{Region, Frame, Content, Part, Memory, with_part}
 use Rattle.core_meaning.specs.Core as core
@@ -35,15 +34,13 @@ use Rattle.core_eval.specs.Values.{
   with_held,
   put_in,
 }
-use Rattle.core_eval.specs.Regions.{region_at, slot_within, put_held, put_region}
+use Rattle.core_eval.specs.Regions.{Kept, region_at, is_open, with_blocks, put_held}
 use Rattle.core_eval.specs.Blocks.{
   Activation,
   Stored,
   own_position,
   position_of,
   number_through,
-  slot_among,
-  slot_through,
   slot_in,
   local_slot,
   put_block,
@@ -147,30 +144,33 @@ module _ (known : Known) (i k byte j : ℕ) (w : Width) (v : Value) where
     replaces = (refl, cc);
   }
 
-  region_stored : (n : ℕ) (after : Stored) (held : Option (List (List Slot))) (o : Option (Option (List (List Slot)))) → region_at known.regions n ≡ held
-      → put_held i k byte j w v held ≡ o
-      → option_map (λ regions. record (stored_in known) { regions = regions }) (option_map (slice_set known.regions n) o) ≡ Some after
+  -- the one open region, and what it has after the store
+  open_stored : (n : ℕ) (after : Stored) (kept : Kept) → region_at known.regions n ≡ Some kept → is_open kept.standing ≡ true
+      → (o : Option (List (List Slot))) → put_in kept.objects i k byte j w v ≡ o
+      → option_map (λ regions. record (stored_in known) { regions = regions })
+      (option_map (slice_set known.regions n) (option_map (λ objects. Some (with_blocks kept objects)) o)) ≡ Some after
       → IsStored known (area.Region n) i k byte j w v after
-  region_stored n after None None at put e = cc
-  region_stored n after None (Some held') at put e = cc
-  region_stored n after (Some objects) o at put e = by (put_in objects i k byte j w v) refl put e
+  open_stored n after kept at opens None put e = cc
+  open_stored n after kept at opens (Some objects') put e = record {
+    objects = kept.objects;
+    objects' = objects';
+    put = put_is kept.objects i k byte j w v objects' put;
+    replaces = (kept, held_there known.regions n kept at, opens, refl, cc);
+  }
+
+  region_stored : (n : ℕ) (after : Stored) (held : Option Kept) → region_at known.regions n ≡ held
+      → option_map (λ regions. record (stored_in known) { regions = regions }) (option_map (slice_set known.regions n) (put_held i k byte j w v held))
+      ≡ Some after
+      → IsStored known (area.Region n) i k byte j w v after
+  region_stored n after None at e = cc
+  region_stored n after (Some kept) at e = by (is_open kept.standing) refl e
     where
-      by : (p : Option (List (List Slot))) → put_in objects i k byte j w v ≡ p → option_map Some p ≡ o
-          → option_map (λ regions. record (stored_in known) { regions = regions }) (option_map (slice_set known.regions n) o) ≡ Some after
+      by : (b : Bool) → is_open kept.standing ≡ b
+          → option_map (λ regions. record (stored_in known) { regions = regions }) (option_map (slice_set known.regions n)
+          (if b then option_map (λ objects. Some (with_blocks kept objects)) (put_in kept.objects i k byte j w v) else None)) ≡ Some after
           → IsStored known (area.Region n) i k byte j w v after
-      by None stored is e =
-          absurd (let none : option_map (λ regions. record (stored_in known) { regions = regions }) (option_map (slice_set known.regions n) None) ≡ Some after =
-          ap (λ o. option_map (λ regions. record (stored_in known) { regions = regions }) (option_map (slice_set known.regions n) o)) is ∙ e in cc)
-      by (Some objects') stored is e = record {
-        objects = objects;
-        objects' = objects';
-        put = put_is objects i k byte j w v objects' stored;
-        replaces = (
-          held_there known.regions n objects at,
-          (let same : Some (record (stored_in known) { regions = slice_set known.regions n (Some objects') }) ≡ Some after =
-              ap (λ o. option_map (λ regions. record (stored_in known) { regions = regions }) (option_map (slice_set known.regions n) o)) is ∙ e in cc),
-        );
-      }
+      by true opens e = open_stored n after kept at opens (put_in kept.objects i k byte j w v) refl e
+      by false closed e = cc
 
   block_stored : (n : ℕ) (after : Stored) (p : Option ℕ) (o : Option (List Activation)) → position_of known.blocks n ≡ p
       → put_through known.blocks p i k byte j w v ≡ o
@@ -217,7 +217,7 @@ module _ (known : Known) (i k byte j : ℕ) (w : Width) (v : Value) where
   pub put_stored : (a : Area) (after : Stored) → put_to (stored_in known) a i k byte j w v ≡ Some after → IsStored known a i k byte j w v after
   put_stored area.Globals after e = global_stored after (put_in known.globals i k byte j w v) refl e
   put_stored (area.Region n) after e =
-      region_stored n after (region_at known.regions n) (put_held i k byte j w v (region_at known.regions n)) refl refl e
+      region_stored n after (region_at known.regions n) refl e
   put_stored (area.Block n) after e =
       block_stored n after (position_of known.blocks n) (put_through known.blocks (position_of known.blocks n) i k byte j w v) refl refl e
   put_stored (area.Own n) after e =

@@ -54,7 +54,7 @@ use Rattle.core_eval.specs.declared.held.Held.{Held}
 use Rattle.core_eval.specs.declared.value.Slot.{Slot}
 use Rattle.core_eval.specs.Values.{region_of, spot_of, place_spot, content_of, temp_of, part_in, slot_at}
 use Rattle.core_eval.specs.Blocks.{Activation, Stored, position_of, slot_in, slot_among, slot_through}
-use Rattle.core_eval.specs.Regions.{region_at, still_held, slot_within}
+use Rattle.core_eval.specs.Regions.{Kept, region_at, still_held, is_open, open_objects, slot_within}
 use Rattle.core_eval.specs.Whole as whole
 use Rattle.core_eval.specs.Whole.{
   are_cells,
@@ -128,12 +128,17 @@ module _ (known : Known) (i k : ℕ) (vs : List Held) where
   replaced area.Globals held = (known.globals, (refl, refl))
   replaced (area.Region n) held = by (region_at known.regions n) refl held
     where
-      by : (o : Option (List (List Slot))) → region_at known.regions n ≡ o → is_still o ≡ true
+      within : (kept : Kept) (b : Bool) → is_open kept.standing ≡ b → is_still (if b then Some kept.objects else None) ≡ true → is_open kept.standing ≡ true
+      within kept true opens still = opens
+      within kept false closed still = cc
+
+      by : (o : Option Kept) → region_at known.regions n ≡ o → is_still (open_objects o) ≡ true
           → (objects : List (List Slot))
           × Replaces known (area.Region n) objects (fill_in objects i k vs)
           (record (stored_in known) { regions = slice_set known.regions n (fill_held i k vs o) })
       by None e held = absurd (cc)
-      by (Some objects) e held = (objects, (held_there known.regions n objects e, refl))
+      by (Some kept) e held =
+          (kept.objects, (kept, held_there known.regions n kept e, within kept (is_open kept.standing) refl held, refl, refl))
   replaced (area.Block n) held = by (position_of known.blocks n) refl held
     where
       by : (o : Option ℕ) → position_of known.blocks n ≡ o → is_found o ≡ true
@@ -153,7 +158,9 @@ module _ (known : Known) (i k : ℕ) (vs : List Held) where
 replaced_slots : (known : Known) (a : Area) (objects objects' : List (List Slot)) (after : Stored) → Replaces known a objects objects' after → (i k : ℕ)
     → slot_in (stored_in known) a i k ≡ slot_at objects i k
 replaced_slots known area.Globals objects objects' after (same, is) i k = ap (λ os. slot_at os i k) (sym same)
-replaced_slots known (area.Region n) objects objects' after (at, is) i k = ap (λ o. slot_within (still_held o) i k) at
+replaced_slots known (area.Region n) objects objects' after (kept, at, opens, same, is) i k =
+    ap (λ o. slot_within (open_objects (still_held o)) i k) at ∙ ap (λ b. slot_within (if b then Some kept.objects else None) i k) opens
+    ∙ ap (λ os. slot_at os i k) (sym same)
 replaced_slots known (area.Block n) objects objects' after (p, b, at, there, same, is) i k =
     ap (λ o. slot_through known.blocks o i k) at ∙ ap (λ o. slot_among o i k) there ∙ ap (λ os. slot_at os i k) (sym same)
 replaced_slots known (area.Own n) objects objects' after (p, b, at, there, same, is) i k =

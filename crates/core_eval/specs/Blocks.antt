@@ -34,7 +34,7 @@ use Rattle.core_eval.specs.declared.value.Slot.{Slot}
 use Rattle.core_eval.specs.declared.blocks.Block.{Block}
 use Rattle.core_eval.specs.declared.memory.Memory.{Memory}
 use Rattle.core_eval.specs.Values.{cells_of, slot_at, null_of, put_in, same_cell}
-use Rattle.core_eval.specs.Regions.{Regions, held_objects, region_at, slot_within, put_region, grown_region, block_place}
+use Rattle.core_eval.specs.Regions.{Regions, held_region, live_at, slot_within, put_region, grown_region, block_place}
 
 -- the locals of a block that isn't left yet, and how many blocks were entered before it; or a function's unnamed values, and how many functions were called
 -- before it
@@ -77,7 +77,7 @@ abbrev pub local_slot : ℕ → List Activation → (out index : ℕ) → Option
 local_slot base blocks out index = slot_through blocks (own_position base blocks out) index 0
 
 -- what is stored: the locals of all blocks, the unnamed values of all functions that are active, the globals with the heap's blocks behind them, and the blocks
--- of lexical regions
+-- of regions
 pub record Stored : Type 0 where
   pub blocks : List Activation
   pub owns : List Activation
@@ -89,7 +89,7 @@ stored_of m = record {
   blocks = map activation_of m.blocks.items;
   owns = map activation_of m.owns.items;
   globals = map cells_of m.globals.items;
-  regions = map held_objects m.regions.items;
+  regions = map held_region m.regions.items;
 }
 
 -- the numbers of blocks and of functions fall
@@ -99,7 +99,7 @@ AreOrdered m = Descends m.entered (map activation_of m.blocks.items) × Descends
 -- the cell k of an object of an area
 abbrev pub slot_in : Stored → Area → (i k : ℕ) → Option Slot
 slot_in stored area.Globals i k = slot_at stored.globals i k
-slot_in stored (area.Region n) i k = slot_within (region_at stored.regions n) i k
+slot_in stored (area.Region n) i k = slot_within (live_at stored.regions n) i k
 slot_in stored (area.Block n) i k = slot_through stored.blocks (position_of stored.blocks n) i k
 slot_in stored (area.Own n) i k = slot_through stored.owns (position_of stored.owns n) i k
 
@@ -179,10 +179,10 @@ put_to stored (area.Own n) i k byte j w v =
 
 -- ---- requests
 
--- the objects of a region by its birth, if it was born and isn't freed
+-- the objects of a region by its birth, if it was born and isn't freed or closed
 abbrev pub born_objects : Stored → ℕ → Option (List (List Slot))
 born_objects stored zero = Some stored.globals
-born_objects stored (suc n) = region_at stored.regions n
+born_objects stored (suc n) = live_at stored.regions n
 
 -- where the next block of a region begins
 abbrev pub next_place : Stored → (birth : ℕ) → Option Place

@@ -1,67 +1,124 @@
--- Lexical regions, by how many were born before each, the heap not among them; and the blocks of regions.
-use Rattle.std.specs.Prelude.{ℕ, zero, suc, Option, Some, None, List, [], ◌∷◌, ◌++◌, map, slice_get, slice_set, option_map}
+-- Regions that were born, by how many were before each, the heap not among them; and the blocks of regions.
+use Rattle.std.specs.Prelude.{ℕ, zero, suc, Bool, true, false, Option, Some, None, List, [], ◌∷◌, ◌++◌, map, slice_get, slice_set, option_map, if◌then◌else◌}
 use Rattle.cyc_core.specs.declared.operation.Width.{Width}
 use Rattle.core_eval.specs.declared.value.Area.{Area}
 use Rattle.core_eval.specs.declared.value.Area.TheVariants as area
 use Rattle.core_eval.specs.declared.value.Place.{Place}
 use Rattle.core_eval.specs.declared.value.Value.{Value}
 use Rattle.core_eval.specs.declared.value.Slot.{Slot}
+use Rattle.core_eval.specs.declared.region.Standing.{Standing}
+use Rattle.core_eval.specs.declared.region.Standing.TheVariants as standing
 use Rattle.core_eval.specs.declared.region.Region as code
 use Rattle.core_eval.specs.declared.region.Region.TheVariants as region
 use Rattle.core_eval.specs.Values.{cells_of, slot_at, put_in}
 
--- the objects of each region that isn't freed
-abbrev pub Regions : Type 0
-Regions = List (Option (List (List Slot)))
+-- a region that isn't freed: what it is, and its objects
+pub record Kept : Type 0 where
+  pub standing : Standing
+  pub objects : List (List Slot)
 
-abbrev pub held_objects : code.Region → Option (List (List Slot))
-held_objects (region.Held objects) = Some (map cells_of objects.items)
-held_objects region.Freed = None
+abbrev pub Regions : Type 0
+Regions = List (Option Kept)
+
+abbrev pub held_region : code.Region → Option Kept
+held_region (region.Held s objects) = Some (record { standing = s; objects = map cells_of objects.items })
+held_region region.Freed = None
+
+-- whether pointers lead to a region's blocks
+abbrev pub is_open : Standing → Bool
+is_open standing.Lexical = true
+is_open standing.Single = true
+is_open standing.Opened = true
+is_open standing.Closed = false
+
+abbrev pub same_standing : Standing → Standing → Bool
+same_standing standing.Lexical standing.Lexical = true
+same_standing standing.Lexical standing.Single = false
+same_standing standing.Lexical standing.Opened = false
+same_standing standing.Lexical standing.Closed = false
+same_standing standing.Single standing.Lexical = false
+same_standing standing.Single standing.Single = true
+same_standing standing.Single standing.Opened = false
+same_standing standing.Single standing.Closed = false
+same_standing standing.Opened standing.Lexical = false
+same_standing standing.Opened standing.Single = false
+same_standing standing.Opened standing.Opened = true
+same_standing standing.Opened standing.Closed = false
+same_standing standing.Closed standing.Lexical = false
+same_standing standing.Closed standing.Single = false
+same_standing standing.Closed standing.Opened = false
+same_standing standing.Closed standing.Closed = true
 
 -- a region that was born and isn't freed
-abbrev pub still_held : Option (Option (List (List Slot))) → Option (List (List Slot))
+abbrev pub still_held : Option (Option Kept) → Option Kept
 still_held None = None
 still_held (Some held) = held
 
--- the objects of the region with a number, if it was born and isn't freed
-abbrev pub region_at : Regions → ℕ → Option (List (List Slot))
+-- the region with a number, if it was born and isn't freed
+abbrev pub region_at : Regions → ℕ → Option Kept
 region_at regions n = still_held (slice_get regions n)
+
+-- the objects of a region, if it isn't freed or closed
+abbrev pub open_objects : Option Kept → Option (List (List Slot))
+open_objects None = None
+open_objects (Some kept) = (if is_open kept.standing then Some kept.objects else None)
+
+-- those of the region with a number, if it was born
+abbrev pub live_at : Regions → ℕ → Option (List (List Slot))
+live_at regions n = open_objects (region_at regions n)
 
 -- the cell k of the object i
 abbrev pub slot_within : Option (List (List Slot)) → (i k : ℕ) → Option Slot
 slot_within None i k = None
 slot_within (Some objects) i k = slot_at objects i k
 
+-- a region with other objects
+abbrev pub with_blocks : Kept → List (List Slot) → Kept
+with_blocks kept objects = record kept { objects = objects }
+
 -- what a region has after a store to a part of a cell of one of its objects
-abbrev pub put_held : (i k byte j : ℕ) → Width → Value → Option (List (List Slot)) → Option (Option (List (List Slot)))
+abbrev pub put_held : (i k byte j : ℕ) → Width → Value → Option Kept → Option (Option Kept)
 put_held i k byte j w v None = None
-put_held i k byte j w v (Some objects) = option_map Some (put_in objects i k byte j w v)
+put_held i k byte j w v (Some kept) =
+    (if is_open kept.standing then option_map (λ objects. Some (with_blocks kept objects)) (put_in kept.objects i k byte j w v) else None)
 
 -- the regions after a store to a part of a cell of an object of the one with a number
 abbrev pub put_region : Regions → (n i k byte j : ℕ) → Width → Value → Option Regions
 put_region regions n i k byte j w v = option_map (slice_set regions n) (put_held i k byte j w v (region_at regions n))
 
--- ---- what is freed
+-- ---- what becomes another region, or is freed
 
--- nothing is kept of a region
-abbrev pub free_held : Option (List (List Slot)) → Option (Option (List (List Slot)))
-free_held None = None
-free_held (Some objects) = Some None
+-- nothing is kept of a region that is freed, and else all its objects are
+abbrev pub as_now : Option Standing → Kept → Option Kept
+as_now None kept = None
+as_now (Some now) kept = Some (record kept { standing = now })
 
-abbrev pub free_region : Regions → ℕ → Option Regions
-free_region regions n = option_map (slice_set regions n) (free_held (region_at regions n))
+-- where a region is what it has to be
+abbrev pub turned_held : Standing → Option Standing → Option Kept → Option (Option Kept)
+turned_held from to None = None
+turned_held from to (Some kept) = (if same_standing kept.standing from then Some (as_now to kept) else None)
 
--- the regions after one is freed by its birth, if that can be: the heap can't
-abbrev pub freed : Regions → ℕ → Option Regions
-freed regions zero = None
-freed regions (suc n) = free_region regions n
+abbrev pub turned_region : Regions → ℕ → Standing → Option Standing → Option Regions
+turned_region regions n from to = option_map (slice_set regions n) (turned_held from to (region_at regions n))
+
+-- the regions after one is turned by its birth, if that can be: the heap can't
+abbrev pub turned : Regions → ℕ → Standing → Option Standing → Option Regions
+turned regions zero from to = None
+turned regions (suc n) from to = turned_region regions n from to
+
+-- the regions after a unique block's own is freed, if an area is one
+abbrev pub single_freed : Regions → Area → Option Regions
+single_freed regions area.Globals = None
+single_freed regions (area.Region n) = turned_region regions n standing.Single None
+single_freed regions (area.Block k) = None
+single_freed regions (area.Own k) = None
 
 -- ---- blocks
 
--- what a region has with a block more
-abbrev pub grown_held : List Slot → Option (List (List Slot)) → Option (List (List Slot))
+-- what a region has with a block more, if it isn't freed or closed
+abbrev pub grown_held : List Slot → Option Kept → Option Kept
 grown_held block None = None
-grown_held block (Some objects) = Some (objects ++ block ∷ [])
+grown_held block (Some kept) = Some (if is_open kept.standing then with_blocks kept (kept.objects ++ block ∷ []) else kept)
 
 abbrev pub grown_region : Regions → ℕ → List Slot → Regions
 grown_region regions n block = slice_set regions n (grown_held block (region_at regions n))

@@ -3,7 +3,7 @@ use Rattle.std.specs.Prelude.{◌≡◌, ℕ, suc, ◌<◌, ◌≤◌, Bool, tru
 use Rattle.cyc_words.specs.Events.{ByteRead, ByteWritten}
 use Rattle.step_trees.specs.Trees.{Says}
 use Rattle.core_meaning.specs.Memory as memory
-use Rattle.core_meaning.specs.Memory.{Region, Born, Dead, Memory, Content, is_live}
+use Rattle.core_meaning.specs.Memory.{Region, Born, Live, Single, Opened, Closed, Dead, Memory, Content, is_live}
 use Rattle.core_meaning.specs.Steps.{Config, set_temp, Event, Visible, Step}
 use Rattle.core_meaning.specs.Core.{Function}
 use Rattle.core_meaning.specs.Meaning.{called}
@@ -13,9 +13,11 @@ use Rattle.core_eval.specs.declared.value.Value.{Value}
 use Rattle.core_eval.specs.declared.value.Slot.{Slot}
 use Rattle.core_eval.specs.declared.frame.Frame.{Frame}
 use Rattle.core_eval.specs.declared.memory.Memory as code
-use Rattle.core_eval.specs.Values.{spot_of, temp_of, cells_of, Shows}
+use Rattle.core_eval.specs.declared.region.Standing as code_standing
+use Rattle.core_eval.specs.declared.region.Standing.TheVariants as standing
+use Rattle.core_eval.specs.Values.{spot_of, temp_of, cells_of, HasParts, Shows}
 use Rattle.core_eval.specs.Elements.{blank_object, first_object}
-use Rattle.core_eval.specs.Regions.{Regions, held_objects, region_at}
+use Rattle.core_eval.specs.Regions.{Kept, Regions, held_region, region_at}
 use Rattle.core_eval.specs.Blocks.{Activation, activation_of, position_of}
 use Rattle.core_eval.specs.Pendings.{Wait, Block, Caller, Next, Mark, rest_of, returned_to, coming}
 
@@ -58,7 +60,7 @@ AreOwned m bound own owns (w ∷ ws) marks = AreOwned m bound own owns ws marks
 
 -- What an evaluator knows: the temporaries of the function that it is in, and how many blocks there are outside of that; the blocks of all functions that are
 -- active, the innermost first; how many blocks were entered so far; the unnamed values of all functions that are active, the innermost first; how many functions were
--- called so far; the globals, with the heap's blocks behind them; and the blocks of lexical regions.
+-- called so far; the globals, with the heap's blocks behind them; and the blocks of regions.
 pub record Known : Type 0 where
   pub temps : List Value
   pub base : ℕ
@@ -77,14 +79,28 @@ AreAllLive m blocks = (k : ℕ) → position_of blocks k ≡ None → is_live (m
 abbrev pub AreAllOwned : Memory → List Activation → Type 0
 AreAllOwned m owns = (k : ℕ) → position_of owns k ≡ None → is_live (m.standing (memory.Own k)) ≡ false
 
--- a lexical region shows its blocks, and has so many; or it is freed, or was not born as yet
-abbrev pub ShowsBlocks : Memory → Region → Option (List (List Slot)) → Type 0
-ShowsBlocks m r None = m.standing r ≡ Dead
-ShowsBlocks m r (Some objects) = Shows m r objects × (m.objects r ≡ length objects)
+-- what a region is, as Core has it
+abbrev pub standing_of : code_standing.Standing → memory.Standing
+standing_of standing.Lexical = Live
+standing_of standing.Single = Single
+standing_of standing.Opened = Opened
+standing_of standing.Closed = Closed
 
--- The heap is born first, and then as many lexical regions as are known, each with its blocks. What was not born as yet has none.
+-- a region is this, and has these blocks, and so many
+pub record ShowsKept (m : Memory) (r : Region) (kept : Kept) : Type 0 where
+  pub standing : m.standing r ≡ standing_of kept.standing
+  pub holds : HasParts m r kept.objects
+  pub counted : m.objects r ≡ length kept.objects
+
+-- or it is freed, or was not born as yet
+abbrev pub ShowsBlocks : Memory → Region → Option Kept → Type 0
+ShowsBlocks m r None = m.standing r ≡ Dead
+ShowsBlocks m r (Some kept) = ShowsKept m r kept
+
+-- The heap is born first, and then as many regions as are known, each with its blocks. What was not born as yet has none.
 pub record AreBorn (m : Memory) (globals : List (List Slot)) (regions : Regions) : Type 0 where
   pub births : m.births ≡ suc (length regions)
+  pub lexical : m.standing (Born 0) ≡ Live
   pub heap : m.objects (Born 0) ≡ length globals
   pub each : (n : ℕ) → ShowsBlocks m (Born (suc n)) (region_at regions n)
   pub empty : (n : ℕ) → length regions ≤ n → m.objects (Born (suc n)) ≡ 0
@@ -165,7 +181,7 @@ known_of frame m = record {
   owns = map activation_of m.owns.items;
   called = m.called;
   globals = map cells_of m.globals.items;
-  regions = map held_objects m.regions.items;
+  regions = map held_region m.regions.items;
 }
 
 -- the innermost function is left, and nothing else changes

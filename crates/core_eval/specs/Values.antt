@@ -28,7 +28,7 @@ use Rattle.std.specs.Prelude.{
   if◌then◌else◌,
 }
 use Rattle.core_meaning.specs.Memory as memory
-use Rattle.core_meaning.specs.Memory.{Region, Frame, Own, Born, Live, Spot, Content, Pointer, Part, Memory}
+use Rattle.core_meaning.specs.Memory.{Region, Frame, Own, Born, Spot, Content, Pointer, Part, Memory, is_live}
 use Rattle.core_meaning.specs.Meaning.{passed_in, values_of}
 use Rattle.cyc_core.specs.declared.operation.Cell.{Cell}
 use Rattle.cyc_core.specs.declared.operation.Width.{Width}
@@ -212,10 +212,14 @@ cell_in (Some slots) k = slice_get slots k
 abbrev pub slot_at : List (List Slot) → (i k : ℕ) → Option Slot
 slot_at objects i k = cell_in (slice_get objects i) k
 
--- a live region has these objects
+-- a region has these objects
+abbrev pub HasParts : Memory → Region → List (List Slot) → Type 0
+HasParts m r objects = (i k j : ℕ) → m.parts (spot_of r i k) j ≡ part_in (slot_at objects i k) j
+
+-- so has a live one
 pub record Shows (m : Memory) (r : Region) (objects : List (List Slot)) : Type 0 where
-  pub live : m.standing r ≡ Live
-  pub holds : (i k j : ℕ) → m.parts (spot_of r i k) j ≡ part_in (slot_at objects i k) j
+  pub live : is_live (m.standing r) ≡ true
+  pub holds : HasParts m r objects
 
 -- what a part of a width can hold: a byte has the low bits of a word, and nothing else
 abbrev pub low_byte : Value → Value

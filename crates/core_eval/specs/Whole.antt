@@ -11,7 +11,7 @@ use Rattle.core_eval.specs.declared.value.Slot.{Slot}
 use Rattle.core_eval.specs.declared.value.Value.{Value}
 use Rattle.core_eval.specs.Values.{width_of, first_of, further_of, pointer_part, first_held, blanked, refilled, with_held, same_width, same_area}
 use Rattle.core_eval.specs.Elements.{each_element}
-use Rattle.core_eval.specs.Regions.{Regions, region_at}
+use Rattle.core_eval.specs.Regions.{Kept, Regions, region_at, live_at, with_blocks}
 use Rattle.core_eval.specs.Blocks.{Activation, Stored, position_of, slot_in, put_block}
 
 -- ---- cells that lie as a layout's
@@ -60,10 +60,10 @@ abbrev pub is_still : Option (List (List Slot)) → Bool
 is_still None = false
 is_still (Some objects) = true
 
--- whether an area isn't left or freed yet
+-- whether an area isn't left, freed or closed
 abbrev pub is_held : Stored → Area → Bool
 is_held stored area.Globals = true
-is_held stored (area.Region n) = is_still (region_at stored.regions n)
+is_held stored (area.Region n) = is_still (live_at stored.regions n)
 is_held stored (area.Block n) = is_found (position_of stored.blocks n)
 is_held stored (area.Own n) = is_found (position_of stored.owns n)
 
@@ -148,9 +148,9 @@ fill_through blocks None i k hs = blocks
 fill_through blocks (Some position) i k hs = fill_among blocks position i k hs (slice_get blocks position)
 
 -- those of an object of a region
-abbrev pub fill_held : (i k : ℕ) → List Held → Option (List (List Slot)) → Option (List (List Slot))
+abbrev pub fill_held : (i k : ℕ) → List Held → Option Kept → Option Kept
 fill_held i k hs None = None
-fill_held i k hs (Some objects) = Some (fill_in objects i k hs)
+fill_held i k hs (Some kept) = Some (with_blocks kept (fill_in kept.objects i k hs))
 
 abbrev pub fill_region : Regions → (n i k : ℕ) → List Held → Regions
 fill_region regions n i k hs = slice_set regions n (fill_held i k hs (region_at regions n))

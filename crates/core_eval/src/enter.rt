@@ -16,7 +16,7 @@ use crate::memory::Memory;
 use crate::object::blank_objects;
 use crate::operation::operate;
 use crate::pending::{Due, Flow, Now, Pending, Returned};
-use crate::request::allocate;
+use crate::request::{allocate, allocate_unique};
 use crate::value::Value;
 use crate::whole::{clear, copy};
 use cyc_core::{Local, Statement, Temporary, Words};
@@ -164,6 +164,9 @@ pub fn enter_statement<'p>(
             *count,
             layout.as_ref(),
         ),
+        Statement::UniqueAlloc(to, layout) => {
+            allocate_unique(alloc, frame, memory, *to, layout.as_ref())
+        }
         Statement::If(test, these, those) => match truth(frame.temp(*test)) {
             Some(is_true) => Ok(Due::Go(Now::Follow(if is_true { these } else { those }))),
             None => Ok(Due::Wrong),

@@ -7,6 +7,7 @@
 #![tactic(auto)]
 
 mod arithmetic;
+mod births;
 mod blocks;
 mod call;
 mod ending;

@@ -1,19 +1,15 @@
 // What is stored: the globals and the blocks of regions, the locals of all blocks that aren't left yet, and the unnamed values of all
 // functions that are active.
 
-ghost use Rattle.std.specs.Prelude.{◌≡◌, ◌∷◌, ◌++◌, ◌+◌, suc, [], Some, None, false, if◌then◌else◌, drop, map, length, IfOk, OnOk};
+ghost use Rattle.std.specs.Prelude.{◌≡◌, ◌∷◌, ◌+◌, [], Some, None, false, if◌then◌else◌, drop, map, IfOk, OnOk};
 ghost use Rattle.core_eval.specs.Values.{cells_of, value_of};
 ghost use Rattle.core_eval.specs.Whole.{fill_to, is_held};
-ghost use Rattle.core_eval.specs.Elements.{block_cells};
-ghost use Rattle.core_eval.specs.Regions.{freed, held_objects};
 ghost use Rattle.core_eval.specs.Blocks.{
   AreOrdered,
   activation_of,
-  grown,
   is_there,
   local_address,
   local_slot,
-  next_place,
   own_address,
   own_position,
   put_local,
@@ -26,7 +22,7 @@ use crate::blocks::{Block, fill_by, position_of, set_at, set_by, slot_at, slot_b
 use crate::held::Held;
 use crate::region::{self, Region};
 use crate::value::{Area, Object, Place, Slot, Value, fill_in, put_in, slot_in, value_of};
-use cyc_core::{Layout, Variable, Width};
+use cyc_core::{Variable, Width};
 use std::alloc::{AllocError, Global};
 use std::collections::VecDeque;
 
@@ -43,7 +39,7 @@ pub struct Memory {
     pub called: u64,
     /// The globals, and behind them the heap's blocks.
     pub globals: Vec<Object>,
-    /// The lexical regions, by how many were born before each.
+    /// The regions that were born, by how many were before each.
     pub regions: Vec<Region>,
 }
 
@@ -208,7 +204,7 @@ impl Memory {
         }
     }
 
-    /// Whether an area isn't left or freed yet.
+    /// Whether an area isn't left, freed or closed.
     pub fn is_held(&self, area: Area) -> bool
         ensures { AreOrdered self.now → result ≡ is_held (stored_of self.now) area }
     {
@@ -325,69 +321,6 @@ impl Memory {
                 values,
             ),
             Area::Own(call) => fill_by(&mut self.owns, call, place.object, place.cell, values),
-        }
-    }
-
-    /// A region is born, which has no blocks as yet: how many were born before it. Fails only where no host memory is left.
-    pub fn make_region(&mut self, alloc: Global) -> Result<u64, AllocError>
-        ensures birth { IfOk result (λ birth. birth ≡ suc (length self.old.regions.items)) }
-        ensures regions { OnOk result (map held_objects self.new.regions.items ≡ map held_objects self.old.regions.items ++ Some [] ∷ []) }
-        ensures blocks { OnOk result (self.new.blocks ≡ self.old.blocks) }
-        ensures entered { OnOk result (self.new.entered ≡ self.old.entered) }
-        ensures owns { OnOk result (self.new.owns ≡ self.old.owns) }
-        ensures called { OnOk result (self.new.called ≡ self.old.called) }
-        ensures globals { OnOk result (self.new.globals ≡ self.old.globals) }
-    {
-        self.regions.push(Region::Held(Vec::new(alloc)))?;
-        Ok(self.regions.len() as u64)
-    }
-
-    /// A region is freed with its blocks by its birth, if that can be, and answers whether it can: the heap can't, and none twice.
-    pub fn free_region(&mut self, birth: u64) -> bool
-        ensures regions { freed (map held_objects self.old.regions.items) birth
-            ≡ (if result then Some (map held_objects self.new.regions.items) else None) }
-        ensures kept { result ≡ false → map held_objects self.new.regions.items ≡ map held_objects self.old.regions.items }
-        ensures blocks { self.new.blocks ≡ self.old.blocks }
-        ensures entered { self.new.entered ≡ self.old.entered }
-        ensures owns { self.new.owns ≡ self.old.owns }
-        ensures called { self.new.called ≡ self.old.called }
-        ensures globals { self.new.globals ≡ self.old.globals }
-    {
-        birth != 0 && region::free(&mut self.regions, birth - 1)
-    }
-
-    /// A region that isn't freed gets a block of so many elements of a layout, which hold nothing as yet: where the block begins. Fails
-    /// only where no host memory is left, the block would have a cell behind 2^32 - 1 bytes, or the region 2^32 blocks and one more.
-    pub fn allocate(
-        &mut self,
-        alloc: Global,
-        birth: u64,
-        layout: &Layout,
-        count: u32,
-    ) -> Result<Option<Place>, AllocError>
-        ensures place { IfOk result (λ place. place ≡ next_place (stored_of self.old) birth) }
-        ensures stored { OnOk result (stored_of self.new ≡ grown (stored_of self.old) birth (block_cells false layout.now count)) }
-        ensures entered { OnOk result (self.new.entered ≡ self.old.entered) }
-        ensures called { OnOk result (self.new.called ≡ self.old.called) }
-    {
-        let (area, added) = match birth.checked_sub(1) {
-            Some(number) => (
-                Area::Region(number),
-                region::allocate(alloc, &mut self.regions, number, layout, count)?,
-            ),
-            None => (
-                Area::Globals,
-                Some(region::push_block(alloc, &mut self.globals, layout, count)?),
-            ),
-        };
-        match added {
-            Some(object) => Ok(Some(Place {
-                area,
-                object,
-                byte: 0,
-                cell: 0,
-            })),
-            None => Ok(None),
         }
     }
 }

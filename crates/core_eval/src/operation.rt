@@ -1,14 +1,11 @@
 // What each operation does to what is known.
 
-ghost use Rattle.std.specs.Prelude.{◌≡◌, ℕ, List, IfOk, OnOk, None, true};
+ghost use Rattle.std.specs.Prelude.{◌≡◌, ℕ, List, IfOk, OnOk};
 ghost use Rattle.core_meaning.specs.Core as core;
 ghost use Rattle.core_meaning.specs.Steps.{Falls};
 ghost use Rattle.cyc_core.specs.Trees.{binary_tree, bytes_of, distance_tree, operation_tree};
 ghost use Rattle.core_eval.specs.declared.memory.Memory.{Memory as TheMemory};
 ghost use Rattle.core_eval.specs.Values.{content_of};
-ghost use Rattle.core_eval.specs.Blocks.{AreOrdered, stored_of};
-ghost use Rattle.core_eval.specs.Whole.{is_held};
-ghost use Rattle.core_eval.specs.Leading.{lead_on};
 ghost use Rattle.core_eval.specs.Pendings.{Execute, Go, Leave, Wait, next_of};
 ghost use Rattle.core_eval.specs.Standing.{Gives, known_of};
 ghost use Rattle.core_eval.specs.Costs.{IsMove};
@@ -17,14 +14,13 @@ use crate::arithmetic::{apply, truth};
 use crate::frame::Frame;
 use crate::memory::Memory;
 use crate::pending::{Due, Flow, Now};
-use crate::pointer::{is_null, same_place};
-use crate::request::{free_region, make_region};
+use crate::pointer::{is_null, lead_on, same_place};
+use crate::request::{
+    close_key, free_key, free_region, free_unique, make_key, make_region, open_key,
+};
 use crate::value::{Area, Place, Value, further, is_kept, value_of};
 use cyc_core::{Binary, Distance, Operation, Temporary, Variable, Width};
 use std::alloc::{AllocError, Global};
-
-/// No object that is granted has so many bytes.
-const TOO_FAR: u64 = 0x0200_0000;
 
 /// Gives a temporary a value, which is all that the operation does. Fails only where no host memory is left.
 pub fn give<'p>(frame: &mut Frame, to: Temporary, value: Value) -> Result<Due<'p>, AllocError>
@@ -152,41 +148,6 @@ fn put<'p>(
     match memory.local(frame.base, to, width) {
         Some(_) => Err(AllocError),
         None => Ok(Due::Wrong),
-    }
-}
-
-/// The place so many cells and so many bytes on, if a pointer may lead there: where that is less than too far from where its object begins, or
-/// a cell is there. Fails only where there would be a cell with a number over 2^64 - 1 or a byte behind 2^32 - 1, or where what had the object is
-/// gone, so that nobody knows whether a cell was there.
-fn lead_on(
-    memory: &Memory,
-    place: Place,
-    cells: u64,
-    bytes: u64,
-) -> Result<Option<Place>, AllocError>
-    ensures leads { IfOk result (λ there. AreOrdered memory.now → there ≡ lead_on (stored_of memory.now) place cells bytes) }
-    ensures held { IfOk result (λ there. there ≡ None → AreOrdered memory.now → is_held (stored_of memory.now) place.area ≡ true) }
-{
-    let Some(cell) = place.cell.checked_add(cells) else {
-        return Err(AllocError);
-    };
-    let Some(byte) = u64::from(place.byte).checked_add(bytes) else {
-        return Err(AllocError);
-    };
-    if byte > u64::from(u32::MAX) {
-        return Err(AllocError);
-    }
-    let there = Place {
-        byte: byte as u32,
-        cell,
-        ..place
-    };
-    if byte < TOO_FAR || memory.is_there(there) {
-        Ok(Some(there))
-    } else if memory.is_held(place.area) {
-        Ok(None)
-    } else {
-        Err(AllocError)
     }
 }
 
@@ -352,7 +313,7 @@ fn putchar<'p>(frame: &Frame, to: Temporary, from: Temporary) -> Due<'p>
 }
 
 /// The move of an operation. Fails only where no host memory is left, there would be a cell with a number over 2^64 - 1 or a byte behind
-/// 2^32 - 1, a pointer would lead 2^25 bytes or further into what is gone, or a part is read or stored of which nothing is kept.
+/// 2^32 - 1, a pointer would lead 2^25 bytes or further into what is gone or closed, or a part is read or stored of which nothing is kept.
 pub fn operate<'p>(
     alloc: Global,
     operation: Operation,
@@ -392,5 +353,10 @@ pub fn operate<'p>(
         Operation::HeapHandle(to) => give(frame, to, Value::Birth(0)),
         Operation::RegionNew(to) => make_region(alloc, frame, memory, to),
         Operation::RegionFree(region) => Ok(free_region(frame, memory, region)),
+        Operation::UniqueFree(place) => Ok(free_unique(frame, memory, place)),
+        Operation::KeyNew(to) => make_key(alloc, frame, memory, to),
+        Operation::KeyOpen(key) => Ok(open_key(frame, memory, key)),
+        Operation::KeyClose(key) => Ok(close_key(frame, memory, key)),
+        Operation::KeyFree(key) => Ok(free_key(frame, memory, key)),
     }
 }

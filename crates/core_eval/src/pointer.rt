@@ -1,11 +1,17 @@
-// Pointers, and whether two are the same.
+// Pointers: how far they may go, and whether two are the same.
 
-ghost use Rattle.std.specs.Prelude.{◌≡◌};
+ghost use Rattle.std.specs.Prelude.{◌≡◌, IfOk, None, true};
 ghost use Rattle.core_eval.specs.Values.{null_of, same_area, same_cell};
 ghost use Rattle.core_eval.specs.Blocks.{AreOrdered, same_places, same_values, stored_of};
+ghost use Rattle.core_eval.specs.Whole.{is_held};
+ghost use Rattle.core_eval.specs.Leading.{lead_on};
 
 use crate::memory::Memory;
 use crate::value::{Area, Place, Value};
+use std::alloc::AllocError;
+
+/// No object that is granted has so many bytes.
+const TOO_FAR: u64 = 0x0200_0000;
 
 /// Whether a value is NULL, if it is a pointer.
 pub fn is_null(value: Value) -> Option<bool>
@@ -60,5 +66,40 @@ pub fn same_place(memory: &Memory, first: Value, second: Value) -> Option<bool>
         (Value::Pointer(_), Value::Null) => Some(false),
         (Value::Pointer(place), Value::Pointer(other)) => same_places(memory, place, other),
         _ => None,
+    }
+}
+
+/// The place so many cells and so many bytes on, if a pointer may lead there: where that is less than too far from where its object begins, or
+/// a cell is there. Fails only where there would be a cell with a number over 2^64 - 1 or a byte behind 2^32 - 1, or where what had the object is
+/// gone or closed, so that nobody looks whether a cell was there.
+pub fn lead_on(
+    memory: &Memory,
+    place: Place,
+    cells: u64,
+    bytes: u64,
+) -> Result<Option<Place>, AllocError>
+    ensures leads { IfOk result (λ there. AreOrdered memory.now → there ≡ lead_on (stored_of memory.now) place cells bytes) }
+    ensures held { IfOk result (λ there. there ≡ None → AreOrdered memory.now → is_held (stored_of memory.now) place.area ≡ true) }
+{
+    let Some(cell) = place.cell.checked_add(cells) else {
+        return Err(AllocError);
+    };
+    let Some(byte) = u64::from(place.byte).checked_add(bytes) else {
+        return Err(AllocError);
+    };
+    if byte > u64::from(u32::MAX) {
+        return Err(AllocError);
+    }
+    let there = Place {
+        byte: byte as u32,
+        cell,
+        ..place
+    };
+    if byte < TOO_FAR || memory.is_there(there) {
+        Ok(Some(there))
+    } else if memory.is_held(place.area) {
+        Ok(None)
+    } else {
+        Err(AllocError)
     }
 }

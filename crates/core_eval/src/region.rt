@@ -1,18 +1,21 @@
-// Lexical regions and the blocks of regions.
+// Regions that were born, and their blocks.
 
 ghost use Rattle.std.specs.Prelude.{◌≡◌, ◌++◌, ◌∷◌, [], Some, None, false, if◌then◌else◌, map, length, option_map, IfOk, OnOk};
 ghost use Rattle.core_eval.specs.Values.{cells_of};
 ghost use Rattle.core_eval.specs.Elements.{block_cells};
 ghost use Rattle.core_eval.specs.Regions.{
-  free_held,
-  free_region,
   grown_held,
   grown_region,
-  held_objects,
+  held_region,
+  is_open,
+  live_at,
+  open_objects,
   put_held,
   put_region,
-  region_at,
+  same_standing,
   slot_within,
+  turned_held,
+  turned_region,
 };
 ghost use Rattle.core_eval.specs.Whole.{fill_held, fill_region, is_still};
 
@@ -22,11 +25,49 @@ use crate::value::{Object, Slot, Value, fill_in, put_in, slot_in};
 use cyc_core::{Layout, Width};
 use std::alloc::{AllocError, Global};
 
-/// A lexical region.
+/// What a region is that isn't freed.
+#[derive(Clone, Copy)]
+pub enum Standing {
+    /// A lexical one, which its handle frees.
+    Lexical,
+    /// A unique block's own, which is freed with it.
+    Single,
+    /// One of a key, which is open.
+    Opened,
+    /// One of a key, which is closed: its blocks are kept, and no pointer leads to them.
+    Closed,
+}
+
+impl Standing {
+    /// Whether pointers lead to a region's blocks.
+    fn is_open(self) -> bool
+        ensures { result ≡ is_open self }
+    {
+        match self {
+            Standing::Lexical | Standing::Single | Standing::Opened => true,
+            Standing::Closed => false,
+        }
+    }
+
+    /// Whether two are the same.
+    fn is(self, other: Self) -> bool
+        ensures { result ≡ same_standing self other }
+    {
+        match (self, other) {
+            (Standing::Lexical, Standing::Lexical)
+            | (Standing::Single, Standing::Single)
+            | (Standing::Opened, Standing::Opened)
+            | (Standing::Closed, Standing::Closed) => true,
+            _ => false,
+        }
+    }
+}
+
+/// A region that was born.
 #[derive(Drop)]
 pub enum Region {
     /// It isn't freed yet, and has these blocks.
-    Held(Vec<Object>),
+    Held(Standing, Vec<Object>),
     /// It is freed, and nothing is kept of it.
     Freed,
 }
@@ -52,8 +93,8 @@ pub fn push_block(
 }
 
 impl Region {
-    /// Stores a value to a part of a cell of a block, if it isn't freed and there is one that lies so many bytes on and is so wide, and answers
-    /// whether there is.
+    /// Stores a value to a part of a cell of a block, if it isn't freed or closed and there is one that lies so many bytes on and is so wide, and
+    /// answers whether there is.
     fn put(
         &mut self,
         index: u32,
@@ -63,11 +104,13 @@ impl Region {
         width: Width,
         value: Value,
     ) -> bool
-        ensures put { put_held index cell byte part width value (held_objects self.old) ≡ (if result then Some (held_objects self.new) else None) }
-        ensures kept { result ≡ false → held_objects self.new ≡ held_objects self.old }
+        ensures put { put_held index cell byte part width value (held_region self.old) ≡ (if result then Some (held_region self.new) else None) }
+        ensures kept { result ≡ false → held_region self.new ≡ held_region self.old }
     {
         match self {
-            Region::Held(objects) => put_in(objects, index, cell, byte, part, width, value),
+            Region::Held(standing, objects) => {
+                standing.is_open() && put_in(objects, index, cell, byte, part, width, value)
+            }
             Region::Freed => false,
         }
     }
@@ -75,40 +118,52 @@ impl Region {
     /// The cells of a block get these values, from one on, if it isn't freed. Fails only where there would be a cell with a number over
     /// 2^64 - 1.
     fn fill(&mut self, index: u32, cell: u64, values: &[Held]) -> Result<(), AllocError>
-        ensures { OnOk result (held_objects self.new ≡ fill_held index cell values.now (held_objects self.old)) }
+        ensures { OnOk result (held_region self.new ≡ fill_held index cell values.now (held_region self.old)) }
     {
         match self {
-            Region::Held(objects) => fill_in(objects, index, cell, values),
+            Region::Held(_, objects) => fill_in(objects, index, cell, values),
             Region::Freed => Ok(()),
         }
     }
 
-    /// It is freed, if it isn't yet, and answers whether it was not.
-    fn free(&mut self) -> bool
-        ensures freed { free_held (held_objects self.old) ≡ (if result then Some (held_objects self.new) else None) }
-        ensures kept { result ≡ false → held_objects self.new ≡ held_objects self.old }
+    /// It becomes another one, or is freed, if it is what it has to be, and answers whether it is.
+    fn turn(&mut self, from: Standing, to: Option<Standing>) -> bool
+        ensures turned { turned_held from to (held_region self.old) ≡ (if result then Some (held_region self.new) else None) }
+        ensures kept { result ≡ false → held_region self.new ≡ held_region self.old }
     {
         match self {
-            Region::Held(_) => {
-                *self = Region::Freed;
+            Region::Held(standing, _) => {
+                if !standing.is(from) {
+                    return false;
+                }
+                match to {
+                    Some(next) => *standing = next,
+                    None => *self = Region::Freed,
+                }
                 true
             }
             Region::Freed => false,
         }
     }
 
-    /// It gets a block of so many elements of a layout, if it isn't freed: how many it had before.
+    /// It gets a block of so many elements of a layout, if it isn't freed or closed: how many it had before.
     fn allocate(
         &mut self,
         alloc: Global,
         layout: &Layout,
         count: u32,
     ) -> Result<Option<u32>, AllocError>
-        ensures number { IfOk result (λ before. before ≡ option_map length (held_objects self.old)) }
-        ensures held { OnOk result (held_objects self.new ≡ grown_held (block_cells false layout.now count) (held_objects self.old)) }
+        ensures number { IfOk result (λ before. before ≡ option_map length (open_objects (held_region self.old))) }
+        ensures held { OnOk result (held_region self.new ≡ grown_held (block_cells false layout.now count) (held_region self.old)) }
     {
         match self {
-            Region::Held(objects) => Ok(Some(push_block(alloc, objects, layout, count)?)),
+            Region::Held(standing, objects) => {
+                if standing.is_open() {
+                    Ok(Some(push_block(alloc, objects, layout, count)?))
+                } else {
+                    Ok(None)
+                }
+            }
             Region::Freed => Ok(None),
         }
     }
@@ -116,26 +171,28 @@ impl Region {
 
 /// A cell of a block of the region with this number.
 pub fn slot_of(regions: &[Region], number: u64, index: u32, cell: u64) -> Option<Slot>
-    ensures { result ≡ slot_within (region_at (map held_objects regions.now) number) index cell }
+    ensures { result ≡ slot_within (live_at (map held_region regions.now) number) index cell }
 {
     match regions.get(number as usize) {
-        Some(Region::Held(objects)) => slot_in(objects, index, cell),
+        Some(Region::Held(standing, objects)) if standing.is_open() => {
+            slot_in(objects, index, cell)
+        }
         _ => None,
     }
 }
 
-/// Whether the region with this number isn't freed yet.
+/// Whether the region with this number isn't freed or closed.
 pub fn is_held(regions: &[Region], number: u64) -> bool
-    ensures { result ≡ is_still (region_at (map held_objects regions.now) number) }
+    ensures { result ≡ is_still (live_at (map held_region regions.now) number) }
 {
     match regions.get(number as usize) {
-        Some(Region::Held(_)) => true,
+        Some(Region::Held(standing, _)) => standing.is_open(),
         _ => false,
     }
 }
 
-/// Stores a value to a part of a cell of a block of the region with this number, if it isn't freed yet and there is one that lies so many bytes on
-/// and is so wide, and answers whether there is.
+/// Stores a value to a part of a cell of a block of the region with this number, if it isn't freed or closed and there is one that lies so many
+/// bytes on and is so wide, and answers whether there is.
 pub fn put_to(
     regions: &mut Vec<Region>,
     number: u64,
@@ -146,9 +203,9 @@ pub fn put_to(
     width: Width,
     value: Value,
 ) -> bool
-    ensures put { put_region (map held_objects regions.old.items) number index cell byte part width value
-        ≡ (if result then Some (map held_objects regions.new.items) else None) }
-    ensures kept { result ≡ false → map held_objects regions.new.items ≡ map held_objects regions.old.items }
+    ensures put { put_region (map held_region regions.old.items) number index cell byte part width value
+        ≡ (if result then Some (map held_region regions.new.items) else None) }
+    ensures kept { result ≡ false → map held_region regions.new.items ≡ map held_region regions.old.items }
 {
     match regions.get_mut(number as usize) {
         Some(region) => region.put(index, cell, byte, part, width, value),
@@ -165,8 +222,8 @@ pub fn fill_to(
     cell: u64,
     values: &[Held],
 ) -> Result<(), AllocError>
-    ensures { OnOk result (map held_objects regions.new.items
-        ≡ fill_region (map held_objects regions.old.items) number index cell values.now) }
+    ensures { OnOk result (map held_region regions.new.items
+        ≡ fill_region (map held_region regions.old.items) number index cell values.now) }
 {
     match regions.get_mut(number as usize) {
         Some(region) => region.fill(index, cell, values),
@@ -174,19 +231,19 @@ pub fn fill_to(
     }
 }
 
-/// The region with this number is freed, if it isn't yet, and answers whether it was not.
-pub fn free(regions: &mut Vec<Region>, number: u64) -> bool
-    ensures freed { free_region (map held_objects regions.old.items) number
-        ≡ (if result then Some (map held_objects regions.new.items) else None) }
-    ensures kept { result ≡ false → map held_objects regions.new.items ≡ map held_objects regions.old.items }
+/// The region with this number becomes another one, or is freed, if it is what it has to be, and answers whether it is.
+pub fn turn(regions: &mut Vec<Region>, number: u64, from: Standing, to: Option<Standing>) -> bool
+    ensures turned { turned_region (map held_region regions.old.items) number from to
+        ≡ (if result then Some (map held_region regions.new.items) else None) }
+    ensures kept { result ≡ false → map held_region regions.new.items ≡ map held_region regions.old.items }
 {
     match regions.get_mut(number as usize) {
-        Some(region) => region.free(),
+        Some(region) => region.turn(from, to),
         None => false,
     }
 }
 
-/// The region with this number gets a block of so many elements of a layout, if it isn't freed yet: how many it had before.
+/// The region with this number gets a block of so many elements of a layout, if it isn't freed or closed: how many it had before.
 pub fn allocate(
     alloc: Global,
     regions: &mut Vec<Region>,
@@ -194,9 +251,9 @@ pub fn allocate(
     layout: &Layout,
     count: u32,
 ) -> Result<Option<u32>, AllocError>
-    ensures number { IfOk result (λ before. before ≡ option_map length (region_at (map held_objects regions.old.items) number)) }
-    ensures regions { OnOk result (map held_objects regions.new.items
-        ≡ grown_region (map held_objects regions.old.items) number (block_cells false layout.now count)) }
+    ensures number { IfOk result (λ before. before ≡ option_map length (live_at (map held_region regions.old.items) number)) }
+    ensures regions { OnOk result (map held_region regions.new.items
+        ≡ grown_region (map held_region regions.old.items) number (block_cells false layout.now count)) }
 {
     match regions.get_mut(number as usize) {
         Some(region) => region.allocate(alloc, layout, count),

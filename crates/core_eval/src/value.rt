@@ -14,7 +14,7 @@ use std::alloc::{AllocError, Global};
 pub enum Area {
     /// The program with its globals, and the heap, whose blocks come behind them.
     Globals,
-    /// A lexical region, with its blocks, by how many were born before it.
+    /// A region that was born, with its blocks, by how many were before it.
     Region(u64),
     /// A block, with its locals, by how many blocks were entered before it.
     Block(u64),
@@ -46,7 +46,7 @@ pub enum Value {
     Null,
     /// A place.
     Pointer(Place),
-    /// The handle of a region: how many were born before it. The heap is the first.
+    /// The handle or the key of a region: how many were born before it. The heap is the first.
     Birth(u64),
 }
 

@@ -13,6 +13,8 @@ mod endings;
 #[cfg(test)]
 mod evaluations;
 #[cfg(test)]
+mod keys;
+#[cfg(test)]
 mod leaves;
 #[cfg(test)]
 mod objects;
@@ -30,5 +32,7 @@ mod rows;
 mod strings;
 #[cfg(test)]
 mod unions;
+#[cfg(test)]
+mod uniques;
 #[cfg(test)]
 mod unnamed;

@@ -93,6 +93,7 @@ pub fn statement_of(alloc: Global, row: Row<'_>) -> Option<Statement> {
         "clear_unions" => Some(Statement::Clear(to, union(alloc)?, second)),
         "break" => Some(Statement::Break),
         "continue" => Some(Statement::Continue),
+        "unique_pair" => Some(Statement::UniqueAlloc(to, pair(alloc)?)),
         "region_alloc" => Some(Statement::RegionAlloc(to, from, count, word(alloc)?)),
         "return" => Some(Statement::Return(words_of([first, second, third], row.count))),
         "raise_null" => Some(Statement::Raise(Kind::NullException)),

@@ -82,6 +82,20 @@ fn pointer_operation(row: Row<'_>) -> Option<Operation> {
         "heap_handle" => Some(Operation::HeapHandle(to)),
         "region_new" => Some(Operation::RegionNew(to)),
         "region_free" => Some(Operation::RegionFree(to)),
+        "unique_free" => Some(Operation::UniqueFree(to)),
+        _ => None,
+    }
+}
+
+// what a row on a key does
+fn key_operation(row: Row<'_>) -> Option<Operation> {
+    let [first, _, _, _, _] = row.numbers;
+    let key = Temporary(first);
+    match row.name {
+        "key_new" => Some(Operation::KeyNew(key)),
+        "key_open" => Some(Operation::KeyOpen(key)),
+        "key_close" => Some(Operation::KeyClose(key)),
+        "key_free" => Some(Operation::KeyFree(key)),
         _ => None,
     }
 }
@@ -109,4 +123,5 @@ pub fn operation_of(row: Row<'_>) -> Option<Operation> {
     number_operation(row)
         .or(memory_operation(row))
         .or(pointer_operation(row))
+        .or(key_operation(row))
 }

@@ -168,6 +168,11 @@ operation_tree (operation.Putchar t x) = core.Putchar t.0 x.0
 operation_tree (operation.HeapHandle t) = core.HeapHandle t.0
 operation_tree (operation.RegionNew t) = core.RegionNew t.0
 operation_tree (operation.RegionFree t) = core.RegionFree t.0
+operation_tree (operation.UniqueFree t) = core.UniqueFree t.0
+operation_tree (operation.KeyNew t) = core.KeyNew t.0
+operation_tree (operation.KeyOpen t) = core.KeyOpen t.0
+operation_tree (operation.KeyClose t) = core.KeyClose t.0
+operation_tree (operation.KeyFree t) = core.KeyFree t.0
 
 abbrev pub statements_of : List core.Statement → core.Statements
 statements_of [] = core.NoStatements
@@ -178,6 +183,7 @@ statement_step (Statement-F.Do o) = core.Do (operation_tree o)
 statement_step (Statement-F.Copy to from l) = core.Do (core.Copy to.0 from.0 (layout_tree l.value))
 statement_step (Statement-F.Clear p l count) = core.Do (core.Clear p.0 (layout_tree l.value) count)
 statement_step (Statement-F.RegionAlloc t h n l) = core.Do (core.RegionAlloc t.0 h.0 n.0 (layout_tree l.value))
+statement_step (Statement-F.UniqueAlloc t l) = core.Do (core.UniqueAlloc t.0 (layout_tree l.value))
 statement_step (Statement-F.If t these those) = core.If t.0 (statements_of these.items) (statements_of those.items)
 statement_step (Statement-F.While test t body) = core.While (statements_of test.items) t.0 (statements_of body.items)
 statement_step (Statement-F.Block locals body) = core.Block (map local_tree locals.items) (statements_of body.items)

@@ -199,4 +199,14 @@ pub enum Operation {
     RegionNew(Temporary),
     /// The region whose handle the temporary holds is freed with all its blocks.
     RegionFree(Temporary),
+    /// The unique block that the temporary points to is freed, with its region.
+    UniqueFree(Temporary),
+    /// The temporary gets the key of a new dynamic region, which is closed and has no blocks yet.
+    KeyNew(Temporary),
+    /// The closed region whose key the temporary holds is opened.
+    KeyOpen(Temporary),
+    /// The open region whose key the temporary holds is closed.
+    KeyClose(Temporary),
+    /// The closed region whose key the temporary holds is freed with all its blocks.
+    KeyFree(Temporary),
 }

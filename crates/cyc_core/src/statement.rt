@@ -18,6 +18,8 @@ pub enum Statement {
     /// The first temporary gets a pointer to a new block in the region whose handle the second holds: as many objects of this layout as the third's word
     /// says, which hold nothing.
     RegionAlloc(Temporary, Temporary, Temporary, Rc<Layout>),
+    /// The temporary gets a pointer to a new unique block, which alone is in a region of its own: an object of this layout, which holds nothing.
+    UniqueAlloc(Temporary, Rc<Layout>),
     /// Where the temporary is neither 0 nor NULL, the first statements are done, else the second.
     If(Temporary, Vec<Statement>, Vec<Statement>),
     /// The first statements are done, and where the temporary is neither 0 nor NULL then, the second and the loop again.

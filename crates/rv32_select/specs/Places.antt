@@ -44,7 +44,7 @@ takes_two binary.LessEqual = true
 takes_two binary.LessUnsigned = false
 takes_two binary.LessEqualUnsigned = true
 
--- the operations on words alone, those on pointers, those on locals and unnamed values, those on memory, and those on regions
+-- the operations on words alone, those on pointers, those on locals and unnamed values, those on memory, and those on regions, unique blocks and keys
 abbrev pub is_on_words : Operation → Bool
 is_on_words (operation.Constant t word) = true
 is_on_words (operation.NullPointer t) = false
@@ -67,6 +67,11 @@ is_on_words (operation.Putchar t x) = false
 is_on_words (operation.HeapHandle t) = false
 is_on_words (operation.RegionNew t) = false
 is_on_words (operation.RegionFree h) = false
+is_on_words (operation.UniqueFree p) = false
+is_on_words (operation.KeyNew t) = false
+is_on_words (operation.KeyOpen k) = false
+is_on_words (operation.KeyClose k) = false
+is_on_words (operation.KeyFree k) = false
 
 abbrev pub is_on_pointers : Operation → Bool
 is_on_pointers (operation.Constant t word) = false
@@ -90,6 +95,11 @@ is_on_pointers (operation.Putchar t x) = false
 is_on_pointers (operation.HeapHandle t) = false
 is_on_pointers (operation.RegionNew t) = false
 is_on_pointers (operation.RegionFree h) = false
+is_on_pointers (operation.UniqueFree p) = false
+is_on_pointers (operation.KeyNew t) = false
+is_on_pointers (operation.KeyOpen k) = false
+is_on_pointers (operation.KeyClose k) = false
+is_on_pointers (operation.KeyFree k) = false
 
 abbrev pub is_on_locals : Operation → Bool
 is_on_locals (operation.Constant t word) = false
@@ -113,6 +123,11 @@ is_on_locals (operation.Putchar t x) = false
 is_on_locals (operation.HeapHandle t) = false
 is_on_locals (operation.RegionNew t) = false
 is_on_locals (operation.RegionFree h) = false
+is_on_locals (operation.UniqueFree p) = false
+is_on_locals (operation.KeyNew t) = false
+is_on_locals (operation.KeyOpen k) = false
+is_on_locals (operation.KeyClose k) = false
+is_on_locals (operation.KeyFree k) = false
 
 abbrev pub is_on_memory : Operation → Bool
 is_on_memory (operation.Constant t word) = false
@@ -136,6 +151,11 @@ is_on_memory (operation.Putchar t x) = false
 is_on_memory (operation.HeapHandle t) = false
 is_on_memory (operation.RegionNew t) = false
 is_on_memory (operation.RegionFree h) = false
+is_on_memory (operation.UniqueFree p) = false
+is_on_memory (operation.KeyNew t) = false
+is_on_memory (operation.KeyOpen k) = false
+is_on_memory (operation.KeyClose k) = false
+is_on_memory (operation.KeyFree k) = false
 
 abbrev pub is_on_regions : Operation → Bool
 is_on_regions (operation.Constant t word) = false
@@ -159,3 +179,8 @@ is_on_regions (operation.Putchar t x) = false
 is_on_regions (operation.HeapHandle t) = true
 is_on_regions (operation.RegionNew t) = true
 is_on_regions (operation.RegionFree h) = true
+is_on_regions (operation.UniqueFree p) = true
+is_on_regions (operation.KeyNew t) = true
+is_on_regions (operation.KeyOpen k) = true
+is_on_regions (operation.KeyClose k) = true
+is_on_regions (operation.KeyFree k) = true

@@ -1,7 +1,7 @@
 // Instructions for an operation.
 
-ghost use Rattle.std.specs.Prelude.{◌≡◌, ◌+◌, true, ◌++◌, OnOk, IfOk};
-ghost use Rattle.core_lines.specs.Frames.{load_code, save_code, slot_of};
+ghost use Rattle.std.specs.Prelude.{◌≡◌, ◌+◌, ◌<◌, true, ◌++◌, OnOk, IfOk};
+ghost use Rattle.core_lines.specs.Frames.{load_code, save_code, slot_of, environment_code};
 ghost use Rattle.core_lines.specs.Choosing.{held_behind_operation};
 ghost use Rattle.core_lines.specs.Selected.{binary_code, operation_code, from_temp, to_temp, nth};
 ghost use Rattle.cyc_core.specs.Trees.{binary_tree, operation_tree};
@@ -17,7 +17,9 @@ use crate::place::Place;
 use core_lines::Line;
 use cyc_core::{Binary, Operation, Temporary};
 use rv32_isa::{Instr, Register, Signed12};
-use rv32_machine::{GETCHAR, PUTCHAR, REGION_FREE, REGION_NEW};
+use rv32_machine::{
+    GETCHAR, KEY_CLOSE, KEY_FREE, KEY_NEW, KEY_OPEN, PUTCHAR, REGION_FREE, REGION_NEW, UNIQUE_FREE,
+};
 use std::alloc::AllocError;
 
 /// The address at which a program's data begin.
@@ -233,7 +235,35 @@ fn put_memory_operation(
     }
 }
 
-/// Appends the instructions of an operation on regions.
+/// Appends a call of the environment that gives a temporary its word.
+fn put_made(
+    lines: &mut Vec<Line>,
+    place: &Place,
+    number: u32,
+    to: Temporary,
+) -> Result<(), AllocError>
+    requires { number < 2048 }
+    ensures { OnOk result (lines.new.items ≡ lines.old.items ++ environment_code number ++ to_temp (surroundings place.now) 10 to.0) }
+{
+    put_environment(lines, number)?;
+    put_to(lines, place, Register::ARGUMENT_0, to)
+}
+
+/// Appends a call of the environment whose argument is a temporary's word.
+fn put_given(
+    lines: &mut Vec<Line>,
+    place: &Place,
+    number: u32,
+    from: Temporary,
+) -> Result<(), AllocError>
+    requires { number < 2048 }
+    ensures { OnOk result (lines.new.items ≡ lines.old.items ++ from_temp (surroundings place.now) 10 from.0 ++ environment_code number) }
+{
+    put_from(lines, place, Register::ARGUMENT_0, from)?;
+    put_environment(lines, number)
+}
+
+/// Appends the instructions of an operation on regions, unique blocks and keys.
 fn put_region_operation(
     lines: &mut Vec<Line>,
     place: &Place,
@@ -247,14 +277,13 @@ fn put_region_operation(
             put_constant(lines, HEAP)?;
             put_to(lines, place, RESULT, to)
         }
-        Operation::RegionNew(to) => {
-            put_environment(lines, REGION_NEW)?;
-            put_to(lines, place, Register::ARGUMENT_0, to)
-        }
-        Operation::RegionFree(handle) => {
-            put_from(lines, place, Register::ARGUMENT_0, handle)?;
-            put_environment(lines, REGION_FREE)
-        }
+        Operation::RegionNew(to) => put_made(lines, place, REGION_NEW, to),
+        Operation::RegionFree(handle) => put_given(lines, place, REGION_FREE, handle),
+        Operation::UniqueFree(pointer) => put_given(lines, place, UNIQUE_FREE, pointer),
+        Operation::KeyNew(to) => put_made(lines, place, KEY_NEW, to),
+        Operation::KeyOpen(key) => put_given(lines, place, KEY_OPEN, key),
+        Operation::KeyClose(key) => put_given(lines, place, KEY_CLOSE, key),
+        Operation::KeyFree(key) => put_given(lines, place, KEY_FREE, key),
         _ => Ok(()),
     }
 }
@@ -290,13 +319,9 @@ pub fn put_operation(
     ensures { OnOk result (lines.new.items ≡ lines.old.items ++ operation_code (surroundings place.now) (operation_tree operation)) }
 {
     match operation {
-        Operation::Getchar(to) => {
-            put_environment(lines, GETCHAR)?;
-            put_to(lines, place, Register::ARGUMENT_0, to)
-        }
+        Operation::Getchar(to) => put_made(lines, place, GETCHAR, to),
         Operation::Putchar(to, from) => {
-            put_from(lines, place, Register::ARGUMENT_0, from)?;
-            put_environment(lines, PUTCHAR)?;
+            put_given(lines, place, PUTCHAR, from)?;
             put_to(lines, place, Register::ARGUMENT_0, to)
         }
         Operation::Constant(..)
@@ -312,9 +337,14 @@ pub fn put_operation(
         | Operation::OwnAddress(..)
         | Operation::Get(..)
         | Operation::Put(..) => { put_local_operation(lines, place, operation) }
-        Operation::HeapHandle(..) | Operation::RegionNew(..) | Operation::RegionFree(..) => {
-            put_region_operation(lines, place, operation)
-        }
+        Operation::HeapHandle(..)
+        | Operation::RegionNew(..)
+        | Operation::RegionFree(..)
+        | Operation::UniqueFree(..)
+        | Operation::KeyNew(..)
+        | Operation::KeyOpen(..)
+        | Operation::KeyClose(..)
+        | Operation::KeyFree(..) => put_region_operation(lines, place, operation),
         _ => put_memory_operation(lines, place, operation),
     }
 }

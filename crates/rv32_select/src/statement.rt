@@ -13,7 +13,7 @@ use crate::emit::{RESULT, put, put_environment, put_lines, put_save};
 use crate::layout::sum;
 use crate::operation::{held_behind, put_from, put_operation, put_to};
 use crate::place::Place;
-use crate::whole::{put_clear, put_copy, put_region_alloc};
+use crate::whole::{put_clear, put_copy, put_region_alloc, put_unique_alloc};
 use core_lines::Line;
 use cyc_core::{Local, Statement, Temporary, Words};
 use cyc_words::Kind;
@@ -180,6 +180,9 @@ fn put_statement(
         }
         Statement::RegionAlloc(to, handle, count, layout) => {
             put_region_alloc(lines, place, *to, *handle, *count, layout.as_ref())?;
+        }
+        Statement::UniqueAlloc(to, layout) => {
+            put_unique_alloc(lines, place, *to, layout.as_ref())?;
         }
         Statement::If(test, these, those) => {
             return put_if(lines, place, next, ways, *test, these, those);

@@ -13,7 +13,7 @@ use crate::place::Place;
 use core_lines::Line;
 use cyc_core::{CellLayout, Layout, Temporary, Width};
 use rv32_isa::{BranchOffset, Instr, Register, Signed12};
-use rv32_machine::REGION_ALLOC;
+use rv32_machine::{REGION_ALLOC, UNIQUE_ALLOC};
 use std::alloc::AllocError;
 
 /// The register by way of which each unit is copied.
@@ -167,5 +167,19 @@ pub fn put_region_alloc(
     put_from(lines, place, RESULT, count)?;
     put_bytes(lines, layout.bytes)?;
     put_environment(lines, REGION_ALLOC)?;
+    put_to(lines, place, Register::ARGUMENT_0, to)
+}
+
+/// Appends what asks for a unique block of an object of a layout.
+pub fn put_unique_alloc(
+    lines: &mut Vec<Line>,
+    place: &Place,
+    to: Temporary,
+    layout: &Layout,
+) -> Result<(), AllocError>
+    ensures { OnOk result (lines.new.items ≡ lines.old.items ++ operation_code (surroundings place.now) (core.UniqueAlloc to.0 (layout_tree layout.now))) }
+{
+    put_word(lines, Register::ARGUMENT_0, u64::from(layout.bytes))?;
+    put_environment(lines, UNIQUE_ALLOC)?;
     put_to(lines, place, Register::ARGUMENT_0, to)
 }

@@ -167,3 +167,32 @@ returns-in-RegionFree c =
     let f = c.args.frame.now in
     for_operation_ok c.free_region.result c.args.operation (operation.RegionFree c.in-RegionFree.region) (known_of f c.args.memory.now)
     (known_of f c.free_region.new.memory) c.in-RegionFree.is c.free_region.ensures
+
+pub returns-in-UniqueFree : goal.returns-in-UniqueFree
+returns-in-UniqueFree c =
+    let f = c.args.frame.now in
+    for_operation_ok c.free_unique.result c.args.operation (operation.UniqueFree c.in-UniqueFree.place) (known_of f c.args.memory.now)
+    (known_of f c.free_unique.new.memory) c.in-UniqueFree.is c.free_unique.ensures
+
+pub returns-in-KeyNew : goal.returns-in-KeyNew
+returns-in-KeyNew c =
+    for_operation c.make_key.result c.args.operation (operation.KeyNew c.in-KeyNew.to) (known_of c.args.frame.now c.args.memory.now)
+    (known_of c.make_key.new.frame c.make_key.new.memory) c.in-KeyNew.is c.make_key.ensures
+
+pub returns-in-KeyOpen : goal.returns-in-KeyOpen
+returns-in-KeyOpen c =
+    let f = c.args.frame.now in
+    for_operation_ok c.open_key.result c.args.operation (operation.KeyOpen c.in-KeyOpen.key) (known_of f c.args.memory.now)
+    (known_of f c.open_key.new.memory) c.in-KeyOpen.is c.open_key.ensures
+
+pub returns-in-KeyClose : goal.returns-in-KeyClose
+returns-in-KeyClose c =
+    let f = c.args.frame.now in
+    for_operation_ok c.close_key.result c.args.operation (operation.KeyClose c.in-KeyClose.key) (known_of f c.args.memory.now)
+    (known_of f c.close_key.new.memory) c.in-KeyClose.is c.close_key.ensures
+
+pub returns-in-KeyFree : goal.returns-in-KeyFree
+returns-in-KeyFree c =
+    let f = c.args.frame.now in
+    for_operation_ok c.free_key.result c.args.operation (operation.KeyFree c.in-KeyFree.key) (known_of f c.args.memory.now)
+    (known_of f c.free_key.new.memory) c.in-KeyFree.is c.free_key.ensures

@@ -1,7 +1,7 @@
 use Rattle.std.specs.Prelude.{option_map}
 use Rattle.std.proofs.lemmas.Result.{on_ok_weaker}
 use Rattle.std.proofs.Common.{false, ◌<◌, ◌≤◌, length, ap, sym, rules}
-use Rattle.core_eval.specs.Regions.{grown_held}
+use Rattle.core_eval.specs.Regions.{open_objects, grown_held}
 use Rattle.core_eval.specs.Elements.{block_cells}
 use Rattle.core_eval.proofs.Regions.{changed_some, no_region}
 use Rattle.core_eval.proofs.region.allocate.Goals as goal
@@ -19,4 +19,4 @@ pub returns-in-None-clause-number : goal.returns-in-None-clause-number
 returns-in-None-clause-number c =
     let rs = c.args.regions.now.items in
     let past : length rs ≤ c.args.number = search rules in
-    sym (ap (option_map length) (no_region rs c.args.number past))
+    sym (ap (λ held. option_map length (open_objects held)) (no_region rs c.args.number past))

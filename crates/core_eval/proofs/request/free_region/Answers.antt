@@ -1,34 +1,21 @@
-use Rattle.std.specs.Prelude.{if◌then◌else◌}
-use Rattle.std.proofs.Common.{Some, None, map, refl, ap, ◌∙◌}
-use Rattle.core_meaning.specs.Steps as steps
-use Rattle.core_eval.specs.Regions.{held_objects}
-use Rattle.core_eval.specs.Pendings.{Leave, Go, Wrong}
-use Rattle.core_eval.specs.Standing.{known_of}
-use Rattle.core_eval.proofs.RegionMoves.{free_moves, free_wrong}
-use Rattle.core_eval.proofs.Answered.{move_as, regions_known}
+use Rattle.std.proofs.Common.{None}
+use Rattle.core_meaning.specs.Core as core
+use Rattle.core_eval.specs.declared.region.Standing.TheVariants as standing
+use Rattle.core_eval.proofs.TurnMoves.{region_frees}
+use Rattle.core_eval.proofs.RegionAnswers.{turn_answered}
 use Rattle.core_eval.proofs.request.free_region.Goals as goal
 
-pub returns-then-free_region : goal.returns-then-free_region
-returns-then-free_region c =
-    let f = c.args.frame.now in
-    let m = c.args.memory.now in
-    let m' = c.free_region.new.self in
-    let after = c.free_region.ensures in
-    let rs = map held_objects m'.regions.items in
-    λ ws. move_as _ ws (known_of f m) (Go (Leave steps.Falls)) _ ws (record (known_of f m) { regions = rs }) (known_of f m') refl
-    (regions_known f m m' after.blocks after.entered after.owns after.called after.globals)
-    (free_moves (known_of f m) ws c.args.region.0 c.temp.result c.temp.ensures c.in-Birth.birth c.in-Birth.is rs
-    (after.regions ∙ ap (λ b. if b then Some rs else None) c.if-free_region.true))
-
-pub returns-else-free_region : goal.returns-else-free_region
-returns-else-free_region c =
-    let f = c.args.frame.now in
-    let m = c.args.memory.now in
-    let m' = c.free_region.new.self in
-    let after = c.free_region.ensures in
-    let rs = map held_objects m'.regions.items in
-    λ ws. move_as _ ws (known_of f m) Wrong _ ws (known_of f m) (known_of f m') refl
-    (regions_known f m m' after.blocks after.entered after.owns after.called after.globals
-    ∙ ap (λ rs. record (known_of f m) { regions = rs }) (after.kept c.if-free_region.false))
-    (free_wrong (known_of f m) ws c.args.region.0 c.temp.result c.temp.ensures c.in-Birth.birth c.in-Birth.is
-    (after.regions ∙ ap (λ b. if b then Some rs else None) c.if-free_region.false))
+pub returns-in-Birth : goal.returns-in-Birth
+returns-in-Birth c =
+    let x = c.args.region.0 in
+    let after = c.turn_region.ensures in
+    turn_answered c.done.result c.args.frame.now c.args.memory.now c.turn_region.new.self (core.RegionFree x) x standing.Lexical None (region_frees x)
+    c.temp.result c.temp.ensures c.in-Birth.birth c.in-Birth.is c.turn_region.result c.done.ensures
+    (record {
+      blocks = after.blocks;
+      entered = after.entered;
+      owns = after.owns;
+      called = after.called;
+      globals = after.globals;
+    })
+    after.regions after.kept

@@ -1,0 +1,59 @@
+use Rattle.std.proofs.Common.{◌≡◌, ◌-◌, false, Some, List, [], ◌∷◌, ◌++◌, length, map, ap, ◌∙◌, sym, subst, arith}
+use Rattle.std.proofs.lemmas.List.{length-map}
+use Rattle.core_meaning.specs.Core as core
+use Rattle.core_meaning.specs.Steps as steps
+use Rattle.cyc_core.specs.Trees.{layout_tree}
+use Rattle.core_eval.specs.declared.region.Standing.TheVariants as standing
+use Rattle.core_eval.specs.declared.value.Area.TheVariants as area
+use Rattle.core_eval.specs.declared.value.Object.{Object}
+use Rattle.core_eval.specs.declared.value.Value.TheVariants as value
+use Rattle.core_eval.specs.declared.value.Slot.{Slot}
+use Rattle.core_eval.specs.Values.{content_of, cells_of}
+use Rattle.core_eval.specs.Elements.{block_cells}
+use Rattle.core_eval.specs.Regions.{Regions, held_region}
+use Rattle.core_eval.specs.Pendings.{Execute, Leave, Go}
+use Rattle.core_eval.specs.Standing.{Known, Gives, known_of}
+use Rattle.core_eval.specs.Costs.{IsMove}
+use Rattle.core_eval.proofs.OperationMoves.{given}
+use Rattle.core_eval.proofs.UniqueMoves.{with_unique, unique_moves}
+use Rattle.core_eval.proofs.Answered.{given_after}
+use Rattle.core_eval.proofs.RegionAnswers.{RegionsAlone, alone_known}
+use Rattle.core_eval.proofs.request.allocate_unique.Goals as goal
+
+pub returns : goal.returns
+returns c =
+    let f = c.args.frame.now in
+    let f' = c.give.new.frame in
+    let m = c.args.memory.now in
+    let m' = c.make_region.new.self in
+    let t = c.args.to.0 in
+    let l = c.args.layout.now in
+    let task = Execute (core.Do (core.UniqueAlloc t (layout_tree l))) in
+    let after = c.in_ok-birth.ensures in
+    let rs = map held_region m.regions.items in
+    let empty = c.new-objects.ensures.items in
+    let long = length-map m.regions.items held_region in
+    let births = after.birth in
+    let number : c.in_ok-birth.birth - 1 ≡ length rs = omega (arith, births, long) in
+    let first : c.in_ok-object.object ≡ 0 = c.in_ok-object.ensures.number ∙ ap (λ (os : List Object). length os) empty in
+    let block : map cells_of c.push_block.new.objects.items ≡ block_cells false l 1 ∷ [] =
+    c.in_ok-object.ensures.objects ∙ ap (λ (os : List Object). map cells_of os ++ block_cells false l 1 ∷ []) empty in
+    let alone : RegionsAlone m m' = (record {
+      blocks = after.blocks;
+      entered = after.entered;
+      owns = after.owns;
+      called = after.called;
+      globals = after.globals;
+    }) in
+    given_after c.give.result f f' t
+    (content_of (value.Pointer (record { area = area.Region (c.in_ok-birth.birth - 1); object = c.in_ok-object.object; byte = 0; cell = 0 }))) task m m'
+    c.give.ensures.next c.give.ensures.gives c.give.ensures.base
+    (λ ws gives.
+    let known : known_of f m' ≡ with_unique (known_of f m) ws t l =
+    alone_known f m m' alone
+    ∙ ap (λ (rs : Regions). record (known_of f m) { regions = rs }) after.regions
+    ∙ ap (λ (os : List (List Slot)). record (known_of f m) { regions = rs ++ Some (record { standing = standing.Single; objects = os }) ∷ [] }) block in
+    subst (λ (k : Known). IsMove task ws (known_of f m) (Go (Leave steps.Falls)) ws (given k f'.temps.items)) (sym known)
+    (unique_moves (known_of f m) ws t l f'.temps.items (c.in_ok-birth.birth - 1) number
+    (subst (λ n. Gives t (content_of (value.Pointer (record { area = area.Region (c.in_ok-birth.birth - 1); object = n; byte = 0; cell = 0 })))
+    f.temps.items f'.temps.items) first gives)))

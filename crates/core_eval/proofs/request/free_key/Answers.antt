@@ -1,0 +1,21 @@
+use Rattle.std.proofs.Common.{None}
+use Rattle.core_meaning.specs.Core as core
+use Rattle.core_eval.specs.declared.region.Standing.TheVariants as standing
+use Rattle.core_eval.proofs.TurnMoves.{key_frees}
+use Rattle.core_eval.proofs.RegionAnswers.{turn_answered}
+use Rattle.core_eval.proofs.request.free_key.Goals as goal
+
+pub returns-in-Birth : goal.returns-in-Birth
+returns-in-Birth c =
+    let x = c.args.key.0 in
+    let after = c.turn_region.ensures in
+    turn_answered c.done.result c.args.frame.now c.args.memory.now c.turn_region.new.self (core.KeyFree x) x standing.Closed None (key_frees x)
+    c.temp.result c.temp.ensures c.in-Birth.birth c.in-Birth.is c.turn_region.result c.done.ensures
+    (record {
+      blocks = after.blocks;
+      entered = after.entered;
+      owns = after.owns;
+      called = after.called;
+      globals = after.globals;
+    })
+    after.regions after.kept

@@ -1,0 +1,102 @@
+// Regions in what is stored: how they are born, become others and are freed, and get blocks.
+
+ghost use Rattle.std.specs.Prelude.{◌≡◌, ◌∷◌, ◌++◌, suc, [], Some, None, false, if◌then◌else◌, map, length, IfOk, OnOk};
+ghost use Rattle.core_eval.specs.Values.{cells_of};
+ghost use Rattle.core_eval.specs.Elements.{block_cells};
+ghost use Rattle.core_eval.specs.Regions.{held_region, single_freed, turned};
+ghost use Rattle.core_eval.specs.Blocks.{grown, next_place, stored_of};
+
+use crate::memory::Memory;
+use crate::region::{self, Region, Standing};
+use crate::value::{Area, Object, Place};
+use cyc_core::Layout;
+use std::alloc::{AllocError, Global};
+
+impl Memory {
+    /// A region is born with these blocks: how many were born before it. Fails only where no host memory is left.
+    pub fn make_region(
+        &mut self,
+        standing: Standing,
+        objects: Vec<Object>,
+    ) -> Result<u64, AllocError>
+        ensures birth { IfOk result (λ birth. birth ≡ suc (length self.old.regions.items)) }
+        ensures regions { OnOk result (map held_region self.new.regions.items
+            ≡ map held_region self.old.regions.items ++ Some (record { standing = standing; objects = map cells_of objects.items }) ∷ []) }
+        ensures blocks { OnOk result (self.new.blocks ≡ self.old.blocks) }
+        ensures entered { OnOk result (self.new.entered ≡ self.old.entered) }
+        ensures owns { OnOk result (self.new.owns ≡ self.old.owns) }
+        ensures called { OnOk result (self.new.called ≡ self.old.called) }
+        ensures globals { OnOk result (self.new.globals ≡ self.old.globals) }
+    {
+        self.regions.push(Region::Held(standing, objects))?;
+        Ok(self.regions.len() as u64)
+    }
+
+    /// A region becomes another one by its birth, or is freed, if it is what it has to be, and answers whether it is: the heap stays what it is.
+    pub fn turn_region(&mut self, birth: u64, from: Standing, to: Option<Standing>) -> bool
+        ensures regions { turned (map held_region self.old.regions.items) birth from to
+            ≡ (if result then Some (map held_region self.new.regions.items) else None) }
+        ensures kept { result ≡ false → map held_region self.new.regions.items ≡ map held_region self.old.regions.items }
+        ensures blocks { self.new.blocks ≡ self.old.blocks }
+        ensures entered { self.new.entered ≡ self.old.entered }
+        ensures owns { self.new.owns ≡ self.old.owns }
+        ensures called { self.new.called ≡ self.old.called }
+        ensures globals { self.new.globals ≡ self.old.globals }
+    {
+        birth != 0 && region::turn(&mut self.regions, birth - 1, from, to)
+    }
+
+    /// The unique block of an area is freed, if the area is one's own, and answers whether it is.
+    pub fn free_single(&mut self, area: Area) -> bool
+        ensures regions { single_freed (map held_region self.old.regions.items) area
+            ≡ (if result then Some (map held_region self.new.regions.items) else None) }
+        ensures kept { result ≡ false → map held_region self.new.regions.items ≡ map held_region self.old.regions.items }
+        ensures blocks { self.new.blocks ≡ self.old.blocks }
+        ensures entered { self.new.entered ≡ self.old.entered }
+        ensures owns { self.new.owns ≡ self.old.owns }
+        ensures called { self.new.called ≡ self.old.called }
+        ensures globals { self.new.globals ≡ self.old.globals }
+    {
+        match area {
+            Area::Region(number) => {
+                region::turn(&mut self.regions, number, Standing::Single, None)
+            }
+            Area::Globals | Area::Block(_) | Area::Own(_) => false,
+        }
+    }
+
+    /// A region that isn't freed or closed gets a block of so many elements of a layout, which hold nothing as yet: where the block begins. Fails
+    /// only where no host memory is left, the block would have a cell behind 2^32 - 1 bytes, or the region 2^32 blocks and one more.
+    pub fn allocate(
+        &mut self,
+        alloc: Global,
+        birth: u64,
+        layout: &Layout,
+        count: u32,
+    ) -> Result<Option<Place>, AllocError>
+        ensures place { IfOk result (λ place. place ≡ next_place (stored_of self.old) birth) }
+        ensures stored { OnOk result (stored_of self.new ≡ grown (stored_of self.old) birth (block_cells false layout.now count)) }
+        ensures entered { OnOk result (self.new.entered ≡ self.old.entered) }
+        ensures called { OnOk result (self.new.called ≡ self.old.called) }
+    {
+        let (area, added) = match birth.checked_sub(1) {
+            Some(number) => (
+                Area::Region(number),
+                region::allocate(alloc, &mut self.regions, number, layout, count)?,
+            ),
+            None => (
+                Area::Globals,
+                Some(region::push_block(alloc, &mut self.globals, layout, count)?),
+            ),
+        };
+        match added {
+            Some(object) => Ok(Some(Place {
+                area,
+                object,
+                byte: 0,
+                cell: 0,
+            })),
+            None => Ok(None),
+        }
+    }
+}

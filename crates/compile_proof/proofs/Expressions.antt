@@ -1,6 +1,6 @@
 -- The code of an expression names locals of the blocks around it, globals, and unnamed values of its function, where its names and the program's globals lie
 -- there, and its unnamed values are numbered among the function's.
-use Rattle.std.proofs.Common.{ℕ, suc, ◌+◌, ◌≤◌, List, [], ◌∷◌, length, arith, length-append, ap}
+use Rattle.std.proofs.Common.{ℕ, suc, ◌+◌, ◌≤◌, Bool, false, List, [], ◌∷◌, length, arith, length-append, ap}
 use Rattle.cyc_tree.specs.Tree.{Expression, Expressions, NoExpressions, MoreExpressions, Links, NoLinks, MoreLinks, Suffixes, NoSuffixes, Index, Dot, Arrow}
 use Rattle.cyc_tree.specs.Tree.{Made, One, Array}
 use Rattle.source_meaning.specs.Shapes.{Shape, Part, part_shape, part_shapes, parts_of, pointee}
@@ -9,6 +9,7 @@ use Rattle.source_meaning.specs.Steps.{World}
 use Rattle.source_meaning.specs.Operators.{operator_shape}
 use Rattle.source_meaning.specs.Places.{bound_to}
 use Rattle.source_meaning.specs.Conversions.{cells_of}
+use Rattle.source_meaning.specs.Expressions.{is_unique_region}
 use Rattle.core_meaning.specs.Core.{Statement}
 use Rattle.source_lowering.specs.Layouts.{extent_of}
 use Rattle.source_lowering.specs.Members.{words_in}
@@ -158,11 +159,12 @@ module _ (blocks : List ℕ) (own n : ℕ) (w : World) (plain : IsPlainWorld w) 
         primary next h.0 (omega (arith, f, many)) (λ k. value_target names around primary k)
         (λ k x. expression_names names around primary x first k (omega (arith, f, many)))
         (λ k x. place_names names around primary x first k (omega (arith, f, many)))).value d
-    expression_names names around (Expression.New at new) d next h f = (tt, new_names names around new d next h f)
+    expression_names names around (Expression.UniqueRegion at) d next h f = tt
+    expression_names names around (Expression.New at new) d next h f = (tt, new_names names around false new d next h f)
     expression_names names around (Expression.NewIn at handle new) d next h f =
         let many = length-append (expression_values w names handle) (new_values w names new) in
-        both_name blocks own n _ _ (expression_names names around handle d next h.1.0 (omega (arith, f, many)))
-        (new_names names around new d (next + length (expression_values w names handle)) h.1.1 (omega (arith, f, many)))
+        both_name blocks own n _ _ (expression_names names around handle d next h.0 (omega (arith, f, many)))
+        (new_names names around (is_unique_region handle) new d (next + length (expression_values w names handle)) h.1 (omega (arith, f, many)))
     expression_names names around (Expression.Chain first others) d next h f =
         let many = length-append (expression_values w names first) (link_values w names others) in
         both_name blocks own n _ _ (expression_names names around first d next h.0 (omega (arith, f, many)))
@@ -286,14 +288,14 @@ module _ (blocks : List ℕ) (own n : ℕ) (w : World) (plain : IsPlainWorld w) 
           any_names names around es d (next + length (expression_values w names e)) h.1 (omega (arith, f, many)),
         )
 
-    new_names : (names : List Named) (around : Around blocks n w names) (new : Made) (d next : ℕ) → TakesNew w names new
+    new_names : (names : List Named) (around : Around blocks n w names) (unique : Bool) (new : Made) (d next : ℕ) → TakesNew w names new
         → next + length (new_values w names new) ≤ own
-        → CodeNames blocks own n (new_code w names new d next)
-    new_names names around (One e) d next h f =
+        → CodeNames blocks own n (new_code w names unique new d next)
+    new_names names around unique (One e) d next h f =
         made_names blocks own n w plain d next (whole_values w names e) (expression_values w names e) (whole_code w names e (d + 1) next)
         (expression_code w names e (d + 1) next) (TakesWhole w names e) (Takes w names e) (λ k room. whole_names names around e (d + 1) next k room)
-        (λ k room. expression_names names around e (d + 1) next k room) (static_shape w names e) h.0 h.1 f
-    new_names names around (Array index count element) d next h f =
+        (λ k room. expression_names names around e (d + 1) next k room) unique (static_shape w names e) h.0 h.1 f
+    new_names names around unique (Array index count element) d next h f =
         let inner = number_named index.text (d + 2) ∷ names in
         let within : Around blocks n w inner = number_around blocks n w names index.text (d + 2) around in
         let counted = expression_values w names count in
@@ -363,3 +365,15 @@ module _ (blocks : List ℕ) (own n : ℕ) (w : World) (plain : IsPlainWorld w) 
         (omega (arith, f, many)))
         (members_names names around ps others d (cells + length (cells_of w p.shape)) (at + (extent_of w p.shape).size) (next + length values) objects.1 h.1
         (omega (arith, f, many)))
+
+  -- a value is stored to its place, be it given away or not
+  pub assign_names : (names : List Named) (around : Around blocks n w names) (place value : Expression) (d next : ℕ) → TakesPlace w names place
+      → Takes w names value → next + length (expression_values w names (Expression.Assign place value)) ≤ own
+      → CodeNames blocks own n (expression_code w names (Expression.Assign place value) d next)
+  assign_names names around place value d next h g f =
+      let many = length-append (expression_values w names value) (expression_values w names place) in
+      both_name blocks own n _ _ (expression_names names around value d next g (omega (arith, f, many)))
+      (both_name blocks own n _ _
+      (conversion_names blocks own n w plain (static_shape w names place) (static_shape w names value) d
+      (place_target w names around.plain around.words place h))
+      (stored_names names around place d (next + length (expression_values w names value)) h (omega (arith, f, many))))

@@ -1,7 +1,7 @@
 -- The code of functions and globals of a program that is taken names what there is: the program can be selected.
 use Rattle.std.proofs.Common.{◌≡◌, ℕ, suc, ◌+◌, ◌≤◌, List, [], ◌∷◌, ◌++◌, length, map, sym, subst, arith}
 use Rattle.cyc_tree.specs.Tree as tree
-use Rattle.cyc_tree.specs.Tree.{BlockItems, Item}
+use Rattle.cyc_tree.specs.Tree.{Item}
 use Rattle.source_meaning.specs.Shapes.{Shape, CharShape, VoidShape, Layout, Part}
 use Rattle.source_meaning.specs.Shapes.{part_shapes, written, settled}
 use Rattle.source_meaning.specs.Steps.{World, Routine}
@@ -69,24 +69,25 @@ end_names s own n = by s
     by VoidShape = (omega arith, tt)
     by _ = zero_names
 
-many_shapes : (ps : List Part) (items : BlockItems) → length (part_shapes ps ++ block_shapes items) ≡ length ps + length (block_shapes items)
-many_shapes [] items = omega arith
-many_shapes (p ∷ ps) items = let h = many_shapes ps items in omega (arith, h)
+many_shapes : (ps : List Part) (ss : List Shape) → length (part_shapes ps ++ ss) ≡ length ps + length ss
+many_shapes [] ss = omega arith
+many_shapes (p ∷ ps) ss = let h = many_shapes ps ss in omega (arith, h)
 
 -- the function has the locals of its unnamed values
 pub body_names : (n : ℕ) (w : World) (f : Routine) → GlobalsLie n w.globals → TextsLie n w.strings → IsPlainWorld w → IsRoutine w f
     → AreNaming [] (length (locals_of w (routine_values w f))) n (body_code w f)
 body_names n w f globals texts plain is =
-    let shapes = part_shapes f.parameters ++ block_shapes f.body in
+    let names = parameter_names f.parameters 0 [] in
+    let declared = block_shapes w names (length f.parameters) f.body in
+    let shapes = part_shapes f.parameters ++ declared in
     let k = length (locals_of w shapes) in
     let own = length (locals_of w (routine_values w f)) in
     let many = as_many w shapes in
     let room = as_many w (routine_values w f) in
-    let variables = parameters_are w.unions w.structs f.parameters (block_shapes f.body) is.parameters
-    (items_are w f.result (parameter_names f.parameters 0 []) (length f.parameters) f.body is.body) in
+    let variables = parameters_are w.unions w.structs f.parameters declared is.parameters
+    (items_are w f.result names (length f.parameters) f.body is.body) in
     let words = all_words (part_shapes f.parameters) in
-    let all = many_shapes f.parameters f.body in
-    let names = parameter_names f.parameters 0 [] in
+    let all = many_shapes f.parameters declared in
     let a : Around (k ∷ []) n w names =
     record {
       locals = parameters_lie k f.parameters 0 [] (omega (arith, many, all)) tt;

@@ -1,5 +1,5 @@
 -- What stands around the code of values names unnamed values of its function: structs and unions that are copied, members, and what `new` and `rnew` make.
-use Rattle.std.proofs.Common.{ℕ, ◌+◌, ◌<◌, ◌≤◌, List, ◌++◌, length, ◌∷◌}
+use Rattle.std.proofs.Common.{ℕ, ◌+◌, ◌<◌, ◌≤◌, Bool, true, false, List, ◌++◌, length, ◌∷◌}
 use Rattle.source_meaning.specs.Shapes.{Shape, StructShape, UnionShape}
 use Rattle.source_meaning.specs.Steps.{World}
 use Rattle.core_meaning.specs.Core.{Statement, Do, Element}
@@ -33,6 +33,11 @@ module _ (blocks : List ℕ) (own n : ℕ) (w : World) (plain : IsPlainWorld w) 
       both_name blocks own n (conversion_code w s from (d + 1)) (tag_store d (d + 1 + words_in s) number ++ held_stores s d (d + 1))
       (conversion_names blocks own n w plain s from (d + 1) target) (tt, (tt, given_names blocks own n s d (d + 1)))
 
+  -- a block for one object is asked for
+  request_names : (unique : Bool) (s : Shape) (d count : ℕ) → IsObject w.unions w.structs s → CodeNames blocks own n (request_code w unique s d count)
+  request_names true s d count o = (((object_layout w s plain o).lies, target_small w s plain (object_target w.unions w.structs s o)), tt)
+  request_names false s d count o = (tt, ((object_layout w s plain o).lies, tt))
+
   module _ (d next : ℕ) (whole_values word_values : List Shape) (whole word : List Statement) (for_whole for_word : Type 0)
       (as_whole : for_whole → next + length whole_values ≤ own → CodeNames blocks own n whole)
       (as_word : for_word → next + length word_values ≤ own → CodeNames blocks own n word) where
@@ -57,20 +62,26 @@ module _ (blocks : List ℕ) (own n : ℕ) (w : World) (plain : IsPlainWorld w) 
         by of o takes room = as_a_word of o (as_word takes room)
 
     -- what is made: a block is asked for, and the value stored there
-    pub made_names : (s : Shape) → IsObject w.unions w.structs s → TakesMember s for_whole for_word → next + length (values_by s whole_values word_values) ≤ own
-        → CodeNames blocks own n (new_code_by w s d whole word)
-    made_names s object takes room = by s object takes room
+    pub made_names : (unique : Bool) (s : Shape) → IsObject w.unions w.structs s → TakesMember s for_whole for_word
+        → next + length (values_by s whole_values word_values) ≤ own → CodeNames blocks own n (new_code_by w unique s d whole word)
+    made_names unique s object takes room = by s object takes room
       where
         as_a_word : (of : Shape) → IsObject w.unions w.structs of → CodeNames blocks own n word
-            → CodeNames blocks own n (word ++ (request_code w of d (d + 1 + words_in of) ++ stores_code of d (d + 1) 0 0))
-        as_a_word of o names = both_name blocks own n _ _ names (tt, ((object_layout w of plain o).lies, stores_names blocks own n of d (d + 1) 0 0))
+            → CodeNames blocks own n (word ++ (request_code w unique of d (d + 1 + words_in of) ++ stores_code of d (d + 1) 0 0))
+        as_a_word of o names =
+            both_name blocks own n _ _ names
+            (both_name blocks own n _ _ (request_names unique of d (d + 1 + words_in of) o) (stores_names blocks own n of d (d + 1) 0 0))
 
         by : (of : Shape) → IsObject w.unions w.structs of → TakesMember of for_whole for_word → next + length (values_by of whole_values word_values) ≤ own
-            → CodeNames blocks own n (new_code_by w of d whole word)
+            → CodeNames blocks own n (new_code_by w unique of d whole word)
         by (StructShape tag) o takes room =
-            let l = object_layout w (StructShape tag) plain o in both_name blocks own n _ _ (as_whole takes room) (tt, (l.lies, ((l.lies, l.full), tt)))
+            let l = object_layout w (StructShape tag) plain o in
+            both_name blocks own n _ _ (as_whole takes room)
+            (both_name blocks own n _ _ (request_names unique (StructShape tag) d (d + 2) o) ((l.lies, l.full), tt))
         by (UnionShape tag) o takes room =
-            let l = object_layout w (UnionShape tag) plain o in both_name blocks own n _ _ (as_whole takes room) (tt, (l.lies, ((l.lies, l.full), tt)))
+            let l = object_layout w (UnionShape tag) plain o in
+            both_name blocks own n _ _ (as_whole takes room)
+            (both_name blocks own n _ _ (request_names unique (UnionShape tag) d (d + 2) o) ((l.lies, l.full), tt))
         by of o takes room = as_a_word of o (as_word takes room)
 
     -- an element of an array that is made, in the temporaries behind the array's own

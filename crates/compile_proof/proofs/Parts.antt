@@ -145,7 +145,7 @@ module _ (blocks : List ℕ) (own n : ℕ) where
 
     pub conversion_names : (to from : Shape) (d : ℕ) → IsTarget to → CodeNames blocks own n (conversion_code w to from d)
     conversion_names CharShape from d h = narrow_names from d
-    conversion_names (ThinShape may_be_null owner to) from d h = thinned_names may_be_null to from d h.1
+    conversion_names (ThinShape may_be_null owner to) from d h = thinned_names may_be_null to from d h
     conversion_names (FatShape to) from d h = to_fat_names from d
     conversion_names _ from d h = tt
 

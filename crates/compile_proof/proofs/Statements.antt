@@ -5,20 +5,24 @@ use Rattle.cyc_tree.specs.Tree as tree
 use Rattle.cyc_tree.specs.Tree.{Expression, Initializer, Declaration, Statement, BlockItems, NoItems, Declare, Execute}
 use Rattle.cyc_tree.specs.Tree.{Clauses, NoClauses, MoreClauses, Case, Default}
 use Rattle.source_meaning.specs.Shapes.{Shape, ThinShape, FatShape, StructShape, UnionShape, ArrayShape, Layout, Part, part_shape}
-use Rattle.source_meaning.specs.Shapes.{part_shapes, written, settled}
+use Rattle.source_meaning.specs.Shapes.{part_shapes, written, settled, settled_by}
 use Rattle.source_meaning.specs.Steps.{World}
+use Rattle.source_meaning.specs.Places.{bound_to}
 use Rattle.core_lines.specs.Selectable.{AreLayouts}
 use Rattle.source_lowering.specs.Members.{words_in}
 use Rattle.source_lowering.specs.Lowered.{Named, static_shape, union_parts, put_local, conversion_code, expression_values, expression_code, Home, InBlock}
-use Rattle.source_lowering.specs.Lowered.{InTemporary}
-use Rattle.source_lowering.specs.Programs.{local_shape, block_shapes, locals_of, outward, named_here, begun_code, unset_code, value_code, initial_values}
+use Rattle.source_lowering.specs.Lowered.{InTemporary, local_named}
+use Rattle.source_lowering.specs.Programs.{local_shape, names_behind, block_shapes, locals_of, outward, named_here, begun_code, unset_code, value_code}
 use Rattle.source_lowering.specs.Programs.{declaration_code, ending_code, leaving_code, declaration_values, statement_values, item_values, case_values}
 use Rattle.source_lowering.specs.Programs.{default_values, RegionsAround, in_loop, in_switch, regions_with, statement_code, items_code, cases_code}
-use Rattle.source_lowering.specs.Programs.{default_code, further_out}
+use Rattle.source_lowering.specs.Programs.{default_code, further_out, initial_values}
 use Rattle.source_lowering.specs.Lowerable.{
   IsTarget,
   IsObject,
   IsVariable,
+  IsThinShape,
+  IsWordShape,
+  IsOperandShape,
   AreObjects,
   AreValues,
   Takes,
@@ -33,14 +37,14 @@ use Rattle.source_lowering.proofs.expressions.Names.{IsPlainWorld}
 use Rattle.source_lowering.proofs.memory.ObjectShapes.{object_named}
 use Rattle.source_lowering.proofs.statements.Blocks.{objects_outward}
 use Rattle.source_lowering.proofs.statements.EachDeclaration.{shape_object}
-use Rattle.source_lowering.proofs.statements.WrittenTypes.{object_settled}
+use Rattle.source_lowering.proofs.statements.WrittenTypes.{object_settled, object_by}
 use Rattle.source_lowering.proofs.bounds.PartCosts.{results_many}
 use Rattle.compile_proof.specs.Naming.{CodeNames}
 use Rattle.compile_proof.proofs.Naming.{both_name, all_name}
 use Rattle.compile_proof.proofs.Layouts.{object_layout, variable_layout}
-use Rattle.compile_proof.proofs.Parts.{HomeLies, LocalsLie, Around, stored_local, conversion_names}
+use Rattle.compile_proof.proofs.Parts.{HomeLies, LocalsLie, Around, local_lies, global_lies, stored_local, get_names, conversion_names}
 use Rattle.compile_proof.proofs.StaticShapes.{union_values, member_value}
-use Rattle.compile_proof.proofs.Pointers.{held_names}
+use Rattle.compile_proof.proofs.Pointers.{held_names, exchange_names}
 use Rattle.compile_proof.proofs.Expressions.{place_names, expression_names}
 use Rattle.compile_proof.proofs.WholeNames.{source_names, run_names}
 
@@ -60,10 +64,10 @@ objects_are unions structs (s ∷ ss) h = (object_named unions structs s h.0, ob
 
 -- the locals of a block
 pub items_are : (w : World) (result : Shape) (names : List Named) (index : ℕ) (items : BlockItems) → TakesItems w result names index items
-    → AreVariables w.unions w.structs (block_shapes items)
+    → AreVariables w.unions w.structs (block_shapes w names index items)
 items_are w result names index NoItems h = tt
 items_are w result names index (Declare d others) h =
-    (shape_object w names d h.0, items_are w result (named_here (tree.local_of d).text (local_shape d) index ∷ names) (suc index) others h.1)
+    (shape_object w names d h.0, items_are w result (names_behind w names index d) (suc index) others h.1)
 items_are w result names index (Execute s others) h = items_are w result names index others h.1
 
 pub as_many : (w : World) (ss : List Shape) → length (locals_of w ss) ≡ length ss
@@ -139,6 +143,23 @@ value_names k blocks own n w names s e d index next plain a object takes h f = b
         both_name (k ∷ blocks) own n _ _ (source_names (k ∷ blocks) own n w names plain a e d next takes f) (h, ((l.lies, l.full), tt))
     by of o takes f = word of o takes f
 
+-- a name for a unique pointer begins with its value
+aliased_operand : (s : Shape) → IsThinShape s → IsOperandShape s
+aliased_operand (StructShape tag) h = h
+aliased_operand (UnionShape tag) h = h
+aliased_operand _ h = tt
+
+aliased_value : (w : World) (names : List Named) (e : Expression) (s : Shape) → IsWordShape s → Takes w names e → TakesValue w names s e
+aliased_value w names e (StructShape tag) h takes = absurd h
+aliased_value w names e (UnionShape tag) h takes = absurd h
+aliased_value w names e _ h takes = takes
+
+aliased_none : (w : World) (names : List Named) (pointer : tree.Name) (s : Shape) → IsWordShape s
+    → length (initial_values w names s (Expression.Variable pointer)) ≡ 0
+aliased_none w names pointer (StructShape tag) h = absurd h
+aliased_none w names pointer (UnionShape tag) h = absurd h
+aliased_none w names pointer _ h = refl
+
 declaration_names : (k : ℕ) (blocks : List ℕ) (own n : ℕ) (w : World) (names : List Named) → IsPlainWorld w
     → Around (k ∷ blocks) n w names → (declared : Declaration) (d index next : ℕ) → TakesDeclaration w names declared → index < k
     → next + length (declaration_values w names declared) ≤ own → CodeNames (k ∷ blocks) own n (declaration_code w names declared d index next)
@@ -148,8 +169,15 @@ declaration_names k blocks own n w names plain a (tree.Local of name Initializer
 declaration_names k blocks own n w names plain a (tree.Local of name (Initializer.Elements count)) d index next takes h f =
     unset_names k blocks own n w (ArrayShape count (settled (written of))) d index plain (takes.1.0, object_settled w.unions w.structs of takes.0) h
 declaration_names k blocks own n w names plain a (tree.Local of name (Initializer.Value e)) d index next takes h f =
-    value_names k blocks own n w names (settled (written of)) e d index next plain a (object_settled w.unions w.structs of takes.0) takes.1 h f
+    let s = static_shape w names e in
+    value_names k blocks own n w names (settled_by (written of) s) e d index next plain a (object_by w.unions w.structs of takes.0 s) takes.1 h f
 declaration_names k blocks own n w names plain a (tree.Region at region handle) d index next takes h f = (tt, (h, tt))
+declaration_names k blocks own n w names plain a (tree.Alias at region of alias pointer) d index next takes h f =
+    let e = Expression.Variable pointer in
+    let s = static_shape w names e in
+    let none = aliased_none w names pointer (settled_by (written of) s) takes.1.1 in
+    value_names k blocks own n w names (settled_by (written of) s) e d index next plain a (object_by w.unions w.structs of takes.0 s)
+    (aliased_value w names e (settled_by (written of) s) takes.1.1 (aliased_operand s takes.1.0)) h (omega (arith, f, none))
 declaration_names k blocks own n w names plain a _ d index next takes h f = absurd takes
 
 -- regions are freed
@@ -174,7 +202,7 @@ mutual
       → next + length (statement_values w names s) ≤ own → CodeNames blocks own n (statement_code w result names r next s)
   statement_names blocks own n w result names plain a t r (Statement.Empty at) next h f = tt
   statement_names blocks own n w result names plain a t r (Statement.Block at items) next h f =
-      let shapes = block_shapes items in
+      let shapes = block_shapes w (outward names) 0 items in
       let k = length (locals_of w shapes) in
       let many = as_many w shapes in (
         (
@@ -185,6 +213,12 @@ mutual
         tt,
       )
   statement_names blocks own n w result names plain a t r (Statement.Run e) next h f = run_names blocks own n w names plain a e r.all next h f
+  statement_names blocks own n w result names plain a t r (Statement.Exchange left right) next h f =
+      let many = length-append (expression_values w names left) (expression_values w names right) in
+      both_name blocks own n _ _ (place_names blocks own n w plain names a left r.all next h.0 (omega (arith, f, many)))
+      (both_name blocks own n _ _
+      (place_names blocks own n w plain names a right (r.all + 1) (next + length (expression_values w names left)) h.1.0 (omega (arith, f, many)))
+      (exchange_names blocks own n w (static_shape w names left) r.all))
   statement_names blocks own n w result names plain a t r (Statement.If at condition body) next h f =
       let tested = length (expression_values w names condition) in
       let many = length-append (expression_values w names condition) (statement_values w names body) in
@@ -238,18 +272,22 @@ mutual
       both_name blocks own n _ _ (expression_names blocks own n w plain names a e r.all next h f)
       (both_name blocks own n _ _ (conversion_names blocks own n w plain result (static_shape w names e) r.all t)
       (both_name blocks own n _ _ (leaving_names blocks own n r.all r.all) (omega (arith, few), tt)))
+  statement_names blocks own n w result names plain a t r (Statement.FreeUnique at pointer) next h f =
+      both_name blocks own n _ _
+      (get_names blocks own n r.all (local_named names pointer.text) (bound_to w.globals pointer.text) (local_lies blocks names pointer.text a.locals)
+      (global_lies n w.globals pointer.text a.globals)) (((tt, tt), tt), tt)
   statement_names blocks own n w result names plain a t r _ next h f = absurd h
 
   -- the locals that the items declare are the block's next ones
   pub items_names : (k : ℕ) (blocks : List ℕ) (own n : ℕ) (w : World) (result : Shape) (names : List Named) → IsPlainWorld w
       → Around (k ∷ blocks) n w names → IsTarget result → (r : RegionsAround) (index next : ℕ) (items : BlockItems) → TakesItems w result names index items
-      → index + length (block_shapes items) ≤ k → next + length (item_values w names index items) ≤ own
+      → index + length (block_shapes w names index items) ≤ k → next + length (item_values w names index items) ≤ own
       → CodeNames (k ∷ blocks) own n (items_code w result names r index next items)
   items_names k blocks own n w result names plain a t r index next NoItems h f g = tt
   items_names k blocks own n w result names plain a t r index next (Declare d others) h f g =
       let less : index < k = omega (arith, f) in
-      let inside = named_here (tree.local_of d).text (local_shape d) index ∷ names in
-      let further = one_more k blocks n w names (tree.local_of d).text (local_shape d) index less (shape_object w names d h.0) a in
+      let inside = names_behind w names index d in
+      let further = one_more k blocks n w names (tree.local_of d).text (local_shape w names d) index less (shape_object w names d h.0) a in
       let many = length-append (declaration_values w names d) (item_values w inside (suc index) others) in
       both_name (k ∷ blocks) own n _ _ (declaration_names k blocks own n w names plain a d r.all index next h.0 less (omega (arith, g, many)))
       (both_name (k ∷ blocks) own n _ _
@@ -268,11 +306,11 @@ mutual
   cases_names blocks own n w result names plain a t r parts values next NoClauses h g = tt
   cases_names blocks own n w result names plain a t r parts values next (MoreClauses at (Case f x) body others) h g =
       let s = part_shape parts f.text in
-      let shapes = s ∷ block_shapes body in
+      let inside = named_here x.text s 0 ∷ outward names in
+      let shapes = s ∷ block_shapes w inside 1 body in
       let k = length (locals_of w shapes) in
       let count = as_many w shapes in
       let variable = object_named w.unions w.structs s (value_object w.unions w.structs s (member_value parts f.text values h.0)) in
-      let inside = named_here x.text s 0 ∷ outward names in
       let further = one_more k blocks n w (outward names) x.text s 0 (omega (arith, count)) variable (further_in blocks n k w names a) in
       let many = length-append (item_values w inside 1 body) (case_values w names parts others) in (
         tt,
@@ -307,7 +345,7 @@ mutual
   default_names blocks own n w result names plain a t r parts next (MoreClauses at (Case f x) body others) h g =
       default_names blocks own n w result names plain a t r parts next others h.1.1 g
   default_names blocks own n w result names plain a t r parts next (MoreClauses at Default body others) h g =
-      let shapes = block_shapes body in
+      let shapes = block_shapes w (outward names) 0 body in
       let k = length (locals_of w shapes) in
       let count = as_many w shapes in (
         (

@@ -5,6 +5,8 @@ use Rattle.cyc_tree.specs.declared.expression.Prefix.TheVariants as prefix
 use Rattle.cyc_tree.specs.declared.expression.Operator.TheVariants as operator
 use Rattle.cyc_tree.specs.Tree.{Expression, Links, NoLinks, MoreLinks, Suffixes, NoSuffixes, Index, Dot, Arrow, Made, One, Array}
 use Rattle.source_meaning.specs.Shapes.{
+  Owner,
+  Shared,
   Shape,
   IntShape,
   UnsignedShape,
@@ -29,10 +31,11 @@ use Rattle.source_meaning.specs.Steps.{Entity, Binding, World, Routine}
 use Rattle.source_meaning.specs.Operators.{operator_shape}
 use Rattle.source_meaning.specs.Places.{bound_to}
 use Rattle.source_meaning.specs.Calls.{number_type, function_of}
+use Rattle.source_meaning.specs.Expressions.{is_unique_region}
 use Rattle.source_meaning.specs.Programs.{integer_shape}
 use Rattle.source_lowering.specs.Layouts.{extent_of}
 use Rattle.source_lowering.specs.Lowered.{Named, local_named, entity_shape, shape_by, named_shape, valued, member_shape, suffixed_shape, result_shape}
-use Rattle.source_lowering.specs.Lowered.{call_shape, static_shape, new_shape, linked_shape, number_named, union_parts}
+use Rattle.source_lowering.specs.Lowered.{call_shape, static_shape, owner_in, new_shape, linked_shape, number_named, union_parts}
 use Rattle.source_lowering.specs.Lowerable.{IsTarget, IsValueShape, IsVariable, IsUnionShape, AreValues, IsMember, Takes, TakesPlace, TakesSuffixes}
 use Rattle.source_lowering.specs.Lowerable.{TakesMembers, TakesLinks, TakesNew}
 use Rattle.source_meaning.proofs.Layouts.{no_parts}
@@ -40,7 +43,7 @@ use Rattle.source_lowering.proofs.Structs.{struct_made}
 use Rattle.source_lowering.proofs.UnionSizes.{union_of, union_small}
 use Rattle.source_lowering.proofs.values.Integers.{IsTaken, target_taken, object_target}
 use Rattle.source_lowering.proofs.expressions.Places.{pointee_taken}
-use Rattle.source_lowering.proofs.expressions.Forms.{operator_taken}
+use Rattle.source_lowering.proofs.expressions.Forms.{operator_taken, given_single}
 use Rattle.source_lowering.proofs.expressions.UnionMembers.{part_found, value_at}
 use Rattle.source_lowering.proofs.expressions.Names.{AreObjectNames, AreGlobals, IsPlainWorld, FoundFunction, find_function}
 
@@ -156,9 +159,9 @@ module _ (w : World) (names : List Named) (plain : IsPlainWorld w) (words : AreO
   linked_taken (MoreLinks operator operand others) s t h =
       linked_taken others (operator_shape operator s (static_shape w names operand)) (operator_taken operator s (static_shape w names operand) t) h.1
 
-  new_taken : (new : Made) → TakesNew w names new → IsTaken (new_shape w names new)
-  new_taken (One value) h = (refl, object_target w.unions w.structs (static_shape w names value) h.0)
-  new_taken (Array index count element) h = object_target w.unions w.structs (static_shape w (number_named index.text 0 ∷ names) element) (h.1 0).0
+  new_taken : (owner : Owner) (new : Made) → TakesNew w names new → IsTaken (new_shape w names owner new)
+  new_taken owner (One value) h = object_target w.unions w.structs (static_shape w names value) h.0
+  new_taken owner (Array index count element) h = object_target w.unions w.structs (static_shape w (number_named index.text 0 ∷ names) element) (h.1 0).0
 
   mutual
     pub place_target : (e : Expression) → TakesPlace w names e → IsTarget (static_shape w names e)
@@ -173,7 +176,7 @@ module _ (w : World) (names : List Named) (plain : IsPlainWorld w) (words : AreO
     pub shape_taken : (e : Expression) → Takes w names e → IsTaken (static_shape w names e)
     shape_taken (Expression.Number at value suffix) h = number_taken value suffix
     shape_taken (Expression.Character at byte) h = tt
-    shape_taken (Expression.Null at) h = (refl, tt)
+    shape_taken (Expression.Null at) h = tt
     shape_taken (Expression.HeapRegion at) h = tt
     shape_taken (Expression.Variable name) h = target_taken (static_shape w names (Expression.Variable name)) (name_target name.text) h
     shape_taken (Expression.Call name arguments) h = call_taken w name.text plain h.0
@@ -188,11 +191,13 @@ module _ (w : World) (names : List Named) (plain : IsPlainWorld w) (words : AreO
     shape_taken (Expression.Prefixed at prefix.Not operand) h = tt
     shape_taken (Expression.Prefixed at prefix.Dereference operand) h =
         target_taken (pointee (static_shape w names operand)) (pointee_taken (static_shape w names operand) (shape_taken operand h.0)) h.1
-    shape_taken (Expression.Prefixed at prefix.AddressOf operand) h = (refl, place_target operand h)
-    shape_taken (Expression.New at new) h = new_taken new h
-    shape_taken (Expression.NewIn at handle new) h = new_taken new h.1.1
+    shape_taken (Expression.Prefixed at prefix.AddressOf operand) h = place_target operand h
+    shape_taken (Expression.New at new) h = new_taken Shared new h
+    shape_taken (Expression.NewIn at handle new) h = new_taken (owner_in (is_unique_region handle)) new h.1
+    shape_taken (Expression.UniqueRegion at) h = tt
     shape_taken (Expression.Chain first others) h = linked_taken others (static_shape w names first) (shape_taken first h.0) h.1
     shape_taken (Expression.AllOf first others) h = tt
     shape_taken (Expression.AnyOf first others) h = tt
-    shape_taken (Expression.Assign place value) h = target_taken (static_shape w names place) (place_target place h.0) h.1.1
+    shape_taken (Expression.Assign place value) h =
+        let s = static_shape w names place in target_taken s (place_target place h.0) (given_single s h.1.1)
     shape_taken _ h = absurd h

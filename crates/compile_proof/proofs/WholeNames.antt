@@ -15,7 +15,7 @@ use Rattle.compile_proof.specs.Naming.{CodeNames}
 use Rattle.compile_proof.proofs.Naming.{both_name}
 use Rattle.compile_proof.proofs.Layouts.{object_layout}
 use Rattle.compile_proof.proofs.Parts.{Around}
-use Rattle.compile_proof.proofs.Expressions.{place_names, expression_names, whole_names}
+use Rattle.compile_proof.proofs.Expressions.{place_names, expression_names, assign_names, whole_names}
 
 module _ (blocks : List ℕ) (own n : ℕ) (w : World) (names : List Named) (plain : IsPlainWorld w) (around : Around blocks n w names) where
   -- ---- initializers
@@ -46,7 +46,7 @@ module _ (blocks : List ℕ) (own n : ℕ) (w : World) (names : List Named) (pla
       both_name blocks own n _ _ (whole_names blocks own n w plain names around value d next h.1.0 (omega (arith, f, many)))
       (both_name blocks own n _ _ (place_names blocks own n w plain names around place (d + 1) (next + length (whole_values w names value)) h.0
       (omega (arith, f, many))) ((l.lies, l.full), tt))
-  assigned_names _ place value d next h f = expression_names blocks own n w plain names around (Expression.Assign place value) d next h f
+  assigned_names _ place value d next h f = assign_names blocks own n w plain names around place value d next h.0 h.1.0 f
 
   dropped_names : (s : Shape) (e : Expression) (d next : ℕ) → TakesDropped w names s e → next + length (dropped_values w names s e) ≤ own
       → CodeNames blocks own n (dropped_code w names s e d next)

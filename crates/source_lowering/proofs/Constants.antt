@@ -8,6 +8,10 @@ use Rattle.step_trees.specs.Trees.{Stops}
 use Rattle.cyc_tree.specs.Tree as tree
 use Rattle.cyc_tree.specs.Tree.{Initial, Item, Constant}
 use Rattle.source_meaning.specs.Shapes.{
+  Owner,
+  Shared,
+  Alone,
+  Unsaid,
   Shape,
   IntShape,
   UnsignedShape,
@@ -39,18 +43,21 @@ use Rattle.core_meaning.specs.Steps as core_steps
 use Rattle.source_lowering.specs.Programs.{word_in, constant_word, text_content, constant_content}
 use Rattle.source_lowering.specs.Taken.{IsIntegerShape, IsNullable, IsString, TakesConstant}
 use Rattle.source_lowering.specs.Lowerable.{IsObject, AreStructs, TakesGlobal, TakesProgram}
-use Rattle.source_lowering.specs.Simulation.{at, IsTakenObject, Leads, LeadsAll, Shown, SameMemory, Grown, AreLed, IsText, AreTexts, HasStatics, Same, nothing, VariableLeads}
+use Rattle.source_lowering.specs.Simulation.{at, IsTakenObject, Leads, LeadsAll, Shown, SameMemory, Grown, AreLed, IsText, AreTexts, HasStatics, Same, nothing}
+use Rattle.source_lowering.specs.Simulation.{VariableLeads, Bound}
 use Rattle.source_lowering.proofs.Runs.{stuck_same}
 use Rattle.source_lowering.proofs.memory.Members.{lies_here}
 use Rattle.source_lowering.proofs.Texts.{string_found}
-use Rattle.source_lowering.proofs.memory.Keeping.{later_self, all_led_later, statics_later, m_written}
-use Rattle.source_lowering.proofs.memory.CellParts.{agree_shown, later_shown}
+use Rattle.source_lowering.proofs.memory.Keeping.{later_self, all_led_later, statics_later, m_written, stays_self}
+use Rattle.source_lowering.proofs.memory.CellParts.{agree_shown}
 use Rattle.source_lowering.proofs.values.Operators.{modulo_small}
 use Rattle.source_lowering.proofs.values.Integers.{limit, word_shown, integer_word}
 use Rattle.source_lowering.proofs.memory.ValueCells.{IsCell, cell_of, CellAt, cell_there, cell_writes}
 use Rattle.source_lowering.proofs.statements.WrittenTypes.{object_settled}
 use Rattle.source_lowering.proofs.memory.ObjectShapes.{object_leads}
 use Rattle.source_lowering.proofs.regions.Heap.{constant_is_value, constant_contents, word_contents, IsStored, AreStored}
+use Rattle.source_meaning.specs.Memory.{Spot}
+use Rattle.source_lowering.specs.Simulation.{IsOwned}
 
 -- ---- the value of a constant
 
@@ -155,9 +162,35 @@ text_converted w m0 c0 at bytes s structs h object texts = by (string_at w.strin
     IsGiven found z = (value : Scalar) × (Shown w m0 c0 z value (text_contents found z) × ((k : List Scalar → source.Memory → steps.Step) (m : source.Memory)
         → need found (λ v. converted w z (FatShape CharShape) (v ∷ []) k) m ≡ k (value ∷ []) m))
 
+    -- no unique pointer leads to a string
+    given_stuck : Option Scalar → Shape → Type 0
+    given_stuck found z = (k : List Scalar → source.Memory → steps.Step) (m : source.Memory)
+        → need found (λ v. converted w z (FatShape CharShape) (v ∷ []) k) m ≡ Stops SourceEnding.Stuck
+
+    thin_given : (o : Owner) (number count : ℕ) → 0 < count → LeadsAll w m0 c0 CharShape count (heap_spot number) 0
+        → ((c : core.Memory) (t : Spot) (byte : ℕ) → IsOwned o c t byte)
+        → ((k : List Scalar → source.Memory → steps.Step) (m : source.Memory)
+        → need (Some (span_at count (heap_spot number))) (λ v. converted w (ThinShape true o CharShape) (FatShape CharShape) (v ∷ []) k) m
+        ≡ k (Thin (Some (heap_spot number)) ∷ []) m) → IsGiven (Some (span_at count (heap_spot number))) (ThinShape true o CharShape)
+    thin_given o number count some leads owned gives = (
+      Thin (Some (heap_spot number)),
+      (
+        inr (record {
+          spot = heap_spot number;
+          byte = 0;
+          value = refl;
+          shown = refl;
+          lies = lies;
+          leads = leads 0 some;
+          owned = owned c0 (heap_spot number) 0;
+        }),
+        gives,
+      ),
+    )
+
     span_given : (number count : ℕ) → 0 < count → count < 2 ^ 32 → LeadsAll w m0 c0 CharShape count (heap_spot number) 0 → (z : Shape) → IsString z
-        → IsObject w.unions w.structs z → IsGiven (Some (span_at count (heap_spot number))) z
-    span_given number count some few leads (FatShape CharShape) g o = (
+        → IsGiven (Some (span_at count (heap_spot number))) z ⊎ given_stuck (Some (span_at count (heap_spot number))) z
+    span_given number count some few leads (FatShape CharShape) g = inl (
       span_at count (heap_spot number),
       (
         inr (record {
@@ -173,27 +206,27 @@ text_converted w m0 c0 at bytes s structs h object texts = by (string_at w.strin
         λ k m. refl,
       ),
     )
-    span_given number count some few leads (ThinShape true owner CharShape) g o =
-        subst (λ z. IsGiven (Some (span_at count (heap_spot number))) (ThinShape true z CharShape)) (sym o.0) (
-          Thin (Some (heap_spot number)),
-          (
-            inr (record { spot = heap_spot number; byte = 0; value = refl; shown = refl; lies = lies; leads = leads 0 some }),
-            λ k m. rw (is_some count some) refl,
-          ),
-        )
-    span_given number count some few leads _ g o = absurd g
+    span_given number count some few leads (ThinShape true Shared CharShape) g =
+        inl (thin_given Shared number count some leads (λ c t byte. tt) (λ k m. rw (is_some count some) refl))
+    span_given number count some few leads (ThinShape true Unsaid CharShape) g =
+        inl (thin_given Unsaid number count some leads (λ c t byte. tt) (λ k m. rw (is_some count some) refl))
+    span_given number count some few leads (ThinShape true Alone CharShape) g = inr (λ k m. refl)
+    span_given number count some few leads _ g = absurd g
 
     by : (found : Option Scalar) → string_at w.strings at ≡ found → IsConverted w m0 c0 (Constant.Text at bytes) s ⊎ HasNoValue w (Constant.Text at bytes) s
     by None e = inr (record { stops = λ k m. ap (λ z. need z (λ v. converted w s (FatShape CharShape) (v ∷ []) k) m) e })
     by (Some v) e =
         let text = string_found (λ z. IsText w m0 c0 z) w.strings at v texts e in
-        let o : IsGiven (Some v) s = subst (λ z. IsGiven (Some z) s) (sym text.value)
-        (span_given text.number text.count text.some text.few text.leads s h object) in
-        inl (record {
+        ⊎_elim
+        (λ (o : IsGiven (Some v) s). inl (record {
           value = o.0;
           shown = subst (λ xs. Shown w m0 c0 s o.0 xs) (ap (λ z. text_contents z s) (sym e) ∙ sym (contents_of_text w at bytes s h)) o.1.0;
           gives = λ k m. ap (λ z. need z (λ v. converted w s (FatShape CharShape) (v ∷ []) k) m) e ∙ o.1.1 k m;
-        })
+        }))
+        (λ (o : given_stuck (Some v) s). inr (record {
+          stops = λ k m. ap (λ z. need z (λ v. converted w s (FatShape CharShape) (v ∷ []) k) m) e ∙ o k m;
+        }))
+        (subst (λ z. IsGiven (Some z) s ⊎ given_stuck (Some z) s) (sym text.value) (span_given text.number text.count text.some text.few text.leads s h))
 
 constant_converted : (w : World) (m0 : source.Memory) (c0 : core.Memory) (c : Constant) (s : Shape) → AreStructs w.unions w.structs → TakesConstant s c
     → IsObject w.unions w.structs s → AreTexts w m0 c0 w.strings → IsConverted w m0 c0 c s ⊎ HasNoValue w c s
@@ -213,6 +246,21 @@ constant_converted w m0 c0 (Constant.Null at) s structs h object texts = inl (nu
 -- what comes after the globals: memories that agree, where the globals lie
 pub record Begins (w : World) (fs : Program) (n : ℕ) (c : core.Memory) (s : source.Memory → steps.Step) (k : core_steps.Step) : Type 0 where
   pub go : (m : source.Memory) → SameMemory w m c → HasStatics w m c → Same w fs n (s m) k
+
+-- the source's memory alone
+source_later : (b : Bound) (m m' : source.Memory) (c c' : core.Memory) → Grown b m c m' c' → Grown b m c m' c
+source_later b m m' c c' l = record {
+  shapes = l.shapes;
+  lent = l.lent;
+  parts = λ t j o w h. h;
+  objects = l.objects;
+  begun = l.begun;
+  called = omega arith;
+  births = omega arith;
+  stays = λ d less. stays_self _;
+  stands = λ k h. refl;
+  owned = λ k t j r h. refl;
+}
 
 -- one global's constant is stored
 one_stored : (w : World) (fs : Program) (n : ℕ) (initial : Initial) (shape : Shape) (i : ℕ) (m : source.Memory) (c : core.Memory)
@@ -241,7 +289,7 @@ one_stored w fs n (Initial.Given constant) shape i m c s k structs h object agre
         (cell_writes w fs n shape m c (heap_spot i) 0 o.value (constant_contents w constant shape) s k one agree leads_to o.shown
         (λ y. go (m_written m (heap_spot i) shape o.value)
         (agree_shown w m c (heap_spot i) shape here.has.content o.value (constant_contents w constant shape) agree here.has.is part o.shown)
-        (later_shown nothing m c (heap_spot i) shape here.has.content (Holds o.value) here.has.is)))
+        (source_later nothing m (m_written m (heap_spot i) shape o.value) c _ (y.later nothing))))
 
 pub globals_same : (w : World) (fs : Program) (n : ℕ) (items : List Item) (i : ℕ) (m : source.Memory) (c : core.Memory)
     (s : Unit {0} → source.Memory → steps.Step) (k : core_steps.Step) → AreStructs w.unions w.structs → TakesProgram w items → SameMemory w m c → HasStatics w m c

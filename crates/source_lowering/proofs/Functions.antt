@@ -62,6 +62,7 @@ use Rattle.source_lowering.proofs.statements.Blocks.{result_later, entered_fits,
 use Rattle.source_lowering.proofs.expressions.EachExpression.{Known}
 use Rattle.source_lowering.proofs.expressions.Numbered.{AreNumbered}
 use Rattle.source_lowering.proofs.statements.EachStatement.{given_later, body_same}
+use Rattle.source_lowering.specs.Programs.{parameter_names}
 
 -- ---- the numbers of functions
 
@@ -185,7 +186,7 @@ entered_same w fs n number f vss m c c0 s k plain calls numbered routine agree s
     scope = record { world = w; locals = []; frame = m.activations; result = f.result }
 
     shapes : List Shape
-    shapes = part_shapes f.parameters ++ block_shapes f.body
+    shapes = part_shapes f.parameters ++ block_shapes w (parameter_names f.parameters 0 []) (length f.parameters) f.body
 
     values_numbered : AreNumbered (routine_values w f) 0 (routine_values w f)
     values_numbered i s e = ap (slice_get (routine_values w f)) (zero_on i) ∙ e

@@ -11,9 +11,11 @@ pub mod MadeCosts
 pub mod OperandCosts
 pub mod ExpressionCosts
 pub mod WholeCosts
+pub mod NameCosts
 pub mod DeclarationCosts
 pub mod WholeObjects
 pub mod NodesPaid
 pub mod StatementsPaid
+pub mod ExchangeCosts
 pub mod StatementCosts
 pub mod Bounded

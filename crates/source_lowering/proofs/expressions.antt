@@ -15,6 +15,7 @@ pub mod Indices
 pub mod Subscripts
 pub mod Suffixed
 pub mod VariableForms
+pub mod PointerReads
 pub mod ArrayParts
 pub mod ArrayCells
 pub mod ArrayBeginning
@@ -29,6 +30,7 @@ pub mod ExpressionForms
 pub mod EachExpression
 pub mod Numbered
 pub mod WholeForms
+pub mod Asking
 pub mod StoredRequests
 pub mod Requests
 pub mod UnionMembers

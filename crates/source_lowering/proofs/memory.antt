@@ -1,4 +1,5 @@
 pub mod StructCells
+pub mod LayoutsKept
 pub mod Lasting
 pub mod Held
 pub mod Keeping
@@ -11,6 +12,7 @@ pub mod MovedParts
 pub mod Members
 pub mod UnionCells
 pub mod UnionCode
+pub mod UnionWords
 pub mod Ordered
 pub mod Loading
 pub mod Initialising
@@ -18,6 +20,7 @@ pub mod Overwriting
 pub mod CopiedOver
 pub mod Clearing
 pub mod ObjectReads
+pub mod Moving
 pub mod Copying
 pub mod FirstCells
 pub mod Beginning

@@ -1,4 +1,5 @@
 pub mod Granting
 pub mod Regions
 pub mod HeapValues
+pub mod HeapAgreeing
 pub mod Heap

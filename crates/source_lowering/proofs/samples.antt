@@ -1,7 +1,10 @@
 mod Samples
 mod WholeSamples
 mod RegionSamples
+mod UniqueSamples
+mod AliasSamples
 mod TextSamples
 mod MadeSamples
 mod SwitchSamples
+mod ExchangeSamples
 mod FrameSamples

@@ -4,6 +4,11 @@ pub mod Declaring
 pub mod WholeStatements
 pub mod Blocks
 pub mod LexicalRegions
+pub mod Aliasing
+pub mod Freeing
+pub mod Exchanging
+pub mod ExchangingUnions
+pub mod Exchanges
 pub mod WrittenTypes
 pub mod EachDeclaration
 pub mod EachRun

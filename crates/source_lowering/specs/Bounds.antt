@@ -30,15 +30,16 @@ use Rattle.cyc_tree.specs.Tree.{
   Case,
   Default,
 }
-use Rattle.source_meaning.specs.Shapes.{Shape, IntShape, UnsignedShape, VoidShape, StructShape, UnionShape, Part, part_shape, part_shapes, pointee}
+use Rattle.source_meaning.specs.Shapes.{Shared, Shape, IntShape, UnsignedShape, VoidShape, StructShape, UnionShape, Part, part_shape, part_shapes, pointee}
 use Rattle.source_meaning.specs.Steps.{World, Routine}
 use Rattle.source_meaning.specs.Operators.{operator_shape}
+use Rattle.source_meaning.specs.Expressions.{is_unique_region}
 use Rattle.core_meaning.specs.Core as core
 use Rattle.source_lowering.specs.Layouts.{extent_of}
 use Rattle.source_lowering.specs.Members.{all_words, member_shape}
-use Rattle.source_lowering.specs.Pieces.{Named, number_named, call_shape, prefix_shape, new_shape, static_shape, union_parts}
-use Rattle.source_lowering.specs.Programs.{RegionsAround, no_regions, in_loop, in_switch, regions_with, local_shape, named_here, outward, parameter_names}
-use Rattle.source_lowering.specs.Programs.{function_code}
+use Rattle.source_lowering.specs.Pieces.{Named, number_named, call_shape, prefix_shape, owner_in, new_shape, static_shape, union_parts}
+use Rattle.source_lowering.specs.Programs.{RegionsAround, no_regions, in_loop, in_switch, regions_with, local_shape, named_here, names_behind}
+use Rattle.source_lowering.specs.Programs.{function_code, outward, parameter_names}
 use Rattle.core_meaning.specs.Core.{Local, Do, If, While, Block, Leave, Break, Continue, Call, Return, Raise, Statements, NoStatements, MoreStatements}
 use Rattle.core_meaning.specs.Core.{Function}
 
@@ -148,8 +149,9 @@ abbrev mutual
   frame_nodes w names (Expression.AnyOf first others) = frame_nodes w names first + joined_nodes w names others
   frame_nodes w names (Expression.Assign place value) =
       assigned_node w (static_shape w names place) + (frame_nodes w names place + frame_nodes w names value)
-  frame_nodes w names (Expression.New at new) = node w (new_shape w names new) + made_nodes w names new
-  frame_nodes w names (Expression.NewIn at handle new) = node w (new_shape w names new) + (frame_nodes w names handle + made_nodes w names new)
+  frame_nodes w names (Expression.New at new) = node w (new_shape w names Shared new) + made_nodes w names new
+  frame_nodes w names (Expression.NewIn at handle new) =
+      node w (new_shape w names (owner_in (is_unique_region handle)) new) + (frame_nodes w names handle + made_nodes w names new)
   frame_nodes w names e = node w (static_shape w names e)
 
   -- the name of an element's number counts as one word
@@ -208,6 +210,7 @@ abbrev mutual
   pub statement_nodes : World → List Named → Statement → ℕ
   statement_nodes w names (Statement.Block at items) = item_nodes w (outward names) 0 items
   statement_nodes w names (Statement.Run e) = run_nodes w names e
+  statement_nodes w names (Statement.Exchange left right) = frame_nodes w names left + frame_nodes w names right
   statement_nodes w names (Statement.If at condition body) = frame_nodes w names condition + statement_nodes w names body
   statement_nodes w names (Statement.IfElse at condition body otherwise) =
       frame_nodes w names condition + (statement_nodes w names body + statement_nodes w names otherwise)
@@ -221,7 +224,7 @@ abbrev mutual
   pub item_nodes : World → List Named → ℕ → BlockItems → ℕ
   item_nodes w names index NoItems = 0
   item_nodes w names index (Declare d others) =
-      declaration_nodes w names d + item_nodes w (named_here (tree.local_of d).text (local_shape d) index ∷ names) (suc index) others
+      declaration_nodes w names d + item_nodes w (names_behind w names index d) (suc index) others
   item_nodes w names index (Execute s others) = statement_nodes w names s + item_nodes w names index others
 
   pub clause_nodes : World → List Named → List Part → Clauses → ℕ
@@ -244,7 +247,7 @@ abbrev mutual
   pub item_locals : World → List Named → ℕ → BlockItems → ℕ
   item_locals w names index NoItems = 0
   item_locals w names index (Declare d others) =
-      shape_words w (local_shape d) + item_locals w (named_here (tree.local_of d).text (local_shape d) index ∷ names) (suc index) others
+      shape_words w (local_shape w names d) + item_locals w (names_behind w names index d) (suc index) others
   item_locals w names index (Execute s others) = statement_locals w names s + item_locals w names index others
 
   pub clause_locals : World → List Named → List Part → Clauses → ℕ
@@ -308,6 +311,8 @@ initializer_tokens (Initializer.Value e) = tokens_of e
 
 abbrev pub declaration_tokens : Declaration → ℕ
 declaration_tokens (tree.Local of name initializer) = initializer_tokens initializer
+-- the name of its pointer
+declaration_tokens (tree.Alias at region of alias pointer) = 1
 declaration_tokens _ = 0
 
 -- the tokens of a statement: those of its expressions, and one of its own; a declaration has its name and type
@@ -315,6 +320,7 @@ abbrev mutual
   pub statement_size : Statement → ℕ
   statement_size (Statement.Block at items) = 1 + item_size items
   statement_size (Statement.Run e) = 1 + tokens_of e
+  statement_size (Statement.Exchange left right) = 2 + (tokens_of left + tokens_of right)
   statement_size (Statement.If at condition body) = 1 + (tokens_of condition + statement_size body)
   statement_size (Statement.IfElse at condition body otherwise) = 1 + (tokens_of condition + (statement_size body + statement_size otherwise))
   statement_size (Statement.While at condition body) = 1 + (tokens_of condition + statement_size body)

@@ -1,11 +1,10 @@
 -- Which programs lowering takes: functions, globals and locals of integers, of structs, of tagged unions, of handles, of pointers to these and of arrays of them,
 -- with the heap, lexical regions and arrays that are made there, by the forms of the tree and by shapes.
-use Rattle.std.specs.Prelude.{◌≡◌, ◌<◌, ◌≤◌, ◌^◌, ℕ, suc, ◌+◌, Bool, true, false, Some, None, List, [], ◌∷◌, length}
+use Rattle.std.specs.Prelude.{◌≡◌, ◌<◌, ◌^◌, ℕ, suc, ◌+◌, Bool, true, false, Some, None, List, [], ◌∷◌, length}
 use Rattle.cyc_tree.specs.declared.expression.Prefix.{Prefix}
 use Rattle.cyc_tree.specs.declared.expression.Prefix.TheVariants as prefix
 use Rattle.cyc_tree.specs.Tree as tree
 use Rattle.cyc_tree.specs.Tree.{
-  Base,
   TypeName,
   Expression,
   Expressions,
@@ -40,156 +39,41 @@ use Rattle.cyc_tree.specs.Tree.{
   Item,
   Program,
 }
-use Rattle.source_meaning.specs.Shapes.{Shape, Shared, IntShape, UnsignedShape, CharShape, VoidShape, ThinShape, FatShape, HandleShape, KeyShape, StructShape}
-use Rattle.source_meaning.specs.Shapes.{UnionShape, ArrayShape, Part, Layout, part_position, part_shape, part_shapes, parts_of, has_tag, pointee, written, settled}
-use Rattle.source_meaning.specs.Sizes.{struct_extent}
+use Rattle.source_meaning.specs.Shapes.{Shape, VoidShape, StructShape}
+use Rattle.source_meaning.specs.Shapes.{UnionShape, Part, part_position, part_shape, parts_of, has_tag, pointee, written, settled, settled_by}
 use Rattle.source_meaning.specs.Steps.{World, Routine}
-use Rattle.source_meaning.specs.Expressions.{is_unique_region}
 use Rattle.source_meaning.specs.Programs.{is_main, routine_of, world_of}
 use Rattle.source_meaning.specs.Strings.{Literal, program_strings}
 use Rattle.source_lowering.specs.Lowered.{Named, number_named, static_shape, member_shape, suffixed_shape, union_parts}
-use Rattle.source_lowering.specs.Programs.{local_shape, named_here, outward, parameter_names}
+use Rattle.source_lowering.specs.Programs.{object_shape, named_here, names_behind, outward, parameter_names}
 use Rattle.source_lowering.specs.Whole.{makes_struct}
-use Rattle.source_lowering.specs.Taken.{IsVoidType, AreShared, HasFirst, IsIntType, TakesConstant}
-
--- ---- shapes
-
--- what a pointer leads to, beside nothing: an integer, a pointer, a handle, a struct, a tagged union
-abbrev pub IsTarget : Shape → Type 0
-IsTarget IntShape = Unit {0}
-IsTarget UnsignedShape = Unit {0}
-IsTarget CharShape = Unit {0}
-IsTarget VoidShape = Unit {0}
-IsTarget (ThinShape may_be_null owner to) = (owner ≡ Shared) × IsTarget to
-IsTarget (FatShape to) = IsTarget to
-IsTarget HandleShape = Unit {0}
-IsTarget KeyShape = ⊥
-IsTarget (StructShape tag) = Unit {0}
-IsTarget (UnionShape tag) = Unit {0}
-IsTarget (ArrayShape count of) = ⊥
-
--- a word: an integer, a thin pointer that isn't unique, or a handle
-abbrev pub IsWordShape : Shape → Type 0
-IsWordShape IntShape = Unit {0}
-IsWordShape UnsignedShape = Unit {0}
-IsWordShape CharShape = Unit {0}
-IsWordShape VoidShape = ⊥
-IsWordShape (ThinShape may_be_null owner to) = (owner ≡ Shared) × IsTarget to
-IsWordShape (FatShape to) = ⊥
-IsWordShape HandleShape = Unit {0}
-IsWordShape KeyShape = ⊥
-IsWordShape (StructShape tag) = ⊥
-IsWordShape (UnionShape tag) = ⊥
-IsWordShape (ArrayShape count of) = ⊥
-
--- a word, or a fat pointer
-abbrev pub IsValueShape : Shape → Type 0
-IsValueShape (FatShape to) = IsTarget to
-IsValueShape s = IsWordShape s
-
--- such a value, or one of these unions and structs
-abbrev pub IsObject : (unions structs : List Layout) → Shape → Type 0
-IsObject unions structs (StructShape tag) = (has_tag structs tag ≡ true)
-IsObject unions structs (UnionShape tag) = (has_tag unions tag ≡ true)
-IsObject unions structs s = IsValueShape s
-
--- what a name may stand for: an object, or an array of objects, whose count is a word
-abbrev pub IsVariable : (unions structs : List Layout) → Shape → Type 0
-IsVariable unions structs (ArrayShape count of) = (count < 2 ^ 32) × IsObject unions structs of
-IsVariable unions structs s = IsObject unions structs s
-
-abbrev pub AreObjects : (unions structs : List Layout) → List Shape → Type 0
-AreObjects unions structs [] = Unit {0}
-AreObjects unions structs (s ∷ ss) = IsObject unions structs s × AreObjects unions structs ss
-
--- one of these unions
-abbrev pub IsUnionShape : List Layout → Shape → Type 0
-IsUnionShape unions (UnionShape tag) = (has_tag unions tag ≡ true)
-IsUnionShape unions s = ⊥
-
--- one of these unions and structs
-abbrev pub IsWholeShape : (unions structs : List Layout) → Shape → Type 0
-IsWholeShape unions structs (StructShape tag) = (has_tag structs tag ≡ true)
-IsWholeShape unions structs (UnionShape tag) = (has_tag unions tag ≡ true)
-IsWholeShape unions structs s = ⊥
-
--- what is no struct and no union: an operand, and what is passed and returned
-abbrev pub IsOperandShape : Shape → Type 0
-IsOperandShape (StructShape tag) = ⊥
-IsOperandShape (UnionShape tag) = ⊥
-IsOperandShape s = Unit {0}
-
--- ---- unions and structs
-
-abbrev pub HasMember : List Part → Type 0
-HasMember [] = ⊥
-HasMember (p ∷ ps) = Unit {0}
-
-abbrev pub AreValues : List Shape → Type 0
-AreValues [] = Unit {0}
-AreValues (s ∷ ss) = IsValueShape s × AreValues ss
-
--- a union: it has a member, each of its members is a word or a fat pointer, and a word counts them
-pub record IsUnion (l : Layout) : Type 0 where
-  pub some : HasMember l.parts
-  pub members : AreValues (part_shapes l.parts)
-  pub few : length l.parts < 2 ^ 32
-
--- a word counts the members of each
-abbrev pub HaveFewMembers : List Layout → Type 0
-HaveFewMembers [] = Unit {0}
-HaveFewMembers (l ∷ ls) = (length l.parts < 2 ^ 32) × HaveFewMembers ls
-
-abbrev pub AreUnions : List Layout → Type 0
-AreUnions [] = Unit {0}
-AreUnions (l ∷ ls) = IsUnion l × AreUnions ls
-
--- a struct after earlier ones: its tag is new, it has a member, each of its members is a word, a fat pointer, a union or an earlier struct, and it takes at most
--- 4,096 bytes
-pub record IsStruct (unions earlier : List Layout) (l : Layout) : Type 0 where
-  pub new : has_tag earlier l.tag ≡ false
-  pub some : HasMember l.parts
-  pub members : AreObjects unions earlier (part_shapes l.parts)
-  pub small : (struct_extent unions (l ∷ earlier) l.tag).size ≤ 4096
-
--- the latest comes first
-abbrev pub AreStructs : List Layout → List Layout → Type 0
-AreStructs unions [] = Unit {0}
-AreStructs unions (l ∷ earlier) = IsStruct unions earlier l × AreStructs unions earlier
-
--- ---- types
-
-abbrev pub IsObjectBase : Base → Type 0
-IsObjectBase tree.Int = Unit {0}
-IsObjectBase tree.Unsigned = Unit {0}
-IsObjectBase tree.Char = Unit {0}
-IsObjectBase (tree.Struct tag arguments) = Unit {0}
-IsObjectBase (tree.Union tag arguments) = Unit {0}
-IsObjectBase (tree.Handle region) = Unit {0}
-IsObjectBase _ = ⊥
-
--- a struct or a union that is among these, or neither
-abbrev pub IsKnownIn : (unions structs : List Layout) → Shape → Type 0
-IsKnownIn unions structs (StructShape tag) = (has_tag structs tag ≡ true)
-IsKnownIn unions structs (UnionShape tag) = (has_tag unions tag ≡ true)
-IsKnownIn unions structs s = Unit {0}
-
--- an integer, a struct, a union, a handle, or a thin or fat pointer to these, or to such a pointer
-pub record IsObjectType (unions structs : List Layout) (t : TypeName) : Type 0 where
-  pub pointers : AreShared t.pointers
-  pub base : IsObjectBase t.base
-  pub known : IsKnownIn unions structs (settled (written t))
-
--- an integer, a handle, or such a pointer
-pub record IsWordType (t : TypeName) : Type 0 where
-  pub pointers : AreShared t.pointers
-  pub base : IsObjectBase t.base
-  pub word : IsOperandShape (settled (written t))
-
--- what has a beginning: a struct, an integer, and a pointer that may be NULL
-abbrev pub HasBeginning : Shape → Type 0
-HasBeginning (StructShape tag) = Unit {0}
-HasBeginning s = HasFirst s
+use Rattle.source_lowering.specs.Taken.{IsVoidType, IsIntType, TakesConstant}
+pub use Rattle.source_lowering.specs.Objects.{
+  IsTarget,
+  IsWordShape,
+  IsValueShape,
+  IsObject,
+  IsVariable,
+  AreObjects,
+  IsUnionShape,
+  IsWholeShape,
+  IsGivenShape,
+  IsExchanged,
+  IsThinShape,
+  IsOperandShape,
+  HasMember,
+  AreValues,
+  HaveFewMembers,
+  AreUnions,
+  AreStructs,
+  IsObjectBase,
+  IsKnownIn,
+  HasBeginning,
+  IsUnion,
+  IsStruct,
+  IsObjectType,
+  IsWordType,
+}
 
 -- ---- expressions
 
@@ -266,12 +150,13 @@ abbrev mutual
   Takes w names (Expression.Prefixed at operator operand) =
       TakesPrefix operator (static_shape w names operand) (Takes w names operand) (TakesPlace w names operand)
   Takes w names (Expression.New at new) = TakesNew w names new
-  -- not the unique region
-  Takes w names (Expression.NewIn at handle new) = (is_unique_region handle ≡ false) × (Takes w names handle × TakesNew w names new)
+  Takes w names (Expression.NewIn at handle new) = Takes w names handle × TakesNew w names new
+  -- it stands for no value, and has no code
+  Takes w names (Expression.UniqueRegion at) = Unit {0}
   Takes w names (Expression.Chain first others) = Takes w names first × TakesLinks w names others
   Takes w names (Expression.AllOf first others) = Takes w names first × TakesAll w names others
   Takes w names (Expression.AnyOf first others) = Takes w names first × TakesAll w names others
-  Takes w names (Expression.Assign place value) = TakesPlace w names place × (Takes w names value × IsOperandShape (static_shape w names place))
+  Takes w names (Expression.Assign place value) = TakesPlace w names place × (Takes w names value × IsGivenShape (static_shape w names place))
   Takes w names _ = ⊥
 
   pub TakesAll : World → List Named → Expressions → Type 0
@@ -324,7 +209,7 @@ TakesAssigned w names (StructShape tag) place value =
     TakesPlace w names place × (TakesWhole w names value × IsWholeShape w.unions w.structs (StructShape tag))
 TakesAssigned w names (UnionShape tag) place value =
     TakesPlace w names place × (TakesWhole w names value × IsWholeShape w.unions w.structs (UnionShape tag))
-TakesAssigned w names s place value = Takes w names (Expression.Assign place value)
+TakesAssigned w names s place value = TakesPlace w names place × (Takes w names value × IsOperandShape s)
 
 abbrev pub TakesDropped : World → List Named → Shape → Expression → Type 0
 TakesDropped w names (StructShape tag) e = TakesWhole w names e
@@ -359,8 +244,13 @@ TakesInitializer w names shape (Initializer.Elements count) = (count < 2 ^ 32) �
 TakesInitializer w names shape (Initializer.Value e) = TakesValue w names shape e
 
 abbrev pub TakesDeclaration : World → List Named → Declaration → Type 0
-TakesDeclaration w names (tree.Local of name initializer) = IsObjectType w.unions w.structs of × TakesInitializer w names (settled (written of)) initializer
+TakesDeclaration w names (tree.Local of name initializer) =
+    IsObjectType w.unions w.structs of × TakesInitializer w names (object_shape w names (written of) initializer) initializer
 TakesDeclaration w names (tree.Region at region handle) = Unit {0}
+-- a pointer for a unique one
+TakesDeclaration w names (tree.Alias at region of alias pointer) =
+    let s = static_shape w names (Expression.Variable pointer) in
+    IsObjectType w.unions w.structs of × (IsThinShape s × IsWordShape (settled_by (written of) s))
 TakesDeclaration w names _ = ⊥
 
 -- a `return` without a value stands in a function that gives none
@@ -369,6 +259,8 @@ abbrev mutual
   TakesStatement w result names (Statement.Empty at) = Unit {0}
   TakesStatement w result names (Statement.Block at items) = TakesItems w result (outward names) 0 items
   TakesStatement w result names (Statement.Run e) = TakesRun w names e
+  TakesStatement w result names (Statement.Exchange left right) =
+      TakesPlace w names left × (TakesPlace w names right × IsExchanged w.unions (static_shape w names left))
   TakesStatement w result names (Statement.If at condition body) = Takes w names condition × TakesStatement w result names body
   TakesStatement w result names (Statement.IfElse at condition body otherwise) =
       Takes w names condition × (TakesStatement w result names body × TakesStatement w result names otherwise)
@@ -380,13 +272,14 @@ abbrev mutual
   TakesStatement w result names (Statement.Continue at) = Unit {0}
   TakesStatement w result names (Statement.Return at None) = (result ≡ VoidShape)
   TakesStatement w result names (Statement.Return at (Some e)) = Takes w names e
+  TakesStatement w result names (Statement.FreeUnique at pointer) = IsThinShape (static_shape w names (Expression.Variable pointer))
   TakesStatement w result names _ = ⊥
 
   -- the next local of the block has this number
   pub TakesItems : World → Shape → List Named → ℕ → BlockItems → Type 0
   TakesItems w result names index NoItems = Unit {0}
   TakesItems w result names index (Declare d others) =
-      TakesDeclaration w names d × TakesItems w result (named_here (tree.local_of d).text (local_shape d) index ∷ names) (suc index) others
+      TakesDeclaration w names d × TakesItems w result (names_behind w names index d) (suc index) others
   TakesItems w result names index (Execute s others) = TakesStatement w result names s × TakesItems w result names index others
 
   -- each clause is for one of these members, whose copy is its first local, or for those that aren't named

@@ -1,7 +1,7 @@
 -- What an expression is lowered to. It leaves its value in the temporaries from a number on, a word in one and a fat pointer in three, and uses no earlier
--- ones. A struct or a tagged union that is made, or read whole, is an unnamed value of its function, and its code leaves a pointer to it in the first. Unnamed values are
--- numbered in the order of the evaluation: from the left, but for an assigned value, which comes before its place, and each before those of its parts.
-use Rattle.std.specs.Prelude.{ℕ, suc, ◌+◌, ◌%◌, List, [], ◌∷◌, ◌++◌, length}
+-- ones. A struct or a tagged union that is made, or read whole, is an unnamed value of its function, and its code leaves a pointer to it in the first. Unnamed
+-- values are numbered in the order of the evaluation: from the left, but for an assigned value, which comes before its place, and each before those of its parts.
+use Rattle.std.specs.Prelude.{ℕ, suc, ◌+◌, ◌%◌, Bool, true, false, List, [], ◌∷◌, ◌++◌, length}
 use Rattle.cyc_tree.specs.Tree.{Expression, Expressions, NoExpressions, MoreExpressions, Links, NoLinks, MoreLinks, Suffixes, NoSuffixes, Index, Dot, Arrow}
 use Rattle.cyc_tree.specs.Tree.{Made, One, Array}
 use Rattle.source_meaning.specs.Shapes.{Shape, StructShape, UnionShape, Part, parts_of, part_shape, pointee}
@@ -10,8 +10,9 @@ use Rattle.source_meaning.specs.Steps.{World}
 use Rattle.source_meaning.specs.Operators.{operator_shape}
 use Rattle.source_meaning.specs.Places.{bound_to, string_at}
 use Rattle.source_meaning.specs.Conversions.{cells_of}
-use Rattle.core_meaning.specs.Core.{Add, Apply, Constant, Copy, Do, Element, HeapHandle, If, LessUnsigned, NoStatements, NullPointer, Offset, OwnAddress, RegionAlloc}
-use Rattle.core_meaning.specs.Core.{Statement, While}
+use Rattle.source_meaning.specs.Expressions.{is_unique_region}
+use Rattle.core_meaning.specs.Core.{Add, Apply, Constant, Copy, Do, Element, HeapHandle, If, LessUnsigned, NoStatements, NullPointer, Offset, OwnAddress}
+use Rattle.core_meaning.specs.Core.{RegionAlloc, Statement, UniqueAlloc, While}
 use Rattle.source_lowering.specs.Layouts.{extent_of, layout_of}
 use Rattle.source_lowering.specs.Members.{words_in}
 pub use Rattle.source_lowering.specs.Pieces.{
@@ -58,6 +59,7 @@ pub use Rattle.source_lowering.specs.Pieces.{
   prefix_shape,
   static_shape,
   new_shape,
+  owner_in,
   linked_shape,
   stored_code,
   get_local,
@@ -185,17 +187,19 @@ member_code w (StructShape tag) from d cells bytes whole word = whole ++ struct_
 member_code w (UnionShape tag) from d cells bytes whole word = whole ++ struct_member_code w (UnionShape tag) d cells bytes
 member_code w s from d cells bytes whole word = word ++ word_member_code w s from d cells bytes
 
--- A block for one object is asked for in the region of the handle in this temporary, which gets a pointer to it; the count 1 comes into another one.
-abbrev pub request_code : World → Shape → (d count : ℕ) → List Statement
-request_code w s d count = Do (Constant count 1) ∷ Do (RegionAlloc d d count (layout_of w s)) ∷ []
+-- A block for one object is asked for, a unique one, or one in the region of the handle in this temporary, which gets a pointer to it; the count 1 comes into
+-- another one.
+abbrev pub request_code : World → (unique : Bool) → Shape → (d count : ℕ) → List Statement
+request_code w true s d count = Do (UniqueAlloc d (layout_of w s)) ∷ []
+request_code w false s d count = Do (Constant count 1) ∷ Do (RegionAlloc d d count (layout_of w s)) ∷ []
 
 -- The value of a shape comes into the next temporaries, or a pointer to it; then the block is asked for, and the value is stored there.
-abbrev pub new_code_by : World → Shape → ℕ → (whole word : List Statement) → List Statement
-new_code_by w (StructShape tag) d whole word =
-    whole ++ (request_code w (StructShape tag) d (d + 2) ++ (Do (Copy d (d + 1) (layout_of w (StructShape tag))) ∷ []))
-new_code_by w (UnionShape tag) d whole word =
-    whole ++ (request_code w (UnionShape tag) d (d + 2) ++ (Do (Copy d (d + 1) (layout_of w (UnionShape tag))) ∷ []))
-new_code_by w s d whole word = word ++ (request_code w s d (d + 1 + words_in s) ++ stores_code s d (d + 1) 0 0)
+abbrev pub new_code_by : World → (unique : Bool) → Shape → ℕ → (whole word : List Statement) → List Statement
+new_code_by w unique (StructShape tag) d whole word =
+    whole ++ (request_code w unique (StructShape tag) d (d + 2) ++ (Do (Copy d (d + 1) (layout_of w (StructShape tag))) ∷ []))
+new_code_by w unique (UnionShape tag) d whole word =
+    whole ++ (request_code w unique (UnionShape tag) d (d + 2) ++ (Do (Copy d (d + 1) (layout_of w (UnionShape tag))) ∷ []))
+new_code_by w unique s d whole word = word ++ (request_code w unique s d (d + 1 + words_in s) ++ stores_code s d (d + 1) 0 0)
 
 -- An element's value comes into the temporaries behind the array's pointer, its count and the element's number, or a pointer to it does. Then it is stored where
 -- the element lies.
@@ -250,9 +254,9 @@ abbrev mutual
       prefix_code w operator (static_shape w names operand) d (expression_code w names operand (d + 1) own) (expression_code w names operand d own)
       (place_code w names operand d own)
   -- the heap's handle comes first
-  expression_code w names (Expression.New at new) d own = Do (HeapHandle d) ∷ new_code w names new d own
+  expression_code w names (Expression.New at new) d own = Do (HeapHandle d) ∷ new_code w names false new d own
   expression_code w names (Expression.NewIn at handle new) d own =
-      expression_code w names handle d own ++ new_code w names new d (own + length (expression_values w names handle))
+      expression_code w names handle d own ++ new_code w names (is_unique_region handle) new d (own + length (expression_values w names handle))
   expression_code w names (Expression.Chain first others) d own =
       expression_code w names first d own ++
       links_code w names others (static_shape w names first) d (own + length (expression_values w names first))
@@ -335,11 +339,11 @@ abbrev mutual
       expression_code w names first d own ++
       (conversion_code w s (static_shape w names first) d ++ arguments_code w names ss others (d + words_in s) (own + length (expression_values w names first)))
 
-  -- what is made, in the region whose handle is in this temporary
-  pub new_code : World → List Named → Made → (d own : ℕ) → List Statement
-  new_code w names (One value) d own =
-      new_code_by w (static_shape w names value) d (whole_code w names value (d + 1) own) (expression_code w names value (d + 1) own)
-  new_code w names (Array index count element) d own =
+  -- what is made, in the region whose handle is in this temporary, or in the unique region
+  pub new_code : World → List Named → (unique : Bool) → Made → (d own : ℕ) → List Statement
+  new_code w names unique (One value) d own =
+      new_code_by w unique (static_shape w names value) d (whole_code w names value (d + 1) own) (expression_code w names value (d + 1) own)
+  new_code w names unique (Array index count element) d own =
       let inner = number_named index.text (d + 2) ∷ names in
       let first = own + length (expression_values w names count) in
       expression_code w names count (d + 1) own ++

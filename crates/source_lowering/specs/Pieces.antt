@@ -1,19 +1,33 @@
--- What expressions are lowered by: names, shapes that are known without a run, variables, conversions, operators, calls.
-use Rattle.std.specs.Prelude.{ℕ, zero, suc, ◌+◌, Bool, true, false, Option, Some, None, List, [], ◌∷◌, ◌++◌, bytes_eq, codes, unwrap_or, if◌then◌else◌}
-use Rattle.cyc_words.specs.declared.faults.Kind.TheVariants.{ArrayBounds}
-use Rattle.cyc_tree.specs.declared.expression.Operator.{Operator}
+-- What expressions are lowered by, beside conversions and operators: names, shapes that are known without a run, variables, strings, calls.
+use Rattle.std.specs.Prelude.{ℕ, zero, suc, ◌+◌, Bool, true, false, Option, Some, None, List, [], ◌∷◌, bytes_eq, codes, unwrap_or, if◌then◌else◌}
 use Rattle.cyc_tree.specs.declared.expression.Operator.TheVariants as operator
 use Rattle.cyc_tree.specs.declared.expression.Prefix.{Prefix}
 use Rattle.cyc_tree.specs.declared.expression.Prefix.TheVariants as prefix
 use Rattle.cyc_tree.specs.Tree.{Expression, Expressions, NoExpressions, MoreExpressions, Links, NoLinks, MoreLinks, Made, One, Array}
-use Rattle.source_meaning.specs.Shapes.{Shape, Shared, IntShape, UnsignedShape, CharShape, VoidShape, ThinShape, FatShape, HandleShape, StructShape, UnionShape, ArrayShape}
+use Rattle.source_meaning.specs.Shapes.{
+  Owner,
+  Shared,
+  Alone,
+  Shape,
+  IntShape,
+  UnsignedShape,
+  CharShape,
+  VoidShape,
+  ThinShape,
+  FatShape,
+  HandleShape,
+  StructShape,
+  UnionShape,
+  ArrayShape,
+}
 use Rattle.source_meaning.specs.Shapes.{Part, has_tag, parts_of, part_position, pointee, part_shapes}
-use Rattle.source_meaning.specs.Memory.{IntegerType, AsInt, AsUnsigned, AsChar, Scalar, Wide}
+use Rattle.source_meaning.specs.Memory.{Scalar, Wide}
 use Rattle.source_meaning.specs.Steps.{Entity, Variable, Fixed, Routine, World}
-use Rattle.source_meaning.specs.Operators.{common, by_type, operator_shape}
+use Rattle.source_meaning.specs.Operators.{operator_shape}
 use Rattle.source_meaning.specs.Places.{bound_to}
 use Rattle.source_meaning.specs.Calls.{number_type, function_of}
 use Rattle.source_meaning.specs.Programs.{integer_shape}
+use Rattle.source_meaning.specs.Expressions.{is_unique_region}
 pub use Rattle.source_lowering.specs.Naming.{Home, InBlock, InTemporary, Named, number_named, local_named}
 pub use Rattle.source_lowering.specs.Members.{
   put,
@@ -46,26 +60,27 @@ pub use Rattle.source_lowering.specs.Members.{
   pointer_to,
   store_to,
 }
-use Rattle.core_meaning.specs.Core as core
-use Rattle.core_meaning.specs.Core.{
-  Operation,
-  Constant,
-  Move,
-  Narrow,
-  Apply,
-  LocalAddress,
-  DataAddress,
-  Get,
-  Put,
-  IsNull,
-  SamePlace,
-  Getchar,
-  Putchar,
-  Statement,
-  Do,
-  If,
-  Call,
-  NoStatements,
+use Rattle.core_meaning.specs.Core.{Constant, Move, LocalAddress, DataAddress, Get, Put, Getchar, Putchar, Statement, Do, Call}
+pub use Rattle.source_lowering.specs.Operators.{
+  narrow_code,
+  to_fat_code,
+  to_thin_code,
+  thinned_code,
+  conversion_code,
+  type_of,
+  applied_to,
+  turned_code,
+  compared_code,
+  pointers_code,
+  null_code,
+  fat_code,
+  operator_code,
+  count_code,
+  truth_code,
+  word_code,
+  not_code,
+  prefix_code,
+  pointed_code,
 }
 
 -- ---- names
@@ -119,6 +134,11 @@ prefix_shape prefix.Not s = IntShape
 prefix_shape prefix.Dereference s = pointee s
 prefix_shape prefix.AddressOf s = ThinShape false Shared s
 
+-- what is made in the unique region, or in another one
+abbrev pub owner_in : Bool → Owner
+owner_in true = Alone
+owner_in false = Shared
+
 abbrev mutual
   -- the shape of an expression's type
   pub static_shape : World → List Named → Expression → Shape
@@ -138,14 +158,14 @@ abbrev mutual
   static_shape w names (Expression.HeapRegion at) = HandleShape
   static_shape w names (Expression.NumElts at operand) = UnsignedShape
   static_shape w names (Expression.Text at bytes) = FatShape CharShape
-  static_shape w names (Expression.New at new) = new_shape w names new
-  static_shape w names (Expression.NewIn at handle new) = new_shape w names new
+  static_shape w names (Expression.New at new) = new_shape w names Shared new
+  static_shape w names (Expression.NewIn at handle new) = new_shape w names (owner_in (is_unique_region handle)) new
   static_shape w names _ = VoidShape
 
   -- a thin pointer to the one object that is made, and a fat one to the first of an array
-  pub new_shape : World → List Named → Made → Shape
-  new_shape w names (One value) = ThinShape false Shared (static_shape w names value)
-  new_shape w names (Array index count element) = FatShape (static_shape w (number_named index.text 0 ∷ names) element)
+  pub new_shape : World → List Named → Owner → Made → Shape
+  new_shape w names owner (One value) = ThinShape false owner (static_shape w names value)
+  new_shape w names owner (Array index count element) = FatShape (static_shape w (number_named index.text 0 ∷ names) element)
 
   -- that of a chain, from what is on its left
   pub linked_shape : World → List Named → Links → Shape → Shape
@@ -234,129 +254,6 @@ home_address (InTemporary t) d = []
 abbrev pub address_by : Option Named → Option Entity → ℕ → List Statement
 address_by (Some l) global d = home_address l.home d
 address_by None global d = global_address global d
-
--- ---- conversions and operators
-
--- only what becomes a char changes
-abbrev pub narrow_code : Shape → ℕ → List Statement
-narrow_code CharShape d = []
-narrow_code s d = Do (Narrow d d) ∷ []
-
--- thin to fat: one element, or none of NULL
-abbrev pub to_fat_code : Shape → ℕ → List Statement
-to_fat_code (ThinShape false owner to) d = bounds_code d 1
-to_fat_code (ThinShape true owner to) d =
-    Do (IsNull (d + 1) d) ∷ Do (Constant (d + 2) 1) ∷ Do (Apply core.Xor (d + 1) (d + 2) (d + 1)) ∷ Do (Constant (d + 2) 0) ∷ []
-to_fat_code s d = []
-
--- fat to thin: NULL stays NULL or raises, and the element of another one has to be there
-abbrev pub to_thin_code : World → Bool → Shape → ℕ → List Statement
-to_thin_code w false to d = element_code w to d d
-to_thin_code w true to d =
-    If d (all_of (Do (Apply core.LessUnsigned (d + 1) (d + 2) (d + 1)) ∷ reached_code w to d d (raised ArrayBounds))) NoStatements ∷ []
-
--- What becomes a thin pointer: a thin one is checked where the place never holds NULL.
-abbrev pub thinned_code : World → Bool → Shape → Shape → ℕ → List Statement
-thinned_code w may_be_null to (FatShape of) d = to_thin_code w may_be_null to d
-thinned_code w false to from d = check_code from d
-thinned_code w true to from d = []
-
-abbrev pub conversion_code : World → Shape → Shape → ℕ → List Statement
-conversion_code w CharShape from d = narrow_code from d
-conversion_code w (ThinShape may_be_null owner to) from d = thinned_code w may_be_null to from d
-conversion_code w (FatShape to) from d = to_fat_code from d
-conversion_code w to from d = []
-
-abbrev pub type_of : Shape → IntegerType
-type_of UnsignedShape = AsUnsigned
-type_of CharShape = AsChar
-type_of s = AsInt
-
--- `x > y` is `y < x`, and `x >= y` is `y <= x`
-abbrev pub applied_to : Operator → IntegerType → IntegerType → (t x y : ℕ) → Operation
-applied_to operator.BitOr s t d x y = Apply core.Or d x y
-applied_to operator.BitXor s t d x y = Apply core.Xor d x y
-applied_to operator.BitAnd s t d x y = Apply core.And d x y
-applied_to operator.Equal s t d x y = Apply core.Equal d x y
-applied_to operator.NotEqual s t d x y = Apply core.NotEqual d x y
-applied_to operator.Less s t d x y = Apply (by_type (common s t) core.Less core.LessUnsigned) d x y
-applied_to operator.LessEqual s t d x y = Apply (by_type (common s t) core.LessEqual core.LessEqualUnsigned) d x y
-applied_to operator.Greater s t d x y = Apply (by_type (common s t) core.Less core.LessUnsigned) d y x
-applied_to operator.GreaterEqual s t d x y = Apply (by_type (common s t) core.LessEqual core.LessEqualUnsigned) d y x
-applied_to operator.ShiftLeft s t d x y = Apply core.ShiftLeft d x y
-applied_to operator.ShiftRight s t d x y = Apply (by_type s core.ShiftRight core.ShiftRightUnsigned) d x y
-applied_to operator.Add s t d x y = Apply core.Add d x y
-applied_to operator.Subtract s t d x y = Apply core.Subtract d x y
-applied_to operator.Multiply s t d x y = Apply core.Multiply d x y
-applied_to operator.Divide s t d x y = Apply (by_type (common s t) core.Divide core.DivideUnsigned) d x y
-applied_to operator.Remainder s t d x y = Apply (by_type (common s t) core.Remainder core.RemainderUnsigned) d x y
-
--- 1 becomes 0, and 0 becomes 1
-abbrev pub turned_code : ℕ → List Statement
-turned_code d = Do (Constant (d + 1) 0) ∷ Do (Apply core.Equal d d (d + 1)) ∷ []
-
--- pointers are compared by `==` and `!=` alone: this operation gives whether they are the same
-abbrev pub compared_code : Operator → Operation → ℕ → List Statement
-compared_code operator.Equal same d = Do same ∷ []
-compared_code operator.NotEqual same d = Do same ∷ turned_code d
-compared_code o same d = []
-
-abbrev pub pointers_code : Operator → ℕ → List Statement
-pointers_code o d = compared_code o (SamePlace d d (d + 1)) d
-
--- a pointer in x is compared with NULL
-abbrev pub null_code : Operator → (d x : ℕ) → List Statement
-null_code o d x = compared_code o (IsNull d x) d
-
--- a fat pointer is moved by the integer behind it, or compared with NULL
-abbrev pub fat_code : Operator → ℕ → List Statement
-fat_code operator.Add d = Do (Apply core.Add (d + 2) (d + 2) (d + 3)) ∷ []
-fat_code operator.Subtract d = Do (Apply core.Subtract (d + 2) (d + 2) (d + 3)) ∷ []
-fat_code o d = null_code o d d
-
--- the operands are in the temporaries from this one on, one behind the other, and the result comes into the first ones
-abbrev pub operator_code : Operator → Shape → Shape → ℕ → List Statement
-operator_code o (FatShape to) t d = fat_code o d
-operator_code o (ThinShape may_be_null owner to) (FatShape of) d = null_code o d (d + 1)
-operator_code o (ThinShape may_be_null owner to) t d = pointers_code o d
-operator_code o s t d = Do (applied_to o (type_of s) (type_of t) d d (d + 1)) ∷ []
-
--- how many elements a fat pointer leads to: the difference where the index is below the count, and 0 else
-abbrev pub count_code : ℕ → List Statement
-count_code d =
-    Do (Apply core.LessUnsigned d (d + 2) (d + 1)) ∷ Do (Apply core.Subtract (d + 1) (d + 1) (d + 2)) ∷ Do (Apply core.Multiply d d (d + 1)) ∷ []
-
--- 0 stays 0, and another word becomes 1
-abbrev pub truth_code : ℕ → List Statement
-truth_code d = Do (Constant (d + 1) 0) ∷ Do (Apply core.NotEqual d d (d + 1)) ∷ []
-
--- an operand of `&&` and `||` becomes a word: NULL 0, and another pointer 1
-abbrev pub word_code : Shape → ℕ → List Statement
-word_code (ThinShape may_be_null owner to) d = Do (IsNull d d) ∷ turned_code d
-word_code (FatShape to) d = Do (IsNull d d) ∷ turned_code d
-word_code s d = []
-
--- `!e`, from the next temporary: whether it is 0, or NULL
-abbrev pub not_code : Shape → ℕ → List Statement
-not_code (ThinShape may_be_null owner to) d = Do (IsNull d (d + 1)) ∷ []
-not_code (FatShape to) d = Do (IsNull d (d + 1)) ∷ []
-not_code s d = Do (Constant d 0) ∷ Do (Apply core.Equal d (d + 1) d) ∷ []
-
--- `-e` is 0 - e, `~e` is all ones ^ e, and `!e` is e == 0: the operand goes into the next temporary. `*e` and `&e` have their pointer in this one.
-abbrev pub prefix_code : World → Prefix → Shape → ℕ → (above here place : List Statement) → List Statement
-prefix_code w prefix.Negate s d above here place = (Do (Constant d 0) ∷ []) ++ (above ++ operator_code operator.Subtract IntShape s d)
-prefix_code w prefix.Complement s d above here place = (Do (Constant d 4294967295) ∷ []) ++ (above ++ operator_code operator.BitXor IntShape s d)
-prefix_code w prefix.Not s d above here place = above ++ not_code s d
-prefix_code w prefix.Dereference s d above here place = (here ++ reach_code w s d) ++ loads_code (pointee s) d 0 0
-prefix_code w prefix.AddressOf s d above here place = place
-
--- a pointer to `*e`, whose code is here
-abbrev pub pointed_code : World → Prefix → Shape → ℕ → (here : List Statement) → List Statement
-pointed_code w prefix.Negate s d here = []
-pointed_code w prefix.Complement s d here = []
-pointed_code w prefix.Not s d here = []
-pointed_code w prefix.Dereference s d here = here ++ reach_code w s d
-pointed_code w prefix.AddressOf s d here = []
 
 -- ---- strings
 

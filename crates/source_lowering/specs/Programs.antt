@@ -1,18 +1,13 @@
--- What statements, functions, globals and programs are lowered to.
-use Rattle.std.specs.Prelude.{ℕ, zero, suc, ◌+◌, ◌%◌, Bool, true, false, if◌then◌else◌, Option, ◌^◌, Some, None, List, [], ◌∷◌, ◌++◌, map, slice_get, length}
-use Rattle.std.specs.Prelude.{max, codes, unwrap_or}
+-- What statements, functions and programs are lowered to.
+use Rattle.std.specs.Prelude.{ℕ, zero, suc, ◌+◌, Bool, true, false, if◌then◌else◌, Some, None, List, [], ◌∷◌, ◌++◌, map, length, max, codes}
 use Rattle.cyc_tree.specs.Tree as tree
 use Rattle.cyc_tree.specs.Tree.{Expression, Initializer, Declaration, Statement, BlockItems, NoItems, Declare, Execute, Clauses, NoClauses, MoreClauses, Case}
-use Rattle.cyc_tree.specs.Tree.{Default, Initial, Item, Program}
-use Rattle.cyc_words.specs.Words.{difference_of}
-use Rattle.source_meaning.specs.Shapes.{Shape, CharShape, VoidShape, ThinShape, FatShape, HandleShape, StructShape, UnionShape, ArrayShape, Part, part_shape}
-use Rattle.source_meaning.specs.Shapes.{part_shapes, written, settled}
+use Rattle.cyc_tree.specs.Tree.{Default, Program}
+use Rattle.source_meaning.specs.Shapes.{Shape, VoidShape, ThinShape, FatShape, HandleShape, StructShape, UnionShape, ArrayShape, Part, part_shape}
+use Rattle.source_meaning.specs.Shapes.{part_shapes, written, settled, settled_by}
 use Rattle.source_meaning.specs.Steps.{Routine, World}
-use Rattle.source_meaning.specs.Memory.{Span, Scalar, Wide}
-use Rattle.source_meaning.specs.Places.{string_at}
-use Rattle.source_meaning.specs.Programs.{global_shape, world_of}
-use Rattle.source_meaning.specs.Strings.{Literal, program_strings}
-use Rattle.core_meaning.specs.Memory as memory
+use Rattle.source_meaning.specs.Programs.{world_of}
+use Rattle.source_meaning.specs.Strings.{program_strings}
 use Rattle.core_meaning.specs.Core as core
 use Rattle.core_meaning.specs.Core.{
   Local,
@@ -38,31 +33,76 @@ use Rattle.core_meaning.specs.Core.{
   Clear,
   RegionNew,
   RegionFree,
-  Datum,
+  UniqueFree,
 }
-use Rattle.source_lowering.specs.Layouts.{layout_of, local_of, first_part}
+use Rattle.source_lowering.specs.Layouts.{layout_of, local_of}
 use Rattle.source_lowering.specs.Members.{words_in, all_words}
 use Rattle.source_lowering.specs.Whole.{expression_values, is_made, run_code, run_values, whole_code, whole_values}
-use Rattle.source_lowering.specs.Lowered.{Named, Home, InBlock, InTemporary, number_of, static_shape, all_of, width_of, stored_code, put_local, conversion_code, results_in, place_code}
+use Rattle.source_lowering.specs.Lowered.{
+  Named,
+  Home,
+  InBlock,
+  InTemporary,
+  get_code,
+  number_of,
+  static_shape,
+  all_of,
+  width_of,
+  stored_code,
+  put_local,
+  conversion_code,
+  results_in,
+  place_code,
+}
 use Rattle.source_lowering.specs.Lowered.{expression_code, union_parts, member_number, tag_load, held_loads}
 pub use Rattle.source_lowering.specs.Temporaries.{last_of, operation_temporaries, statement_temporaries, temporaries_of, statement_passes, passed_by}
+pub use Rattle.source_lowering.specs.Exchanges.{value_exchange, words_read, words_written, union_exchange, exchange_code}
+pub use Rattle.source_lowering.specs.Data.{
+  word_in,
+  constant_word,
+  span_content,
+  text_content,
+  constant_content,
+  initial_content,
+  datum_of,
+  first_content,
+  begun_datum,
+  text_datum,
+  global_datum,
+  data_of,
+  string_datum,
+}
 
 -- ---- locals of a block
 
--- a local's shape, as it is declared
-abbrev pub local_shape : Declaration → Shape
-local_shape (tree.Local of name (Initializer.Elements count)) = ArrayShape count (settled (written of))
-local_shape (tree.Local of name initializer) = settled (written of)
-local_shape (tree.Region at region handle) = HandleShape
-local_shape (tree.Open at region handle key) = VoidShape
-local_shape (tree.Alias at region of alias pointer) = VoidShape
-local_shape (tree.NewKey at region key) = VoidShape
+-- an object's shape by the type that is written for it: where that leaves a region out, the type of its initializer has it
+abbrev pub object_shape : World → List Named → Shape → Initializer → Shape
+object_shape w names s Initializer.Unset = settled s
+object_shape w names s (Initializer.Elements count) = settled s
+object_shape w names s (Initializer.Value e) = settled_by s (static_shape w names e)
 
--- the locals that a block declares itself, in their order
-abbrev pub block_shapes : BlockItems → List Shape
-block_shapes NoItems = []
-block_shapes (Declare d others) = local_shape d ∷ block_shapes others
-block_shapes (Execute s others) = block_shapes others
+-- a local's shape, as it is declared
+abbrev pub local_shape : World → List Named → Declaration → Shape
+local_shape w names (tree.Local of name (Initializer.Elements count)) = ArrayShape count (settled (written of))
+local_shape w names (tree.Local of name initializer) = object_shape w names (written of) initializer
+local_shape w names (tree.Region at region handle) = HandleShape
+local_shape w names (tree.Open at region handle key) = VoidShape
+local_shape w names (tree.Alias at region of alias pointer) = settled_by (written of) (static_shape w names (Expression.Variable pointer))
+local_shape w names (tree.NewKey at region key) = VoidShape
+
+-- a local of this block
+abbrev pub named_here : List ℕ → Shape → ℕ → Named
+named_here name shape index = record { name = name; shape = shape; home = InBlock 0 index }
+
+-- the names behind a declaration, whose local has this number
+abbrev pub names_behind : World → List Named → ℕ → Declaration → List Named
+names_behind w names index d = named_here (tree.local_of d).text (local_shape w names d) index ∷ names
+
+-- the locals that a block declares itself, in their order; the next one has this number
+abbrev pub block_shapes : World → List Named → ℕ → BlockItems → List Shape
+block_shapes w names index NoItems = []
+block_shapes w names index (Declare d others) = local_shape w names d ∷ block_shapes w (names_behind w names index d) (suc index) others
+block_shapes w names index (Execute s others) = block_shapes w names index others
 
 abbrev pub locals_of : World → List Shape → List Local
 locals_of w shapes = map (local_of w) shapes
@@ -77,10 +117,6 @@ one_out l = record l { home = further_out l.home }
 
 abbrev pub outward : List Named → List Named
 outward names = map one_out names
-
--- a local of this block
-abbrev pub named_here : List ℕ → Shape → ℕ → Named
-named_here name shape index = record { name = name; shape = shape; home = InBlock 0 index }
 
 -- ---- declarations: the local of a number gets what it begins with, or its initializer's value, which comes into the first free temporaries
 
@@ -119,15 +155,18 @@ initial_values w names (StructShape tag) e = (if is_made w e then whole_values w
 initial_values w names (UnionShape tag) e = (if is_made w e then whole_values w names e else expression_values w names e)
 initial_values w names s e = expression_values w names e
 
--- A region is born; its handle stays in the first free temporary while the region is in scope, and goes to its local.
+-- A region is born; its handle stays in the first free temporary while the region is in scope, and goes to its local. An alias begins as a local that is
+-- initialized with its pointer's name.
 abbrev pub declaration_code : World → List Named → Declaration → (d index own : ℕ) → List core.Statement
 declaration_code w names (tree.Local of name Initializer.Unset) d index own = unset_code w (settled (written of)) d index
 declaration_code w names (tree.Local of name (Initializer.Elements count)) d index own =
     unset_code w (ArrayShape count (settled (written of))) d index
-declaration_code w names (tree.Local of name (Initializer.Value e)) d index own = value_code w names (settled (written of)) e d index own
+declaration_code w names (tree.Local of name (Initializer.Value e)) d index own =
+    value_code w names (settled_by (written of) (static_shape w names e)) e d index own
 declaration_code w names (tree.Region at region handle) d index own = Do (RegionNew d) ∷ Do (Put 0 index 4 d) ∷ []
 declaration_code w names (tree.Open at region handle key) d index own = []
-declaration_code w names (tree.Alias at region of alias pointer) d index own = []
+declaration_code w names (tree.Alias at region of alias pointer) d index own =
+    let pointer = Expression.Variable pointer in value_code w names (settled_by (written of) (static_shape w names pointer)) pointer d index own
 declaration_code w names (tree.NewKey at region key) d index own = []
 
 -- the region of a declaration is freed at the end of its block
@@ -152,8 +191,12 @@ leaving_code all zero = []
 leaving_code zero (suc count) = []
 leaving_code (suc all) (suc count) = Do (RegionFree all) ∷ leaving_code all count
 
+-- a unique pointer is freed, if it isn't NULL
+abbrev pub unique_free : ℕ → List core.Statement
+unique_free d = If d (all_of (Do (UniqueFree d) ∷ [])) NoStatements ∷ []
+
 abbrev pub declaration_values : World → List Named → Declaration → List Shape
-declaration_values w names (tree.Local of name (Initializer.Value e)) = initial_values w names (settled (written of)) e
+declaration_values w names (tree.Local of name (Initializer.Value e)) = initial_values w names (settled_by (written of) (static_shape w names e)) e
 declaration_values w names _ = []
 
 -- ---- unnamed values of statements, in the order of the text
@@ -162,6 +205,7 @@ abbrev mutual
   pub statement_values : World → List Named → Statement → List Shape
   statement_values w names (Statement.Block at items) = item_values w (outward names) 0 items
   statement_values w names (Statement.Run e) = run_values w names e
+  statement_values w names (Statement.Exchange left right) = expression_values w names left ++ expression_values w names right
   statement_values w names (Statement.If at condition body) = expression_values w names condition ++ statement_values w names body
   statement_values w names (Statement.IfElse at condition body otherwise) =
       expression_values w names condition ++ (statement_values w names body ++ statement_values w names otherwise)
@@ -175,7 +219,7 @@ abbrev mutual
   pub item_values : World → List Named → ℕ → BlockItems → List Shape
   item_values w names index NoItems = []
   item_values w names index (Declare d others) =
-      declaration_values w names d ++ item_values w (named_here (tree.local_of d).text (local_shape d) index ∷ names) (suc index) others
+      declaration_values w names d ++ item_values w (names_behind w names index d) (suc index) others
   item_values w names index (Execute s others) = statement_values w names s ++ item_values w names index others
 
   -- of the clauses of a `switch` on a union of these members, and behind them those of the first `default`; the copy of a member is the first local of its clause
@@ -222,8 +266,12 @@ abbrev mutual
   pub statement_code : World → Shape → List Named → RegionsAround → (own : ℕ) → Statement → List core.Statement
   statement_code w result names h own (Statement.Empty at) = []
   statement_code w result names h own (Statement.Block at items) =
-      Block (locals_of w (block_shapes items)) (all_of (items_code w result (outward names) h 0 own items)) ∷ []
+      Block (locals_of w (block_shapes w (outward names) 0 items)) (all_of (items_code w result (outward names) h 0 own items)) ∷ []
   statement_code w result names h own (Statement.Run e) = run_code w names e h.all own
+  -- the left place comes first
+  statement_code w result names h own (Statement.Exchange left right) =
+      place_code w names left h.all own ++ (place_code w names right (h.all + 1) (own + length (expression_values w names left)) ++
+      exchange_code w (static_shape w names left) h.all)
   statement_code w result names h own (Statement.If at condition body) =
       expression_code w names condition h.all own ++
       (If h.all (all_of (statement_code w result names h (own + length (expression_values w names condition)) body)) NoStatements ∷ [])
@@ -248,6 +296,7 @@ abbrev mutual
   statement_code w result names h own (Statement.Return at (Some e)) =
       expression_code w names e h.all own ++
       (conversion_code w result (static_shape w names e) h.all ++ (leaving_code h.all h.all ++ (Return (results_in result h.all) ∷ [])))
+  statement_code w result names h own (Statement.FreeUnique at pointer) = get_code w names pointer.text h.all ++ unique_free h.all
   statement_code w result names h own _ = []
 
   -- the items of a block; the next local has the first number, and the next unnamed value the second
@@ -255,7 +304,7 @@ abbrev mutual
   items_code w result names h index own NoItems = []
   items_code w result names h index own (Declare d others) =
       declaration_code w names d h.all index own ++
-      (items_code w result (named_here (tree.local_of d).text (local_shape d) index ∷ names) (regions_with d h) (suc index)
+      (items_code w result (names_behind w names index d) (regions_with d h) (suc index)
       (own + length (declaration_values w names d)) others ++ ending_code d h.all)
   items_code w result names h index own (Execute s others) =
       statement_code w result names h own s ++ items_code w result names h index (own + length (statement_values w names s)) others
@@ -269,7 +318,7 @@ abbrev mutual
       let inner = named_here x.text s 0 ∷ outward names in
       Do (Constant (h.all + 2) (member_number parts f.text)) ∷ Do (Apply Equal (h.all + 2) (h.all + 1) (h.all + 2)) ∷
       If (h.all + 2)
-      (all_of (Block (locals_of w (s ∷ block_shapes body)) (all_of (held_loads s h.all ++ (put_local s h.all 0 0 ++ items_code w result inner h 1 own body))) ∷
+      (all_of (Block (locals_of w (s ∷ block_shapes w inner 1 body)) (all_of (held_loads s h.all ++ (put_local s h.all 0 0 ++ items_code w result inner h 1 own body))) ∷
       Break ∷ [])) NoStatements ∷
       cases_code w result names h parts (own + length (item_values w inner 1 body)) others
   cases_code w result names h parts own (MoreClauses at Default body others) = cases_code w result names h parts own others
@@ -279,7 +328,7 @@ abbrev mutual
   default_code w result names h own NoClauses = []
   default_code w result names h own (MoreClauses at (Case f x) body others) = default_code w result names h own others
   default_code w result names h own (MoreClauses at Default body others) =
-      Block (locals_of w (block_shapes body)) (all_of (items_code w result (outward names) h 0 own body)) ∷ []
+      Block (locals_of w (block_shapes w (outward names) 0 body)) (all_of (items_code w result (outward names) h 0 own body)) ∷ []
 
 -- ---- functions
 
@@ -301,7 +350,7 @@ end_code s = Do (Constant 0 0) ∷ Return (0 ∷ []) ∷ []
 abbrev pub body_code : World → Routine → Statements
 body_code w f =
     MoreStatements
-    (Block (locals_of w (part_shapes f.parameters ++ block_shapes f.body))
+    (Block (locals_of w (part_shapes f.parameters ++ block_shapes w (parameter_names f.parameters 0 []) (length f.parameters) f.body))
     (all_of (parameters_code f.parameters 0 0 (all_words (part_shapes f.parameters)) ++
     items_code w f.result (parameter_names f.parameters 0 []) no_regions (length f.parameters) 0 f.body)))
     (all_of (end_code f.result))
@@ -318,88 +367,6 @@ function_code w f = record {
   own = locals_of w (routine_values w f);
   order = [];
   body = body_code w f;
-}
-
--- ---- globals, and behind them the strings
-
--- a global of a char keeps the low bits
-abbrev pub word_in : Shape → ℕ → ℕ
-word_in CharShape word = word % 256
-word_in s word = word
-
-abbrev pub constant_word : tree.Constant → ℕ
-constant_word (tree.Number at value suffix) = value % 2 ^ 32
-constant_word (tree.Negative at value suffix) = difference_of 0 (value % 2 ^ 32)
-constant_word (tree.Character at byte) = byte % 256
-constant_word (tree.Text at bytes) = 0
-constant_word (tree.Null at) = 0
-
--- the parts of a fat pointer to the first element of the heap's object of a number
-abbrev pub span_content : Span → ℕ → memory.Content
-span_content s zero = memory.Pointer (record { region = memory.Born 0; object = s.first.object; cell = 0 }) 0
-span_content s (suc zero) = memory.Word s.count
-span_content s (suc (suc part)) = memory.Word s.index
-
--- those of a string's value; where there is no string, of NULL
-abbrev pub text_content : Option Scalar → ℕ → memory.Content
-text_content (Some (Wide (Some s))) part = span_content s part
-text_content _ zero = memory.Null
-text_content _ (suc part) = memory.Word 0
-
-abbrev pub constant_content : World → tree.Constant → Shape → memory.Content
-constant_content w (tree.Null at) s = memory.Null
-constant_content w (tree.Text at bytes) s = text_content (string_at w.strings at) 0
-constant_content w c s = memory.Word (word_in s (constant_word c))
-
--- what a global begins with
-abbrev pub initial_content : World → Initial → Shape → memory.Content
-initial_content w Initial.Unset s = first_part s
-initial_content w (Initial.Elements count) s = first_part s
-initial_content w (Initial.Given c) s = constant_content w c s
-
-abbrev pub datum_of : World → Shape → memory.Content → Datum
-datum_of w s first = record { layout = layout_of w s; count = 1; first = λ cell part. first }
-
--- what a part begins with
-abbrev pub first_content : Option memory.PartShape → memory.Content
-first_content None = memory.Blank
-first_content (Some x) = x.first
-
--- each element of an object begins as its layout does
-abbrev pub begun_datum : Local → Datum
-begun_datum l = record {
-  layout = l.layout;
-  count = l.count;
-  first = λ cell part. first_content (memory.shape_in (slice_get l.layout.cells (cell % length l.layout.cells)) part);
-}
-
--- a fat pointer that is given a string
-abbrev pub text_datum : World → Shape → Option Scalar → Datum
-text_datum w s (Some (Wide (Some span))) = record { layout = layout_of w s; count = 1; first = λ cell part. span_content span part }
-text_datum w s _ = begun_datum (local_of w s)
-
--- a global of a struct, of a fat pointer or of an array begins as its layout does
-abbrev pub global_datum : World → Initial → Shape → Datum
-global_datum w initial (StructShape tag) = begun_datum (local_of w (StructShape tag))
-global_datum w (Initial.Given (tree.Text at bytes)) (FatShape to) = text_datum w (FatShape to) (string_at w.strings at)
-global_datum w initial (FatShape to) = begun_datum (local_of w (FatShape to))
-global_datum w initial (ArrayShape count of) = begun_datum (local_of w (ArrayShape count of))
-global_datum w initial s = datum_of w s (initial_content w initial s)
-
--- the globals, in their order
-abbrev pub data_of : World → List Item → List Datum
-data_of w [] = []
-data_of w (tree.GlobalItem g ∷ items) = global_datum w g.initial (global_shape g.initial (settled (written g.of))) ∷ data_of w items
-data_of w (_ ∷ items) = data_of w items
-
--- ---- strings
-
--- a string's bytes and one final 0
-abbrev pub string_datum : World → Literal → Datum
-string_datum w s = record {
-  layout = layout_of w CharShape;
-  count = length s.1 + 1;
-  first = λ cell part. memory.Word (unwrap_or (slice_get (s.1 ++ 0 ∷ []) cell) 0 % 256);
 }
 
 -- ---- programs

@@ -1,7 +1,7 @@
 -- Types and constants that lowering takes, by the forms of the tree alone.
-use Rattle.std.specs.Prelude.{◌≡◌, true, Option, Some, None, List, [], ◌∷◌}
+use Rattle.std.specs.Prelude.{◌≡◌, true, []}
 use Rattle.cyc_tree.specs.Tree as tree
-use Rattle.cyc_tree.specs.Tree.{RegionName, Pointer, Base, TypeName}
+use Rattle.cyc_tree.specs.Tree.{Base, TypeName}
 use Rattle.source_meaning.specs.Shapes.{Shape, IntShape, UnsignedShape, CharShape, ThinShape, FatShape}
 
 -- ---- types
@@ -14,18 +14,6 @@ IsVoidBase _ = ⊥
 pub record IsVoidType (t : TypeName) : Type 0 where
   pub pointers : t.pointers ≡ []
   pub base : IsVoidBase t.base
-
--- not the unique region
-abbrev pub IsSharedRegion : Option RegionName → Type 0
-IsSharedRegion None = Unit {0}
-IsSharedRegion (Some (tree.Heap at)) = Unit {0}
-IsSharedRegion (Some (tree.Unique at)) = ⊥
-IsSharedRegion (Some (tree.Named name)) = Unit {0}
-
--- no pointer is unique
-abbrev pub AreShared : List Pointer → Type 0
-AreShared [] = Unit {0}
-AreShared (p ∷ ps) = IsSharedRegion p.region × AreShared ps
 
 -- what has a beginning: an integer, and a pointer that may be NULL
 abbrev pub HasFirst : Shape → Type 0

@@ -1,6 +1,6 @@
 -- Frames and code are within their bounds.
 use Rattle.std.proofs.Common.{◌≡◌, ℕ, suc, ◌+◌, ◌*◌, ◌≤◌, List, [], ◌∷◌, ◌++◌, length, map, refl, sym, subst, arith}
-use Rattle.cyc_tree.specs.Tree.{BlockItems, Program}
+use Rattle.cyc_tree.specs.Tree.{Program}
 use Rattle.source_meaning.specs.Shapes.{Shape, VoidShape, Part, part_shapes}
 use Rattle.source_meaning.specs.Steps.{World, Routine}
 use Rattle.source_meaning.specs.Programs.{world_of}
@@ -32,7 +32,7 @@ use Rattle.source_lowering.proofs.expressions.Names.{AreParameters, IsRoutine, A
 use Rattle.source_lowering.proofs.bounds.LocalWords.{shapes_words, many_words, words_same}
 use Rattle.source_lowering.proofs.bounds.Costs.{Costs, no_costs, one_costs, both_cost, more_costs, at_most, does_one, block_costs}
 use Rattle.source_lowering.proofs.bounds.ValueCosts.{words_few, stored_costs}
-use Rattle.source_lowering.proofs.bounds.StatementCosts.{own_locals, items_bounded}
+use Rattle.source_lowering.proofs.bounds.StatementCosts.{items_bounded}
 use Rattle.source_lowering.proofs.bounds.StatementsPaid.{items_paid}
 use Rattle.source_lowering.proofs.Programs.{routines_are}
 use Rattle.source_lowering.proofs.bounds.Taken.{taken_parameters}
@@ -61,12 +61,12 @@ end_costs s t p h = by s
     by _ = zero_code
 
 -- a parameter has the words of its value
-pub all_shapes : (w : World) (ps : List Part) (items : BlockItems) → AreParameters ps
-    → shapes_words w (part_shapes ps ++ block_shapes items) ≡ all_words (part_shapes ps) + own_locals w items
-all_shapes w [] items h = omega arith
-all_shapes w (p ∷ ps) items h =
+pub all_shapes : (w : World) (ps : List Part) (shapes : List Shape) → AreParameters ps
+    → shapes_words w (part_shapes ps ++ shapes) ≡ all_words (part_shapes ps) + shapes_words w shapes
+all_shapes w [] shapes h = omega arith
+all_shapes w (p ∷ ps) shapes h =
     let a = words_same w p.shape h.0 in
-    let b = all_shapes w ps items h.1 in
+    let b = all_shapes w ps shapes h.1 in
     omega (arith, a, b)
 
 words_many : (ps : List Part) → all_words (part_shapes ps) ≤ 3 * length ps
@@ -81,18 +81,18 @@ body_locals w f = item_locals w (parameter_names f.parameters 0 []) (length f.pa
 record BodyBounded (w : World) (f : Routine) : Type 0 where
   code : List core.Statement
   is : body_code w f ≡ all_of code
-  costs : Costs (all_words (part_shapes f.parameters) + (body_locals w f + 4 * item_count w f.body + 1)) (3 * item_count w f.body)
+  costs : Costs (all_words (part_shapes f.parameters) + (body_locals w f + 4 * item_count w f.body + 2)) (3 * item_count w f.body)
       (all_words (part_shapes f.parameters) + body_locals w f)
       (1 + (4 * length f.parameters + 8 * (item_size f.body + items_left no_regions f.body)) + 3) code
 
 body_bounded : (w : World) (f : Routine) → IsRoutine w f → BodyBounded w f
 body_bounded w f r =
     let words = all_words (part_shapes f.parameters) in
-    let t = words + (body_locals w f + 4 * item_count w f.body + 1) in
+    let t = words + (body_locals w f + 4 * item_count w f.body + 2) in
     let p = 3 * item_count w f.body in
     let l = words + body_locals w f in
     let o = 1 + (4 * length f.parameters + 8 * (item_size f.body + items_left no_regions f.body)) in
-    let shapes = part_shapes f.parameters ++ block_shapes f.body in
+    let shapes = part_shapes f.parameters ++ block_shapes w (parameter_names f.parameters 0 []) (length f.parameters) f.body in
     let first = parameters_code f.parameters 0 0 words in
     let body = items_code w f.result (parameter_names f.parameters 0 []) no_regions (length f.parameters) 0 f.body in
     let taken = taken_parameters f.parameters 0 [] in
@@ -101,7 +101,7 @@ body_bounded w f r =
     let inside = both_cost t p 0 (4 * length f.parameters) items.inner items.bounded.operations first body
     (parameters_costs f.parameters 0 0 words t p (omega arith) (omega arith)) items.bounded.costs in
     let less = items.bounded.less in let e = items.locals in
-    let n = all_shapes w f.parameters f.body r.parameters in
+    let n = all_shapes w f.parameters (block_shapes w (parameter_names f.parameters 0 []) (length f.parameters) f.body) r.parameters in
     record {
       code = Block (locals_of w shapes) (all_of (first ++ body)) ∷ end_code f.result;
       is = refl;
@@ -118,7 +118,7 @@ pub frame_bounded : (w : World) (f : Routine) → IsRoutine w f → core_bound (
 frame_bounded w f r =
     let b = body_bounded w f r in
     let words = all_words (part_shapes f.parameters) in
-    let t = subst (λ z. temporaries_of z ≤ words + (body_locals w f + 4 * item_count w f.body + 1)) (sym b.is) b.costs.temporaries in
+    let t = subst (λ z. temporaries_of z ≤ words + (body_locals w f + 4 * item_count w f.body + 2)) (sym b.is) b.costs.temporaries in
     let p = subst (λ z. passed_by z ≤ 3 * item_count w f.body) (sym b.is) b.costs.passes in
     let l = subst (λ z. block_words z ≤ words + body_locals w f) (sym b.is) b.costs.locals in
     let o = many_words w (routine_values w f) in

@@ -2,7 +2,7 @@
 use Rattle.std.proofs.Common.{ℕ, zero, suc, ◌+◌, ◌*◌, ◌≤◌, List, [], ◌∷◌, ◌++◌, arith, max}
 use Rattle.cyc_tree.specs.Tree as tree
 use Rattle.cyc_tree.specs.Tree.{Expression, Initializer, Declaration}
-use Rattle.source_meaning.specs.Shapes.{Shape, ThinShape, FatShape, ArrayShape, HandleShape, StructShape, UnionShape, written, settled}
+use Rattle.source_meaning.specs.Shapes.{Shape, ThinShape, FatShape, ArrayShape, HandleShape, StructShape, UnionShape, written, settled, settled_by}
 use Rattle.source_meaning.specs.Steps.{World}
 use Rattle.core_meaning.specs.Core as core
 use Rattle.core_meaning.specs.Core.{Do, Clear, Copy, LocalAddress, Put, RegionFree, RegionNew}
@@ -22,6 +22,7 @@ use Rattle.source_lowering.proofs.bounds.Counted.{one_node}
 use Rattle.source_lowering.proofs.bounds.ExpressionCosts.{expression_costs}
 use Rattle.source_lowering.proofs.bounds.WholeCosts.{source_costs}
 use Rattle.source_lowering.proofs.bounds.Taken.{taken_by}
+use Rattle.source_lowering.proofs.bounds.NameCosts.{alias_costs}
 
 -- ---- declarations
 
@@ -93,10 +94,16 @@ declaration_bounded w names (tree.Local of name Initializer.Unset) d index own t
 declaration_bounded w names (tree.Local of name (Initializer.Elements count)) d index own t p h f g =
     record { operations = 2; costs = unset_costs w (ArrayShape count (settled (written of))) d index t p (omega (arith, f)); less = omega arith }
 declaration_bounded w names (tree.Local of name (Initializer.Value e)) d index own t p h f g =
-    value_bounded w names (settled (written of)) e d index own t p h.1 (omega (arith, f)) g
+    value_bounded w names (settled_by (written of) (static_shape w names e)) e d index own t p h.1 (omega (arith, f)) g
 declaration_bounded w names (tree.Region at region handle) d index own t p h f g = record {
   operations = 1 + 1;
   costs = both_cost t p 0 1 0 1 (Do (RegionNew d) ∷ []) _ (does_one t p _ (omega (arith, f))) (does_one t p _ (omega (arith, f)));
+  less = omega arith;
+}
+declaration_bounded w names (tree.Alias at region of alias pointer) d index own t p h f g = record {
+  operations = 7;
+  costs = alias_costs w names pointer (settled_by (written of) (static_shape w names (Expression.Variable pointer))) d index own t p h.1.0 h.1.1
+      (omega (arith, f));
   less = omega arith;
 }
 declaration_bounded w names _ d index own t p h f g = absurd h
@@ -112,12 +119,13 @@ ending_costs (tree.Alias at region of alias pointer) d t p h = at_most t p 0 1 [
 ending_costs (tree.NewKey at region key) d t p h = at_most t p 0 1 [] (omega arith) (no_costs t p)
 
 -- a region has its handle in a temporary, for which its local's word stands
-pub regions_paid : (w : World) (declared : Declaration) (n : ℕ) → regions_behind declared n ≤ n + shape_words w (local_shape declared)
-regions_paid w (tree.Region at region handle) n = let one = word_words w HandleShape tt in omega (arith, one)
-regions_paid w (tree.Local of name initializer) n = omega arith
-regions_paid w (tree.Open at region handle key) n = omega arith
-regions_paid w (tree.Alias at region of alias pointer) n = omega arith
-regions_paid w (tree.NewKey at region key) n = omega arith
+pub regions_paid : (w : World) (names : List Named) (declared : Declaration) (n : ℕ)
+    → regions_behind declared n ≤ n + shape_words w (local_shape w names declared)
+regions_paid w names (tree.Region at region handle) n = let one = word_words w HandleShape tt in omega (arith, one)
+regions_paid w names (tree.Local of name initializer) n = omega arith
+regions_paid w names (tree.Open at region handle key) n = omega arith
+regions_paid w names (tree.Alias at region of alias pointer) n = omega arith
+regions_paid w names (tree.NewKey at region key) n = omega arith
 
 -- regions are left, an operation each
 pub leaving_costs : (all count t p : ℕ) → all ≤ t → Costs t p 0 count (leaving_code all count)

@@ -31,6 +31,8 @@ use Rattle.source_lowering.proofs.bounds.MadeCosts.{IsWhole, IsMade, read_costs,
 use Rattle.source_lowering.proofs.bounds.OperandCosts.{tested_costs, IsJoined, tested_less, these_costs, those_costs, AreArguments, one_cheap, called_cheap}
 use Rattle.source_lowering.proofs.bounds.OperandCosts.{variable_costs}
 use Rattle.source_lowering.proofs.bounds.Taken.{taken_by, found_less}
+use Rattle.std.proofs.Common.{Bool, false}
+use Rattle.source_meaning.specs.Expressions.{is_unique_region}
 
 -- ---- all of them
 
@@ -141,10 +143,11 @@ mutual
       (λ k d r. expression_costs w names primary t p d all k (omega (arith, r, f)) (omega (arith, g)))
       (λ k d r. place_costs w names primary t p d all k (omega (arith, r, f)) (omega (arith, g)))).value d (omega (arith, f))
   expression_costs w names (Expression.New at new) t p d own h f g =
-      heap_costs t p d (made_tokens new) _ (omega (arith, f)) (new_costs w names new t p d own h (omega (arith, f)) (omega (arith, g)))
+      heap_costs t p d (made_tokens new) _ (omega (arith, f)) (new_costs w names false new t p d own h (omega (arith, f)) (omega (arith, g)))
+  expression_costs w names (Expression.UniqueRegion at) t p d own h f g = one_cheap t p 1 0 [] (no_costs t p) (omega arith)
   expression_costs w names (Expression.NewIn at handle new) t p d own h f g =
-      let a = expression_costs w names handle t p d own h.1.0 (omega (arith, f)) (omega (arith, g)) in
-      let b = new_costs w names new t p d (own + length (expression_values w names handle)) h.1.1 (omega (arith, f)) (omega (arith, g)) in
+      let a = expression_costs w names handle t p d own h.0 (omega (arith, f)) (omega (arith, g)) in
+      let b = new_costs w names (is_unique_region handle) new t p d (own + length (expression_values w names handle)) h.1 (omega (arith, f)) (omega (arith, g)) in
       let l = a.less in let k = b.less in
       one_cheap t p (3 + (tokens_of handle + made_tokens new)) (a.operations + b.operations) _ (both_cost t p 0 a.operations 0 b.operations _ _ a.costs b.costs)
       (omega (arith, l, k))
@@ -292,15 +295,15 @@ mutual
       }
 
   -- what `new` and `rnew` make, whose value comes into the next temporary
-  pub new_costs : (w : World) (names : List Named) (new : Made) (t p d own : ℕ) → TakesNew w names new → max (taken_by names) (d + 4 + 4 * made_count new) ≤ t
-      → 3 * made_count new ≤ p → IsMade t p (made_tokens new) (new_code w names new d own)
-  new_costs w names (One e) t p d own h f g =
+  pub new_costs : (w : World) (names : List Named) (unique : Bool) (new : Made) (t p d own : ℕ) → TakesNew w names new → max (taken_by names) (d + 4 + 4 * made_count new) ≤ t
+      → 3 * made_count new ≤ p → IsMade t p (made_tokens new) (new_code w names unique new d own)
+  new_costs w names unique (One e) t p d own h f g =
       let n = one_node e in
-      made_costs w (static_shape w names e) t p d (tokens_of e) (whole_code w names e (d + 1) own) (expression_code w names e (d + 1) own)
+      made_costs w unique (static_shape w names e) t p d (tokens_of e) (whole_code w names e (d + 1) own) (expression_code w names e (d + 1) own)
       (TakesWhole w names e) (Takes w names e) h.1
       (λ k. whole_costs w names e t p (d + 1) own k (omega (arith, f)) (omega (arith, g)))
       (λ k. expression_costs w names e t p (d + 1) own k (omega (arith, f)) (omega (arith, g))) (omega (arith, f, n))
-  new_costs w names (Array index count element) t p d own h f g =
+  new_costs w names unique (Array index count element) t p d own h f g =
       let n = one_node count in
       let m = one_node element in
       let inner = number_named index.text (d + 2) ∷ names in

@@ -9,11 +9,13 @@ use Rattle.source_lowering.specs.Lowered.{stores_code, copied_code, struct_membe
 use Rattle.source_lowering.specs.Lowered.{array_code}
 use Rattle.source_lowering.specs.Lowered.{element_by, next_number, union_code}
 use Rattle.source_lowering.specs.Lowerable.{TakesMember}
-use Rattle.source_lowering.proofs.bounds.Costs.{Costs, both_cost, does_one, does_then, while_costs}
+use Rattle.source_lowering.proofs.bounds.Costs.{Costs, at_most, both_cost, does_one, does_then, while_costs}
 use Rattle.source_lowering.proofs.bounds.ValueCosts.{words_few, kept_costs, tag_store_costs, held_stores_costs}
 use Rattle.source_lowering.proofs.bounds.PartCosts.{IsCheap, ArePassed, conversion_costs}
 use Rattle.source_lowering.proofs.bounds.PrefixCosts.{IsPointed}
 use Rattle.source_meaning.specs.Conversions.{cells_of}
+use Rattle.std.proofs.Common.{Bool, true, false}
+use Rattle.core_meaning.specs.Core.{UniqueAlloc}
 
 -- a struct or a union leaves two operations to what is done with it
 pub record IsWhole (t p n : ℕ) (code : List Statement) : Type 0 where
@@ -96,37 +98,38 @@ member_costs w s from t p d cells bytes n whole word for_whole for_word takes as
 -- ---- what `new` and `rnew` make
 
 -- the request counts twice
-request_costs : (w : World) (s : Shape) (t p d count : ℕ) → suc d ≤ t → suc count ≤ t → Costs t p 0 3 (request_code w s d count)
-request_costs w s t p d count g h =
+request_costs : (w : World) (unique : Bool) (s : Shape) (t p d count : ℕ) → suc d ≤ t → suc count ≤ t → Costs t p 0 3 (request_code w unique s d count)
+request_costs w true s t p d count g h = at_most t p 1 3 _ (omega arith) (does_one t p (UniqueAlloc d (layout_of w s)) g)
+request_costs w false s t p d count g h =
     does_then t p 2 (Constant count 1) _ (omega (arith, h)) (does_one t p (RegionAlloc d d count (layout_of w s)) (omega (arith, g, h)))
 
-pub made_costs : (w : World) (s : Shape) (t p d n : ℕ) (whole word : List Statement) (for_whole for_word : Type 0) → TakesMember s for_whole for_word
-    → (for_whole → IsWhole t p n whole) → (for_word → IsCheap t p n word) → d + 5 ≤ t → IsMade t p n (new_code_by w s d whole word)
-made_costs w s t p d n whole word for_whole for_word takes as_whole as_word h = by s takes
+pub made_costs : (w : World) (unique : Bool) (s : Shape) (t p d n : ℕ) (whole word : List Statement) (for_whole for_word : Type 0) → TakesMember s for_whole for_word
+    → (for_whole → IsWhole t p n whole) → (for_word → IsCheap t p n word) → d + 5 ≤ t → IsMade t p n (new_code_by w unique s d whole word)
+made_costs w unique s t p d n whole word for_whole for_word takes as_whole as_word h = by s takes
   where
-    as_a_word : (of : Shape) → for_word → IsMade t p n (word ++ (request_code w of d (d + 1 + words_in of) ++ stores_code of d (d + 1) 0 0))
+    as_a_word : (of : Shape) → for_word → IsMade t p n (word ++ (request_code w unique of d (d + 1 + words_in of) ++ stores_code of d (d + 1) 0 0))
     as_a_word of takes =
         let a = as_word takes in let l = a.less in let few = words_few of in
         record {
           operations = a.operations + (3 + 3);
           costs = both_cost t p 0 a.operations 0 (3 + 3) _ _ a.costs
-              (both_cost t p 0 3 0 3 _ _ (request_costs w of t p d (d + 1 + words_in of) (omega (arith, h)) (omega (arith, h, few)))
+              (both_cost t p 0 3 0 3 _ _ (request_costs w unique of t p d (d + 1 + words_in of) (omega (arith, h)) (omega (arith, h, few)))
               (kept_costs of t p d (d + 1) 0 0 (omega (arith, h)) (omega (arith, h))));
           less = omega (arith, l);
         }
 
-    as_a_whole : (of : Shape) → for_whole → IsMade t p n (whole ++ (request_code w of d (d + 2) ++ (Do (Copy d (d + 1) (layout_of w of)) ∷ [])))
+    as_a_whole : (of : Shape) → for_whole → IsMade t p n (whole ++ (request_code w unique of d (d + 2) ++ (Do (Copy d (d + 1) (layout_of w of)) ∷ [])))
     as_a_whole of takes =
         let a = as_whole takes in let l = a.less in
         record {
           operations = a.operations + (3 + 1);
           costs = both_cost t p 0 a.operations 0 (3 + 1) _ _ a.costs
-              (both_cost t p 0 3 0 1 _ _ (request_costs w of t p d (d + 2) (omega (arith, h)) (omega (arith, h)))
+              (both_cost t p 0 3 0 1 _ _ (request_costs w unique of t p d (d + 2) (omega (arith, h)) (omega (arith, h)))
               (does_one t p (Copy d (d + 1) (layout_of w of)) (omega (arith, h))));
           less = omega (arith, l);
         }
 
-    by : (of : Shape) → TakesMember of for_whole for_word → IsMade t p n (new_code_by w of d whole word)
+    by : (of : Shape) → TakesMember of for_whole for_word → IsMade t p n (new_code_by w unique of d whole word)
     by (StructShape tag) takes = as_a_whole (StructShape tag) takes
     by (UnionShape tag) takes = as_a_whole (UnionShape tag) takes
     by of takes = as_a_word of takes

@@ -74,6 +74,7 @@ abbrev mutual
   pub statement_count : World → Statement → ℕ
   statement_count w (Statement.Block at items) = item_count w items
   statement_count w (Statement.Run e) = run_count w e
+  statement_count w (Statement.Exchange left right) = expression_count left + expression_count right
   statement_count w (Statement.If at condition body) = expression_count condition + statement_count w body
   statement_count w (Statement.IfElse at condition body otherwise) = expression_count condition + (statement_count w body + statement_count w otherwise)
   statement_count w (Statement.While at condition body) = expression_count condition + statement_count w body

@@ -38,6 +38,9 @@ use Rattle.source_lowering.specs.Bounds.{
 use Rattle.source_lowering.proofs.bounds.Nodes.{expression_count, made_count, argument_count, joined_count, link_count, suffix_count}
 use Rattle.source_lowering.proofs.bounds.LocalWords.{shapes_words}
 use Rattle.source_lowering.proofs.bounds.WholeObjects.{suffixed_objects, prefixed_objects, pointed_objects}
+use Rattle.source_lowering.specs.Lowered.{owner_in}
+use Rattle.source_meaning.specs.Shapes.{Shared}
+use Rattle.source_meaning.specs.Expressions.{is_unique_region}
 
 -- so many nodes have four temporaries each and pass three words, and unnamed values have their own words
 pub record Pays (w : World) (c n : ℕ) (values : List Shape) : Type 0 where
@@ -184,11 +187,12 @@ mutual
       (Pays w (expression_count operand) (frame_nodes w names operand) (expression_values w names operand)) h (λ g. expression_paid w names operand g)
       (λ g. place_paid w names operand g))
   expression_paid w names (Expression.New at new) h =
-      node_paid w (new_shape w names new) (made_count new) (made_nodes w names new) _ (new_paid w names new h)
+      node_paid w (new_shape w names Shared new) (made_count new) (made_nodes w names new) _ (new_paid w names new h)
   expression_paid w names (Expression.NewIn at handle new) h =
-      node_paid w (new_shape w names new) (expression_count handle + made_count new) (frame_nodes w names handle + made_nodes w names new) _
-      (both_pay w (expression_count handle) (frame_nodes w names handle) (made_count new) (made_nodes w names new) _ _ (expression_paid w names handle h.1.0)
-      (new_paid w names new h.1.1))
+      node_paid w (new_shape w names (owner_in (is_unique_region handle)) new) (expression_count handle + made_count new) (frame_nodes w names handle + made_nodes w names new) _
+      (both_pay w (expression_count handle) (frame_nodes w names handle) (made_count new) (made_nodes w names new) _ _ (expression_paid w names handle h.0)
+      (new_paid w names new h.1))
+  expression_paid w names (Expression.UniqueRegion at) h = one_paid w (static_shape w names (Expression.UniqueRegion at))
   expression_paid w names (Expression.Chain first others) h =
       let s = static_shape w names first in
       both_pay w (expression_count first) (frame_nodes w names first) (link_count others) (link_nodes w names others s) _ _

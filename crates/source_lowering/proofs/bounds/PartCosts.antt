@@ -63,7 +63,7 @@ narrow_costs t p d _ h = does_one t p (Narrow d d) (omega (arith, h))
 
 thinned_costs : (w : World) (may_be_null : Bool) (to from : Shape) (t p d : ℕ) → d + 4 ≤ t → Costs t p 0 4 (thinned_code w may_be_null to from d)
 thinned_costs w may_be_null to (FatShape of) t p d h = to_thin_costs w may_be_null to t p d (omega (arith, h))
-thinned_costs w false to from t p d h = check_costs t p d from h
+thinned_costs w false to from t p d h = check_costs t p d from (omega (arith, h))
 thinned_costs w true to from t p d h = nothing t p 4
 
 pub conversion_costs : (w : World) (t p d : ℕ) (to from : Shape) → d + 4 ≤ t → Costs t p 0 4 (conversion_code w to from d)

@@ -1,16 +1,15 @@
 -- What the code of statements takes: locals by those that are declared, operations by the size of the text.
 use Rattle.std.proofs.Common.{ℕ, suc, ◌+◌, ◌*◌, ◌≤◌, List, [], ◌∷◌, ◌++◌, length, Some, None, arith, max}
-use Rattle.cyc_tree.specs.Tree as tree
 use Rattle.cyc_tree.specs.Tree.{Statement, BlockItems, NoItems, Declare, Execute, Clauses, NoClauses, MoreClauses, Case, Default}
 use Rattle.source_meaning.specs.Shapes.{Shape, Part, part_shape}
 use Rattle.source_meaning.specs.Steps.{World}
 use Rattle.core_meaning.specs.Core as core
-use Rattle.core_meaning.specs.Core.{Do, If, Block, Return, Constant, Apply, Equal, NoStatements}
+use Rattle.core_meaning.specs.Core.{Do, If, Block, Return, Constant, Apply, Equal, NoStatements, UniqueFree}
 use Rattle.source_lowering.specs.Lowered.{Named, all_of, results_in, static_shape, expression_values, union_parts, member_number, put_local, held_loads}
 use Rattle.source_lowering.specs.Lowered.{tag_load}
-use Rattle.source_lowering.specs.Programs.{local_shape, block_shapes, locals_of, outward, named_here, leaving_code, declaration_values, statement_values}
+use Rattle.source_lowering.specs.Programs.{block_shapes, locals_of, outward, named_here, leaving_code, declaration_values, statement_values}
 use Rattle.source_lowering.specs.Programs.{RegionsAround, in_loop, in_switch, regions_with, statement_code, items_code, cases_code, default_code, item_values}
-use Rattle.source_lowering.specs.Programs.{case_values}
+use Rattle.source_lowering.specs.Programs.{case_values, names_behind}
 use Rattle.source_lowering.specs.Lowerable.{TakesStatement, TakesItems, TakesClauses}
 use Rattle.source_lowering.specs.Bounds.{
   shape_words,
@@ -34,13 +33,17 @@ use Rattle.source_lowering.proofs.bounds.PartCosts.{results_few, results_last, r
 use Rattle.source_lowering.proofs.bounds.ExpressionCosts.{place_costs, expression_costs}
 use Rattle.source_lowering.proofs.bounds.WholeCosts.{run_costs}
 use Rattle.source_lowering.proofs.bounds.DeclarationCosts.{declaration_bounded, ending_costs, regions_paid, leaving_costs}
-use Rattle.source_lowering.proofs.bounds.Taken.{taken_by, taken_outward}
+use Rattle.source_lowering.proofs.bounds.Taken.{taken_by, taken_outward, found_less}
+use Rattle.source_lowering.proofs.bounds.ExchangeCosts.{exchange_costs}
+use Rattle.source_lowering.proofs.bounds.NameCosts.{thin_costs}
+use Rattle.source_lowering.specs.Lowered.{get_code, local_named}
+use Rattle.source_meaning.specs.Places.{bound_to}
 
 -- ---- words of locals
 
 -- the words of the locals that a block declares itself
-abbrev pub own_locals : World → BlockItems → ℕ
-own_locals w items = shapes_words w (block_shapes items)
+abbrev pub own_locals : World → List Named → ℕ → BlockItems → ℕ
+own_locals w names index items = shapes_words w (block_shapes w names index items)
 
 -- a statement's code: its locals by their number, its operations by its size
 pub record IsBounded (t p l n : ℕ) (code : List core.Statement) : Type 0 where
@@ -55,10 +58,10 @@ leaves t p all count o s h less c =
     record { operations = count + o; costs = both_cost t p 0 count 0 o _ _ (leaving_costs all count t p h) c; less = omega (arith, less) }
 
 -- a block's items declare its own locals, and those of inner blocks come beside them
-pub record ItemsBounded (w : World) (t p l n : ℕ) (items : BlockItems) (code : List core.Statement) : Type 0 where
+pub record ItemsBounded (w : World) (names : List Named) (index t p l n : ℕ) (items : BlockItems) (code : List core.Statement) : Type 0 where
   pub inner : ℕ
   pub bounded : IsBounded t p inner n code
-  pub locals : own_locals w items + inner ≤ l
+  pub locals : own_locals w names index items + inner ≤ l
 
 -- ---- clauses of a `switch`
 
@@ -74,22 +77,22 @@ record ClausesBounded (t p l n : ℕ) (named last : List core.Statement) : Type 
   less : case_operations + default_operations ≤ 8 * n
 
 -- one of them: its test, the copy of the member, and its items
-abbrev case_code : World → Shape → (number d : ℕ) → BlockItems → (items : List core.Statement) → List core.Statement
-case_code w s number d body items =
+abbrev case_code : World → List Named → Shape → (number d : ℕ) → BlockItems → (items : List core.Statement) → List core.Statement
+case_code w names s number d body items =
     Do (Constant (d + 2) number) ∷ Do (Apply Equal (d + 2) (d + 1) (d + 2)) ∷
     If (d + 2)
-    (all_of (Block (locals_of w (s ∷ block_shapes body)) (all_of (held_loads s d ++ (put_local s d 0 0 ++ items))) ∷ core.Break ∷ [])) NoStatements ∷ []
+    (all_of (Block (locals_of w (s ∷ block_shapes w names 1 body)) (all_of (held_loads s d ++ (put_local s d 0 0 ++ items))) ∷ core.Break ∷ [])) NoStatements ∷ []
 
-case_bounded : (w : World) (s : Shape) (number t p l n d : ℕ) (body : BlockItems) (items : List core.Statement) → d + 4 ≤ t → ItemsBounded w t p l n body items
-    → IsBounded t p (shape_words w s + l) (8 + n) (case_code w s number d body items)
-case_bounded w s number t p l n d body items h a =
+case_bounded : (w : World) (names : List Named) (s : Shape) (number t p l n d : ℕ) (body : BlockItems) (items : List core.Statement) → d + 4 ≤ t → ItemsBounded w names 1 t p l n body items
+    → IsBounded t p (shape_words w s + l) (8 + n) (case_code w names s number d body items)
+case_bounded w names s number t p l n d body items h a =
     let all = shape_words w s + l in
     let j = a.bounded.less in let m = a.locals in
     let o = 3 + (4 + a.bounded.operations) in
     let inside = both_cost t p 0 3 (0 + a.inner) (4 + a.bounded.operations) (held_loads s d) _ (held_loads_costs s t p d (omega (arith, h)))
     (both_cost t p 0 4 a.inner a.bounded.operations (put_local s d 0 0) items (put_local_costs s t p d 0 0 h) a.bounded.costs) in
     let these = both_cost t p all (1 + o) 0 1 _ (core.Break ∷ [])
-    (block_costs t p all (0 + (0 + a.inner)) o w (s ∷ block_shapes body) (held_loads s d ++ (put_local s d 0 0 ++ items)) (omega (arith, m)) inside)
+    (block_costs t p all (0 + (0 + a.inner)) o w (s ∷ block_shapes w names 1 body) (held_loads s d ++ (put_local s d 0 0 ++ items)) (omega (arith, m)) inside)
     (one_costs t p 0 1 core.Break (omega arith) (omega arith) (omega arith) (omega arith)) in
     record {
       operations = 1 + (1 + (1 + (1 + o + 1 + 0)));
@@ -104,7 +107,7 @@ case_bounded w s number t p l n d body items h a =
 
 mutual
   statement_bounded : (w : World) (result : Shape) (names : List Named) (r : RegionsAround) (own : ℕ) (s : Statement) (t p : ℕ)
-      → TakesStatement w result names s → max (taken_by names) (r.all + (statement_locals w names s + 4 * statement_count w s) + 1) ≤ t
+      → TakesStatement w result names s → max (taken_by names) (r.all + (statement_locals w names s + 4 * statement_count w s) + 2) ≤ t
       → 3 * statement_count w s ≤ p
       → IsBounded t p (statement_locals w names s) (statement_size s + statement_left r s) (statement_code w result names r own s)
   statement_bounded w result names r own (Statement.Empty at) t p h f g = record { operations = 0; costs = no_costs t p; less = omega arith }
@@ -114,12 +117,34 @@ mutual
       let b = one.bounded.less in let l = one.locals in
       record {
         operations = 1 + one.bounded.operations;
-        costs = block_costs t p (item_locals w (outward names) 0 items) one.inner one.bounded.operations w (block_shapes items) _ l one.bounded.costs;
+        costs = block_costs t p (item_locals w (outward names) 0 items) one.inner one.bounded.operations w (block_shapes w (outward names) 0 items) _ l one.bounded.costs;
         less = omega (arith, b);
       }
   statement_bounded w result names r own (Statement.Run e) t p h f g =
       let a = run_costs w names e t p r.all own h (omega (arith, f)) (omega (arith, f)) (omega (arith, g)) in let l = a.less in
       record { operations = a.operations; costs = a.costs; less = omega (arith, l) }
+  statement_bounded w result names r own (Statement.FreeUnique at pointer) t p h f g =
+      let found = found_less names pointer.text in
+      record {
+        operations = 2 + 2;
+        costs = both_cost t p 0 2 0 2 (get_code w names pointer.text r.all) _
+            (thin_costs t p r.all (local_named names pointer.text) (bound_to w.globals pointer.text) h (omega (arith, f)) (omega (arith, f, found)))
+            (if_costs t p r.all 0 0 1 0 (Do (UniqueFree r.all) ∷ []) [] (omega (arith, f)) (does_one t p (UniqueFree r.all) (omega (arith, f))) (no_costs t p));
+        less = omega arith;
+      }
+  statement_bounded w result names r own (Statement.Exchange left right) t p h f g =
+      let s = static_shape w names left in
+      let n = one_node left in
+      let m = one_node right in
+      let a = place_costs w names left t p r.all own h.0 (omega (arith, f)) (omega (arith, g)) in
+      let b = place_costs w names right t p (r.all + 1) (own + length (expression_values w names left)) h.1.0 (omega (arith, f, n)) (omega (arith, g)) in
+      let l = a.less in let k = b.less in
+      record {
+        operations = a.operations + (b.operations + 16);
+        costs = both_cost t p 0 a.operations 0 (b.operations + 16) _ _ a.costs
+            (both_cost t p 0 b.operations 0 16 _ _ b.costs (exchange_costs w s t p r.all (omega (arith, f, n, m))));
+        less = omega (arith, l, k);
+      }
   statement_bounded w result names r own (Statement.If at condition body) t p h f g =
       let a = expression_costs w names condition t p r.all own h.0 (omega (arith, f)) (omega (arith, g)) in
       let b = statement_bounded w result names r (own + length (expression_values w names condition)) body t p h.1 (omega (arith, f)) (omega (arith, g)) in
@@ -204,17 +229,17 @@ mutual
 
   pub items_bounded : (w : World) (result : Shape) (names : List Named) (r : RegionsAround) (index own : ℕ) (items : BlockItems) (t p : ℕ)
       → TakesItems w result names index items
-      → max (taken_by names) (r.all + (item_locals w names index items + 4 * item_count w items) + 1) ≤ t → 3 * item_count w items ≤ p
-      → ItemsBounded w t p (item_locals w names index items) (item_size items + items_left r items) items (items_code w result names r index own items)
+      → max (taken_by names) (r.all + (item_locals w names index items + 4 * item_count w items) + 2) ≤ t → 3 * item_count w items ≤ p
+      → ItemsBounded w names index t p (item_locals w names index items) (item_size items + items_left r items) items (items_code w result names r index own items)
   items_bounded w result names r index own NoItems t p h f g = record {
     inner = 0;
     bounded = record { operations = 0; costs = no_costs t p; less = omega arith };
     locals = omega arith;
   }
   items_bounded w result names r index own (Declare d others) t p h f g =
-      let paid = regions_paid w d r.all in
+      let paid = regions_paid w names d r.all in
       let a = declaration_bounded w names d r.all index own t p h.0 (omega (arith, f)) (omega (arith, g)) in
-      let b = items_bounded w result (named_here (tree.local_of d).text (local_shape d) index ∷ names) (regions_with d r) (suc index)
+      let b = items_bounded w result (names_behind w names index d) (regions_with d r) (suc index)
       (own + length (declaration_values w names d)) others t p h.1 (omega (arith, f, paid)) (omega (arith, g)) in
       let l = a.less in let k = b.bounded.less in let m = b.locals in
       record {
@@ -245,7 +270,7 @@ mutual
   -- the pointer to the union and its tag are in the first free temporaries, with two behind them
   clauses_bounded : (w : World) (result : Shape) (names : List Named) (r : RegionsAround) (parts : List Part) (own last : ℕ) (clauses : Clauses) (t p : ℕ)
       → TakesClauses w result names parts clauses → r.all + 4 ≤ t
-      → max (taken_by names) (r.all + (clause_locals w names parts clauses + 4 * clause_count w clauses) + 1) ≤ t → 3 * clause_count w clauses ≤ p
+      → max (taken_by names) (r.all + (clause_locals w names parts clauses + 4 * clause_count w clauses) + 2) ≤ t → 3 * clause_count w clauses ≤ p
       → ClausesBounded t p (clause_locals w names parts clauses) (clauses_size clauses + clauses_left r clauses)
       (cases_code w result names r parts own clauses) (default_code w result names r last clauses)
   clauses_bounded w result names r parts own last NoClauses t p h e f g = record {
@@ -265,7 +290,7 @@ mutual
       let a = items_bounded w result inner r 1 own body t p h.1.0 (omega (arith, less, same)) (omega (arith, g)) in
       let b = clauses_bounded w result names r parts (own + length (item_values w inner 1 body)) last others t p h.1.1 e (omega (arith, less))
       (omega (arith, g)) in
-      let one = case_bounded w s (member_number parts f.text) t p (item_locals w inner 1 body) (item_size body + items_left r body) r.all body
+      let one = case_bounded w inner s (member_number parts f.text) t p (item_locals w inner 1 body) (item_size body + items_left r body) r.all body
       (items_code w result inner r 1 own body) e a in
       let j = one.less in let k = b.less in let l = b.locals in
       record {
@@ -274,7 +299,7 @@ mutual
         case_operations = one.operations + b.case_operations;
         default_operations = b.default_operations;
         cases = both_cost t p (shape_words w s + item_locals w inner 1 body) one.operations b.case_locals b.case_operations
-            (case_code w s (member_number parts f.text) r.all body (items_code w result inner r 1 own body)) _ one.costs b.cases;
+            (case_code w inner s (member_number parts f.text) r.all body (items_code w result inner r 1 own body)) _ one.costs b.cases;
         otherwise = b.otherwise;
         locals = omega (arith, l);
         less = omega (arith, j, k);
@@ -290,7 +315,7 @@ mutual
         case_operations = b.case_operations;
         default_operations = 1 + a.bounded.operations;
         cases = b.cases;
-        otherwise = block_costs t p (item_locals w (outward names) 0 body) a.inner a.bounded.operations w (block_shapes body) _ m a.bounded.costs;
+        otherwise = block_costs t p (item_locals w (outward names) 0 body) a.inner a.bounded.operations w (block_shapes w (outward names) 0 body) _ m a.bounded.costs;
         locals = omega (arith, l);
         less = omega (arith, j, k);
       }

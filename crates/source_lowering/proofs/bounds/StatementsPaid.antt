@@ -4,11 +4,11 @@ use Rattle.std.specs.Prelude.{if◌then◌else◌}
 use Rattle.cyc_tree.specs.Tree as tree
 use Rattle.cyc_tree.specs.Tree.{Name, Expression, Expressions, Initializer, Declaration, Statement, BlockItems, NoItems, Declare, Execute, Clauses, NoClauses}
 use Rattle.cyc_tree.specs.Tree.{MoreClauses, Case, Default}
-use Rattle.source_meaning.specs.Shapes.{Shape, VoidShape, StructShape, UnionShape, Part, part_shape, written, settled}
+use Rattle.source_meaning.specs.Shapes.{Shape, VoidShape, StructShape, UnionShape, Part, part_shape, written}
 use Rattle.source_meaning.specs.Steps.{World}
 use Rattle.source_lowering.specs.Lowered.{Named, static_shape, call_shape, union_parts, expression_values}
 use Rattle.source_lowering.specs.Whole.{makes_struct, is_made, whole_values, assigned_values, dropped_values, run_values}
-use Rattle.source_lowering.specs.Programs.{local_shape, named_here, outward, initial_values, declaration_values, statement_values, item_values, case_values}
+use Rattle.source_lowering.specs.Programs.{named_here, outward, initial_values, declaration_values, statement_values, item_values, case_values}
 use Rattle.source_lowering.specs.Programs.{default_values}
 use Rattle.source_lowering.specs.Lowerable.{
   Takes,
@@ -43,6 +43,8 @@ use Rattle.source_lowering.proofs.bounds.NodesPaid.{Pays, words_both, made_shape
 use Rattle.source_lowering.proofs.bounds.NodesPaid.{place_paid}
 use Rattle.source_lowering.proofs.bounds.NodesPaid.{whole_paid}
 use Rattle.source_lowering.proofs.bounds.WholeObjects.{unmade_place}
+use Rattle.source_meaning.specs.Shapes.{settled_by}
+use Rattle.source_lowering.specs.Programs.{names_behind}
 
 -- ---- expressions that are statements
 
@@ -136,10 +138,11 @@ initial_paid w names s e h = by s h
 
 declaration_paid : (w : World) (names : List Named) (d : Declaration) → TakesDeclaration w names d
     → Pays w (declaration_count d) (declaration_nodes w names d) (declaration_values w names d)
-declaration_paid w names (tree.Local of name (Initializer.Value e)) h = initial_paid w names (settled (written of)) e h.1
+declaration_paid w names (tree.Local of name (Initializer.Value e)) h = initial_paid w names (settled_by (written of) (static_shape w names e)) e h.1
 declaration_paid w names (tree.Local of name Initializer.Unset) h = nothing_pays w 0
 declaration_paid w names (tree.Local of name (Initializer.Elements count)) h = nothing_pays w 0
 declaration_paid w names (tree.Region at region handle) h = nothing_pays w 0
+declaration_paid w names (tree.Alias at region of alias pointer) h = nothing_pays w 0
 declaration_paid w names _ h = absurd h
 
 -- ---- statements
@@ -165,6 +168,9 @@ mutual
       → Pays w (statement_count w s) (statement_nodes w names s) (statement_values w names s)
   statement_paid w result names (Statement.Block at items) h = items_paid w result (outward names) 0 items h
   statement_paid w result names (Statement.Run e) h = run_paid w names e h
+  statement_paid w result names (Statement.Exchange left right) h =
+      both_pay w (expression_count left) (frame_nodes w names left) (expression_count right) (frame_nodes w names right) _ _
+      (place_paid w names left h.0) (place_paid w names right h.1.0)
   statement_paid w result names (Statement.If at condition body) h =
       both_pay w (expression_count condition) (frame_nodes w names condition) (statement_count w body) (statement_nodes w names body) _ _
       (expression_paid w names condition h.0) (statement_paid w result names body h.1)
@@ -189,7 +195,7 @@ mutual
       → Pays w (item_count w items) (item_nodes w names index items) (item_values w names index items)
   items_paid w result names index NoItems h = nothing_pays w 0
   items_paid w result names index (Declare d others) h =
-      let inside = named_here (tree.local_of d).text (local_shape d) index ∷ names in
+      let inside = names_behind w names index d in
       both_pay w (declaration_count d) (declaration_nodes w names d) (item_count w others) (item_nodes w inside (suc index) others) _ _
       (declaration_paid w names d h.0) (items_paid w result inside (suc index) others h.1)
   items_paid w result names index (Execute s others) h =

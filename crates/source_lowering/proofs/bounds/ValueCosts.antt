@@ -66,11 +66,11 @@ bounds_costs t p d count h = does_then t p 1 (Constant (d + 1) count) _ (omega (
 -- ---- what they lead to
 
 -- NULL is checked for
-check_one : (t p d : ℕ) → d + 4 ≤ t → Costs t p 0 1 (null_check d)
+check_one : (t p d : ℕ) → suc d ≤ t → Costs t p 0 1 (null_check d)
 check_one t p d h =
     one_costs t p 0 1 (If d NoStatements (MoreStatements (Raise NullException) NoStatements)) (omega (arith, h)) (omega arith) (omega arith) (omega arith)
 
-pub check_costs : (t p d : ℕ) (s : Shape) → d + 4 ≤ t → Costs t p 0 4 (check_code s d)
+pub check_costs : (t p d : ℕ) (s : Shape) → suc d ≤ t → Costs t p 0 4 (check_code s d)
 check_costs t p d (ThinShape true owner to) h = at_most t p 1 4 _ (omega arith) (check_one t p d h)
 check_costs t p d (ThinShape false owner to) h = nothing t p 4
 check_costs t p d _ h = nothing t p 4
@@ -86,7 +86,7 @@ element_costs w to t p d x g h =
 
 pub reach_costs : (w : World) (s : Shape) (t p d : ℕ) → d + 4 ≤ t → Costs t p 0 4 (reach_code w s d)
 reach_costs w (FatShape to) t p d h = element_costs w to t p d d (omega (arith, h)) (omega (arith, h))
-reach_costs w s t p d h = check_costs t p d s h
+reach_costs w s t p d h = check_costs t p d s (omega (arith, h))
 
 pub index_costs : (w : World) (to : Shape) (t p d : ℕ) → d + 4 ≤ t → Costs t p 0 5 (index_code w to d)
 index_costs w to t p d h =

@@ -20,6 +20,9 @@ use Rattle.source_lowering.proofs.bounds.ExpressionCosts.{arguments_costs, place
 use Rattle.source_lowering.proofs.bounds.OperandCosts.{called_cheap}
 use Rattle.source_lowering.proofs.bounds.WholeObjects.{unmade_place}
 use Rattle.source_lowering.proofs.bounds.Taken.{taken_by}
+use Rattle.source_lowering.proofs.bounds.ExpressionCosts.{stores_costs}
+use Rattle.source_lowering.specs.Lowered.{expression_values}
+use Rattle.source_lowering.proofs.bounds.PartCosts.{conversion_costs}
 
 -- ---- initializers
 
@@ -75,7 +78,18 @@ assigned_costs w names s place value t p d own h f g = by s h
         → ArePassed t p (tokens_of place + (1 + tokens_of value)) (assigned_code w names of place value d own)
     by (StructShape tag) h = as_a_whole (StructShape tag) h.0 h.1.0
     by (UnionShape tag) h = as_a_whole (UnionShape tag) h.0 h.1.0
-    by _ h = word_run w names (Expression.Assign place value) t p d own h f g
+    by _ h =
+        let n = one_node value in
+        let a = expression_costs w names value t p d own h.1.0 (omega (arith, f)) (omega (arith, g)) in
+        let b = stores_costs w names place t p d (own + length (expression_values w names value)) h.0 (omega (arith, f, n)) (omega (arith, g)) in
+        let l = a.less in let k = b.less in
+        record {
+          operations = a.operations + (4 + b.operations);
+          costs = both_cost t p 0 a.operations 0 (4 + b.operations) _ _ a.costs
+              (both_cost t p 0 4 0 b.operations _ _ (conversion_costs w t p d (static_shape w names place) (static_shape w names value)
+              (omega (arith, f, n))) b.costs);
+          less = omega (arith, l, k);
+        }
 
 dropped_costs : (w : World) (names : List Named) (s : Shape) (e : Expression) (t p d own : ℕ) → TakesDropped w names s e
     → max (taken_by names) (d + 4 * expression_count e) ≤ t

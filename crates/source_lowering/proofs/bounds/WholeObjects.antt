@@ -23,12 +23,12 @@ use Rattle.cyc_tree.specs.Tree.{
   Array,
 }
 use Rattle.cyc_tree.specs.Tree.{Initializer, Declaration, Statement, BlockItems, NoItems, Declare, Execute, Clauses, NoClauses, MoreClauses, Case, Default}
-use Rattle.source_meaning.specs.Shapes.{Shape, StructShape, UnionShape, Layout, Part, part_shape, parts_of, has_tag, written, settled}
+use Rattle.source_meaning.specs.Shapes.{Shape, StructShape, UnionShape, Layout, Part, part_shape, parts_of, has_tag, written}
 use Rattle.source_meaning.specs.Steps.{World}
 use Rattle.source_lowering.specs.Lowered.{Named, number_named, static_shape, values_by, expression_values, suffix_values, all_values, link_values, new_values}
 use Rattle.source_lowering.specs.Lowered.{union_parts}
 use Rattle.source_lowering.specs.Whole.{makes_struct, is_made, whole_values, made_values, assigned_values, dropped_values, run_values}
-use Rattle.source_lowering.specs.Programs.{local_shape, named_here, outward, initial_values, declaration_values, statement_values, item_values, case_values}
+use Rattle.source_lowering.specs.Programs.{named_here, outward, initial_values, declaration_values, statement_values, item_values, case_values}
 use Rattle.source_lowering.specs.Programs.{default_values}
 use Rattle.source_lowering.specs.Lowerable.{
   IsObject,
@@ -56,6 +56,8 @@ use Rattle.source_lowering.specs.Lowerable.{
   TakesClauses,
 }
 use Rattle.source_lowering.proofs.expressions.Indices.{TakesIndices, indices_taken}
+use Rattle.source_meaning.specs.Shapes.{settled_by}
+use Rattle.source_lowering.specs.Programs.{names_behind}
 
 -- ---- expressions
 
@@ -133,8 +135,8 @@ mutual
       (AreObjects w.unions w.structs (expression_values w names operand)) h (λ g. expression_objects w names operand g) (λ g. place_objects w names operand g)
   expression_objects w names (Expression.New at new) h = new_objects w names new h
   expression_objects w names (Expression.NewIn at handle new) h =
-      both_objects w.unions w.structs (expression_values w names handle) (new_values w names new) (expression_objects w names handle h.1.0)
-      (new_objects w names new h.1.1)
+      both_objects w.unions w.structs (expression_values w names handle) (new_values w names new) (expression_objects w names handle h.0)
+      (new_objects w names new h.1)
   expression_objects w names (Expression.Chain first others) h =
       both_objects w.unions w.structs (expression_values w names first) (link_values w names others) (expression_objects w names first h.0)
       (link_objects w names others h.1)
@@ -261,7 +263,9 @@ assigned_objects w names (StructShape tag) place value h =
 assigned_objects w names (UnionShape tag) place value h =
     both_objects w.unions w.structs (whole_values w names value) (expression_values w names place) (whole_objects w names value h.1.0)
     (place_objects w names place h.0)
-assigned_objects w names _ place value h = expression_objects w names (Expression.Assign place value) h
+assigned_objects w names _ place value h =
+    both_objects w.unions w.structs (expression_values w names value) (expression_values w names place) (expression_objects w names value h.1.0)
+    (place_objects w names place h.0)
 
 dropped_objects : (w : World) (names : List Named) (s : Shape) (e : Expression) → TakesDropped w names s e
     → AreObjects w.unions w.structs (dropped_values w names s e)
@@ -299,7 +303,7 @@ initial_objects w names s e h = by s h
 
 declaration_objects : (w : World) (names : List Named) (d : Declaration) → TakesDeclaration w names d
     → AreObjects w.unions w.structs (declaration_values w names d)
-declaration_objects w names (tree.Local of name (Initializer.Value e)) h = initial_objects w names (settled (written of)) e h.1
+declaration_objects w names (tree.Local of name (Initializer.Value e)) h = initial_objects w names (settled_by (written of) (static_shape w names e)) e h.1
 declaration_objects w names (tree.Local of name _) h = tt
 declaration_objects w names _ h = tt
 
@@ -308,6 +312,9 @@ mutual
       → AreObjects w.unions w.structs (statement_values w names s)
   statement_objects w result names (Statement.Block at items) h = item_objects w result (outward names) 0 items h
   statement_objects w result names (Statement.Run e) h = run_objects w names e h
+  statement_objects w result names (Statement.Exchange left right) h =
+      both_objects w.unions w.structs (expression_values w names left) (expression_values w names right) (place_objects w names left h.0)
+      (place_objects w names right h.1.0)
   statement_objects w result names (Statement.If at condition body) h =
       both_objects w.unions w.structs (expression_values w names condition) (statement_values w names body) (expression_objects w names condition h.0)
       (statement_objects w result names body h.1)
@@ -332,7 +339,7 @@ mutual
       → AreObjects w.unions w.structs (item_values w names index items)
   item_objects w result names index NoItems h = tt
   item_objects w result names index (Declare d others) h =
-      let inside = named_here (tree.local_of d).text (local_shape d) index ∷ names in
+      let inside = names_behind w names index d in
       both_objects w.unions w.structs (declaration_values w names d) (item_values w inside (suc index) others) (declaration_objects w names d h.0)
       (item_objects w result inside (suc index) others h.1)
   item_objects w result names index (Execute s others) h =

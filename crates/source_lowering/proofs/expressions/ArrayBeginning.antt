@@ -48,13 +48,13 @@ use Rattle.source_lowering.proofs.memory.CellParts.{firsts_of}
 use Rattle.source_lowering.proofs.memory.Members.{layout_count}
 use Rattle.source_lowering.proofs.expressions.ElementsMade.{spot_in, element_cell}
 use Rattle.source_lowering.proofs.expressions.ArrayParts.{element_holds}
-use Rattle.source_lowering.proofs.expressions.ArrayCells.{InElement, element_there, in_element}
+use Rattle.source_lowering.proofs.expressions.ArrayCells.{InElement, element_there, in_element, array_unlent}
 use Rattle.source_lowering.proofs.memory.Clearing.{BeginsWith, placed_at, layout_first, made_at, laid_there, cleared_later, agree_cleared}
 use Rattle.source_lowering.proofs.expressions.Making.{local_spot, cell_spot, spot_of, m_made, here_is, grown_later}
 use Rattle.source_lowering.proofs.values.Values.{kept_temp}
 use Rattle.source_lowering.proofs.statements.Declaring.{with_local, object_fits}
 use Rattle.source_lowering.proofs.memory.Beginning.{declared_by, BeginsIn}
-use Rattle.source_lowering.proofs.memory.FirstCells.{IsFirstCell, first_cell_is, first_shown}
+use Rattle.source_lowering.proofs.memory.FirstCells.{IsFirstCell, first_cell_is, first_shown, first_free}
 
 -- ---- Core clears so many elements
 
@@ -277,7 +277,7 @@ array_begins p n scope name count of shapes then_act next m c rest after world f
     fits2 : SameState (with_local p name shape shapes) m1 c1
     fits2 = object_fits p m c1 name shape shapes o pending fits1
         (array_leads p.world m c1.memory p.frame p.made count of (object_cells p.world.unions p.world.structs of structs object) fits1.made all1.0)
-        (λ cell z v e. array_shown p m m c count of cell z v structs object all.0 e)
+        (array_unlent count source.first_content first_free (cells_of p.world of)) (λ cell z v e. array_shown p m m c count of cell z v structs object all.0 e)
 
     stored : is_live m (source.Frame p.frame) ≡ true → SameAt p n (then_act (with_binding scope name (Variable shape spot)) next m1) code
     stored live =

@@ -9,8 +9,9 @@ use Rattle.std.proofs.lemmas.Option.{none-some}
 use Rattle.source_meaning.specs.Shapes.{Shape}
 use Rattle.source_meaning.specs.Memory as source
 use Rattle.source_meaning.specs.Memory.{Cell, array_of}
+use Rattle.source_meaning.specs.Values.{is_lent}
 use Rattle.source_lowering.specs.Simulation.{AreCells}
-use Rattle.source_lowering.proofs.expressions.Making.{cell_with, spot_of}
+use Rattle.source_lowering.proofs.expressions.Making.{cell_with, spot_of, IsUnlentObject, cells_unlent}
 
 -- a cell of an element
 pub array_cell : (count k i : ℕ) (cells : List Cell) → k < count → i < length cells → array_of count cells (k * length cells + i) ≡ slice_get cells i
@@ -108,3 +109,12 @@ in_element count cell cells x e = by (nat_lt cell (count * length cells)) refl
       where
         few : (n : ℕ) → cell % n < n → cell < count * n → cell / n < count
         few n inside below = let g = div-mul-le_self cell n in lt_of_mul-lt-mul_right n (omega (arith, g, below))
+
+-- an array of cells that aren't lent
+pub array_unlent : (count : ℕ) (g : Shape → source.Content) → ((s : Shape) → is_lent (g s) ≡ false) → (xs : List Shape)
+    → IsUnlentObject (array_of count (map (cell_with g) xs))
+array_unlent count g free xs = record {
+  none = λ cell shape v e.
+      let inside = in_element count cell (map (cell_with g) xs) (record { shape = shape; content = source.Lent v }) e in
+      (cells_unlent g free xs).none inside.number shape v inside.is;
+}

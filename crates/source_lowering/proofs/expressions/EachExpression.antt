@@ -1,18 +1,18 @@
 -- Each expression that is taken does the same as its code, and so does each that is a struct.
-use Rattle.std.proofs.Common.{ℕ, suc, ◌+◌, ◌<◌, ◌≤◌, List, [], ◌∷◌, ◌++◌, length, max, refl, sym, ap, ◌∙◌, subst, arith}
+use Rattle.std.proofs.Common.{Bool, false, ℕ, suc, ◌+◌, ◌<◌, ◌≤◌, List, [], ◌∷◌, ◌++◌, length, max, refl, sym, ap, ◌∙◌, subst, arith}
 use Rattle.std.proofs.lemmas.List.{append_assoc, append-nil}
 use Rattle.cyc_tree.specs.declared.expression.Prefix.TheVariants as prefix
 use Rattle.cyc_tree.specs.Tree.{Expression, Expressions, NoExpressions, MoreExpressions, Links, NoLinks, MoreLinks, Suffixes, NoSuffixes, Index, Dot, Arrow}
 use Rattle.cyc_tree.specs.Tree.{Made, One, Array}
-use Rattle.source_meaning.specs.Shapes.{Shape, IntShape, FatShape, StructShape, UnionShape, Part, part_shapes, parts_of, pointee}
+use Rattle.source_meaning.specs.Shapes.{Shape, IntShape, FatShape, StructShape, UnionShape, Part, part_shapes, parts_of, pointee, Shared}
 use Rattle.source_meaning.specs.Sizes.{Extent, rounded_up, laid_out, no_extent}
 use Rattle.source_meaning.specs.Steps.{Act, Scope, ◌>>=◌}
 use Rattle.source_meaning.specs.Operators.{operator_shape}
 use Rattle.source_meaning.specs.Conversions.{cells_of, converted}
 use Rattle.source_meaning.specs.Making.{Maker, heap_maker}
 use Rattle.source_meaning.specs.Places.{Sense}
-use Rattle.source_meaning.specs.Calls.{applied, converted_all, handle_maker}
-use Rattle.source_meaning.specs.Expressions.{sense, senses, linked}
+use Rattle.source_meaning.specs.Calls.{applied, converted_all}
+use Rattle.source_meaning.specs.Expressions.{sense, senses, linked, is_unique_region}
 use Rattle.core_meaning.specs.Core.{Statement, Do, HeapHandle}
 use Rattle.source_lowering.specs.Layouts.{extent_of}
 use Rattle.source_lowering.specs.Members.{words_in}
@@ -25,11 +25,11 @@ use Rattle.source_lowering.proofs.memory.StructCells.{AllHaveCells}
 use Rattle.source_lowering.proofs.memory.Members.{have_cells}
 use Rattle.source_lowering.specs.Simulation.{keeping}
 use Rattle.source_lowering.proofs.values.Integers.{IsOperandShape, target_taken}
-use Rattle.source_lowering.proofs.expressions.Variables.{Agrees}
+use Rattle.source_lowering.proofs.expressions.Variables.{Agrees, stuck_agrees}
 use Rattle.source_lowering.proofs.expressions.VariableForms.{variable_agrees, variable_stores}
 use Rattle.source_lowering.proofs.expressions.Counting.{counted_agrees}
 use Rattle.source_lowering.proofs.Texts.{text_agrees}
-use Rattle.source_lowering.proofs.expressions.Forms.{number_agrees, character_agrees, applied_agrees, value_agrees, assigned_agrees}
+use Rattle.source_lowering.proofs.expressions.Forms.{number_agrees, character_agrees, applied_agrees, value_agrees, assigned_agrees, given_single}
 use Rattle.source_lowering.proofs.expressions.Places.{IsPlaced, variable_placed, address_agrees, null_agrees}
 use Rattle.source_lowering.proofs.expressions.ValuePlaces.{target_stored}
 use Rattle.source_lowering.proofs.expressions.Reaching.{placed_reached}
@@ -44,11 +44,13 @@ use Rattle.source_lowering.proofs.expressions.ExpressionForms.{contents_are, no_
 use Rattle.source_lowering.proofs.expressions.WholeForms.{IsWholeAs, whole_place, member_same, call_whole}
 use Rattle.source_lowering.proofs.expressions.MakingStructs.{MembersGo, no_members, more_members, made_whole}
 use Rattle.source_lowering.proofs.expressions.MakingUnions.{union_whole}
-use Rattle.source_lowering.proofs.expressions.Requests.{GivesMaker, heap_agrees, heap_gives, handle_gives, made_agrees}
+use Rattle.source_lowering.proofs.expressions.Requests.{GivesTo, region_to, to_region, maker_to, heap_agrees, heap_gives, made_agrees}
 use Rattle.source_lowering.proofs.expressions.Homes.{element_shape, element_values, same_element}
 use Rattle.source_lowering.proofs.expressions.MadeArrays.{made_array}
 use Rattle.source_lowering.proofs.expressions.Known.{at_known, known_at, scope_at}
-pub use Rattle.source_lowering.proofs.expressions.Known.{Known, place_in, IsKnown, known_keeping, keeping_known, new_by, new_is, new_in_is}
+pub use Rattle.source_lowering.proofs.expressions.Known.{Known, place_in, IsKnown, known_keeping, keeping_known, new_by, new_is, in_one, maker_in, new_in_same, unique_none}
+use Rattle.source_lowering.proofs.expressions.Requests.{IsInOne, shared_in_one, in_one_none, in_one_unique}
+use Rattle.source_lowering.specs.Lowered.{owner_in}
 
 mutual
   pub named_same : (e : Expression) (scope : Scope) (k : Known) → TakesPlace scope.world k.names e → IsOperandShape (static_shape scope.world k.names e)
@@ -142,19 +144,22 @@ mutual
       address_agrees (place_in scope k) n d (sense operand scope) (static_shape scope.world k.names operand) (place_code scope.world k.names operand d own)
       to.shape_is to.target to.placed
   expression_same (Expression.New at new) scope k h known n calls d own numbered less =
-      subst (λ z. Agrees (place_in scope k) n d z (new_shape scope.world k.names new) (Do (HeapHandle d) ∷ new_code scope.world k.names new d own))
-      (new_is new scope)
-      (new_same new scope k h known n calls heap_maker d own numbered less (Do (HeapHandle d) ∷ []) (heap_gives (place_in scope k) n d))
+      subst (λ z. Agrees (place_in scope k) n d z (new_shape scope.world k.names Shared new)
+      (Do (HeapHandle d) ∷ new_code scope.world k.names false new d own)) (new_is new scope)
+      (new_same new scope k h known n calls false (shared_in_one new) heap_maker d own numbered less (Do (HeapHandle d) ∷ [])
+      (region_to (place_in scope k) n d heap_maker (Do (HeapHandle d) ∷ []) (heap_gives (place_in scope k) n d)))
+  expression_same (Expression.UniqueRegion at) scope k h known n calls d own numbered less = stuck_agrees (place_in scope k) n d []
   expression_same (Expression.NewIn at handle new) scope k h known n calls d own numbered less =
       let values = expression_values scope.world k.names handle in
       let behind = own + length values in
-      subst (λ z. Agrees (place_in scope k) n d z (new_shape scope.world k.names new)
-      (expression_code scope.world k.names handle d own ++ new_code scope.world k.names new d behind))
-      (new_in_is new scope handle h.0)
-      (new_same new scope k h.1.1 known n calls (handle_maker (sense handle scope)) d behind
-      (numbered_after k.owned own values (new_values scope.world k.names new) numbered) (omega (arith, less)) (expression_code scope.world k.names handle d own)
-      (handle_gives (place_in scope k) n d (sense handle scope) (static_shape scope.world k.names handle) (expression_code scope.world k.names handle d own)
-      (expression_same handle scope k h.1.0 known n calls d own (numbered_first k.owned own values (new_values scope.world k.names new) numbered) less)))
+      let code = expression_code scope.world k.names handle d own in
+      let unique = is_unique_region handle in
+      new_in_same (place_in scope k) n d behind scope.world k.names new scope unique (sense handle scope) code
+      (new_same new scope k h.1 known n calls (in_one unique new) (in_one_none unique new) (maker_in (in_one unique new) (sense handle scope)) d behind
+      (numbered_after k.owned own values (new_values scope.world k.names new) numbered) (omega (arith, less)) code
+      (maker_to (place_in scope k) n d unique (in_one unique new) (sense handle scope) (static_shape scope.world k.names handle) code
+      (in_one_unique unique new) (λ e. unique_none scope.world k.names handle d own e)
+      (expression_same handle scope k h.0 known n calls d own (numbered_first k.owned own values (new_values scope.world k.names new) numbered) less)))
   expression_same (Expression.Chain first others) scope k h known n calls d own numbered less =
       let values = expression_values scope.world k.names first in
       let more = link_values scope.world k.names others in
@@ -183,10 +188,10 @@ mutual
       let values = expression_values scope.world k.names value in
       let more = expression_values scope.world k.names place in
       let behind = own + length values in
-      let to = named_same place scope k h.0 h.1.1 known n calls d behind (numbered_after k.owned own values more numbered) (omega (arith, less)) in
+      let to = named_same place scope k h.0 (given_single (static_shape scope.world k.names place) h.1.1) known n calls d behind (numbered_after k.owned own values more numbered) (omega (arith, less)) in
       assigned_agrees (place_in scope k) n d (sense place scope) (sense value scope) (static_shape scope.world k.names place)
       (static_shape scope.world k.names value) (expression_code scope.world k.names value d own) (put_code scope.world k.names place d behind)
-      to.shape_is to.taken to.stores (expression_same value scope k h.1.0 known n calls d own (numbered_first k.owned own values more numbered) less)
+      to.shape_is to.taken h.1.1 to.stores (expression_same value scope k h.1.0 known n calls d own (numbered_first k.owned own values more numbered) less)
   expression_same _ scope k h known n calls d own numbered less = absurd h
 
   pub arguments_same : (es : Expressions) (scope : Scope) (k : Known) → TakesAll scope.world k.names es → IsKnown scope k → (n : ℕ)
@@ -270,17 +275,18 @@ mutual
 
   -- what is made, in the region of a handle
   pub new_same : (new : Made) (scope : Scope) (k : Known) → TakesNew scope.world k.names new → IsKnown scope k → (n : ℕ) → CallsAs scope.world k.program n
-      → (to : Act Maker) (d own : ℕ) → AreNumbered k.owned own (new_values scope.world k.names new) → k.kept ≤ own → (code : List Statement)
-      → GivesMaker (place_in scope k) n d to code
-      → Agrees (place_in scope k) n d (new_by new scope to) (new_shape scope.world k.names new) (code ++ new_code scope.world k.names new d own)
-  new_same (One value) scope k h known n calls to d own numbered less code handle =
-      made_agrees (place_in scope k) n d own to (sense value scope) (static_shape scope.world k.names value) (whole_values scope.world k.names value)
+      → (unique : Bool) → IsInOne unique new → (to : Act Maker) (d own : ℕ) → AreNumbered k.owned own (new_values scope.world k.names new) → k.kept ≤ own
+      → (code : List Statement) → GivesTo (place_in scope k) n d unique to code
+      → Agrees (place_in scope k) n d (new_by new scope unique to) (new_shape scope.world k.names (owner_in unique) new)
+      (code ++ new_code scope.world k.names unique new d own)
+  new_same (One value) scope k h known n calls unique one to d own numbered less code handle =
+      made_agrees (place_in scope k) n d own unique to (sense value scope) (static_shape scope.world k.names value) (whole_values scope.world k.names value)
       (expression_values scope.world k.names value) code (whole_code scope.world k.names value (d + 1) own)
       (expression_code scope.world k.names value (d + 1) own) (TakesWhole scope.world k.names value)
       (Takes scope.world k.names value) known.world.unions known.world.structs h.0
       less h.1 numbered handle (λ g nums. whole_same value scope k g known n calls (d + 1) own nums)
       (λ g nums. expression_same value scope k g known n calls (d + 1) own nums less)
-  new_same (Array index count element) scope k h known n calls to d own numbered less code handle =
+  new_same (Array index count element) scope k h known n calls unique one to d own numbered less code handle =
       let w = scope.world in
       let inner = number_named index.text (d + 2) ∷ k.names in
       let counted = expression_values w k.names count in
@@ -291,12 +297,13 @@ mutual
       let count_code = expression_code w k.names count (d + 1) own in
       let whole = whole_code w inner element (d + 3) first in
       let word = expression_code w inner element (d + 3) first in
-      subst (λ z. Agrees (place_in scope k) n d (new_by (Array index count element) scope to) (FatShape z)
+      subst (λ z. Agrees (place_in scope k) n d (new_by (Array index count element) scope unique to) (FatShape z)
       (code ++ (count_code ++ array_code w shape d (element_by w shape d whole word)))) (element_shape w k.names index.text (d + 2) 0 element)
       (made_array (place_in scope k) n index.text d first to (sense count scope) (λ i. sense element (scope_at scope index.text i))
       (static_shape w k.names count) shape (whole_values w inner element) (expression_values w inner element) code count_code whole word
       (TakesWhole w inner element) (Takes w inner element) known.world.structs takes.0 (omega (arith, less)) takes.1
-      (subst (λ z. AreNumbered k.owned first z) (same_element w k.names index.text 0 (d + 2) element) (numbered_after k.owned own counted values numbered)) handle
+      (subst (λ z. AreNumbered k.owned first z) (same_element w k.names index.text 0 (d + 2) element) (numbered_after k.owned own counted values numbered))
+      (to_region (place_in scope k) n d to code (subst (λ z. GivesTo (place_in scope k) n d z to code) one handle))
       (expression_same count scope k h.0 known n calls (d + 1) own (numbered_first k.owned own counted values numbered) less)
       (λ g nums j i below small.
       whole_same element (scope_at scope index.text i) (known_at k index.text d) g (at_known scope k index.text d i small known) j

@@ -135,7 +135,7 @@ element_there w m c to v cs z less =
 
 pub element_same : (p : Point) (n t q : ℕ) (to : Shape) (v : Scalar) (m : source.Memory) (c : Config) (s : Spot → source.Memory → steps.Step)
     (rest : Statements) (next : Next) → Shown p.world m c.memory (FatShape to) v (contents_in q (FatShape to) c.temps)
-    → ElementGoesOn p n t q to m c s (meaning.statements rest next)
+    → (AFat p.world m c.memory to (size_of p.world to) v (contents_in q (FatShape to) c.temps) → ElementGoesOn p n t q to m c s (meaning.statements rest next))
     → SameAt p n (accessed (length (cells_of p.world to)) v s m) (meaning.statements (put (element_code p.world to t q) rest) next c)
 element_same p n t q to v m c s rest next shown goes = ⊎_elim null some shown
   where
@@ -190,4 +190,4 @@ element_same p n t q to v m c s rest next shown goes = ⊎_elim null some shown
             rw e
             (subst (λ u. SameAt p n (s (element_spot p.world to z.span) m) u)
             (sym (element_reached p.world to c t q z.byte z.span.index (at z.span.first) otherwise rest next three.pointer three.index one.first))
-            (goes.go (element_spot p.world to z.span) (z.byte + z.span.index * bytes) z.lies one.leads))
+            ((goes z).go (element_spot p.world to z.span) (z.byte + z.span.index * bytes) z.lies one.leads))

@@ -1,9 +1,13 @@
 -- One lemma a form: constants, operators, conversions, assignments.
-use Rattle.std.proofs.Common.{◌≡◌, ℕ, ◌+◌, ◌%◌, ◌^◌, ◌<◌, List, [], ◌∷◌, ◌++◌, Bool, true, false, nat_lt, refl, sym, ap, ◌∙◌, subst, arith}
+use Rattle.std.proofs.Common.{◌≡◌, ℕ, ◌+◌, ◌%◌, ◌^◌, ◌<◌, ◌≤◌, List, [], ◌∷◌, ◌++◌, Bool, true, false, nat_lt, refl, sym, ap, ◌∙◌, subst, arith}
 use Rattle.std.specs.Prelude.{if◌then◌else◌}
 use Rattle.cyc_tree.specs.declared.expression.Operator.{Operator}
 use Rattle.cyc_tree.specs.declared.expression.Operator.TheVariants as operator
+use Rattle.std.proofs.lemmas.Bool.{false≢true}
 use Rattle.source_meaning.specs.Shapes.{
+  Shared,
+  Alone,
+  Unsaid,
   Shape,
   IntShape,
   UnsignedShape,
@@ -29,10 +33,12 @@ use Rattle.source_meaning.specs.Places.{Sense, value_sense, given_by, assigned}
 use Rattle.source_meaning.specs.Calls.{constant, number_type, applied}
 use Rattle.source_meaning.specs.Programs.{integer_shape}
 use Rattle.core_meaning.specs.Memory.{Word}
-use Rattle.core_meaning.specs.Core.{Statement, Do, Constant}
+use Rattle.core_meaning.specs.Core.{Statement, Statements, Do, Constant}
+use Rattle.core_meaning.specs.Steps.{Config}
 use Rattle.core_meaning.specs.Meaning as meaning
 use Rattle.source_lowering.specs.Lowered.{put, operator_code, conversion_code}
-use Rattle.source_lowering.specs.Simulation.{Point, Shown, SameAt, GivesAs, within, contents_in}
+use Rattle.source_lowering.specs.Lowerable.{IsGivenShape, IsOperandShape}
+use Rattle.source_lowering.specs.Simulation.{Point, SameState, Next, Shown, SameAt, GivesAs, within, contents_in}
 use Rattle.source_lowering.proofs.memory.Keeping.{later_self, later_on, shown_later}
 use Rattle.source_lowering.proofs.Runs.{put_all}
 use Rattle.source_lowering.proofs.values.Integers.{IsTaken, limit, word_given, integer_one}
@@ -42,7 +48,7 @@ use Rattle.source_lowering.proofs.values.Operators.{modulo_small}
 use Rattle.source_lowering.proofs.values.Values.{put_value, put_three, kept_contents, over}
 use Rattle.source_lowering.proofs.values.Conversions.{converted_gives}
 use Rattle.source_lowering.specs.Members.{words_in}
-use Rattle.source_lowering.proofs.expressions.Variables.{Agrees, StoresAs}
+use Rattle.source_lowering.proofs.expressions.Variables.{Agrees, StoresAs, StoredOn}
 
 -- ---- constants
 
@@ -174,21 +180,56 @@ applied_agrees p n d o a b sa sb ca cb x y =
 
 -- ---- assignments
 
+-- a value is evaluated, converted and stored
+pub assigned_stores : (p : Point) (n d : ℕ) (to from : Sense) (shape of : Shape) (code stores : List Statement) → to.shape ≡ shape → IsTaken shape
+    → StoresAs p n d shape to.place stores → Agrees p n d from of code → (m : source.Memory) (c : Config)
+    (s : List Scalar → source.Memory → steps.Step) (rest : Statements) (next : Next) → SameState p m c → p.regions.all ≤ d
+    → ((us : List Scalar) → StoredOn p n d m c shape us s (meaning.statements rest next))
+    → SameAt p n ((assigned p.world to from).value s m) (meaning.statements (put (code ++ (conversion_code p.world shape of d ++ stores)) rest) next c)
+assigned_stores p n d to from shape of code stores same taken place one m c s rest next fits above goes =
+    subst (λ z. SameAt p n (from.value (λ vs. converted p.world z from.shape vs (λ us. to.place (λ t. write_cells t us (λ u. s (given_by z us))))) m)
+    (meaning.statements (put (code ++ (conversion_code p.world shape of d ++ stores)) rest) next c)) (sym same)
+    (subst (λ z. SameAt p n (from.value (λ vs. converted p.world shape from.shape vs (λ us. to.place (λ t. write_cells t us
+    (λ u. s (given_by shape us)))))
+    m) (meaning.statements z next c))
+    (sym (put_three code (conversion_code p.world shape of d) stores rest ∙ sym (put_all code (conversion_code p.world shape of d) (put stores rest))))
+    ((converted_gives p n d shape from of code taken one).same m c (λ us. to.place (λ t. write_cells t us (λ u. s (given_by shape us)))) (put stores rest)
+    next fits (record {
+      above = above;
+      go = λ m1 c1 us fits1 later1 kept1 given1. place.same m c m1 c1 us s rest next fits1 later1 kept1 given1 (goes us);
+    })))
+
+-- what is stored is given
+given_all : (s : Shape) → IsGivenShape s → (vs : List Scalar) → given_by s vs ≡ vs
+given_all IntShape h vs = refl
+given_all UnsignedShape h vs = refl
+given_all CharShape h vs = refl
+given_all VoidShape h vs = refl
+given_all (ThinShape b Shared to) h vs = refl
+given_all (ThinShape b Unsaid to) h vs = refl
+given_all (ThinShape b Alone to) h vs = absurd (false≢true (sym h))
+given_all (FatShape to) h vs = refl
+given_all HandleShape h vs = refl
+given_all KeyShape h vs = absurd h
+given_all (StructShape tag) h vs = absurd h
+given_all (UnionShape tag) h vs = absurd h
+given_all (ArrayShape count of) h vs = refl
+
+pub given_single : (s : Shape) → IsGivenShape s → IsOperandShape s
+given_single (StructShape tag) h = h
+given_single (UnionShape tag) h = h
+given_single _ h = tt
+
 pub assigned_agrees : (p : Point) (n d : ℕ) (to from : Sense) (shape of : Shape) (code stores : List Statement) → to.shape ≡ shape → IsTaken shape
-    → StoresAs p n d shape to.place stores → Agrees p n d from of code → Agrees p n d (assigned p.world to from) shape
+    → IsGivenShape shape → StoresAs p n d shape to.place stores → Agrees p n d from of code → Agrees p n d (assigned p.world to from) shape
     (code ++ (conversion_code p.world shape of d ++ stores))
-assigned_agrees p n d to from shape of code stores same taken place one = value_agrees p n d to.shape shape (assigned p.world to from).value
+assigned_agrees p n d to from shape of code stores same taken is_given place one = value_agrees p n d to.shape shape (assigned p.world to from).value
     (code ++ (conversion_code p.world shape of d ++ stores)) same taken (record {
       same = λ m c s rest next fits goes.
-          subst (λ z. SameAt p n (from.value (λ vs. converted p.world z from.shape vs (λ us. to.place (λ t. write_cells t us (λ u. s (given_by z us))))) m)
-          (meaning.statements (put (code ++ (conversion_code p.world shape of d ++ stores)) rest) next c)) (sym same)
-          (subst (λ z. SameAt p n (from.value (λ vs. converted p.world shape from.shape vs (λ us. to.place (λ t. write_cells t us
-          (λ u. s (given_by shape us)))))
-          m) (meaning.statements z next c))
-          (sym (put_three code (conversion_code p.world shape of d) stores rest ∙ sym (put_all code (conversion_code p.world shape of d) (put stores rest))))
-          ((converted_gives p n d shape from of code taken one).same m c (λ us. to.place (λ t. write_cells t us (λ u. s (given_by shape us)))) (put stores rest)
-          next fits (record {
-            above = over goes.above (omega arith);
-            go = λ m1 c1 us fits1 later1 kept1 given1. place.same m c m1 c1 us s rest next fits1 later1 kept1 given1 goes;
-          })));
+          assigned_stores p n d to from shape of code stores same taken place one m c s rest next fits goes.above (λ us. record {
+            above = goes.above;
+            go = λ m1 c1 fits1 later1 kept1 given1.
+                subst (λ z. SameAt p n (s z m1) (meaning.statements rest next c1)) (sym (given_all shape is_given us))
+                (goes.go m1 c1 us fits1 later1 kept1 given1);
+          });
     })

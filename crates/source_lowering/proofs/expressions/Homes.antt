@@ -10,6 +10,9 @@ use Rattle.source_meaning.specs.Places.{bound_to}
 use Rattle.source_lowering.specs.Members.{suffixed_shape, valued}
 use Rattle.source_lowering.specs.Lowered.{Named, number_named, local_named, shape_by, prefix_shape, static_shape, new_shape, linked_shape}
 use Rattle.source_lowering.specs.Lowered.{values_by, expression_values, suffix_values, all_values, link_values, new_values, whole_values, made_values}
+use Rattle.source_meaning.specs.Shapes.{Owner}
+use Rattle.source_meaning.specs.Expressions.{is_unique_region}
+use Rattle.source_lowering.specs.Lowered.{owner_in}
 
 -- names of the same shapes
 abbrev pub SameNames : List Named → List Named → Type 0
@@ -47,8 +50,8 @@ mutual
   same_shape w (Expression.Chain first others) ls ks same =
       ap (λ z. linked_shape w ls others z) (same_shape w first ls ks same) ∙ same_linked w others ls ks (static_shape w ks first) same
   same_shape w (Expression.Assign place value) ls ks same = same_shape w place ls ks same
-  same_shape w (Expression.New at new) ls ks same = same_new w new ls ks same
-  same_shape w (Expression.NewIn at handle new) ls ks same = same_new w new ls ks same
+  same_shape w (Expression.New at new) ls ks same = same_new w Shared new ls ks same
+  same_shape w (Expression.NewIn at handle new) ls ks same = same_new w (owner_in (is_unique_region handle)) new ls ks same
   same_shape w _ ls ks same = refl
 
   same_linked : (w : World) (links : Links) (ls ks : List Named) (left : Shape) → SameNames ls ks → linked_shape w ls links left ≡ linked_shape w ks links left
@@ -57,9 +60,9 @@ mutual
       ap (λ z. linked_shape w ls others (operator_shape operator left z)) (same_shape w operand ls ks same) ∙
       same_linked w others ls ks (operator_shape operator left (static_shape w ks operand)) same
 
-  pub same_new : (w : World) (new : Made) (ls ks : List Named) → SameNames ls ks → new_shape w ls new ≡ new_shape w ks new
-  same_new w (One value) ls ks same = ap (λ z. ThinShape false Shared z) (same_shape w value ls ks same)
-  same_new w (Array index count element) ls ks same =
+  pub same_new : (w : World) (owner : Owner) (new : Made) (ls ks : List Named) → SameNames ls ks → new_shape w ls owner new ≡ new_shape w ks owner new
+  same_new w owner (One value) ls ks same = ap (λ z. ThinShape false owner z) (same_shape w value ls ks same)
+  same_new w owner (Array index count element) ls ks same =
       ap (λ z. FatShape z) (same_shape w element (number_named index.text 0 ∷ ls) (number_named index.text 0 ∷ ks) (refl, (refl, same)))
 
 -- ---- unnamed values

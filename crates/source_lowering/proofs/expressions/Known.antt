@@ -1,18 +1,20 @@
 -- What lowering knows where an expression stands, and the senses of what `new` and `rnew` make.
-use Rattle.std.proofs.Common.{◌≡◌, ℕ, ◌+◌, ◌^◌, ◌<◌, List, ◌∷◌, false, refl}
+use Rattle.std.proofs.Common.{◌≡◌, ℕ, ◌+◌, ◌^◌, ◌<◌, Bool, true, false, List, [], ◌∷◌, ◌++◌, refl}
 use Rattle.cyc_tree.specs.Tree.{Array, Expression, Made, One}
-use Rattle.source_meaning.specs.Shapes.{Shape, Shared, UnsignedShape}
+use Rattle.source_meaning.specs.Shapes.{Shape, UnsignedShape}
 use Rattle.source_meaning.specs.Memory.{AsUnsigned, Integer}
-use Rattle.source_meaning.specs.Steps.{Act, Fixed, Scope}
-use Rattle.source_meaning.specs.Making.{Maker, heap_maker}
+use Rattle.source_meaning.specs.Steps.{Act, Fixed, Scope, World, give}
+use Rattle.source_meaning.specs.Making.{Maker, heap_maker, AsUnique}
 use Rattle.source_meaning.specs.Places.{Sense, with_binding}
 use Rattle.source_meaning.specs.Calls.{array_made, handle_maker, made}
 use Rattle.source_meaning.specs.Expressions.{is_unique_region, new_in_sense, new_sense, sense}
-use Rattle.core_meaning.specs.Core.{Program}
-use Rattle.source_lowering.specs.Lowered.{Named, number_named}
+use Rattle.core_meaning.specs.Core.{Program, Statement}
+use Rattle.source_lowering.specs.Lowered.{Named, number_named, expression_code, new_code, new_shape, owner_in}
 use Rattle.source_lowering.specs.Programs.{RegionsAround}
 use Rattle.source_lowering.specs.Simulation.{AreLocals, Point}
 use Rattle.source_lowering.proofs.expressions.Names.{AreObjectNames, IsPlainWorld}
+use Rattle.std.proofs.lemmas.Bool.{false≢true}
+use Rattle.source_lowering.proofs.expressions.Variables.{Agrees}
 
 -- What lowering knows beside the scope: the names, the blocks around this one, and how far this one is; the unnamed values that are kept; and the regions in
 -- scope, by which so many of the first temporaries are taken: within the elements of an array that is made, three more behind those before it.
@@ -75,16 +77,35 @@ at_known scope k name d i small known = record {
 
 -- ---- what is made
 
--- with a region to make it in
-abbrev pub new_by : Made → Scope → Act Maker → Sense
-new_by (One value) scope to = made scope.world to Shared (sense value scope)
-new_by (Array index count element) scope to = array_made scope.world to (sense count scope) (λ i. sense element (scope_at scope index.text i))
+-- where to make it, and whether that is the unique region
+abbrev pub new_by : Made → Scope → (unique : Bool) → Act Maker → Sense
+new_by (One value) scope unique to = made scope.world to (owner_in unique) (sense value scope)
+new_by (Array index count element) scope unique to = array_made scope.world to (sense count scope) (λ i. sense element (scope_at scope index.text i))
 
-pub new_is : (new : Made) (scope : Scope) → new_by new scope heap_maker ≡ new_sense new scope
+pub new_is : (new : Made) (scope : Scope) → new_by new scope false heap_maker ≡ new_sense new scope
 new_is (One value) scope = refl
 new_is (Array index count element) scope = refl
 
-pub new_in_is : (new : Made) (scope : Scope) (handle : Expression) → is_unique_region handle ≡ false
-    → new_by new scope (handle_maker (sense handle scope)) ≡ new_in_sense new scope (is_unique_region handle) (sense handle scope)
-new_in_is (One value) scope handle shared = rw shared refl
-new_in_is (Array index count element) scope handle shared = refl
+-- one object alone is made in the unique region
+abbrev pub in_one : Bool → Made → Bool
+in_one unique (One value) = unique
+in_one unique (Array index count element) = false
+
+abbrev pub maker_in : Bool → Sense → Act Maker
+maker_in true handle = give AsUnique
+maker_in false handle = handle_maker handle
+
+pub new_in_same : (p : Point) (n d own : ℕ) (w : World) (names : List Named) (new : Made) (scope : Scope) (unique : Bool) (handle : Sense)
+    (code : List Statement)
+    → Agrees p n d (new_by new scope (in_one unique new) (maker_in (in_one unique new) handle)) (new_shape w names (owner_in (in_one unique new)) new)
+    (code ++ new_code w names (in_one unique new) new d own)
+    → Agrees p n d (new_in_sense new scope unique handle) (new_shape w names (owner_in unique) new) (code ++ new_code w names unique new d own)
+new_in_same p n d own w names (One value) scope true handle code one = one
+new_in_same p n d own w names (One value) scope false handle code one = one
+new_in_same p n d own w names (Array index count element) scope unique handle code one = one
+
+-- the unique region has no code
+pub unique_none : (w : World) (names : List Named) (e : Expression) (d own : ℕ) → is_unique_region e ≡ true → expression_code w names e d own ≡ []
+unique_none w names (Expression.UniqueRegion at) d own h = refl
+unique_none w names (Expression.Grouped at inner) d own h = unique_none w names inner d own h
+unique_none w names _ d own h = absurd (false≢true h)

@@ -1,5 +1,6 @@
 -- Arrays that `new` and `rnew` make: the handle is there, the count is evaluated, a block for so many objects is asked for, and then come the elements.
-use Rattle.std.proofs.Common.{◌≡◌, ℕ, ◌+◌, ◌*◌, ◌^◌, ◌<◌, ◌≤◌, inl, inr, List, [], ◌∷◌, ◌++◌, length, map, Bool, true, false, Some, nat_lt, refl, sym, ap, ◌∙◌, subst, arith}
+use Rattle.std.proofs.Common.{◌≡◌, ℕ, ◌+◌, ◌*◌, ◌^◌, ◌<◌, ◌≤◌, inl, inr, List, [], ◌∷◌, ◌++◌, length, map, Bool, true, false, Some, nat_lt, refl, sym, ap, ◌∙◌}
+use Rattle.std.proofs.Common.{subst, arith}
 use Rattle.std.specs.Prelude.{◌-◌, min, if◌then◌else◌}
 use Rattle.std.proofs.lemmas.Bool.Decides.{nat_tests}
 use Rattle.cyc_words.specs.Events as events
@@ -56,6 +57,7 @@ use Rattle.source_lowering.specs.Simulation.{
   SameState,
   at,
   within,
+  kept_in,
 }
 use Rattle.source_lowering.proofs.memory.Keeping.{fits_later, later_on}
 use Rattle.source_lowering.proofs.memory.Members.{lies_here}
@@ -63,7 +65,7 @@ use Rattle.source_lowering.proofs.memory.Entering.{last_made, local_made}
 use Rattle.source_lowering.proofs.memory.Loading.{after_temp}
 use Rattle.source_lowering.proofs.Runs.{says_same, stuck_same}
 use Rattle.source_lowering.proofs.regions.Granting.{core_more, more_agree, more_later, source_more}
-use Rattle.source_lowering.proofs.statements.Declaring.{blank_holds}
+use Rattle.source_lowering.proofs.statements.Declaring.{blank_keeps}
 use Rattle.source_lowering.proofs.values.Integers.{object_target, small_word, value_object}
 use Rattle.source_lowering.proofs.values.AnyValues.{fat_same, one_same, thin_same}
 use Rattle.source_lowering.proofs.values.Values.{kept_temp, other_temp, over, put_temp, put_three, temp_fits}
@@ -77,6 +79,7 @@ use Rattle.source_lowering.proofs.expressions.Variables.{Agrees}
 use Rattle.source_lowering.proofs.expressions.WholeForms.{IsWholeAs}
 use Rattle.source_lowering.proofs.expressions.MadeElements.{ArrayAt, ElementAs, array_later, whole_element, value_element}
 use Rattle.source_lowering.proofs.expressions.MadeLoops.{elements_same, number_place}
+use Rattle.source_lowering.proofs.regions.Regions.{live_born}
 
 -- ---- the block is there
 
@@ -84,11 +87,11 @@ use Rattle.source_lowering.proofs.expressions.MadeLoops.{elements_same, number_p
 abbrev blank_array : World → Shape → ℕ → Object
 blank_array w shape count = array_of count (map blank_cell (cells_of w shape))
 
-array_holds : (w : World) (shape : Shape) (count cell : ℕ) (of : Shape) (v : Scalar)
-    → blank_array w shape count cell ≡ Some (record { shape = of; content = Holds v }) → ⊥
-array_holds w shape count cell of v e =
-    let inside = in_element count cell (map blank_cell (cells_of w shape)) (record { shape = of; content = Holds v }) e in
-    blank_holds (cells_of w shape) inside.number of v inside.is
+array_keeps : (w : World) (shape : Shape) (count cell : ℕ) (of : Shape) (x : source.Content) (v : Scalar) → kept_in x ≡ Some v
+    → blank_array w shape count cell ≡ Some (record { shape = of; content = x }) → ⊥
+array_keeps w shape count cell of x v keeps e =
+    let inside = in_element count cell (map blank_cell (cells_of w shape)) (record { shape = of; content = x }) e in
+    blank_keeps (cells_of w shape) inside.number of x v keeps inside.is
 
 abbrev source_arrayed : World → source.Memory → ℕ → Shape → ℕ → source.Memory
 source_arrayed w m r shape count = source_more m r (blank_array w shape count)
@@ -154,8 +157,8 @@ array_requested w d r count shape each c rest next temp counted live = rw (temp,
 array_request_same : (p : Point) (n d r count : ℕ) (shape : Shape) (each : List Statement) (m : source.Memory) (c : Config)
     (s : Spot → source.Memory → steps.Step) (rest : Statements) (next : Next) → SameMemory p.world m c.memory → c.temps d ≡ Birth r
     → c.temps (d + 1) ≡ Word count
-    → SameAt p n (s (new_spot m r) (source_arrayed p.world m r shape count)) (meaning.statements (put (elements_code d each) rest) next
-    (asked p.world m c d r shape count))
+    → (is_live m (source.Born r) ≡ true → SameAt p n (s (new_spot m r) (source_arrayed p.world m r shape count))
+    (meaning.statements (put (elements_code d each) rest) next (asked p.world m c d r shape count)))
     → SameAt p n (ask (InRegion r) (making.saturated (count * size_of p.world shape)) (blank_array p.world shape count) s m)
     (meaning.statements (put (array_code p.world shape d each) rest) next c)
 array_request_same p n d r count shape each m c s rest next a temp counted go = by (is_live m (source.Born r)) refl
@@ -175,7 +178,7 @@ array_request_same p n d r count shape each m c s rest next a temp counted go = 
           sym (same_spot p.world m c.memory r a),
         )
         (says_same p.world p.program n _ _ (make_object (source.Born r) (blank_array p.world shape count) s m) _
-        (BothVisible (events.RegionAlloc r (saturated (count * size_of p.world shape)))) (rw f go))
+        (BothVisible (events.RegionAlloc r (saturated (count * size_of p.world shape)))) (rw f (go f)))
 
 -- ---- the elements are made
 
@@ -226,9 +229,9 @@ array_there : (p : Point) (n : ℕ) (name : List ℕ) (d r count : ℕ) (shape :
 array_there p n name d r count shape element_at each m0 c0 m c s rest next structs object few one fits later kept temp counted goes =
     array_request_same p n d r count shape each m c (λ t. elements (length (cells_of p.world shape)) count 0 t element_at (λ u. s (span_at count t ∷ []))) rest
     next fits.agree temp counted
-    (elements_same p n name d count shape element_at each goes.above few (λ j k below less. one j count k below (over less (omega (arith, few)))) count 0 n m1 c1 t
+    (λ live. elements_same p n name d count shape element_at each goes.above few (λ j k below less. one j count k below (over less (omega (arith, few)))) count 0 n m1 c1 t
     (s (span_at count t ∷ [])) (λ exit. meaning.falls_to exit (meaning.statements (put (Do (Constant (d + 2) 0) ∷ []) rest) next) next) (omega arith)
-    (omega arith) fits1 there1 (put_temp (d + 2) (Word 0) middle) (λ m2 c2 fits2 later2 kept2.
+    (omega arith) (fits1 live) there1 (put_temp (d + 2) (Word 0) middle) (λ m2 c2 fits2 later2 kept2.
     array_done p n d count shape m0 c0 m2 c2 t s (meaning.statements rest next) structs object few fits2
     (later_on (within p) m0 m m2 c0.memory c.memory c2.memory later (later_on (within p) m m1 m2 c.memory c1.memory c2.memory later1 later2))
     (λ k h. kept2 k (over h (omega arith)) ∙ kept1 k h ∙ kept k h)
@@ -252,13 +255,14 @@ array_there p n name d r count shape element_at each m0 c0 m c s rest next struc
     later1 : GrownAt p m c m1 c1
     later1 = more_later (within p) p.world m c.memory r (blank_array p.world shape count) (blanks (layout_of p.world shape) count) fits.agree
 
-    fits1 : SameState p m1 c1
-    fits1 =
+    fits1 : is_live m (source.Born r) ≡ true → SameState p m1 c1
+    fits1 live =
         temp_fits p m1 middle (d + 2) (Word 0)
         (temp_fits p m1 granted d (Pointer (at t) 0)
         (fits_later p m m1 c granted fits
         (more_agree p.world m c.memory r (blank_array p.world shape count) (blanks (layout_of p.world shape) count)
-        (λ cell of v e. array_holds p.world shape count cell of v e) fits.agree) later1 refl (λ k h. refl)) goes.above)
+        (λ cell of x v keeps e. array_keeps p.world shape count cell of x v keeps e) (live_born p.world m c.memory fits.agree r live) fits.agree) later1 refl
+        (λ k h. refl)) goes.above)
         (over goes.above (omega arith))
 
     kept1 : AreKept d c c1

@@ -126,7 +126,7 @@ value_element p n d count i shape e code structs is_value above one = record {
         (subst (λ z. Leads p.world m1 c1.memory shape z (byte + 0)) (sym (none u)) (subst (λ z. Leads p.world m1 c1.memory shape u z) (more byte) leads))
         (subst (λ z. AValue p.world m1 c1.memory shape vs z) (sym (kept_contents shape (d + 3) c1 c2 kept2)) v) (record {
           above = above;
-          go = λ m3 c3 us fits3 later3 kept3 given3. goes m3 c3 fits3 later3 kept3;
+          go = λ m3 c3 fits3 later3 kept3 given3. goes m3 c3 fits3 later3 kept3;
         })))
       where
         none : (z : Spot) → source.beyond z 0 ≡ z
@@ -224,14 +224,16 @@ whole_element p n d count i value shape e code structs object above kept_value o
             dead_stuck p.world p.program n has.first.shape (shapes_in has.others) vs m1 u (λ w. s) _
             (shown_count p.world m1 c1.memory own xs vs shown ∙ ap length first) dead
         by true live =
-            let written = overwritten p.world m1 c1.memory u own layout xs vs (layout_count p.world shape has) fits1.agree leads.0
-            (whole_copied p.world m1 c1.memory (at u) own byte shape vs structs object leads.1 shown) in
             subst (λ z. SameAt p n (write_cells u vs (λ w. s) m1) z)
             (sym (copy_over c2 (d + 4) (d + 3) (at u) own byte layout (meaning.statements rest next) (put_temp (d + 4) x c1)
             (other_temp (d + 4) (d + 3) x c1 (omega arith) ∙ from) (sym (fits1.agree.live u.region) ∙ live) fits1.stands
             (laid_there c1.memory (at u) byte layout.cells leads.1) (laid_there c1.memory own 0 layout.cells made) (own_apart u p.own value 0)))
-            (writes_all p.world p.program n xs vs m1 u (λ w. s) (meaning.statements rest next c3) (shown_count p.world m1 c1.memory own xs vs shown) live leads.0
-            (goes (all_written m1 u xs vs) c3
+            (writes_all p.world p.program n xs vs m1 u (λ w. s) (meaning.statements rest next c3) (shown_count p.world m1 c1.memory own xs vs shown) live
+            leads.0
+            (λ free.
+            let written = overwritten p.world m1 c1.memory u own layout xs vs (layout_count p.world shape has) fits1.agree leads.0 free
+            (whole_copied p.world m1 c1.memory (at u) own byte shape vs structs object leads.1 shown) in
+            goes (all_written m1 u xs vs) c3
             (fits_later p m1 (all_written m1 u xs vs) c2 c3 (temp_fits p m1 c1 (d + 4) x fits1 (over above (omega arith))) written.agree
             (written.later (within p)) refl (λ k h. refl))
             (later_on (within p) m m1 (all_written m1 u xs vs) c.memory c1.memory c3.memory later1 (written.later (within p)))

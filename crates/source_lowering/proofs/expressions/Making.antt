@@ -1,19 +1,20 @@
 -- The source makes a local, whose object Core has made before.
-use Rattle.std.proofs.Common.{◌≡◌, ℕ, suc, ◌+◌, ◌<◌, ◌≤◌, List, [], ◌∷◌, Bool, true, false, nat_eq, Option, Some, None, refl, sym, ap, ◌∙◌, subst, arith}
+use Rattle.std.proofs.Common.{◌≡◌, ℕ, zero, suc, ◌+◌, ◌<◌, ◌≤◌, List, [], ◌∷◌, Bool, true, false, nat_eq, Option, Some, None, refl, sym, ap, ◌∙◌, subst, arith}
 use Rattle.std.specs.Prelude.{◌&&◌, if◌then◌else◌, map, slice_get}
-use Rattle.std.proofs.lemmas.Bool.{eqb-true, eq-eqb, and_parts}
+use Rattle.std.proofs.lemmas.Bool.{eqb-true, eq-eqb, and_parts, true≢false}
 use Rattle.std.proofs.lemmas.Bool.Decides.{nat_tests}
 use Rattle.std.proofs.lemmas.Option.{none-some}
 use Rattle.source_meaning.specs.Shapes.{Shape}
 use Rattle.source_meaning.specs.Memory as source
 use Rattle.source_meaning.specs.Memory.{Scalar, Spot, Holds, Cell, Object, object_of, same_region, with_object}
 use Rattle.source_meaning.specs.Steps.{World}
+use Rattle.source_meaning.specs.Values.{is_lent}
 use Rattle.source_meaning.proofs.Cases.{region_itself, region_is}
 use Rattle.core_meaning.specs.Memory as core
 use Rattle.core_meaning.specs.Memory.{Content, Part, with_part}
-use Rattle.source_lowering.specs.Simulation.{region_at, at, PartIs, AreCells, IsShown, SameMemory, Bound, nothing, IsFree, Grown}
+use Rattle.source_lowering.specs.Simulation.{region_at, at, PartIs, AreCells, IsShown, kept_in, SameMemory, Bound, nothing, IsFree, Grown}
 use Rattle.core_meaning.proofs.Spots.{spot_same}
-use Rattle.source_lowering.proofs.memory.Keeping.{named_free, free_spot, held_other, none_kept, region_as, shown_later}
+use Rattle.source_lowering.proofs.memory.Keeping.{stays_self, named_free, free_spot, held_other, none_kept, region_as, shown_later, kept_cases}
 
 abbrev pub local_spot : ℕ → ℕ → Spot
 local_spot k index = record { region = source.Frame k; object = index; cell = 0 }
@@ -104,10 +105,13 @@ pub grown_later : (b : Bound) (m : source.Memory) (c : core.Memory) (k : ℕ) (o
     → IsUnmade m → Grown b m c (m_made m k o) c
 grown_later b m c k o before unmade = record {
   shapes = λ s other h. record { content = h.content; is = made_cell m (source.Frame k) o s _ unmade h.is };
+  lent = λ s shape v h. made_cell m (source.Frame k) o s _ unmade h;
   parts = λ t j o w h. h;
   objects = λ j h. objects_other m j k o (omega (arith, before, h));
   begun = omega arith;
   called = omega arith;
+  births = omega arith;
+  stays = λ d less. stays_self _;
   stands = λ j h. refl;
   owned = λ j t i r h. refl;
 }
@@ -150,13 +154,31 @@ cells_here m k index g xs e = cells_in m (source.Frame k) index g xs e
 
 -- ---- the relation holds where the new cell's value, if there is one, is in its part
 
+-- an object has no cell that is lent
+pub record IsUnlentObject (o : Object) : Type 0 where
+  pub none : (cell : ℕ) (shape : Shape) (v : Scalar) → o cell ≡ Some (record { shape = shape; content = source.Lent v }) → ⊥
+
+pub cells_unlent : (g : Shape → source.Content) → ((s : Shape) → is_lent (g s) ≡ false) → (xs : List Shape) → IsUnlentObject (object_of (map (cell_with g) xs))
+cells_unlent g free xs = record { none = λ cell shape v e. each xs cell shape v e }
+  where
+    lent_in : Option Cell → Bool
+    lent_in None = false
+    lent_in (Some c) = is_lent c.content
+
+    each : (ys : List Shape) (cell : ℕ) (shape : Shape) (v : Scalar)
+        → slice_get (map (cell_with g) ys) cell ≡ Some (record { shape = shape; content = source.Lent v }) → ⊥
+    each [] cell shape v e = none-some _ e
+    each (y ∷ ys) zero shape v e = true≢false (sym (ap lent_in e) ∙ free y)
+    each (y ∷ ys) (suc cell) shape v e = each ys cell shape v e
+
 pub agree_made : (w : World) (m : source.Memory) (c : core.Memory) (k index : ℕ) (o : Object) → SameMemory w m c
     → m.objects (source.Frame k) ≡ index → k < m.activations
+    → IsUnlentObject o
     → ((cell : ℕ) (shape : Shape) (v : Scalar) → o cell ≡ Some (record { shape = shape; content = Holds v })
     → IsShown w m c (cell_spot k index cell) shape v)
     → SameMemory w (m_made m k o) c
-agree_made w m c k index o a e begun shown = record {
-  cells = λ t other v h. by (is_here m (source.Frame k) t) t other v refl h;
+agree_made w m c k index o a e begun free shown = record {
+  cells = λ t other x v keeps h. by (is_here m (source.Frame k) t) t other x v keeps refl h;
   live = a.live;
   activations = a.activations;
   unmade = still_unmade m (source.Frame k) o a.unmade;
@@ -169,7 +191,8 @@ agree_made w m c k index o a e begun shown = record {
   unowned = a.unowned;
   births = a.births;
   heap = a.heap;
-  lexical = a.lexical;
+  closed = a.closed;
+  unborn = a.unborn;
   blocks = a.blocks;
   ungranted = a.ungranted;
 }
@@ -183,19 +206,25 @@ agree_made w m c k index o a e begun shown = record {
     kept : (s : Spot) (other : Shape) (v : Scalar) → IsShown w m c s other v → IsShown w m' c s other v
     kept s other v one = record { contents = one.contents; shown = shown_later nothing w m m' c c other v one.contents later one.shown; held = one.held }
 
-    here : (t : Spot) (other : Shape) (v : Scalar) → is_here m (source.Frame k) t ≡ true → o t.cell ≡ Some (record { shape = other; content = Holds v })
-        → IsShown w m' c t other v
-    here t other v e1 is =
+    shown_by : (cell : ℕ) (other : Shape) (x : source.Content) (v : Scalar) → kept_in x ≡ Some v → o cell ≡ Some (record { shape = other; content = x })
+        → IsShown w m c (cell_spot k index cell) other v
+    shown_by cell other x v keeps =
+        kept_cases (λ y u. o cell ≡ Some (record { shape = other; content = y }) → IsShown w m c (cell_spot k index cell) other u)
+        (λ u is. shown cell other u is) (λ u is. absurd (free.none cell other u is)) x v keeps
+
+    here : (t : Spot) (other : Shape) (x : source.Content) (v : Scalar) → kept_in x ≡ Some v → is_here m (source.Frame k) t ≡ true
+        → o t.cell ≡ Some (record { shape = other; content = x }) → IsShown w m' c t other v
+    here t other x v keeps e1 is =
         let two = and_parts (same_region t.region (source.Frame k)) (nat_eq t.object (m.objects (source.Frame k))) e1 in
         let r = region_is t.region (source.Frame k) two.0 in
         let n : t.object ≡ index = eqb-true t.object (m.objects (source.Frame k)) two.1 ∙ e in
         let same : cell_spot k index t.cell ≡ t = λ i. record { region = sym r i; object = sym n i; cell = t.cell } in
-        subst (λ u. IsShown w m' c u other v) same (kept (cell_spot k index t.cell) other v (shown t.cell other v is))
+        subst (λ u. IsShown w m' c u other v) same (kept (cell_spot k index t.cell) other v (shown_by t.cell other x v keeps is))
 
-    by : (b : Bool) (t : Spot) (other : Shape) (v : Scalar) → is_here m (source.Frame k) t ≡ b → m'.cells t ≡ Some (record { shape = other; content = Holds v })
-        → IsShown w m' c t other v
-    by true t other v e1 h = here t other v e1 (sym (ap (λ b. if b then o t.cell else m.cells t) e1) ∙ h)
-    by false t other v e1 h = kept t other v (a.cells t other v (sym (ap (λ b. if b then o t.cell else m.cells t) e1) ∙ h))
+    by : (b : Bool) (t : Spot) (other : Shape) (x : source.Content) (v : Scalar) → kept_in x ≡ Some v → is_here m (source.Frame k) t ≡ b
+        → m'.cells t ≡ Some (record { shape = other; content = x }) → IsShown w m' c t other v
+    by true t other x v keeps e1 h = here t other x v keeps e1 (sym (ap (λ b. if b then o t.cell else m.cells t) e1) ∙ h)
+    by false t other x v keeps e1 h = kept t other v (a.cells t other x v keeps (sym (ap (λ b. if b then o t.cell else m.cells t) e1) ∙ h))
 
 -- ---- Core writes a part of a local that the source makes next
 
@@ -219,10 +248,13 @@ pub ahead_later : (b : Bound) (m : source.Memory) (c : core.Memory) (s : core.Sp
     → Grown b m c m (with_part c s 0 (record old { content = x }))
 ahead_later b m c s old x free is = record {
   shapes = λ t shape h. h;
+  lent = λ s shape v h. h;
   parts = ahead_kept c s old x is;
   objects = λ k h. refl;
   begun = omega arith;
   called = omega arith;
+  births = omega arith;
+  stays = λ d less. stays_self _;
   stands = λ k h. refl;
   owned = λ k t j r h. ap (λ z. if z && nat_eq j 0 then Some (record old { content = x }) else c.parts t j) (free_spot b s t k free r h);
 }
@@ -230,7 +262,7 @@ ahead_later b m c s old x free is = record {
 pub agree_ahead : (w : World) (m : source.Memory) (c : core.Memory) (s : Spot) (old : Part) (x : Content) → SameMemory w m c → m.cells s ≡ None
     → c.parts (at s) 0 ≡ Some old → SameMemory w m (with_part c (at s) 0 (record old { content = x }))
 agree_ahead w m c s old x a none is = record {
-  cells = λ t shape v h. by (core.same_spot (at t) (at s)) t shape v refl h;
+  cells = λ t shape y v keeps h. by (core.same_spot (at t) (at s)) t shape y v keeps refl h;
   live = a.live;
   activations = a.activations;
   unmade = a.unmade;
@@ -240,7 +272,8 @@ agree_ahead w m c s old x a none is = record {
   unowned = a.unowned;
   births = a.births;
   heap = a.heap;
-  lexical = a.lexical;
+  closed = a.closed;
+  unborn = a.unborn;
   blocks = a.blocks;
   ungranted = λ d t j r h. none_kept c (at s) old x is t j (a.ungranted d t j r h);
 }
@@ -260,11 +293,11 @@ agree_ahead w m c s old x a none is = record {
         let h = eqb-true t.cell u.cell q.1 in
         λ i. record { region = f i; object = g i; cell = h i }
 
-    by : (b : Bool) (t : Spot) (shape : Shape) (v : Scalar) → core.same_spot (at t) (at s) ≡ b
-        → m.cells t ≡ Some (record { shape = shape; content = Holds v }) → IsShown w m c' t shape v
-    by true t shape v e h = absurd (none-some _ (sym none ∙ ap m.cells (sym (same_as t s e)) ∙ h))
-    by false t shape v e h =
-        let one = a.cells t shape v h in
+    by : (b : Bool) (t : Spot) (shape : Shape) (y : source.Content) (v : Scalar) → kept_in y ≡ Some v → core.same_spot (at t) (at s) ≡ b
+        → m.cells t ≡ Some (record { shape = shape; content = y }) → IsShown w m c' t shape v
+    by true t shape y v keeps e h = absurd (none-some _ (sym none ∙ ap m.cells (sym (same_as t s e)) ∙ h))
+    by false t shape y v keeps e h =
+        let one = a.cells t shape y v keeps h in
         record {
           contents = one.contents;
           shown = shown_later nothing w m m c c' shape v one.contents (ahead_later nothing m c (at s) old x (named_free nothing s) is) one.shown;

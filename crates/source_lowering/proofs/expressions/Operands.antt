@@ -3,7 +3,7 @@ use Rattle.std.proofs.Common.{◌≡◌, ℕ, ◌+◌, ⊎_elim, List, [], ◌�
 use Rattle.std.specs.Prelude.{is_some}
 use Rattle.cyc_tree.specs.declared.expression.Operator.{Operator}
 use Rattle.cyc_tree.specs.declared.expression.Operator.TheVariants as operator
-use Rattle.source_meaning.specs.Shapes.{Shared, Shape, ThinShape, FatShape}
+use Rattle.source_meaning.specs.Shapes.{Shape, ThinShape, FatShape}
 use Rattle.source_meaning.specs.Memory as source
 use Rattle.source_meaning.specs.Memory.{IntegerType, AsInt, AsUnsigned, AsChar, Scalar, Integer, Thin, Wide, HandleOf, Span}
 use Rattle.source_meaning.specs.Steps as steps
@@ -259,7 +259,7 @@ operands_same p n d o sa sb u v m0 c0 m c s rest next taken1 taken2 shown1 shown
             (λ z f.
             subst (λ y. SameAt p n (result (Thin None) v m) (meaning.statements (put (operator_code o y sb d) rest) next c)) (sym a.shape_is)
             (subst (λ y. SameAt p n (result (Thin None) v m)
-            (meaning.statements (put (operator_code o (ThinShape a.may_be_null Shared a.to) y d) rest) next c)) (sym b.shape_is)
+            (meaning.statements (put (operator_code o (ThinShape a.may_be_null a.owner a.to) y d) rest) next c)) (sym b.shape_is)
             (null_compared p n d (d + 1) o sa sb sb v m0 c0 m c s rest next (λ y. need (operators.operated m o (Thin None) y)) (λ q then. refl) fat fits later
             kept goes)))
             (λ t byte z lies leads.

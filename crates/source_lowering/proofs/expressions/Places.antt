@@ -6,6 +6,7 @@ use Rattle.std.proofs.lemmas.Bool.{false≢true}
 use Rattle.cyc_words.specs.declared.faults.Kind.TheVariants.{NullException}
 use Rattle.cyc_words.specs.Events.{SourceEnding}
 use Rattle.source_meaning.specs.Shapes.{
+  Owner,
   Shared,
   Shape,
   IntShape,
@@ -205,17 +206,17 @@ variable_placed p n d name locals words globals structs =
 -- ---- `*e`
 
 -- NULL raises where a pointer may be it
-null_raises : (p : Point) (n d : ℕ) (b : Bool) (to : Shape) (c : Config) (rest : Statements) (next : Next) → b ≡ true → c.temps d ≡ Null
-    → SameAt p n (Stops (SourceEnding.Raised NullException)) (meaning.statements (put (check_code (ThinShape b Shared to) d) rest)
+null_raises : (p : Point) (n d : ℕ) (b : Bool) (q : Owner) (to : Shape) (c : Config) (rest : Statements) (next : Next) → b ≡ true → c.temps d ≡ Null
+    → SameAt p n (Stops (SourceEnding.Raised NullException)) (meaning.statements (put (check_code (ThinShape b q to) d) rest)
     next c)
-null_raises p n d true to c rest next allowed null = rw null (stops_same p.world p.program n (SourceEnding.Raised NullException))
-null_raises p n d false to c rest next allowed null = absurd (false≢true allowed)
+null_raises p n d true q to c rest next allowed null = rw null (stops_same p.world p.program n (SourceEnding.Raised NullException))
+null_raises p n d false q to c rest next allowed null = absurd (false≢true allowed)
 
 -- another pointer passes
-spot_passes : (d byte : ℕ) (b : Bool) (to : Shape) (t : core.Spot) (c : Config) (rest : Statements) (next : Next) → c.temps d ≡ Pointer t byte
-    → meaning.statements (put (check_code (ThinShape b Shared to) d) rest) next c ≡ meaning.statements rest next c
-spot_passes d byte true to t c rest next temp = rw temp refl
-spot_passes d byte false to t c rest next temp = refl
+spot_passes : (d byte : ℕ) (b : Bool) (q : Owner) (to : Shape) (t : core.Spot) (c : Config) (rest : Statements) (next : Next) → c.temps d ≡ Pointer t byte
+    → meaning.statements (put (check_code (ThinShape b q to) d) rest) next c ≡ meaning.statements rest next c
+spot_passes d byte true q to t c rest next temp = rw temp refl
+spot_passes d byte false q to t c rest next temp = refl
 
 pub contents_reached : (p : Point) (n d : ℕ) (e : Sense) (shape : Shape) (code : List Statement) → Agrees p n d e shape code
     → PlacedAs p n d (pointee shape) (e.look >>= one >>= λ q. accessed (length (cells_of p.world (pointee shape))) q) (code ++ reach_code p.world shape d)
@@ -232,17 +233,17 @@ contents_reached p n d e shape code agrees = record {
             (λ v o.
             subst (λ z. SameAt p n (accessed cells v s m1) (meaning.statements (put (reach_code p.world z d) rest) next c1)) (sym o.shape_is)
             (thin_same p.world p.program n shape m1 c1.memory v (c1.temps d) (λ u. accessed cells u s)
-            (meaning.statements (put (check_code (ThinShape o.may_be_null Shared o.to) d) rest) next c1) o
-            (λ x b. null_raises p n d o.may_be_null o.to c1 rest next b x)
+            (meaning.statements (put (check_code (ThinShape o.may_be_null o.owner o.to) d) rest) next c1) o
+            (λ x b. null_raises p n d o.may_be_null o.owner o.to c1 rest next b x)
             (λ t byte x full leads.
-            subst (λ z. SameAt p n (s t m1) z) (sym (spot_passes d byte o.may_be_null o.to (at t) c1 rest next x))
+            subst (λ z. SameAt p n (s t m1) z) (sym (spot_passes d byte o.may_be_null o.owner o.to (at t) c1 rest next x))
             ((subst (λ z. PlaceGoesOn p n d m c (pointee z) s (meaning.statements rest next)) o.shape_is goes).go m1 c1 t byte fits1 later1 kept1 x
             full leads))))
             (λ birth x shape_is. stuck_same p.world p.program n _)
             (λ v o.
             subst (λ z. SameAt p n (accessed (length (cells_of p.world (pointee z))) v s m1) (meaning.statements (put (reach_code p.world z d) rest) next c1))
             (sym o.shape_is)
-            (element_same p n d d o.to v m1 c1 s rest next o.shown (record {
+            (element_same p n d d o.to v m1 c1 s rest next o.shown (λ z. record {
               go = λ t byte lies leads.
                   let here : Config = with_temp (d + 1) (Word 1) c1 in
                   (subst (λ z. PlaceGoesOn p n d m c (pointee z) s (meaning.statements rest next)) o.shape_is goes).go m1
@@ -266,7 +267,7 @@ pointee_taken IntShape h = tt
 pointee_taken UnsignedShape h = tt
 pointee_taken CharShape h = tt
 pointee_taken VoidShape h = tt
-pointee_taken (ThinShape may_be_null owner to) h = h.1
+pointee_taken (ThinShape may_be_null owner to) h = h
 pointee_taken (FatShape to) h = h
 pointee_taken HandleShape h = tt
 pointee_taken KeyShape h = tt
@@ -281,7 +282,7 @@ pub address_agrees : (p : Point) (n d : ℕ) (e : Sense) (shape : Shape) (code :
     → Agrees p n d (value_sense (ThinShape false Shared e.shape) (e.place >>= λ t. give (Thin (Some t) ∷ []))) (ThinShape false Shared shape) code
 address_agrees p n d e shape code same taken placed = record {
   shape_is = ap (λ z. ThinShape false Shared z) same;
-  taken = (refl, taken);
+  taken = taken;
   looks = gives;
   values = gives;
 }
@@ -302,6 +303,7 @@ address_agrees p n d e shape code same taken placed = record {
                     shown = ap (λ z. z ∷ []) temp;
                     lies = word;
                     leads = leads;
+                    owned = tt;
                   });
                 }));
           });
@@ -309,7 +311,7 @@ address_agrees p n d e shape code same taken placed = record {
 
 pub null_agrees : (p : Point) (n d : ℕ) → Agrees p n d (value_sense (ThinShape true Shared VoidShape) (give (Thin None ∷ [])))
     (ThinShape true Shared VoidShape) (Do (NullPointer d) ∷ [])
-null_agrees p n d = record { shape_is = refl; taken = (refl, tt); looks = gives; values = gives }
+null_agrees p n d = record { shape_is = refl; taken = tt; looks = gives; values = gives }
   where
     gives : GivesAs p n d (ThinShape true Shared VoidShape) (give (Thin None ∷ [])) (Do (NullPointer d) ∷ [])
     gives = record {

@@ -1,5 +1,5 @@
 -- A value of one part or three at a distance from a pointer: it is read into temporaries, and stored from there.
-use Rattle.std.proofs.Common.{◌≡◌, ℕ, ◌+◌, inl, List, [], ◌∷◌, ◌++◌, length, refl, sym, ◌∙◌, subst, ⊎_elim, arith, ◌≤◌}
+use Rattle.std.proofs.Common.{◌≡◌, ℕ, ◌+◌, Bool, false, inl, List, [], ◌∷◌, ◌++◌, length, refl, sym, ◌∙◌, subst, ⊎_elim, arith, ◌≤◌}
 use Rattle.source_meaning.specs.Shapes.{
   Shape,
   IntShape,
@@ -15,7 +15,7 @@ use Rattle.source_meaning.specs.Shapes.{
   ArrayShape,
 }
 use Rattle.source_meaning.specs.Memory as source
-use Rattle.source_meaning.specs.Memory.{Scalar, Spot}
+use Rattle.source_meaning.specs.Memory.{Scalar, Spot, any_moved}
 use Rattle.source_meaning.specs.Steps as steps
 use Rattle.source_meaning.specs.Steps.{◌>>=◌}
 use Rattle.source_meaning.specs.Conversions.{cells_of}
@@ -49,7 +49,8 @@ use Rattle.source_lowering.specs.Simulation.{
   within,
 }
 use Rattle.source_lowering.proofs.memory.Held.{numbers_kept}
-use Rattle.source_lowering.proofs.memory.Keeping.{later_on, fits_later, m_written}
+use Rattle.source_lowering.proofs.memory.Keeping.{later_on, fits_later, m_written, shown_later}
+use Rattle.source_lowering.proofs.memory.Moving.{moved_out, out_same, held_one, taking}
 use Rattle.source_lowering.proofs.memory.CellParts.{with_values}
 use Rattle.source_lowering.proofs.Runs.{put_all}
 use Rattle.source_lowering.proofs.memory.ValueCells.{IsCell, CellRead, CellWritten, cell_of, cell_reads, cell_writes}
@@ -57,7 +58,7 @@ use Rattle.source_lowering.proofs.values.Integers.{value_taken}
 use Rattle.source_lowering.proofs.values.AnyValues.{value_void}
 use Rattle.source_lowering.proofs.values.Values.{value_later, kept_contents, over}
 use Rattle.source_lowering.proofs.memory.Loading.{with_contents, other_contents, contents_are, loads_does, stores_does}
-use Rattle.source_lowering.proofs.expressions.Variables.{Agrees, StoresAs}
+use Rattle.source_lowering.proofs.expressions.Variables.{Agrees, StoresAs, StoredOn}
 use Rattle.source_lowering.proofs.expressions.Reaching.{ReachedAs}
 
 -- ---- temporaries
@@ -91,26 +92,36 @@ put_contents p n d m0 c0 m c shape vs xs s k fits later kept are given goes =
 
 -- ---- a value is read
 
-pub value_read : (p : Point) (n d cells bytes : ℕ) (shape : Shape) (act : steps.Act Spot) (code : List Statement) (reads : Spot → steps.Act (List Scalar))
+-- it is looked at, or given away
+pub value_read : (p : Point) (n d cells bytes : ℕ) (shape : Shape) (act : steps.Act Spot) (code : List Statement) (b : Bool)
     → IsValueShape shape → ReachedAs p n d cells bytes shape act code
-    → ((t : Spot) (s : List Scalar → source.Memory → steps.Step) (m : source.Memory)
-    → reads t s m ≡ read_cells (length (cells_of p.world shape)) t s m)
-    → GivesAs p n d shape (act >>= reads) (code ++ loads_code shape d cells bytes)
-value_read p n d cells bytes shape act code reads is_value reached same = record {
+    → GivesAs p n d shape (act >>= taking b (cells_of p.world shape)) (code ++ loads_code shape d cells bytes)
+value_read p n d cells bytes shape act code b is_value reached = record {
   same = λ m c s rest next fits goes.
       let loads : List Statement = loads_code shape d cells bytes in
+      let reads : Spot → steps.Act (List Scalar) = taking b (cells_of p.world shape) in
       subst (λ z. SameAt p n (act (λ t. reads t s) m) (meaning.statements z next c)) (sym (put_all code loads rest))
       (reached.same m c (λ t. reads t s) (put loads rest) next fits (record {
         above = over goes.above (omega arith);
         go = λ m1 c1 t byte fits1 later1 kept1 temp lies leads.
+            let u : Spot = source.beyond t cells in
             let step : core_steps.Step = meaning.statements (put loads rest) next c1 in
-            subst (λ z. SameAt p n z step) (sym (same (source.beyond t cells) s m1))
-            (cell_reads p.world p.program n shape m1 c1.memory (source.beyond t cells) (byte + bytes) s step (cell_of p.world shape is_value) fits1.agree leads
-            (λ v (o : CellRead p.world m1 c1.memory shape (source.beyond t cells) (byte + bytes) v).
-            subst (λ z. SameAt p n (s (v ∷ []) m1) z)
+            cell_reads p.world p.program n shape m1 c1.memory u (byte + bytes) (λ vs. moved_out b (cells_of p.world shape) u (λ z. s vs)) step
+            (cell_of p.world shape is_value) fits1.agree leads
+            (λ v (o : CellRead p.world m1 c1.memory shape u (byte + bytes) v).
+            out_same b p.world p.program n (cells_of p.world shape) m1 c1.memory u (v ∷ []) (λ z. s (v ∷ [])) step fits1.agree leads.0
+            (held_one m1 u shape v (cells_of p.world shape) (cell_of p.world shape is_value).cells o.holds)
+            (λ m2 moved.
+            subst (λ z. SameAt p n (s (v ∷ []) m2) z)
             (sym (loads_does shape is_value c1 d cells bytes byte (at t) o.contents rest next temp o.live o.parts))
-            (put_contents p n d m c m1 c1 shape (v ∷ []) o.contents s (meaning.statements rest next) fits1 later1 kept1
-            (contents_are shape is_value d o.contents c1 o.fit) (inl (record { value = v; alone = refl; shown = o.shown })) goes)));
+            (put_contents p n d m c m2 c1 shape (v ∷ []) o.contents s (meaning.statements rest next)
+            (fits_later p m1 m2 c1 c1 fits1 moved.agree (moved.later (within p)) refl (λ k less. refl))
+            (later_on (within p) m m1 m2 c.memory c1.memory c1.memory later1 (moved.later (within p))) kept1
+            (contents_are shape is_value d o.contents c1 o.fit) (inl (record {
+              value = v;
+              alone = refl;
+              shown = shown_later (within p) p.world m1 m2 c1.memory c1.memory shape v o.contents (moved.later (within p)) o.shown;
+            })) goes)));
       }));
 }
 
@@ -119,9 +130,8 @@ pub reached_value : (p : Point) (n d cells bytes : ℕ) (shape : Shape) (act : s
 reached_value p n d cells bytes shape act code is_value reached = record {
   shape_is = refl;
   taken = value_taken shape is_value;
-  looks = value_read p n d cells bytes shape act code (λ t. read_cells (length (cells_of p.world shape)) t) is_value reached (λ t s m. refl);
-  values = value_read p n d cells bytes shape act code (λ t. take_cells (cells_of p.world shape) t) is_value reached
-      (λ t s m. (cell_of p.world shape is_value).taken t s m);
+  looks = value_read p n d cells bytes shape act code false is_value reached;
+  values = value_read p n d cells bytes shape act code (any_moved (cells_of p.world shape)) is_value reached;
 }
 
 -- ---- a value is stored
@@ -131,7 +141,7 @@ pub value_put : (p : Point) (n d cells bytes : ℕ) (shape : Shape) (m0 : source
     (vs : List Scalar) (s : List Scalar → source.Memory → steps.Step) (rest : Statements) (next : Next) → IsValueShape shape → SameState p m1 c1
     → GrownAt p m0 c0 m1 c1 → AreKept d c0 c1 → c1.temps (d + words_in shape) ≡ core.Pointer (at t) byte
     → Leads p.world m1 c1.memory shape (source.beyond t cells) (byte + bytes) → AValue p.world m1 c1.memory shape vs (contents_in d shape c1.temps)
-    → GoesOn p n d m0 c0 shape s (meaning.statements rest next)
+    → StoredOn p n d m0 c0 shape vs s (meaning.statements rest next)
     → SameAt p n (write_cells (source.beyond t cells) vs (λ u. s (given_by shape vs)) m1)
     (meaning.statements (put (stores_code shape (d + words_in shape) d cells bytes) rest) next c1)
 value_put p n d cells bytes shape m0 c0 m1 c1 t byte vs s rest next is_value fits1 later1 kept1 temp leads v goes =
@@ -147,10 +157,9 @@ value_put p n d cells bytes shape m0 c0 m1 c1 t byte vs s rest next is_value fit
     let more = o.later (within p) in
     subst (λ z. SameAt p n (s (given_by shape vs) m2) z)
     (sym (stores_does shape is_value c1 (d + words_in shape) d cells bytes byte (at t) o.old rest next temp o.live o.parts o.fit))
-    (subst (λ z. SameAt p n (s z m2) (meaning.statements rest next c2)) (sym (one.given vs))
-    (goes.go m2 c2 vs (fits_later p m1 m2 c1 c2 fits1 o.agree more refl (λ k less. refl))
+    (goes.go m2 c2 (fits_later p m1 m2 c1 c2 fits1 o.agree more refl (λ k less. refl))
     (later_on (within p) m0 m1 m2 c0.memory c1.memory c2.memory later1 more) kept1
-    (inl (value_later (within p) p.world m1 m2 c1.memory c2.memory shape vs xs more v))))))
+    (inl (value_later (within p) p.world m1 m2 c1.memory c2.memory shape vs xs more v)))))
 
 pub value_stored : (p : Point) (n d cells bytes : ℕ) (shape : Shape) (act : steps.Act Spot) (code : List Statement) → IsValueShape shape
     → ReachedAs p n (d + words_in shape) cells bytes shape act code

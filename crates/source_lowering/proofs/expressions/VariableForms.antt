@@ -1,5 +1,5 @@
 -- A variable by its shape: a word by one operation, a fat pointer part by part, and the name of an array.
-use Rattle.std.proofs.Common.{◌≡◌, ⊎_elim, inl, inr, None, ℕ, ◌+◌, ◌^◌, ◌<◌, List, [], ◌∷◌, length, Some, refl, sym, ap, ◌∙◌, subst, arith}
+use Rattle.std.proofs.Common.{Bool, false, ◌≡◌, ⊎_elim, inl, inr, None, ℕ, ◌+◌, ◌^◌, ◌<◌, List, [], ◌∷◌, Some, refl, sym, ap, ◌∙◌, subst, arith}
 use Rattle.std.specs.Prelude.{slice_get, ◌%◌}
 use Rattle.std.proofs.Math.Nat.{mod-eq_of_lt}
 use Rattle.source_meaning.specs.Shapes.{
@@ -17,11 +17,10 @@ use Rattle.source_meaning.specs.Shapes.{
   ArrayShape,
 }
 use Rattle.source_meaning.specs.Memory as source
-use Rattle.source_meaning.specs.Memory.{AsUnsigned, Integer, Scalar, Spot}
+use Rattle.source_meaning.specs.Memory.{AsUnsigned, Integer, Scalar, Spot, any_moved}
 use Rattle.source_meaning.specs.Steps as steps
 use Rattle.source_meaning.specs.Steps.{Variable, Fixed, give}
 use Rattle.source_meaning.specs.Conversions.{cells_of}
-use Rattle.source_meaning.specs.Values.{read_cells}
 use Rattle.source_meaning.specs.Places.{span_at, place_sense, entity_sense, bound_to, or_else}
 use Rattle.source_meaning.specs.Programs.{heap_spot}
 use Rattle.core_meaning.specs.Memory as core
@@ -32,16 +31,17 @@ use Rattle.core_meaning.specs.Meaning as meaning
 use Rattle.source_lowering.specs.Members.{loads_code, bounds_code, words_in, valued}
 use Rattle.source_lowering.specs.Lowered.{put, local_named, shape_by, get_local, load_global, put_local, store_global, get_by, put_by}
 use Rattle.source_lowering.specs.Lowerable.{IsValueShape, IsObject, IsVariable, IsOperandShape, AreStructs}
-use Rattle.source_lowering.specs.Simulation.{at, IsTakenObject, Leads, AreLed, Point, SameState, SameAt, Next, AreKept, GrownAt, AreLocals, GoesOn, GivesAs, within}
+use Rattle.source_lowering.specs.Simulation.{at, IsTakenObject, Leads, AreLed, Point, SameState, SameAt, Next, AreKept, GrownAt, AreLocals, GoesOn, GivesAs}
+use Rattle.source_lowering.specs.Simulation.{within}
 use Rattle.source_lowering.specs.Simulation.{LeadsAll}
 use Rattle.source_lowering.proofs.memory.Keeping.{later_self}
 use Rattle.source_lowering.proofs.expressions.Making.{local_spot}
 use Rattle.source_lowering.proofs.values.Values.{put_temp, kept_temp, temp_fits, put_value}
 use Rattle.source_lowering.proofs.expressions.Variables as variables
 use Rattle.source_lowering.proofs.expressions.Variables.{Agrees, StoresAs, stuck_agrees}
+use Rattle.source_lowering.proofs.memory.Moving.{taking}
 use Rattle.source_lowering.proofs.Runs.{stuck_same}
 use Rattle.source_lowering.proofs.values.Integers.{value_taken, object_value, object_target}
-use Rattle.source_lowering.proofs.memory.ValueCells.{cell_of}
 use Rattle.source_lowering.proofs.memory.Members.{lies_here}
 use Rattle.source_lowering.proofs.expressions.Names.{AreObjectNames, AreGlobals, FoundLocal, FoundNumber, MissingLocal, find_local, FoundGlobal, find_global}
 use Rattle.source_lowering.proofs.expressions.Places.{LocalVariable, GlobalVariable, addressed, local_placed, global_placed}
@@ -57,24 +57,23 @@ abbrev pub LocalLed : Point → Shape → (frame index : ℕ) → Type 0
 LocalLed p shape frame index =
     (m : source.Memory) (c : core.Memory) → AreLed p.world m c p.locals → Leads p.world m c shape (local_spot frame index) 0
 
-pub local_read : (p : Point) (n d out index frame : ℕ) (shape : Shape) → IsValueShape shape → IsTakenObject p.world shape
+pub local_read : (p : Point) (n d out index frame : ℕ) (shape : Shape) (b : Bool) → IsValueShape shape → IsTakenObject p.world shape
     → slice_get (p.frame ∷ p.outer) out ≡ Some frame → LocalLed p shape frame index
-    → GivesAs p n d shape (read_cells (length (cells_of p.world shape)) (local_spot frame index)) (get_local shape d out index)
-local_read p n d out index frame IntShape h lies block led = variables.get_local p n d out index frame IntShape tt block led
-local_read p n d out index frame UnsignedShape h lies block led = variables.get_local p n d out index frame UnsignedShape tt block led
-local_read p n d out index frame CharShape h lies block led = variables.get_local p n d out index frame CharShape tt block led
-local_read p n d out index frame VoidShape h lies block led = absurd h
-local_read p n d out index frame (ThinShape b owner to) h lies block led = variables.get_local p n d out index frame (ThinShape b owner to) h block led
-local_read p n d out index frame (FatShape to) h lies block led =
-    value_read p n d 0 0 (FatShape to) (give (local_spot frame index)) (Do (LocalAddress d out index) ∷ [])
-    (λ t. read_cells (length (cells_of p.world (FatShape to))) t) h
+    → GivesAs p n d shape (taking b (cells_of p.world shape) (local_spot frame index)) (get_local shape d out index)
+local_read p n d out index frame IntShape b h lies block led = variables.get_local p n d out index frame IntShape b tt block led
+local_read p n d out index frame UnsignedShape b h lies block led = variables.get_local p n d out index frame UnsignedShape b tt block led
+local_read p n d out index frame CharShape b h lies block led = variables.get_local p n d out index frame CharShape b tt block led
+local_read p n d out index frame VoidShape b h lies block led = absurd h
+local_read p n d out index frame (ThinShape q owner to) b h lies block led = variables.get_local p n d out index frame (ThinShape q owner to) b h block led
+local_read p n d out index frame (FatShape to) b h lies block led =
+    value_read p n d 0 0 (FatShape to) (give (local_spot frame index)) (Do (LocalAddress d out index) ∷ []) b h
     (placed_reached p n d (FatShape to) (give (local_spot frame index)) (Do (LocalAddress d out index) ∷ [])
-    (local_placed p n d out index frame (FatShape to) lies block led)) (λ t s m. refl)
-local_read p n d out index frame HandleShape h lies block led = variables.get_local p n d out index frame HandleShape tt block led
-local_read p n d out index frame KeyShape h lies block led = absurd h
-local_read p n d out index frame (StructShape tag) h lies block led = absurd h
-local_read p n d out index frame (UnionShape tag) h lies block led = absurd h
-local_read p n d out index frame (ArrayShape count of) h lies block led = absurd h
+    (local_placed p n d out index frame (FatShape to) lies block led))
+local_read p n d out index frame HandleShape b h lies block led = variables.get_local p n d out index frame HandleShape b tt block led
+local_read p n d out index frame KeyShape b h lies block led = absurd h
+local_read p n d out index frame (StructShape tag) b h lies block led = absurd h
+local_read p n d out index frame (UnionShape tag) b h lies block led = absurd h
+local_read p n d out index frame (ArrayShape count of) b h lies block led = absurd h
 
 pub local_stored : (p : Point) (n d out index frame : ℕ) (shape : Shape) → IsValueShape shape → IsTakenObject p.world shape
     → slice_get (p.frame ∷ p.outer) out ≡ Some frame → LocalLed p shape frame index
@@ -99,25 +98,25 @@ local_stored p n d out index frame (ArrayShape count of) h lies block led = absu
 abbrev pub GlobalLed : Point → Shape → ℕ → Type 0
 GlobalLed p shape number = (m : source.Memory) (c : core.Memory) → AreLed p.world m c p.world.globals → Leads p.world m c shape (heap_spot number) 0
 
-global_parts : (p : Point) (n d number : ℕ) (shape : Shape) → IsValueShape shape → IsTakenObject p.world shape → GlobalLed p shape number
-    → GivesAs p n d shape (read_cells (length (cells_of p.world shape)) (heap_spot number)) (Do (DataAddress d number) ∷ loads_code shape d 0 0)
-global_parts p n d number shape h lies led =
-    value_read p n d 0 0 shape (give (heap_spot number)) (Do (DataAddress d number) ∷ []) (λ t. read_cells (length (cells_of p.world shape)) t) h
-    (placed_reached p n d shape (give (heap_spot number)) (Do (DataAddress d number) ∷ []) (global_placed p n d number shape lies led)) (λ t s m. refl)
+global_parts : (p : Point) (n d number : ℕ) (shape : Shape) (b : Bool) → IsValueShape shape → IsTakenObject p.world shape → GlobalLed p shape number
+    → GivesAs p n d shape (taking b (cells_of p.world shape) (heap_spot number)) (Do (DataAddress d number) ∷ loads_code shape d 0 0)
+global_parts p n d number shape b h lies led =
+    value_read p n d 0 0 shape (give (heap_spot number)) (Do (DataAddress d number) ∷ []) b h
+    (placed_reached p n d shape (give (heap_spot number)) (Do (DataAddress d number) ∷ []) (global_placed p n d number shape lies led))
 
-pub global_read : (p : Point) (n d number : ℕ) (shape : Shape) → IsValueShape shape → IsTakenObject p.world shape → GlobalLed p shape number
-    → GivesAs p n d shape (read_cells (length (cells_of p.world shape)) (heap_spot number)) (load_global shape d number)
-global_read p n d number IntShape h lies led = global_parts p n d number IntShape h lies led
-global_read p n d number UnsignedShape h lies led = global_parts p n d number UnsignedShape h lies led
-global_read p n d number CharShape h lies led = global_parts p n d number CharShape h lies led
-global_read p n d number VoidShape h lies led = absurd h
-global_read p n d number (ThinShape b owner to) h lies led = global_parts p n d number (ThinShape b owner to) h lies led
-global_read p n d number (FatShape to) h lies led = global_parts p n d number (FatShape to) h lies led
-global_read p n d number HandleShape h lies led = global_parts p n d number HandleShape h lies led
-global_read p n d number KeyShape h lies led = absurd h
-global_read p n d number (StructShape tag) h lies led = absurd h
-global_read p n d number (UnionShape tag) h lies led = absurd h
-global_read p n d number (ArrayShape count of) h lies led = absurd h
+pub global_read : (p : Point) (n d number : ℕ) (shape : Shape) (b : Bool) → IsValueShape shape → IsTakenObject p.world shape → GlobalLed p shape number
+    → GivesAs p n d shape (taking b (cells_of p.world shape) (heap_spot number)) (load_global shape d number)
+global_read p n d number IntShape b h lies led = global_parts p n d number IntShape b h lies led
+global_read p n d number UnsignedShape b h lies led = global_parts p n d number UnsignedShape b h lies led
+global_read p n d number CharShape b h lies led = global_parts p n d number CharShape b h lies led
+global_read p n d number VoidShape b h lies led = absurd h
+global_read p n d number (ThinShape q owner to) b h lies led = global_parts p n d number (ThinShape q owner to) b h lies led
+global_read p n d number (FatShape to) b h lies led = global_parts p n d number (FatShape to) b h lies led
+global_read p n d number HandleShape b h lies led = global_parts p n d number HandleShape b h lies led
+global_read p n d number KeyShape b h lies led = absurd h
+global_read p n d number (StructShape tag) b h lies led = absurd h
+global_read p n d number (UnionShape tag) b h lies led = absurd h
+global_read p n d number (ArrayShape count of) b h lies led = absurd h
 
 pub global_stored : (p : Point) (n d number : ℕ) (shape : Shape) → IsValueShape shape → IsTakenObject p.world shape → GlobalLed p shape number
     → StoresAs p n d shape (give (heap_spot number)) (store_global shape d number)
@@ -191,16 +190,12 @@ array_global p n d number count of few lies led = record {
 
 -- a variable's place, looked at and given away
 place_value : (p : Point) (n d : ℕ) (shape : Shape) (spot : Spot) (code : List Statement) → IsValueShape shape
-    → GivesAs p n d shape (read_cells (length (cells_of p.world shape)) spot) code → Agrees p n d (place_sense p.world shape (give spot)) shape code
+    → ((b : Bool) → GivesAs p n d shape (taking b (cells_of p.world shape) spot) code) → Agrees p n d (place_sense p.world shape (give spot)) shape code
 place_value p n d shape spot code is_value gives = record {
   shape_is = refl;
   taken = value_taken shape is_value;
-  looks = gives;
-  values = record {
-    same = λ m c s rest next fits goes.
-        subst (λ z. SameAt p n z (meaning.statements (put code rest) next c)) (sym ((cell_of p.world shape is_value).taken spot s m))
-        (gives.same m c s rest next fits goes);
-  };
+  looks = gives false;
+  values = gives (any_moved (cells_of p.world shape));
 }
 
 -- the name of an array is a fat pointer to its first element
@@ -220,7 +215,7 @@ local_agrees p n d out index frame (ArrayShape count of) structs h single block 
 local_agrees p n d out index frame s structs h single block led =
     let value : IsValueShape s = object_value p.world.unions p.world.structs s h single in
     place_value p n d s (local_spot frame index) (get_local s d out index) value
-    (local_read p n d out index frame s value (lies_here p.world s structs h) block led)
+    (λ b. local_read p n d out index frame s b value (lies_here p.world s structs h) block led)
 
 global_agrees : (p : Point) (n d number : ℕ) (shape : Shape) → AreStructs p.world.unions p.world.structs → IsVariable p.world.unions p.world.structs shape
     → IsOperandShape (valued shape) → GlobalVariable p shape number
@@ -230,7 +225,8 @@ global_agrees p n d number (ArrayShape count of) structs h single led =
     (array_global p n d number count of h.0 (lies_here p.world of structs h.1) led)
 global_agrees p n d number s structs h single led =
     let value : IsValueShape s = object_value p.world.unions p.world.structs s h single in
-    place_value p n d s (heap_spot number) (load_global s d number) value (global_read p n d number s value (lies_here p.world s structs h) led)
+    place_value p n d s (heap_spot number) (load_global s d number) value
+    (λ b. global_read p n d number s b value (lies_here p.world s structs h) led)
 
 -- lowering knows a name's shape
 local_single : (p : Point) {name : List ℕ} (f : FoundLocal p.world.unions p.world.structs (p.frame ∷ p.outer) p.locals p.names name)

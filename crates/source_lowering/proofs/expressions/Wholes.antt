@@ -41,12 +41,14 @@ use Rattle.source_lowering.specs.Simulation.{
   before_value,
   keeping,
   LocalMade,
+  kept_in,
 }
 use Rattle.source_lowering.proofs.memory.Keeping.{IsLess, later_on, shown_later, free_nothing, fits_on}
 use Rattle.source_lowering.proofs.Runs.{put_all}
 use Rattle.source_lowering.proofs.values.Values.{put_temp, kept_temp, temp_fits, over}
+use Rattle.source_lowering.proofs.memory.Moving.{take_all}
 use Rattle.source_lowering.proofs.memory.Clearing.{laid_there, held_still}
-use Rattle.source_lowering.proofs.memory.Copying.{whole_taken, IsLiveFor, read_all, AllShown, held_shown, copied_later, copied_none, copied_other, whole_copied}
+use Rattle.source_lowering.proofs.memory.Copying.{IsLiveFor, AllShown, all_shown_later, held_shown, copied_later, copied_none, copied_other, whole_copied}
 use Rattle.source_lowering.proofs.expressions.Places.{IsPlaced}
 
 -- ---- forms
@@ -128,16 +130,17 @@ own_free p u v cell less k r h =
 
 -- ---- an unnamed value's parts change
 
--- memories still agree where the parts of cells that hold a value are as they were
+-- memories still agree where the parts of cells that keep a value are as they were
 pub agree_changed : (w : World) (m : source.Memory) (c : core.Memory) (f : core.Spot → ℕ → Option Part) → SameMemory w m c
     → Grown nothing m c m (record c { parts = f })
-    → ((s : Spot) (shape : Shape) (v : Scalar) → m.cells s ≡ Some (record { shape = shape; content = Holds v }) → (j : ℕ) → f (at s) j ≡ c.parts (at s) j)
+    → ((s : Spot) (shape : Shape) (x : source.Content) (v : Scalar) → kept_in x ≡ Some v → m.cells s ≡ Some (record { shape = shape; content = x })
+    → (j : ℕ) → f (at s) j ≡ c.parts (at s) j)
     → ((t : core.Spot) (j : ℕ) → c.parts t j ≡ None → f t j ≡ None) → SameMemory w m (record c { parts = f })
 agree_changed w m c f a later held none = record {
-  cells = λ s shape v h. let one = a.cells s shape v h in record {
+  cells = λ s shape x v keeps h. let one = a.cells s shape x v keeps h in record {
     contents = one.contents;
     shown = shown_later nothing w m m c (record c { parts = f }) shape v one.contents later one.shown;
-    held = held_still c (record c { parts = f }) (at s) 0 one.contents (held s shape v h) one.held;
+    held = held_still c (record c { parts = f }) (at s) 0 one.contents (held s shape x v keeps h) one.held;
   };
   live = a.live;
   activations = a.activations;
@@ -148,7 +151,8 @@ agree_changed w m c f a later held none = record {
   unowned = a.unowned;
   births = a.births;
   heap = a.heap;
-  lexical = a.lexical;
+  closed = a.closed;
+  unborn = a.unborn;
   blocks = a.blocks;
   ungranted = λ d t j r h. none t j (a.ungranted d t j r h);
 }
@@ -157,7 +161,7 @@ agree_changed w m c f a later held none = record {
 pub agree_parts : (w : World) (m : source.Memory) (c : core.Memory) (f : core.Spot → ℕ → Option Part) → SameMemory w m c
     → Grown nothing m c m (record c { parts = f }) → ((s : Spot) (j : ℕ) → f (at s) j ≡ c.parts (at s) j)
     → ((t : core.Spot) (j : ℕ) → c.parts t j ≡ None → f t j ≡ None) → SameMemory w m (record c { parts = f })
-agree_parts w m c f a later others none = agree_changed w m c f a later (λ s shape v h. others s) none
+agree_parts w m c f a later others none = agree_changed w m c f a later (λ s shape x v keeps h. others s) none
 
 pub own_apart : (s : Spot) (own value cell : ℕ) → same_object (at s) (own_spot own value cell) ≡ false
 own_apart s own value cell = by s.region
@@ -235,13 +239,15 @@ place_whole p n d value e shape code structs whole numbered one = record {
             let fits1 = fits_kept p value m1 c1 fits1' in
             let has = lies.cells in
             let cells : cells_of p.world shape ≡ has.first.shape ∷ shapes_in has.others = sym has.shapes ∙ ap shapes_in has.is in
-            subst (λ z. SameAt p n z (meaning.statements (put (copied_code p.world shape d value) rest) next c1))
-            (sym (whole_taken p.world.unions (cells_of p.world shape) t s m1 has.cells))
-            (read_all p.world p.program n (cells_of p.world shape) m1 t s (meaning.statements (put (copied_code p.world shape d value) rest) next c1) leads.0
-            (λ vs held live.
-            copy_same m c s rest next goes m1 c1 t byte vs fits1 later1 kept1 temp leads.1
-            (held_shown p.world m1 c1.memory t (cells_of p.world shape) vs fits1.agree has.cells held)
-            (sym (fits1.agree.live t.region) ∙ subst (λ z. IsLiveFor m1 t z) cells live)));
+            take_all p.world p.program n (cells_of p.world shape) m1 c1.memory t s (meaning.statements (put (copied_code p.world shape d value) rest) next c1)
+            fits1.agree leads.0
+            (λ vs m2 held live moved.
+            copy_same m c s rest next goes m2 c1 t byte vs
+            (fits_on p m1 m2 c1 c1 fits1 moved.agree (moved.later (around p (suc p.frame))) refl (λ k less. refl))
+            (later_on (before_value p value) m m1 m2 c.memory c1.memory c1.memory later1 (moved.later (before_value p value))) kept1 temp leads.1
+            (all_shown_later nothing p.world m1 m2 c1.memory (at t) (cells_of p.world shape) vs (moved.later nothing)
+            (held_shown p.world m1 c1.memory t (cells_of p.world shape) vs fits1.agree has.cells held))
+            (sym (fits1.agree.live t.region) ∙ subst (λ z. IsLiveFor m1 t z) cells live));
       }))));
 }
   where

@@ -36,7 +36,8 @@ use Rattle.source_lowering.specs.Layouts.{first_part, layout_of, cell_pieces, pa
 use Rattle.source_lowering.specs.Programs.{first_code, unset_code}
 use Rattle.source_lowering.specs.Taken.{HasFirst}
 use Rattle.source_lowering.specs.Lowerable.{IsObject, AreStructs, HasBeginning}
-use Rattle.source_lowering.specs.Simulation.{at, AreMade, PartIs, PartsHold, ArePending, SameMemory, Grown, Point, SameState, SameAt, Next, AreKept, around, Bound}
+use Rattle.source_lowering.specs.Simulation.{at, AreMade, PartIs, PartsHold, ArePending, SameMemory, Grown, Point, SameState, SameAt, Next, AreKept, around}
+use Rattle.source_lowering.specs.Simulation.{Bound}
 use Rattle.source_lowering.specs.Simulation.{activation, within, AreShaped}
 use Rattle.core_meaning.proofs.Spots.{spot_self}
 use Rattle.source_lowering.proofs.memory.Keeping.{later_on, fits_later, named_free}
@@ -51,7 +52,7 @@ use Rattle.source_lowering.proofs.memory.CellParts.{firsts_of}
 use Rattle.source_lowering.proofs.memory.Members.{word_pieces, cells_pieces}
 use Rattle.source_lowering.proofs.memory.ObjectShapes.{object_made}
 use Rattle.source_lowering.proofs.statements.Declaring.{with_local, part_to_come, local_fits, part_with, put_here}
-use Rattle.source_lowering.proofs.memory.FirstCells.{first_shown, first_cell_is}
+use Rattle.source_lowering.proofs.memory.FirstCells.{first_shown, first_cell_is, first_free}
 
 -- ---- what a local begins with
 
@@ -85,7 +86,7 @@ begins_fits : (p : Point) (m : source.Memory) (c : Config) (name : List ℕ) (sh
     → PartsHold c.memory (at (cell_spot p.frame p.made cell)) 0 (firsts_of (cell_pieces p.world.unions of)))
     → SameState (with_local p name shape shapes) (m_made m p.frame (first_object p.world shape)) c
 begins_fits p m c name shape shapes values object pending fits held =
-    local_fits p m c name shape shapes source.first_content object pending fits
+    local_fits p m c name shape shapes source.first_content object pending fits first_free
     (λ cell of v e.
     let o = first_cell_is p.world.unions (cells_of p.world shape) cell of v values e in
     record { contents = firsts_of (cell_pieces p.world.unions of); shown = first_shown p.world m c.memory of v o.is_value o.holds; held = held cell of o.here })

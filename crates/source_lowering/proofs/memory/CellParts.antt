@@ -14,9 +14,9 @@ use Rattle.core_meaning.specs.Memory.{Content, Part, with_part}
 use Rattle.core_meaning.specs.Operations.{fitting}
 use Rattle.core_meaning.proofs.Spots.{spot_same, spot_self}
 use Rattle.source_lowering.specs.Layouts.{Piece}
-use Rattle.source_lowering.specs.Simulation.{at, PartIs, Shown, PartsHold, IsShown, SameMemory, Bound, nothing, IsFree, Grown}
-use Rattle.source_lowering.proofs.memory.Keeping.{spot_as, named_free, free_spot, shown_later, part_kept, shape_kept, unmade_kept, cell, shape_in, content_in}
-use Rattle.source_lowering.proofs.memory.Keeping.{value_in, m_written}
+use Rattle.source_lowering.specs.Simulation.{at, PartIs, Shown, PartsHold, IsShown, kept_in, SameMemory, Bound, IsFree, Grown}
+use Rattle.source_lowering.proofs.memory.Keeping.{stays_self, spot_as, named_free, free_spot, part_kept, shape_kept, unmade_kept, cell, shape_in, content_in}
+use Rattle.source_lowering.proofs.memory.Keeping.{m_written, Lasts, shown_kept, IsUnlent, lent_kept, kept_same}
 
 -- ---- parts and contents
 
@@ -81,32 +81,36 @@ all_other ps t byte j (q ∷ qs) [] u i e = refl
 all_other ps t byte j (q ∷ qs) (x ∷ xs) u i e =
     all_other (one_written ps t j (part_of byte q x)) t byte (suc j) qs xs u i e ∙ ap (λ b. if b && nat_eq i j then Some (part_of byte q x) else ps u i) e
 
+and_none : (b : Bool) → (b && false) ≡ false
+and_none true = refl
+and_none false = refl
+
 -- those before
 all_before : (ps : Parts) (t : core.Spot) (byte j : ℕ) (qs : List Piece) (xs : List Content) (u : core.Spot) (i : ℕ) → i < j
     → all_written ps t byte j qs xs u i ≡ ps u i
 all_before ps t byte j [] xs u i less = refl
 all_before ps t byte j (q ∷ qs) [] u i less = refl
 all_before ps t byte j (q ∷ qs) (x ∷ xs) u i less =
-    all_before (one_written ps t j (part_of byte q x)) t byte (suc j) qs xs u i (omega (arith, less)) ∙ rw (other, no_both (core.same_spot u t)) refl
+    all_before (one_written ps t j (part_of byte q x)) t byte (suc j) qs xs u i (omega (arith, less)) ∙ rw (other, and_none (core.same_spot u t)) refl
   where
     other : nat_eq i j ≡ false
     other = grind (arith, nat_tests, less)
 
-    no_both : (b : Bool) → (b && false) ≡ false
-    no_both true = refl
-    no_both false = refl
-
--- those to come are still as they were
-pub parts_after : (c : core.Memory) (t : core.Spot) (byte i j : ℕ) (p : Part) (qs : List Piece) (ys : List Content) → i < j → PartsAre c t byte j qs ys
-    → PartsAre (with_part c t i p) t byte j qs ys
-parts_after c t byte i j p [] [] less h = tt
-parts_after c t byte i j p [] (y ∷ ys) less h = absurd h
-parts_after c t byte i j p (q ∷ qs) [] less h = absurd h
-parts_after c t byte i j p (q ∷ qs) (y ∷ ys) less h =
-    (rw (other, spot_self t) h.0, parts_after c t byte i (suc j) p qs ys (omega (arith, less)) h.1)
+-- those to come are still as they were, of this cell and of others
+pub parts_apart : (c : core.Memory) (t u : core.Spot) (byte i j : ℕ) (p : Part) (qs : List Piece) (ys : List Content) → i < j → PartsAre c u byte j qs ys
+    → PartsAre (with_part c t i p) u byte j qs ys
+parts_apart c t u byte i j p [] [] less h = tt
+parts_apart c t u byte i j p [] (y ∷ ys) less h = absurd h
+parts_apart c t u byte i j p (q ∷ qs) [] less h = absurd h
+parts_apart c t u byte i j p (q ∷ qs) (y ∷ ys) less h =
+    (rw (other, and_none (core.same_spot u t)) h.0, parts_apart c t u byte i (suc j) p qs ys (omega (arith, less)) h.1)
   where
     other : nat_eq j i ≡ false
     other = grind (arith, nat_tests, less)
+
+pub parts_after : (c : core.Memory) (t : core.Spot) (byte i j : ℕ) (p : Part) (qs : List Piece) (ys : List Content) → i < j → PartsAre c t byte j qs ys
+    → PartsAre (with_part c t i p) t byte j qs ys
+parts_after c t byte i j p qs ys less h = parts_apart c t t byte i j p qs ys less h
 
 -- where there is no part, none is written
 pub none_written : (c : core.Memory) (t : core.Spot) (byte j : ℕ) (qs : List Piece) (ys xs : List Content) → PartsAre c t byte j qs ys → (u : core.Spot) (i : ℕ)
@@ -171,10 +175,13 @@ pub later_put : (b : Bound) (m : source.Memory) (c : core.Memory) (t : core.Spot
     → PartsAre c t byte 0 qs ys → Grown b m c m (with_values c t byte qs xs)
 later_put b m c t byte qs ys xs free there = record {
   shapes = λ s shape h. h;
+  lent = λ s shape v h. h;
   parts = all_kept c t byte 0 qs ys xs there;
   objects = λ k h. refl;
   begun = omega arith;
   called = omega arith;
+  births = omega arith;
+  stays = λ d less. stays_self _;
   stands = λ k h. refl;
   owned = λ k u j r h. all_other c.parts t byte 0 qs xs u j (free_spot b t u k free r h);
 }
@@ -182,23 +189,27 @@ later_put b m c t byte qs ys xs free there = record {
 -- in both
 
 pub later_values : (b : Bound) (m : source.Memory) (c : core.Memory) (s : Spot) (shape : Shape) (old new : source.Content) (byte : ℕ) (qs : List Piece)
-    (ys xs : List Content) → m.cells s ≡ Some (cell shape old) → PartsAre c (at s) byte 0 qs ys
+    (ys xs : List Content) → m.cells s ≡ Some (cell shape old) → IsUnlent m s → PartsAre c (at s) byte 0 qs ys
     → Grown b m c (with_cell m s (cell shape new)) (with_values c (at s) byte qs xs)
-later_values b m c s shape old new byte qs ys xs is there = record {
+later_values b m c s shape old new byte qs ys xs is free there = record {
   shapes = shape_kept m s shape old new is;
+  lent = lent_kept m s (cell shape new) free;
   parts = all_kept c (at s) byte 0 qs ys xs there;
   objects = λ k h. refl;
   begun = omega arith;
   called = omega arith;
+  births = omega arith;
+  stays = λ d less. stays_self _;
   stands = λ k h. refl;
   owned = λ k t j r h. all_other c.parts (at s) byte 0 qs xs t j (free_spot b (at s) t k (named_free b s) r h);
 }
 
 pub agree_values : (w : World) (m : source.Memory) (c : core.Memory) (s : Spot) (shape : Shape) (old : source.Content) (v : Scalar) (byte : ℕ)
-    (qs : List Piece) (ys xs : List Content) → SameMemory w m c → m.cells s ≡ Some (cell shape old) → PartsAre c (at s) byte 0 qs ys → FitPieces qs xs
-    → Shown w m c shape v xs → SameMemory w (m_written m s shape v) (with_values c (at s) byte qs xs)
-agree_values w m c s shape old v byte qs ys xs a is there fits shown = record {
-  cells = λ t other u h. by (same_spot t s) t other u refl h;
+    (qs : List Piece) (ys xs cs : List Content) → SameMemory w m c → m.cells s ≡ Some (cell shape old) → PartsAre c (at s) byte 0 qs ys
+    → PartsHold (with_values c (at s) byte qs xs) (at s) 0 cs → Shown w m c shape v cs
+    → SameMemory w (m_written m s shape v) (with_values c (at s) byte qs xs)
+agree_values w m c s shape old v byte qs ys xs cs a is there held shown = record {
+  cells = λ t other y u keeps h. by (same_spot t s) t other y u keeps refl h;
   live = a.live;
   activations = a.activations;
   unmade = unmade_kept m s shape old (Holds v) is a.unmade;
@@ -208,7 +219,8 @@ agree_values w m c s shape old v byte qs ys xs a is there fits shown = record {
   unowned = a.unowned;
   births = a.births;
   heap = a.heap;
-  lexical = a.lexical;
+  closed = a.closed;
+  unborn = a.unborn;
   blocks = a.blocks;
   ungranted = λ d t j r h. none t j (a.ungranted d t j r h);
 }
@@ -222,76 +234,89 @@ agree_values w m c s shape old v byte qs ys xs a is there fits shown = record {
     none : (t : core.Spot) (j : ℕ) → c.parts t j ≡ None → c'.parts t j ≡ None
     none = none_written c (at s) byte 0 qs ys xs there
 
-    later : Grown nothing m c m' c'
-    later = later_values nothing m c s shape old (Holds v) byte qs ys xs is there
-
-    here : IsShown w m' c' s shape v
-    here = record {
-      contents = xs;
-      shown = shown_later nothing w m m' c c' shape v xs later shown;
-      held = all_hold c (at s) byte 0 qs xs fits;
+    later : Lasts m c m' c'
+    later = record {
+      shapes = shape_kept m s shape old (Holds v) is;
+      parts = all_kept c (at s) byte 0 qs ys xs there;
+      births = omega arith;
+      stays = λ d less. stays_self _;
     }
 
-    by : (b : Bool) (t : Spot) (other : Shape) (u : Scalar) → same_spot t s ≡ b → m'.cells t ≡ Some (cell other (Holds u)) → IsShown w m' c' t other u
-    by true t other u e h =
-        let same : Some (cell shape (Holds v)) ≡ Some (cell other (Holds u)) = sym (ap (λ b. if b then Some (cell shape (Holds v)) else m.cells t) e) ∙ h in
+    here : IsShown w m' c' s shape v
+    here = record { contents = cs; shown = shown_kept w m m' c c' shape v cs later shown; held = held }
+
+    by : (b : Bool) (t : Spot) (other : Shape) (y : source.Content) (u : Scalar) → kept_in y ≡ Some u → same_spot t s ≡ b → m'.cells t ≡ Some (cell other y)
+        → IsShown w m' c' t other u
+    by true t other y u keeps e h =
+        let same : Some (cell shape (Holds v)) ≡ Some (cell other y) = sym (ap (λ b. if b then Some (cell shape (Holds v)) else m.cells t) e) ∙ h in
         subst (λ z. IsShown w m' c' z other u) (sym (spot_is t s e))
         (subst (λ z. IsShown w m' c' s z u) (ap (shape_in shape) same)
-        (subst (λ z. IsShown w m' c' s shape z) (ap (value_in v) (ap (content_in (Holds v)) same)) here))
-    by false t other u e h =
-        let one = a.cells t other u (sym (ap (λ b. if b then Some (cell shape (Holds v)) else m.cells t) e) ∙ h) in
+        (subst (λ z. IsShown w m' c' s shape z) (kept_same (Holds v) y v u refl (ap (content_in (Holds v)) same) keeps) here))
+    by false t other y u keeps e h =
+        let one = a.cells t other y u keeps (sym (ap (λ b. if b then Some (cell shape (Holds v)) else m.cells t) e) ∙ h) in
         record {
           contents = one.contents;
-          shown = shown_later nothing w m m' c c' other u one.contents later one.shown;
+          shown = shown_kept w m m' c c' other u one.contents later one.shown;
           held = held_apart c c'.parts (at t) 0 one.contents (λ i. all_other c.parts (at s) byte 0 qs xs (at t) i (spot_as t s ∙ e)) one.held;
         }
 
 -- in the source alone, whose cell gets what Core's parts show already
 pub later_shown : (b : Bound) (m : source.Memory) (c : core.Memory) (s : Spot) (shape : Shape) (old new : source.Content) → m.cells s ≡ Some (cell shape old)
-    → Grown b m c (with_cell m s (cell shape new)) c
-later_shown b m c s shape old new is = record {
+    → IsUnlent m s → Grown b m c (with_cell m s (cell shape new)) c
+later_shown b m c s shape old new is free = record {
   shapes = shape_kept m s shape old new is;
+  lent = lent_kept m s (cell shape new) free;
   parts = λ t j o w h. h;
   objects = λ k h. refl;
   begun = omega arith;
   called = omega arith;
+  births = omega arith;
+  stays = λ d less. stays_self _;
   stands = λ k h. refl;
   owned = λ k t j r h. refl;
 }
 
-pub agree_shown : (w : World) (m : source.Memory) (c : core.Memory) (s : Spot) (shape : Shape) (old : source.Content) (v : Scalar) (xs : List Content)
-    → SameMemory w m c → m.cells s ≡ Some (cell shape old) → PartsHold c (at s) 0 xs → Shown w m c shape v xs → SameMemory w (m_written m s shape v) c
-agree_shown w m c s shape old v xs a is held shown = record {
-  cells = λ t other u h. by (same_spot t s) t other u refl h;
+-- it holds the value then, or it is lent
+pub agree_keeping : (w : World) (m : source.Memory) (c : core.Memory) (s : Spot) (shape : Shape) (old new : source.Content) (v : Scalar) (xs : List Content)
+    → kept_in new ≡ Some v → SameMemory w m c → m.cells s ≡ Some (cell shape old) → PartsHold c (at s) 0 xs → Shown w m c shape v xs
+    → SameMemory w (with_cell m s (cell shape new)) c
+agree_keeping w m c s shape old new v xs keep a is held shown = record {
+  cells = λ t other y u keeps h. by (same_spot t s) t other y u keeps refl h;
   live = a.live;
   activations = a.activations;
-  unmade = unmade_kept m s shape old (Holds v) is a.unmade;
+  unmade = unmade_kept m s shape old new is a.unmade;
   unentered = a.unentered;
   unbegun = a.unbegun;
   uncalled = a.uncalled;
   unowned = a.unowned;
   births = a.births;
   heap = a.heap;
-  lexical = a.lexical;
+  closed = a.closed;
+  unborn = a.unborn;
   blocks = a.blocks;
   ungranted = a.ungranted;
 }
   where
     m' : source.Memory
-    m' = m_written m s shape v
+    m' = with_cell m s (cell shape new)
 
-    later : Grown nothing m c m' c
-    later = later_shown nothing m c s shape old (Holds v) is
+    later : Lasts m c m' c
+    later = record { shapes = shape_kept m s shape old new is; parts = λ t j o x h. h; births = omega arith; stays = λ d less. stays_self _ }
 
     here : IsShown w m' c s shape v
-    here = record { contents = xs; shown = shown_later nothing w m m' c c shape v xs later shown; held = held }
+    here = record { contents = xs; shown = shown_kept w m m' c c shape v xs later shown; held = held }
 
-    by : (b : Bool) (t : Spot) (other : Shape) (u : Scalar) → same_spot t s ≡ b → m'.cells t ≡ Some (cell other (Holds u)) → IsShown w m' c t other u
-    by true t other u e h =
-        let same : Some (cell shape (Holds v)) ≡ Some (cell other (Holds u)) = sym (ap (λ b. if b then Some (cell shape (Holds v)) else m.cells t) e) ∙ h in
+    by : (b : Bool) (t : Spot) (other : Shape) (y : source.Content) (u : Scalar) → kept_in y ≡ Some u → same_spot t s ≡ b → m'.cells t ≡ Some (cell other y)
+        → IsShown w m' c t other u
+    by true t other y u keeps e h =
+        let same : Some (cell shape new) ≡ Some (cell other y) = sym (ap (λ b. if b then Some (cell shape new) else m.cells t) e) ∙ h in
         subst (λ z. IsShown w m' c z other u) (sym (spot_is t s e))
         (subst (λ z. IsShown w m' c s z u) (ap (shape_in shape) same)
-        (subst (λ z. IsShown w m' c s shape z) (ap (value_in v) (ap (content_in (Holds v)) same)) here))
-    by false t other u e h =
-        let one = a.cells t other u (sym (ap (λ b. if b then Some (cell shape (Holds v)) else m.cells t) e) ∙ h) in
-        record { contents = one.contents; shown = shown_later nothing w m m' c c other u one.contents later one.shown; held = one.held }
+        (subst (λ z. IsShown w m' c s shape z) (kept_same new y v u keep (ap (content_in new) same) keeps) here))
+    by false t other y u keeps e h =
+        let one = a.cells t other y u keeps (sym (ap (λ b. if b then Some (cell shape new) else m.cells t) e) ∙ h) in
+        record { contents = one.contents; shown = shown_kept w m m' c c other u one.contents later one.shown; held = one.held }
+
+pub agree_shown : (w : World) (m : source.Memory) (c : core.Memory) (s : Spot) (shape : Shape) (old : source.Content) (v : Scalar) (xs : List Content)
+    → SameMemory w m c → m.cells s ≡ Some (cell shape old) → PartsHold c (at s) 0 xs → Shown w m c shape v xs → SameMemory w (m_written m s shape v) c
+agree_shown w m c s shape old v xs a is held shown = agree_keeping w m c s shape old (Holds v) v xs refl a is held shown

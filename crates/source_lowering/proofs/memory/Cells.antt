@@ -43,8 +43,7 @@ use Rattle.source_meaning.specs.Memory.{Scalar, Spot, Holds, is_live, is_of}
 use Rattle.source_meaning.specs.Steps as steps
 use Rattle.source_meaning.specs.Steps.{World, check}
 use Rattle.source_meaning.specs.Conversions.{cells_of}
-use Rattle.source_meaning.specs.Values.{read_cells, value_held, write_cells, put_content, is_lent, take_cells}
-use Rattle.source_meaning.specs.Places.{given_by}
+use Rattle.source_meaning.specs.Values.{read_cells, value_held, write_cells, put_content, is_lent}
 use Rattle.core_meaning.specs.Memory as core
 use Rattle.core_meaning.specs.Memory.{Content, Word, Null, Pointer, Birth, Part, with_part}
 use Rattle.core_meaning.specs.Core.{Program}
@@ -70,7 +69,7 @@ use Rattle.source_lowering.specs.Simulation.{
   Bound,
   first_in,
 }
-use Rattle.source_lowering.proofs.memory.Keeping.{later_written, agree_written, m_written}
+use Rattle.source_lowering.proofs.memory.Keeping.{later_written, agree_written, m_written, IsUnlent, unlent_is}
 use Rattle.source_lowering.proofs.Runs.{stuck_same}
 use Rattle.source_lowering.proofs.values.Integers.{IsWordShape, IsObject}
 
@@ -86,10 +85,6 @@ pub record IsPlain (w : World) (shape : Shape) (width : ℕ) : Type 0 where
   pub cells : cells_of w shape ≡ shape ∷ []
   pub layout : (layout_of w shape).cells ≡ ((record { offset = 0; width = width; first = first_part shape }) ∷ []) ∷ []
   pub one : (m : source.Memory) (c : core.Memory) (v : Scalar) (cs : List Content) → Shown w m c shape v cs → OneWord width cs
-  -- it is copied as it is looked at, and what is stored is given
-  pub taken : (s : Spot) (k : List Scalar → source.Memory → steps.Step) (m : source.Memory)
-      → take_cells (cells_of w shape) s k m ≡ read_cells (length (cells_of w shape)) s k m
-  pub given : (vs : List Scalar) → given_by shape vs ≡ vs
 
 low : (x : ℕ) → x < 256 → x % 256 ≡ x
 low x h = omega (arith, h)
@@ -99,8 +94,6 @@ plain_of w IntShape h = record {
   cells = refl;
   layout = refl;
   one = λ m c v cs o. record { word = Word o.word; is = o.shown; fits = refl };
-  taken = λ s k m. refl;
-  given = λ vs. refl;
 }
 plain_of w UnsignedShape h = record {
   cells = refl;
@@ -110,8 +103,6 @@ plain_of w UnsignedShape h = record {
     is = o.shown;
     fits = refl;
   };
-  taken = λ s k m. refl;
-  given = λ vs. refl;
 }
 plain_of w CharShape h = record {
   cells = refl;
@@ -122,28 +113,21 @@ plain_of w CharShape h = record {
     fits = ap
         (λ n. Word n) (low o.word o.small);
   };
-  taken = λ s k m. refl;
-  given = λ vs. refl;
 }
 plain_of w VoidShape h = absurd h
 plain_of w (ThinShape may_be_null owner to) h =
-    subst (λ z. IsPlain w (ThinShape may_be_null z to) 4) (sym h.0)
-    (record {
+    record {
       cells = refl;
       layout = refl;
       one = λ m c v cs o.
           ⊎_elim (λ (z : ANull may_be_null v cs). record { word = Null; is = z.shown; fits = refl })
-          (λ (z : APointer w m c to v cs). record { word = Pointer (at z.spot) z.byte; is = z.shown; fits = refl }) o;
-      taken = λ s k m. refl;
-      given = λ vs. refl;
-    })
+          (λ (z : APointer w m c owner to v cs). record { word = Pointer (at z.spot) z.byte; is = z.shown; fits = refl }) o;
+    }
 plain_of w (FatShape to) h = absurd h
 plain_of w HandleShape h = record {
   cells = refl;
   layout = refl;
   one = λ m c v cs o. record { word = Birth o.birth; is = o.shown; fits = refl };
-  taken = λ s k m. refl;
-  given = λ vs. refl;
 }
 plain_of w KeyShape h = absurd h
 plain_of w (StructShape tag) h = absurd h
@@ -192,6 +176,7 @@ part_of byte width x = record { offset = byte; width = width; content = x }
 -- what is known of a cell that was read
 pub record IsRead (w : World) (m : source.Memory) (c : core.Memory) (shape : Shape) (s : Spot) (byte width : ℕ) (v : Scalar) : Type 0 where
   pub content : Content
+  pub holds : m.cells s ≡ Some (record { shape = shape; content = Holds v })
   pub live : core.is_live (c.standing (region_at s.region)) ≡ true
   pub part : c.parts (at s) 0 ≡ Some (part_of byte width content)
   pub shown : Shown w m c shape v (content ∷ [])
@@ -214,7 +199,7 @@ read_same w fs n shape width m c t byte s k plain agree leads go =
     held here live source.Gone is = stuck_same w fs n k
     held here live (source.Lent x) is = stuck_same w fs n k
     held here live (Holds v) is =
-        let shown = agree.cells t shape v is in
+        let shown = agree.cells t shape (Holds v) v refl is in
         let word = plain.one m c v shown.contents shown.shown in
         let hold : PartsHold c (at t) 0 (word.word ∷ []) = subst (λ xs. PartsHold c (at t) 0 xs) word.is shown.held in
         let both : Some (part_of byte width here.content) ≡ Some hold.0.0 = sym here.is ∙ hold.0.1.0 in
@@ -222,6 +207,7 @@ read_same w fs n shape width m c t byte s k plain agree leads go =
         let same : x ≡ word.word = ap (content_in x) both ∙ hold.0.1.1 in
         go v (record {
           content = x;
+          holds = is;
           live = sym (agree.live t.region) ∙ live;
           part = here.is;
           shown = subst (λ z. Shown w m c shape v (z ∷ [])) (sym same) (subst (λ z. Shown w m c shape v z) word.is shown.shown);
@@ -249,8 +235,9 @@ pub write_same : (w : World) (fs : Program) (n : ℕ) (shape : Shape) (width : �
     → Same w fs n (write_cells t (v ∷ []) s m) k
 write_same w fs n shape width m c t byte v x s k plain agree leads shown go = by (plain_cell w m c t byte shape width plain leads) (is_live m t.region) refl
   where
-    stored : OneCell m c t byte shape width → is_live m t.region ≡ true → Same w fs n (s tt (m_written m t shape v)) k
-    stored here live =
+    stored : OneCell m c t byte shape width → is_live m t.region ≡ true → IsUnlent m t
+        → Same w fs n (s tt (m_written m t shape v)) k
+    stored here live free =
         let word = plain.one m c v (x ∷ []) shown in
         let same : x ≡ word.word = ap (first_in x) word.is in
         go (record {
@@ -258,25 +245,24 @@ write_same w fs n shape width m c t byte v x s k plain agree leads shown go = by
           live = sym (agree.live t.region) ∙ live;
           part = here.is;
           fits = ap (fitting width) same ∙ word.fits ∙ sym same;
-          agree = agree_written w m c t shape here.has.content v (part_of byte width here.content) x agree here.has.is here.is shown;
-          later = λ b. later_written b m c t shape here.has.content (Holds v) (part_of byte width here.content) x here.has.is here.is;
+          agree = agree_written w m c t shape here.has.content v (part_of byte width here.content) x agree here.has.is free here.is shown;
+          later = λ b. later_written b m c t shape here.has.content (Holds v) (part_of byte width here.content) x here.has.is free here.is;
         })
 
-    put_done : OneCell m c t byte shape width → is_live m t.region ≡ true → Same w fs n (put_content t (Holds v) s m) k
-    put_done here live = rw (live, here.has.is) (stored here live)
+    put_done : OneCell m c t byte shape width → is_live m t.region ≡ true → IsUnlent m t
+        → Same w fs n (put_content t (Holds v) s m) k
+    put_done here live free = rw (live, here.has.is) (stored here live free)
 
-    of_type : OneCell m c t byte shape width → is_live m t.region ≡ true → (b : Bool) → is_of shape v ≡ b
+    of_type : OneCell m c t byte shape width → is_live m t.region ≡ true → IsUnlent m t → (b : Bool) → is_of shape v ≡ b
         → Same w fs n (check (is_of shape v) (λ u. put_content t (Holds v) s) m) k
-    of_type here live false e = rw e (stuck_same w fs n k)
-    of_type here live true e = rw e (put_done here live)
+    of_type here live free false e = rw e (stuck_same w fs n k)
+    of_type here live free true e = rw e (put_done here live free)
 
-    lent : OneCell m c t byte shape width → is_live m t.region ≡ true → (y : source.Content)
-        → Same w fs n (check (not (is_lent y)) (λ u. check (is_of shape v) (λ u. put_content t (Holds v) s)) m) k
-    lent here live (source.Lent x) = stuck_same w fs n k
-    lent here live source.Blank = of_type here live (is_of shape v) refl
-    lent here live source.Gone = of_type here live (is_of shape v) refl
-    lent here live (Holds u) = of_type here live (is_of shape v) refl
+    lent : (here : OneCell m c t byte shape width) → is_live m t.region ≡ true → (b : Bool) → is_lent here.has.content ≡ b
+        → Same w fs n (check (not (is_lent here.has.content)) (λ u. check (is_of shape v) (λ u. put_content t (Holds v) s)) m) k
+    lent here live true e = rw e (stuck_same w fs n k)
+    lent here live false e = rw e (of_type here live (unlent_is m t shape here.has.content here.has.is e) (is_of shape v) refl)
 
     by : OneCell m c t byte shape width → (b : Bool) → is_live m t.region ≡ b → Same w fs n (write_cells t (v ∷ []) s m) k
     by here false live = rw live (stuck_same w fs n k)
-    by here true live = rw (live, here.has.is) (lent here live here.has.content)
+    by here true live = rw (live, here.has.is) (lent here live (is_lent here.has.content) refl)

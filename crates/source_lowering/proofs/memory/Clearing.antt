@@ -58,7 +58,7 @@ use Rattle.source_lowering.specs.Layouts.{Piece, cell_pieces, part_shape_of, pad
 use Rattle.source_lowering.specs.Lowerable.{IsObject, AreStructs}
 use Rattle.source_lowering.proofs.memory.StructCells.{shapes_in, object_cells}
 use Rattle.source_lowering.specs.Simulation.{region_at, at, PartIs, AreShaped, AreMade, PartsHold, SameMemory, Bound, nothing, IsFree, Grown}
-use Rattle.source_lowering.proofs.memory.Keeping.{named_free, free_object, region_as, shown_later}
+use Rattle.source_lowering.proofs.memory.Keeping.{stays_self, named_free, free_object, region_as, shown_later}
 use Rattle.source_lowering.proofs.memory.CellParts.{firsts_of}
 use Rattle.source_lowering.proofs.expressions.ElementsMade.{here_on, further_on}
 use Rattle.source_lowering.proofs.expressions.Making.{cell_spot}
@@ -150,10 +150,13 @@ pub cleared_later : (b : Bound) (m : source.Memory) (c : core.Memory) (l : Layou
     → Grown b m c m (cleared l count t c)
 cleared_later b m c l count t free = record {
   shapes = λ s shape h. h;
+  lent = λ s shape v h. h;
   parts = cleared_keeps l count t c;
   objects = λ k h. refl;
   begun = omega arith;
   called = omega arith;
+  births = omega arith;
+  stays = λ d less. stays_self _;
   stands = λ k h. refl;
   owned = λ k u j r h. cleared_other l count t c u j (free_object b t u k free r h);
 }
@@ -196,7 +199,7 @@ object_apart w m c k index s y a made h = by (same_object (at (cell_spot k index
 pub agree_cleared : (w : World) (m : source.Memory) (c : core.Memory) (k index : ℕ) (l : Layout) (count : ℕ) → SameMemory w m c
     → m.objects (source.Frame k) ≡ index → SameMemory w m (cleared l count (at (cell_spot k index 0)) c)
 agree_cleared w m c k index l count a made = record {
-  cells = λ s shape v h. let one = a.cells s shape v h in record {
+  cells = λ s shape x v keeps h. let one = a.cells s shape x v keeps h in record {
     contents = one.contents;
     shown = shown_later nothing w m m c c' shape v one.contents (cleared_later nothing m c l count t (named_free nothing (cell_spot k index 0))) one.shown;
     held = held_still c c' (at s) 0 one.contents (λ i. cleared_other l count t c (at s) i (new_object w m c k index s _ a made h)) one.held;
@@ -210,7 +213,8 @@ agree_cleared w m c k index l count a made = record {
   unowned = a.unowned;
   births = a.births;
   heap = a.heap;
-  lexical = a.lexical;
+  closed = a.closed;
+  unborn = a.unborn;
   blocks = a.blocks;
   ungranted = λ d u j r h. cleared_none l count t c u j (a.ungranted d u j r h);
 }

@@ -21,10 +21,12 @@ use Rattle.source_meaning.specs.Conversions.{cells_of}
 use Rattle.source_lowering.specs.Layouts.{layout_of, Piece, cell_pieces, part_shape_of}
 use Rattle.source_lowering.specs.Lowerable.{IsObject, AreStructs}
 use Rattle.source_lowering.specs.ObjectCells.{AreCellShapes}
-use Rattle.source_lowering.specs.Simulation.{at, HasShape, PartIs, AreCells, AreMade, PartsHold, Shown, SameMemory, Bound, nothing, IsFree, Grown, Same, AreShaped}
-use Rattle.source_lowering.proofs.memory.Keeping.{named_free, free_nothing, free_object, later_self, later_on, shown_later, m_written}
+use Rattle.source_lowering.specs.Simulation.{at, HasShape, PartIs, AreCells, AreMade, PartsHold, Shown, SameMemory, Bound, nothing, IsFree, Grown, Same}
+use Rattle.source_lowering.specs.Simulation.{AreShaped}
+use Rattle.source_lowering.proofs.memory.Keeping.{stays_self, named_free, free_nothing, free_object, later_self, later_on, shown_later, m_written, IsUnlent}
+use Rattle.source_lowering.proofs.memory.Keeping.{unlent_is}
 use Rattle.source_lowering.proofs.Runs.{stuck_same}
-pub use Rattle.source_lowering.proofs.memory.ObjectReads.{whole_taken, AllHeld, IsLiveFor, read_all}
+pub use Rattle.source_lowering.proofs.memory.ObjectReads.{AllHeld, IsLiveFor, read_all}
 use Rattle.source_lowering.proofs.expressions.Making.{cell_spot}
 use Rattle.source_lowering.proofs.memory.CellParts.{FitFirst, agree_shown, later_shown}
 use Rattle.source_lowering.proofs.memory.UnionCells.{shown_fits}
@@ -78,7 +80,7 @@ held_shown w m c s [] [] a values h = tt
 held_shown w m c s [] (v ∷ vs) a values h = absurd h
 held_shown w m c s (x ∷ xs) [] a values h = absurd h
 held_shown w m c s (x ∷ xs) (v ∷ vs) a values h =
-    let here = a.cells s x v h.0 in (
+    let here = a.cells s x (Holds v) v refl h.0 in (
       record {
         contents = here.contents;
         fit = shown_fits w m c x v here.contents values.0 here.shown;
@@ -97,11 +99,11 @@ record IsHeld (w : World) (m : source.Memory) (c : core.Memory) (s : Spot) (shap
   agree : SameMemory w (m_written m s shape v) c
   later : (b : Bound) → Grown b m c (m_written m s shape v) c
 
-held_is : (w : World) (m : source.Memory) (c : core.Memory) (s : Spot) (shape : Shape) (v : Scalar) → SameMemory w m c → HasShape m s shape
+held_is : (w : World) (m : source.Memory) (c : core.Memory) (s : Spot) (shape : Shape) (v : Scalar) → SameMemory w m c → HasShape m s shape → IsUnlent m s
     → IsCellShown w m c (at s) shape v → IsHeld w m c s shape v
-held_is w m c s shape v a has one = record {
+held_is w m c s shape v a has free one = record {
   agree = agree_shown w m c s shape has.content v one.contents a has.is one.held one.shown;
-  later = λ b. later_shown b m c s shape has.content (Holds v) has.is;
+  later = λ b. later_shown b m c s shape has.content (Holds v) has.is free;
 }
 
 pub write_all : (w : World) (fs : Program) (n : ℕ) (b : Bound) (xs : List Shape) (vs : List Scalar) (m : source.Memory) (c : core.Memory) (t : Spot)
@@ -111,14 +113,11 @@ write_all w fs n b [] [] m c t s k live a cells shown go = go m a (later_self b 
 write_all w fs n b [] (v ∷ vs) m c t s k live a cells shown go = absurd shown
 write_all w fs n b (x ∷ xs) [] m c t s k live a cells shown go = absurd shown
 write_all w fs n b (x ∷ xs) (v ∷ vs) m c t s k live a cells shown go =
-    first (write_all w fs n b xs vs (m_written m t x v) c (source.beyond t 1) s k live held.agree
+    first (λ held. write_all w fs n b xs vs (m_written m t x v) c (source.beyond t 1) s k live held.agree
     (cells_kept b m (m_written m t x v) c (source.beyond t 1) xs (held.later b) cells.1)
     (all_shown_later b w m (m_written m t x v) c (at (source.beyond t 1)) xs vs (held.later b) shown.1)
     (λ m' a' l. go m' a' (later_on b m (m_written m t x v) m' c c c (held.later b) l)))
   where
-    held : IsHeld w m c t x v
-    held = held_is w m c t x v a cells.0 shown.0
-
     rest : Unit {0} → source.Memory → steps.Step
     rest u = write_cells (source.beyond t 1) vs s
 
@@ -130,15 +129,14 @@ write_all w fs n b (x ∷ xs) (v ∷ vs) m c t s k live a cells shown go =
     of_type false e more = rw e (stuck_same w fs n k)
     of_type true e more = rw e (put_done more)
 
-    lent : (y : source.Content) → Same w fs n (rest tt (m_written m t x v)) k
-        → Same w fs n (check (not (is_lent y)) (λ u. check (is_of x v) (λ u. put_content t (Holds v) rest)) m) k
-    lent (source.Lent x) more = stuck_same w fs n k
-    lent source.Blank more = of_type (is_of x v) refl more
-    lent source.Gone more = of_type (is_of x v) refl more
-    lent (Holds u) more = of_type (is_of x v) refl more
+    lent : (b : Bool) → is_lent cells.0.content ≡ b → (IsHeld w m c t x v → Same w fs n (rest tt (m_written m t x v)) k)
+        → Same w fs n (check (not (is_lent cells.0.content)) (λ u. check (is_of x v) (λ u. put_content t (Holds v) rest)) m) k
+    lent true e more = rw e (stuck_same w fs n k)
+    lent false e more =
+        rw e (of_type (is_of x v) refl (more (held_is w m c t x v a cells.0 (unlent_is m t x cells.0.content cells.0.is e) shown.0)))
 
-    first : Same w fs n (rest tt (m_written m t x v)) k → Same w fs n (write_cells t (v ∷ vs) s m) k
-    first more = rw (live, cells.0.is) (lent cells.0.content more)
+    first : (IsHeld w m c t x v → Same w fs n (rest tt (m_written m t x v)) k) → Same w fs n (write_cells t (v ∷ vs) s m) k
+    first more = rw (live, cells.0.is) (lent (is_lent cells.0.content) refl more)
 
 -- ---- Core copies
 
@@ -230,10 +228,13 @@ pub copied_later : (b : Bound) (m : source.Memory) (c : core.Memory) (l : Layout
     → Grown b m c m (copied l to from c)
 copied_later b m c l to from free = record {
   shapes = λ s shape h. h;
+  lent = λ s shape v h. h;
   parts = copied_keeps l to from c;
   objects = λ k h. refl;
   begun = omega arith;
   called = omega arith;
+  births = omega arith;
+  stays = λ d less. stays_self _;
   stands = λ k h. refl;
   owned = λ k u j r h. copied_other l to from c u j (free_object b to u k free r h);
 }
@@ -242,7 +243,7 @@ copied_later b m c l to from free = record {
 pub agree_copied : (w : World) (m : source.Memory) (c : core.Memory) (k index : ℕ) (from : core.Spot) (l : Layout) → SameMemory w m c
     → m.objects (source.Frame k) ≡ index → SameMemory w m (copied l (at (cell_spot k index 0)) from c)
 agree_copied w m c k index from l a made = record {
-  cells = λ s shape v h. let one = a.cells s shape v h in record {
+  cells = λ s shape x v keeps h. let one = a.cells s shape x v keeps h in record {
     contents = one.contents;
     shown = shown_later nothing w m m c c' shape v one.contents (copied_later nothing m c l t from (named_free nothing (cell_spot k index 0))) one.shown;
     held = held_still c c' (at s) 0 one.contents (λ i. copied_other l t from c (at s) i (new_object w m c k index s _ a made h)) one.held;
@@ -256,7 +257,8 @@ agree_copied w m c k index from l a made = record {
   unowned = a.unowned;
   births = a.births;
   heap = a.heap;
-  lexical = a.lexical;
+  closed = a.closed;
+  unborn = a.unborn;
   blocks = a.blocks;
   ungranted = λ d u j r h. copied_none l t from c u j (a.ungranted d u j r h);
 }

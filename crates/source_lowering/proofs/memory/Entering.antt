@@ -26,10 +26,10 @@ use Rattle.core_meaning.specs.Core.{Local}
 use Rattle.core_meaning.specs.Meaning.{with_objects}
 use Rattle.source_lowering.specs.Layouts.{layout_of, local_of}
 use Rattle.source_lowering.specs.Programs.{locals_of}
-use Rattle.source_lowering.specs.Simulation.{region_at, at, AreMade, ArePending, PartsHold, IsLexical, SameMemory, Bound, nothing, Grown, LocalMade}
+use Rattle.source_lowering.specs.Simulation.{region_at, at, AreMade, ArePending, PartsHold, StaysAs, SameMemory, Bound, nothing, Grown, LocalMade}
 use Rattle.core_meaning.proofs.Spots.{region_same, region_self}
 use Rattle.source_lowering.proofs.expressions.ElementsMade.{spot_in, HasBlanks, element_made}
-use Rattle.source_lowering.proofs.memory.Keeping.{region_as, shown_later}
+use Rattle.source_lowering.proofs.memory.Keeping.{region_as, shown_later, stays_self}
 
 -- ---- objects are made in one region alone
 
@@ -88,10 +88,14 @@ entered_own c ls k t j r = made_parts (core.Frame c.activations) ls (core_opened
 pub entered_later : (b : Bound) (w : World) (m : source.Memory) (c : core.Memory) (ls : List Local) → SameMemory w m c → Grown b m c (source_in m) (core_in ls c)
 entered_later b w m c ls a = record {
   shapes = λ s shape h. record { content = h.content; is = h.is };
+  lent = λ s shape v h. h;
   parts = λ t j o width h. record { content = h.content; is = entered_part w m c ls a t j _ h.is };
   objects = λ k h. refl;
   begun = omega arith;
   called = subst (λ z. c.calls ≤ z) (sym (made_calls (core.Frame c.activations) ls (core_opened c))) (omega arith);
+  births = subst (λ z. c.births ≤ z) (sym (made_births (core.Frame c.activations) ls (core_opened c))) (omega arith);
+  stays = λ d less.
+      subst (StaysAs (c.standing (core.Born d))) (sym (made_standing (core.Frame c.activations) ls (core_opened c) (core.Born d))) (stays_self _);
   stands = λ k h. made_standing (core.Frame c.activations) ls (core_opened c) (core.Own k);
   owned = λ k t j r h. entered_own c ls k t j r;
 }
@@ -106,12 +110,18 @@ pub live_in : (q r : source.Region) (b : Bool) (x : source.State) (y : core.Stan
 live_in q r true x y e h = rw (region_as q r, e) refl
 live_in q r false x y e h = rw (region_as q r, e) h
 
+pub closed_in : (q r : source.Region) (b : Bool) (x : source.State) (y : core.Standing) → same_region q r ≡ b → source.state_is_closed x ≡ core.is_closed y
+    → source.state_is_closed (if same_region q r then source.Live else x)
+    ≡ core.is_closed (if core.same_region (region_at q) (region_at r) then core.Live else y)
+closed_in q r true x y e h = rw (region_as q r, e) refl
+closed_in q r false x y e h = rw (region_as q r, e) h
+
 pub later_number : (j k : ℕ) → k + 1 ≤ j → nat_eq j k ≡ false
 later_number j k h = grind (arith, nat_tests, h)
 
 pub agree_entered : (w : World) (m : source.Memory) (c : core.Memory) (ls : List Local) → SameMemory w m c → SameMemory w (source_in m) (core_in ls c)
 agree_entered w m c ls a = record {
-  cells = λ s shape v h. let one = a.cells s shape v h in record {
+  cells = λ s shape x v keeps h. let one = a.cells s shape x v keeps h in record {
     contents = one.contents;
     shown = shown_later nothing w m (source_in m) c (core_in ls c) shape v one.contents (entered_later nothing w m c ls a) one.shown;
     held = held_on c (core_in ls c) (at s) 0 one.contents (entered_part w m c ls a) one.held;
@@ -140,7 +150,13 @@ agree_entered w m c ls a = record {
       made_objects (core.Frame c.activations) ls (core_opened c) (core.Own k) refl ∙ a.unowned k less;
   births = a.births ∙ sym (made_births (core.Frame c.activations) ls (core_opened c));
   heap = a.heap;
-  lexical = λ d. subst IsLexical (sym (made_standing (core.Frame c.activations) ls (core_opened c) (core.Born d))) (a.lexical d);
+  unborn = a.unborn;
+  closed = λ q.
+      subst (λ k. source.state_is_closed ((source_in m).state q) ≡ core.is_closed k)
+      (sym (made_standing (core.Frame c.activations) ls (core_opened c) (region_at q)))
+      (subst (λ k. source.state_is_closed ((source_in m).state q) ≡ core.is_closed (if core.same_region (region_at q) (core.Frame k) then core.Live else
+      c.standing (region_at q))) a.activations
+      (closed_in q (source.Frame m.activations) (same_region q (source.Frame m.activations)) (m.state q) (c.standing (region_at q)) refl (a.closed q)));
   blocks = λ d. a.blocks d ∙ sym (made_objects (core.Frame c.activations) ls (core_opened c) (core.Born d) refl);
   ungranted = λ d t j r h.
       made_parts (core.Frame c.activations) ls (core_opened c) t j (ap (λ z. core.same_region z (core.Frame c.activations)) r) ∙

@@ -28,6 +28,22 @@ use Rattle.source_lowering.proofs.values.Integers.{IsValueShape}
 use Rattle.source_lowering.proofs.expressions.Making.{cell_with}
 use Rattle.source_lowering.specs.ObjectCells.{IsCellShape, AreCellShapes}
 use Rattle.source_lowering.proofs.memory.CellParts.{firsts_of}
+use Rattle.source_meaning.specs.Values.{is_lent}
+
+-- no cell is lent at first
+pub first_free : (s : Shape) → is_lent (source.first_content s) ≡ false
+first_free IntShape = refl
+first_free UnsignedShape = refl
+first_free CharShape = refl
+first_free VoidShape = refl
+first_free (ThinShape true owner to) = refl
+first_free (ThinShape false owner to) = refl
+first_free (FatShape to) = refl
+first_free HandleShape = refl
+first_free KeyShape = refl
+first_free (StructShape tag) = refl
+first_free (UnionShape tag) = refl
+first_free (ArrayShape count of) = refl
 
 -- what each cell begins with is shown by what its parts do
 pub first_shown : (w : World) (m : source.Memory) (c : core.Memory) (s : Shape) (v : Scalar) → IsValueShape s → source.first_content s ≡ Holds v

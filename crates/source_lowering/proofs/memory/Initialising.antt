@@ -37,15 +37,14 @@ use Rattle.source_lowering.specs.Lowered.{put}
 use Rattle.source_lowering.specs.Lowerable.{IsObject, IsWholeShape, AreStructs}
 use Rattle.source_lowering.proofs.memory.StructCells.{shapes_in}
 use Rattle.source_lowering.proofs.memory.ObjectShapes.{object_made, whole_object}
-use Rattle.source_lowering.specs.Simulation.{at, HasShape, AreCells, AreMade, ArePending, SameMemory, Grown, Point, SameState, SameAt, Next, Bound, around, within}
+use Rattle.source_lowering.specs.Simulation.{at, HasShape, AreCells, AreMade, ArePending, SameMemory, Grown, Point, SameState, SameAt, Next, Bound, nothing, around, within}
 use Rattle.source_lowering.proofs.memory.Keeping.{later_on, fits_later, named_free, later_items, blocks_of}
 use Rattle.source_lowering.proofs.Runs.{stuck_same}
 use Rattle.source_lowering.proofs.expressions.Making.{local_spot, m_made, cells_here, grown_later}
 use Rattle.source_lowering.proofs.memory.Clearing.{laid_there, object_apart}
+use Rattle.source_lowering.proofs.memory.Moving.{take_all}
 use Rattle.source_lowering.proofs.memory.Copying.{
-  whole_taken,
   IsLiveFor,
-  read_all,
   AllShown,
   held_shown,
   all_shown_later,
@@ -142,7 +141,7 @@ whole_with_same p n scope name shape shapes t byte vs then_act next m c rest aft
     m1 = m_made m p.frame (object_with p.world (λ s. source.Blank) shape)
 
     fits2 : SameState q m1 c1
-    fits2 = local_fits p m c1 name shape shapes (λ s. source.Blank) object pending fits1
+    fits2 = local_fits p m c1 name shape shapes (λ s. source.Blank) object pending fits1 (λ s. refl)
         (λ cell of u e. absurd (blank_holds (cells_of p.world shape) cell of u e))
 
     later2 : Grown (around p p.frame) m c1.memory m1 c1.memory
@@ -230,27 +229,29 @@ placed_begins p n scope name shape shapes e from code then_act next m c rest aft
       above = omega arith;
       go = λ m1 c1 t byte fits1 later1 kept1 temp lies leads.
           let has = lies.cells in
-          subst (λ z. SameAt p n z (meaning.statements copies after c1)) (sym (whole_taken p.world.unions (cells_of p.world from) t convert m1 has.cells))
-          (read_all p.world p.program n (cells_of p.world from) m1 t convert (meaning.statements copies after c1) leads.0
-          (λ vs held live.
-          subst (λ z. SameAt p n (converted z shape e.shape vs (λ us. local_with scope name shape us then_act next) m1)
+          take_all p.world p.program n (cells_of p.world from) m1 c1.memory t convert (meaning.statements copies after c1) fits1.agree leads.0
+          (λ vs m3 held live moved.
+          let fits3 = fits_later p m1 m3 c1 c1 fits1 moved.agree (moved.later (within p)) refl (λ k less. refl) in
+          let later3 = later_on (within p) m m1 m3 c.memory c1.memory c1.memory later1 (moved.later (within p)) in
+          subst (λ z. SameAt p n (converted z shape e.shape vs (λ us. local_with scope name shape us then_act next) m3)
           (meaning.statements copies after c1)) (sym world)
-          (converted_whole p n shape e.shape vs (λ us. local_with scope name shape us then_act next) m1 (meaning.statements copies after c1) is_whole
+          (converted_whole p n shape e.shape vs (λ us. local_with scope name shape us then_act next) m3 (meaning.statements copies after c1) is_whole
           (λ equal.
           let same : shape ≡ from = shapes_same shape e.shape equal ∙ one.shape_is in
           let cells : cells_of p.world from ≡ has.first.shape ∷ shapes_in has.others = sym has.shapes ∙ ap shapes_in has.is in
           let here : HasShape m1 t has.first.shape = (subst (λ z. AreCells m1 t z) cells leads.0).0 in
-          whole_with_same p n scope name shape shapes (at t) byte vs then_act next m1 c1 rest after world frame structs is_whole pending fits1 temp
+          whole_with_same p n scope name shape shapes (at t) byte vs then_act next m3 c1 rest after world frame structs is_whole pending fits3 temp
           (subst (λ z. AreMade c1.memory (at t) byte (layout_of p.world z).cells) (sym same) leads.1)
-          (subst (λ z. AllShown p.world m1 c1.memory (at t) (cells_of p.world z) vs) (sym same)
-          (held_shown p.world m1 c1.memory t (cells_of p.world from) vs fits1.agree has.cells held))
+          (subst (λ z. AllShown p.world m3 c1.memory (at t) (cells_of p.world z) vs) (sym same)
+          (all_shown_later nothing p.world m1 m3 c1.memory (at t) (cells_of p.world from) vs (moved.later nothing)
+          (held_shown p.world m1 c1.memory t (cells_of p.world from) vs fits1.agree has.cells held)))
           (sym (fits1.agree.live t.region) ∙ subst (λ z. IsLiveFor m1 t z) cells live)
           (object_apart p.world m1 c1.memory p.frame p.made t _ fits1.agree fits1.made here.is)
           (record {
             go = λ m2 c2 fits2 later2 blocks2 kept2.
-                goes.go m2 c2 fits2 (later_on (around p p.frame) m m1 m2 c.memory c1.memory c2.memory
-                (later_items p m m1 c c1 later1) later2) (blocks2 ∙ blocks_of p m m1 c c1 fits fits1) (λ k less. kept2 k less ∙ kept1 k less);
-          })))));
+                goes.go m2 c2 fits2 (later_on (around p p.frame) m m3 m2 c.memory c1.memory c2.memory
+                (later_items p m m3 c c1 later3) later2) (blocks2 ∙ blocks_of p m m3 c c1 fits fits3) (λ k less. kept2 k less ∙ kept1 k less);
+          }))));
     })))
   where
     copies : Statements

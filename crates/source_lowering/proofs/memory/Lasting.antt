@@ -1,25 +1,12 @@
 -- What lasts: facts of earlier memories hold in later ones, and a place fits them.
-use Rattle.std.proofs.Common.{◌≡◌, ℕ, ◌+◌, ◌≤◌, inl, inr, ⊎_elim, suc, List, [], ◌∷◌, Bool, true, false, nat_eq, refl, sym, ap, ◌∙◌, subst, arith}
+use Rattle.std.proofs.Common.{◌≡◌, ℕ, ◌≤◌, suc, List, [], ◌∷◌, Bool, true, false, nat_eq, refl, sym, ap, ◌∙◌, subst, arith}
 use Rattle.std.specs.Prelude.{◌&&◌}
 use Rattle.std.proofs.lemmas.Bool.{eqb-true, and_parts}
-use Rattle.source_meaning.specs.Shapes.{
-  Shape,
-  IntShape,
-  UnsignedShape,
-  CharShape,
-  VoidShape,
-  ThinShape,
-  FatShape,
-  HandleShape,
-  KeyShape,
-  StructShape,
-  UnionShape,
-  ArrayShape,
-}
+use Rattle.source_meaning.specs.Shapes.{Owner, Shape, IntShape, UnsignedShape, CharShape, VoidShape, ThinShape, FatShape, HandleShape, KeyShape, StructShape}
+use Rattle.source_meaning.specs.Shapes.{UnionShape, ArrayShape}
 use Rattle.source_meaning.specs.Memory as source
 use Rattle.source_meaning.specs.Memory.{Scalar, Spot, same_region, same_spot}
 use Rattle.source_meaning.specs.Steps.{World, Entity, Variable, Fixed, Binding}
-use Rattle.source_meaning.specs.Conversions.{cells_of, size_of}
 use Rattle.core_meaning.specs.Memory as core
 use Rattle.core_meaning.specs.Memory.{Content}
 use Rattle.core_meaning.specs.Steps.{Config}
@@ -27,38 +14,10 @@ use Rattle.core_meaning.specs.Operations.{same_object}
 use Rattle.core_meaning.proofs.Spots.{region_same, spot_same}
 use Rattle.source_lowering.specs.Layouts.{layout_of}
 use Rattle.source_lowering.proofs.memory.Held.{numbers_kept}
-use Rattle.source_lowering.specs.Simulation.{
-  AreKept,
-  region_at,
-  at,
-  AreShaped,
-  AreCells,
-  Leads,
-  APointer,
-  AFat,
-  Shown,
-  ShownMember,
-  SameMemory,
-  Bound,
-  nothing,
-  IsKept,
-  IsFree,
-  Grown,
-  Point,
-  SameState,
-  activation,
-  within,
-  around,
-  GrownAt,
-  AreMade,
-  ArePending,
-  IsLed,
-  AreLed,
-  AreTexts,
-  HasStatics,
-  VariableLeads,
-  LocalMade,
-}
+pub use Rattle.source_lowering.proofs.memory.LayoutsKept.{Lasts, made_kept, leads_kept, owned_kept, member_kept, shown_kept}
+use Rattle.source_lowering.specs.Simulation.{AreKept, region_at, at, Leads, IsOwned, Shown, ShownMember, SameMemory, Bound, nothing, IsKept, IsFree, Grown}
+use Rattle.source_lowering.specs.Simulation.{StaysAs, Point, SameState, activation, within, around, GrownAt, AreMade, ArePending, IsLed, AreLed, AreTexts}
+use Rattle.source_lowering.specs.Simulation.{HasStatics, VariableLeads, LocalMade}
 
 -- ---- spots
 
@@ -102,13 +61,30 @@ free_nothing t k r h = let f = h.0 in let none = h.1 (omega (arith, f)) in omega
 
 -- ---- facts of earlier memories hold in later ones
 
+pub stays_self : (now : core.Standing) → StaysAs now now
+stays_self now = record { lexical = λ h. h; single = λ h. h; dynamic = λ h. h }
+
+-- a region is dead then
+pub stays_dead : (old : core.Standing) → StaysAs old core.Dead
+stays_dead old = record { lexical = λ h. tt; single = λ h. tt; dynamic = λ h. tt }
+
+pub stays_on : (a b c : core.Standing) → StaysAs a b → StaysAs b c → StaysAs a c
+stays_on a b c x y = record {
+  lexical = λ h. y.lexical (x.lexical h);
+  single = λ h. y.single (x.single h);
+  dynamic = λ h. y.dynamic (x.dynamic h);
+}
+
 pub later_self : (b : Bound) (m : source.Memory) (c : core.Memory) → Grown b m c m c
 later_self b m c = record {
   shapes = λ s shape h. h;
+  lent = λ s shape v h. h;
   parts = λ t j o w h. h;
   objects = λ k h. refl;
   begun = omega arith;
   called = omega arith;
+  births = omega arith;
+  stays = λ d less. stays_self _;
   stands = λ k h. refl;
   owned = λ k t j r h. refl;
 }
@@ -116,10 +92,14 @@ later_self b m c = record {
 pub later_on : (b : Bound) (m m' m'' : source.Memory) (c c' c'' : core.Memory) → Grown b m c m' c' → Grown b m' c' m'' c'' → Grown b m c m'' c''
 later_on b m m' m'' c c' c'' x y = record {
   shapes = λ s shape h. y.shapes s shape (x.shapes s shape h);
+  lent = λ s shape v h. y.lent s shape v (x.lent s shape v h);
   parts = λ t j o w h. y.parts t j o w (x.parts t j o w h);
   objects = λ k h. y.objects k h ∙ x.objects k h;
   begun = let f = x.begun in let g = y.begun in omega (arith, f, g);
   called = let f = x.called in let g = y.called in omega (arith, f, g);
+  births = let f = x.births in let g = y.births in omega (arith, f, g);
+  stays = λ d less. let f = x.births in
+      stays_on (c.standing (core.Born d)) (c'.standing (core.Born d)) (c''.standing (core.Born d)) (x.stays d less) (y.stays d (omega (arith, f, less)));
   stands = λ k h. y.stands k h ∙ x.stands k h;
   owned = λ k t j r h. y.owned k t j r h ∙ x.owned k t j r h;
 }
@@ -136,10 +116,13 @@ less_self b = record { frames = omega arith; standing = omega arith; kept = λ k
 pub later_less : (b b' : Bound) (m m' : source.Memory) (c c' : core.Memory) → IsLess b' b → Grown b m c m' c' → Grown b' m c m' c'
 later_less b b' m m' c c' less l = record {
   shapes = l.shapes;
+  lent = l.lent;
   parts = l.parts;
   objects = λ k h. let f = less.frames in l.objects k (omega (arith, f, h));
   begun = l.begun;
   called = l.called;
+  births = l.births;
+  stays = l.stays;
   stands = λ k h. let f = less.standing in l.stands k (omega (arith, f, h));
   owned = λ k t j r h. l.owned k t j r (less.kept k t.object h);
 }
@@ -162,86 +145,29 @@ within_items p = record {
   kept = λ k i h. (h.0, λ e. let none = h.1 e in omega (arith, none));
 }
 
-shaped_later : (b : Bound) (m m' : source.Memory) (c c' : core.Memory) (t : core.Spot) (byte j : ℕ) (xs : List core.PartShape) → Grown b m c m' c'
-    → AreShaped c t byte j xs → AreShaped c' t byte j xs
-shaped_later b m m' c c' t byte j [] l h = tt
-shaped_later b m m' c c' t byte j (x ∷ xs) l (one, others) = (
-  l.parts t j (byte + x.offset) x.width one,
-  shaped_later b m m' c c' t byte (suc j) xs l others,
-)
+pub lasts : (b : Bound) (m m' : source.Memory) (c c' : core.Memory) → Grown b m c m' c' → Lasts m c m' c'
+lasts b m m' c c' l = record { shapes = l.shapes; parts = l.parts; births = l.births; stays = l.stays }
 
 pub made_later : (b : Bound) (m m' : source.Memory) (c c' : core.Memory) (t : core.Spot) (byte : ℕ) (xs : List (List core.PartShape)) → Grown b m c m' c'
     → AreMade c t byte xs → AreMade c' t byte xs
-made_later b m m' c c' t byte [] l h = tt
-made_later b m m' c c' t byte (x ∷ xs) l (one, others) =
-    (shaped_later b m m' c c' t byte 0 x l one, made_later b m m' c c' (core.beyond t 1) byte xs l others)
-
-cells_later : (b : Bound) (m m' : source.Memory) (c c' : core.Memory) (s : Spot) (xs : List Shape) → Grown b m c m' c' → AreCells m s xs → AreCells m' s xs
-cells_later b m m' c c' s [] l h = tt
-cells_later b m m' c c' s (x ∷ xs) l (one, others) = (l.shapes s x one, cells_later b m m' c c' (source.beyond s 1) xs l others)
+made_later b m m' c c' t byte xs l h = made_kept m m' c c' t byte xs (lasts b m m' c c' l) h
 
 pub leads_later : (b : Bound) (w : World) (m m' : source.Memory) (c c' : core.Memory) (shape : Shape) (s : Spot) (byte : ℕ) → Grown b m c m' c'
     → Leads w m c shape s byte → Leads w m' c' shape s byte
-leads_later b w m m' c c' shape s byte l h = (
-  cells_later b m m' c c' s (cells_of w shape) l h.0,
-  made_later b m m' c c' (at s) byte (layout_of w shape).cells l h.1,
-)
+leads_later b w m m' c c' shape s byte l h = leads_kept w m m' c c' shape s byte (lasts b m m' c c' l) h
+
+pub owned_later : (b : Bound) (m m' : source.Memory) (c c' : core.Memory) (o : Owner) (s : Spot) (byte : ℕ) → Grown b m c m' c' → IsOwned o c s byte
+    → IsOwned o c' s byte
+owned_later b m m' c c' o s byte l h = owned_kept m m' c c' o s byte (lasts b m m' c c' l) h
 
 -- what a union holds is shown later, too
 pub member_later : (b : Bound) (w : World) (m m' : source.Memory) (c c' : core.Memory) (shape : Shape) (v : Scalar) (cs : List Content) → Grown b m c m' c'
     → ShownMember w m c shape v cs → ShownMember w m' c' shape v cs
-member_later b w m m' c c' IntShape v cs l h = h
-member_later b w m m' c c' UnsignedShape v cs l h = h
-member_later b w m m' c c' CharShape v cs l h = h
-member_later b w m m' c c' VoidShape v cs l h = h
-member_later b w m m' c c' (ThinShape n o to) v cs l h =
-    ⊎_elim (λ x. inl x) (λ (p : APointer w m c to v cs). inr (record {
-      spot = p.spot;
-      byte = p.byte;
-      value = p.value;
-      shown = p.shown;
-      lies = p.lies;
-      leads = leads_later b w m m' c c' to p.spot p.byte l p.leads;
-    })) h
-member_later b w m m' c c' (FatShape to) v cs l h =
-    ⊎_elim (λ x. inl x) (λ (p : AFat w m c to (size_of w to) v cs). inr (record {
-      span = p.span;
-      byte = p.byte;
-      value = p.value;
-      shown = p.shown;
-      small = p.small;
-      few = p.few;
-      lies = p.lies;
-      leads = λ k less. leads_later b w m m' c c' to _ _ l (p.leads k less);
-    })) h
-member_later b w m m' c c' HandleShape v cs l h = h
-member_later b w m m' c c' KeyShape v cs l h = h
-member_later b w m m' c c' (StructShape tag) v cs l h = h
-member_later b w m m' c c' (UnionShape tag) v cs l h = h
-member_later b w m m' c c' (ArrayShape count of) v cs l h = h
+member_later b w m m' c c' shape v cs l h = member_kept w m m' c c' shape v cs (lasts b m m' c c' l) h
 
 pub shown_later : (b : Bound) (w : World) (m m' : source.Memory) (c c' : core.Memory) (shape : Shape) (v : Scalar) (cs : List Content) → Grown b m c m' c'
     → Shown w m c shape v cs → Shown w m' c' shape v cs
-shown_later b w m m' c c' IntShape v cs l h = member_later b w m m' c c' IntShape v cs l h
-shown_later b w m m' c c' UnsignedShape v cs l h = member_later b w m m' c c' UnsignedShape v cs l h
-shown_later b w m m' c c' CharShape v cs l h = member_later b w m m' c c' CharShape v cs l h
-shown_later b w m m' c c' VoidShape v cs l h = member_later b w m m' c c' VoidShape v cs l h
-shown_later b w m m' c c' (ThinShape n o to) v cs l h = member_later b w m m' c c' (ThinShape n o to) v cs l h
-shown_later b w m m' c c' (FatShape to) v cs l h = member_later b w m m' c c' (FatShape to) v cs l h
-shown_later b w m m' c c' HandleShape v cs l h = member_later b w m m' c c' HandleShape v cs l h
-shown_later b w m m' c c' KeyShape v cs l h = member_later b w m m' c c' KeyShape v cs l h
-shown_later b w m m' c c' (StructShape tag) v cs l h = member_later b w m m' c c' (StructShape tag) v cs l h
-shown_later b w m m' c c' (UnionShape tag) v cs l h = record {
-  number = h.number;
-  shape = h.shape;
-  held = h.held;
-  words = h.words;
-  value = h.value;
-  known = h.known;
-  member = member_later b w m m' c c' h.shape h.held h.words l h.member;
-  shown = h.shown;
-}
-shown_later b w m m' c c' (ArrayShape count of) v cs l h = member_later b w m m' c c' (ArrayShape count of) v cs l h
+shown_later b w m m' c c' shape v cs l h = shown_kept w m m' c c' shape v cs (lasts b m m' c c' l) h
 
 variable_later : (b : Bound) (w : World) (m m' : source.Memory) (c c' : core.Memory) (shape : Shape) (s : Spot) → Grown b m c m' c'
     → VariableLeads w m c shape s → VariableLeads w m' c' shape s

@@ -1,54 +1,15 @@
 -- The source reads all cells of an object.
-use Rattle.std.proofs.Common.{◌≡◌, ℕ, suc, List, [], ◌∷◌, length, Bool, true, false, Some, refl, ap, ◌∙◌}
-use Rattle.std.specs.Prelude.{if◌then◌else◌}
-use Rattle.source_meaning.specs.Shapes.{
-  Shape,
-  IntShape,
-  UnsignedShape,
-  CharShape,
-  VoidShape,
-  ThinShape,
-  FatShape,
-  HandleShape,
-  KeyShape,
-  StructShape,
-  UnionShape,
-  ArrayShape,
-  Layout,
-}
+use Rattle.std.proofs.Common.{◌≡◌, ℕ, suc, List, [], ◌∷◌, length, Bool, true, false, Some, refl}
+use Rattle.source_meaning.specs.Shapes.{Shape}
 use Rattle.source_meaning.specs.Memory as source
 use Rattle.source_meaning.specs.Memory.{Scalar, Spot, Holds, is_live, is_moved, any_moved}
 use Rattle.source_meaning.specs.Steps as steps
 use Rattle.source_meaning.specs.Steps.{World}
-use Rattle.source_meaning.specs.Values.{read_cells, take_cells, value_held}
+use Rattle.source_meaning.specs.Values.{read_cells, value_held}
 use Rattle.core_meaning.specs.Core.{Program}
 use Rattle.core_meaning.specs.Steps as core_steps
-use Rattle.source_lowering.specs.ObjectCells.{IsCellShape, AreCellShapes}
 use Rattle.source_lowering.specs.Simulation.{AreCells, Same}
 use Rattle.source_lowering.proofs.Runs.{stuck_same}
-
-owner_still : (unions : List Layout) (s : Shape) → IsCellShape unions s → is_moved s ≡ false
-owner_still unions IntShape h = refl
-owner_still unions UnsignedShape h = refl
-owner_still unions CharShape h = refl
-owner_still unions VoidShape h = absurd h
-owner_still unions (ThinShape b owner to) h = ap source.is_alone h.0
-owner_still unions (FatShape to) h = refl
-owner_still unions HandleShape h = refl
-owner_still unions KeyShape h = absurd h
-owner_still unions (StructShape tag) h = absurd h
-owner_still unions (UnionShape tag) h = refl
-owner_still unions (ArrayShape count of) h = absurd h
-
-none_moved : (unions : List Layout) (xs : List Shape) → AreCellShapes unions xs → any_moved xs ≡ false
-none_moved unions [] h = refl
-none_moved unions (x ∷ xs) h = ap (λ b. if b then true else any_moved xs) (owner_still unions x h.0) ∙ none_moved unions xs h.1
-
--- an object of words is copied as it is looked at
-pub whole_taken : (unions : List Layout) (xs : List Shape) (t : Spot) (s : List Scalar → source.Memory → steps.Step) (m : source.Memory)
-    → AreCellShapes unions xs
-    → take_cells xs t s m ≡ read_cells (length xs) t s m
-whole_taken unions xs t s m h = rw (none_moved unions xs h) refl
 
 -- what the cells from a spot on hold
 abbrev pub AllHeld : source.Memory → Spot → List Shape → List Scalar → Type 0

@@ -12,8 +12,8 @@ use Rattle.core_meaning.specs.Core.{Local}
 use Rattle.core_meaning.specs.Meaning.{with_objects}
 use Rattle.core_meaning.proofs.Spots.{region_same}
 use Rattle.source_lowering.specs.Programs.{locals_of}
-use Rattle.source_lowering.specs.Simulation.{region_at, at, ArePending, IsLexical, SameMemory, Bound, nothing, IsKept, Grown}
-use Rattle.source_lowering.proofs.memory.Keeping.{shown_later, held_same}
+use Rattle.source_lowering.specs.Simulation.{region_at, at, ArePending, StaysAs, SameMemory, Bound, nothing, IsKept, Grown}
+use Rattle.source_lowering.proofs.memory.Keeping.{shown_later, held_same, stays_self}
 use Rattle.source_lowering.proofs.memory.Entering.{
   later_number,
   made_parts,
@@ -42,17 +42,20 @@ own_gone c k = with_standing c (core.Own k) core.Dead
 pub gone_later : (b : Bound) (m : source.Memory) (c : core.Memory) (k : ℕ) → b.standing ≤ k → Grown b m c m (own_gone c k)
 gone_later b m c k less = record {
   shapes = λ s shape h. h;
+  lent = λ s shape v h. h;
   parts = λ t j o w h. record { content = h.content; is = h.is };
   objects = λ j h. refl;
   begun = omega arith;
   called = omega arith;
+  births = omega arith;
+  stays = λ d less. stays_self _;
   stands = λ j h. ap (λ z. if z then core.Dead else c.standing (core.Own j)) (other_number j k (omega (arith, h, less)));
   owned = λ j t i r h. refl;
 }
 
 pub gone_agree : (w : World) (m : source.Memory) (c : core.Memory) (k : ℕ) → SameMemory w m c → SameMemory w m (own_gone c k)
 gone_agree w m c k a = record {
-  cells = λ s shape v h. let one = a.cells s shape v h in record {
+  cells = λ s shape x v keeps h. let one = a.cells s shape x v keeps h in record {
     contents = one.contents;
     shown = shown_later nothing w m m c (own_gone c k) shape v one.contents (gone_later nothing m c k (omega arith)) one.shown;
     held = held_same c (own_gone c k) (at s) 0 one.contents (λ t j. refl) one.held;
@@ -66,7 +69,8 @@ gone_agree w m c k a = record {
   unowned = a.unowned;
   births = a.births;
   heap = a.heap;
-  lexical = a.lexical;
+  unborn = a.unborn;
+  closed = λ r. a.closed r ∙ ap core.is_closed (sym (live_apart r k core.Dead c));
   blocks = a.blocks;
   ungranted = a.ungranted;
 }
@@ -107,10 +111,13 @@ pub own_later : (b : Bound) (w : World) (m : source.Memory) (c : core.Memory) (l
     → b.values ≡ 0 → Grown b m c m (own_in ls c)
 own_later b w m c ls a standing own values = record {
   shapes = λ s shape h. h;
+  lent = λ s shape v h. h;
   parts = λ t j o width h. record { content = h.content; is = own_part w m c ls a t j _ h.is };
   objects = λ k h. refl;
   begun = omega arith;
   called = subst (λ z. c.calls ≤ z) (sym (made_calls (core.Own c.calls) ls (own_opened c))) (omega arith);
+  births = subst (λ z. c.births ≤ z) (sym (made_births (core.Own c.calls) ls (own_opened c))) (omega arith);
+  stays = λ d less. subst (StaysAs (c.standing (core.Born d))) (sym (made_standing (core.Own c.calls) ls (own_opened c) (core.Born d))) (stays_self _);
   stands = λ k h.
       made_standing (core.Own c.calls) ls (own_opened c) (core.Own k) ∙
       ap (λ z. if z then core.Live else c.standing (core.Own k)) (other_number k c.calls (omega (arith, h, standing)));
@@ -121,7 +128,7 @@ own_later b w m c ls a standing own values = record {
 
 pub own_agree : (w : World) (m : source.Memory) (c : core.Memory) (ls : List Local) → SameMemory w m c → SameMemory w m (own_in ls c)
 own_agree w m c ls a = record {
-  cells = λ s shape v h. let one = a.cells s shape v h in record {
+  cells = λ s shape x v keeps h. let one = a.cells s shape x v keeps h in record {
     contents = one.contents;
     shown = shown_later nothing w m m c (own_in ls c) shape v one.contents (own_later nothing w m c ls a (omega arith) (omega arith) refl) one.shown;
     held = held_on c (own_in ls c) (at s) 0 one.contents (own_part w m c ls a) one.held;
@@ -144,7 +151,9 @@ own_agree w m c ls a = record {
       made_objects (core.Own c.calls) ls (own_opened c) (core.Own k) (later_number k c.calls less) ∙ a.unowned k (omega (arith, less));
   births = a.births ∙ sym (made_births (core.Own c.calls) ls (own_opened c));
   heap = a.heap;
-  lexical = λ d. subst IsLexical (sym (made_standing (core.Own c.calls) ls (own_opened c) (core.Born d))) (a.lexical d);
+  unborn = a.unborn;
+  closed = λ r. a.closed r ∙ ap core.is_closed
+      (sym (made_standing (core.Own c.calls) ls (own_opened c) (region_at r) ∙ live_apart r c.calls core.Live c));
   blocks = λ d. a.blocks d ∙ sym (made_objects (core.Own c.calls) ls (own_opened c) (core.Born d) refl);
   ungranted = λ d t j r h.
       made_parts (core.Own c.calls) ls (own_opened c) t j (ap (λ z. core.same_region z (core.Own c.calls)) r) ∙

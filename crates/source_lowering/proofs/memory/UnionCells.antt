@@ -82,10 +82,10 @@ thin_fits : (w : World) (m : source.Memory) (c : core.Memory) (fat b : Bool) (ow
     → ShownMember w m c (ThinShape b owner to) v cs → FitFirst (words_behind fat) cs
 thin_fits w m c true b owner to v cs o =
     ⊎_elim (λ (z : ANull b v cs). subst (FitFirst (words_behind true)) (sym z.shown) (refl, tt))
-    (λ (z : APointer w m c to v cs). subst (FitFirst (words_behind true)) (sym z.shown) (refl, tt)) o
+    (λ (z : APointer w m c owner to v cs). subst (FitFirst (words_behind true)) (sym z.shown) (refl, tt)) o
 thin_fits w m c false b owner to v cs o =
     ⊎_elim (λ (z : ANull b v cs). subst (FitFirst (words_behind false)) (sym z.shown) (refl, tt))
-    (λ (z : APointer w m c to v cs). subst (FitFirst (words_behind false)) (sym z.shown) (refl, tt)) o
+    (λ (z : APointer w m c owner to v cs). subst (FitFirst (words_behind false)) (sym z.shown) (refl, tt)) o
 
 pub member_fits : (w : World) (m : source.Memory) (c : core.Memory) (fat : Bool) (s : Shape) (v : Scalar) (cs : List Content) → (is_fat s ≡ true → fat ≡ true)
     → ShownMember w m c s v cs → FitFirst (words_behind fat) cs
@@ -198,7 +198,7 @@ pub union_read : (w : World) (m : source.Memory) (c : core.Memory) (tag : List �
     → AreMade c (at s) byte (layout_of w (UnionShape tag)).cells → m.cells s ≡ Some (record { shape = UnionShape tag; content = Holds x })
     → UnionRead w m c tag s byte x
 union_read w m c tag s byte x a made holds =
-    let one = a.cells s (UnionShape tag) x holds in
+    let one = a.cells s (UnionShape tag) (Holds x) x refl holds in
     let u : AUnion w m c tag x one.contents = one.shown in
     let have = union_parts_there w c (at s) byte tag made in
     let fit = union_fits w m c tag x one.contents u in

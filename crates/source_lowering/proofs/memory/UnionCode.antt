@@ -37,7 +37,7 @@ use Rattle.source_lowering.proofs.values.Values.{put_temp, other_temp, kept_temp
 -- ---- loads
 
 -- a union's part
-part_read : (c : Config) (t p part offset byte : ℕ) (spot : core.Spot) (x : Content) (next : Config → core_steps.Step) → c.temps p ≡ Pointer spot byte
+pub part_read : (c : Config) (t p part offset byte : ℕ) (spot : core.Spot) (x : Content) (next : Config → core_steps.Step) → c.temps p ≡ Pointer spot byte
     → core.is_live (c.memory.standing spot.region) ≡ true → c.memory.parts spot part ≡ Some (record { offset = offset; width = 4; content = x })
     → offset ≡ byte + (0 + 4 * part) → does (Load t p (part_at 0 0 part)) next c ≡ next (with_temp t x c)
 part_read c t p part offset byte spot x next temp live there same =
@@ -119,10 +119,10 @@ held_does (ArrayShape count of) h c d byte spot fat tag xs rest next temp live p
 -- ---- stores
 
 -- a part's content is another
-abbrev part_put : core.Spot → ℕ → ℕ → ℕ → Content → Config → Config
+abbrev pub part_put : core.Spot → ℕ → ℕ → ℕ → Content → Config → Config
 part_put t byte part offset x c = with_memory (with_part c.memory t part (part_of byte (piece offset 4 core.Blank) x)) c
 
-part_wrote : (c : Config) (p t part offset byte : ℕ) (spot : core.Spot) (old x : Content) (next : Config → core_steps.Step) → c.temps p ≡ Pointer spot byte
+pub part_wrote : (c : Config) (p t part offset byte : ℕ) (spot : core.Spot) (old x : Content) (next : Config → core_steps.Step) → c.temps p ≡ Pointer spot byte
     → core.is_live (c.memory.standing spot.region) ≡ true → c.memory.parts spot part ≡ Some (part_of byte (piece offset 4 core.Blank) old)
     → offset ≡ 4 * part → c.temps t ≡ x → does (Store p (part_at 0 0 part) t) next c ≡ next (part_put spot byte part offset x c)
 part_wrote c p t part offset byte spot old x next temp live there same is =

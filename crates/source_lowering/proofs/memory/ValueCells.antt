@@ -44,8 +44,7 @@ use Rattle.source_meaning.specs.Steps as steps
 use Rattle.source_meaning.specs.Steps.{World, check}
 use Rattle.source_meaning.specs.Placing.{Placed}
 use Rattle.source_meaning.specs.Conversions.{cells_of, size_of}
-use Rattle.source_meaning.specs.Values.{read_cells, value_held, write_cells, put_content, is_lent, take_cells}
-use Rattle.source_meaning.specs.Places.{given_by}
+use Rattle.source_meaning.specs.Values.{read_cells, value_held, write_cells, put_content, is_lent}
 use Rattle.core_meaning.specs.Memory as core
 use Rattle.core_meaning.specs.Memory.{Content, Part}
 use Rattle.core_meaning.specs.Core.{Program}
@@ -70,8 +69,8 @@ use Rattle.source_lowering.specs.Simulation.{
   Same,
   Bound,
 }
-use Rattle.source_lowering.proofs.memory.Keeping.{m_written}
-use Rattle.source_lowering.proofs.memory.CellParts.{PartsAre, FitPieces, part_of, with_values, later_values, agree_values}
+use Rattle.source_lowering.proofs.memory.Keeping.{m_written, IsUnlent, unlent_is}
+use Rattle.source_lowering.proofs.memory.CellParts.{PartsAre, FitPieces, all_hold, part_of, with_values, later_values, agree_values}
 use Rattle.source_lowering.proofs.Runs.{stuck_same}
 use Rattle.source_lowering.proofs.memory.Members.{word_pieces}
 use Rattle.source_lowering.proofs.memory.Cells.{IsPlain, plain_of}
@@ -86,10 +85,6 @@ pub record IsCell (w : World) (shape : Shape) : Type 0 where
   pub cells : cells_of w shape ≡ shape ∷ []
   pub layout : (layout_of w shape).cells ≡ map (part_shape_of (alone shape)) (pieces_of shape) ∷ []
   pub fit : (m : source.Memory) (c : core.Memory) (v : Scalar) (cs : List Content) → Shown w m c shape v cs → FitPieces (pieces_of shape) cs
-  -- it is copied as it is looked at, and what is stored is given
-  pub taken : (s : Spot) (k : List Scalar → source.Memory → steps.Step) (m : source.Memory)
-      → take_cells (cells_of w shape) s k m ≡ read_cells (length (cells_of w shape)) s k m
-  pub given : (vs : List Scalar) → given_by shape vs ≡ vs
 
 word_cell : (w : World) (s : Shape) → IsWordShape s → IsCell w s
 word_cell w s h = record {
@@ -99,8 +94,6 @@ word_cell w s h = record {
       let one = plain.one m c v cs o in
       subst (λ qs. FitPieces qs cs) (sym (word_pieces s h))
       (subst (λ xs. FitPieces (piece 0 (width_of s) (first_part s) ∷ []) xs) (sym one.is) (one.fits, tt));
-  taken = plain.taken;
-  given = plain.given;
 }
   where
     plain : IsPlain w s (width_of s)
@@ -113,8 +106,6 @@ fat_cell w to = record {
   fit = λ m c v cs o.
       ⊎_elim (λ (z : AFatNull v cs). subst (λ xs. FitPieces (pieces_of (FatShape to)) xs) (sym z.shown) (refl, (refl, (refl, tt))))
       (λ (z : AFat w m c to (size_of w to) v cs). subst (λ xs. FitPieces (pieces_of (FatShape to)) xs) (sym z.shown) (refl, (refl, (refl, tt)))) o;
-  taken = λ s k m. refl;
-  given = λ vs. refl;
 }
 
 pub cell_of : (w : World) (s : Shape) → IsValueShape s → IsCell w s
@@ -182,37 +173,49 @@ hold_are c t byte j (q ∷ qs) (y ∷ ys) (x ∷ xs) are fit hold =
 -- what is known of a cell that was read
 pub record CellRead (w : World) (m : source.Memory) (c : core.Memory) (shape : Shape) (s : Spot) (byte : ℕ) (v : Scalar) : Type 0 where
   pub contents : List Content
+  pub holds : m.cells s ≡ Some (record { shape = shape; content = Holds v })
   pub live : core.is_live (c.standing (region_at s.region)) ≡ true
   pub parts : PartsAre c (at s) byte 0 (pieces_of shape) contents
   pub fit : FitPieces (pieces_of shape) contents
   pub shown : Shown w m c shape v contents
+
+-- the source reads it where it holds a value
+pub cell_held : (w : World) (fs : Program) (n : ℕ) (shape : Shape) (m : source.Memory) (t : Spot) (s : List Scalar → source.Memory → steps.Step)
+    (k : core_steps.Step) → HasShape m t shape
+    → ((v : Scalar) → is_live m t.region ≡ true → m.cells t ≡ Some (record { shape = shape; content = Holds v }) → Same w fs n (s (v ∷ []) m) k)
+    → Same w fs n (read_cells 1 t s m) k
+cell_held w fs n shape m t s k has go = by (is_live m t.region) refl
+  where
+    held : is_live m t.region ≡ true → (x : source.Content) → m.cells t ≡ Some (record { shape = shape; content = x })
+        → Same w fs n (value_held x (λ v. s (v ∷ [])) m) k
+    held live source.Blank is = stuck_same w fs n k
+    held live source.Gone is = stuck_same w fs n k
+    held live (source.Lent x) is = stuck_same w fs n k
+    held live (Holds v) is = go v live is
+
+    by : (b : Bool) → is_live m t.region ≡ b → Same w fs n (read_cells 1 t s m) k
+    by false e = rw e (stuck_same w fs n k)
+    by true e = rw (e, has.is) (held e has.content has.is)
 
 pub cell_reads : (w : World) (fs : Program) (n : ℕ) (shape : Shape) (m : source.Memory) (c : core.Memory) (t : Spot) (byte : ℕ)
     (s : List Scalar → source.Memory → steps.Step) (k : core_steps.Step)
     → IsCell w shape → SameMemory w m c → Leads w m c shape t byte → ((v : Scalar) → CellRead w m c shape t byte v → Same w fs n (s (v ∷ []) m) k)
     → Same w fs n (read_cells (length (cells_of w shape)) t s m) k
 cell_reads w fs n shape m c t byte s k one agree leads go =
-    subst (λ z. Same w fs n (read_cells (length z) t s m) k) (sym one.cells) (by (cell_there w m c t byte shape one leads) (is_live m t.region) refl)
-  where
-    held : CellAt m c t byte shape → is_live m t.region ≡ true → (x : source.Content) → m.cells t ≡ Some (record { shape = shape; content = x })
-        → Same w fs n (value_held x (λ v. s (v ∷ [])) m) k
-    held here live source.Blank is = stuck_same w fs n k
-    held here live source.Gone is = stuck_same w fs n k
-    held here live (source.Lent x) is = stuck_same w fs n k
-    held here live (Holds v) is =
-        let shown = agree.cells t shape v is in
-        let fit = one.fit m c v shown.contents shown.shown in
-        go v (record {
-          contents = shown.contents;
-          live = sym (agree.live t.region) ∙ live;
-          parts = hold_are c (at t) byte 0 (pieces_of shape) here.contents shown.contents here.parts fit shown.held;
-          fit = fit;
-          shown = shown.shown;
-        })
-
-    by : CellAt m c t byte shape → (b : Bool) → is_live m t.region ≡ b → Same w fs n (read_cells 1 t s m) k
-    by here false e = rw e (stuck_same w fs n k)
-    by here true e = rw (e, here.has.is) (held here e here.has.content here.has.is)
+    let here = cell_there w m c t byte shape one leads in
+    subst (λ z. Same w fs n (read_cells (length z) t s m) k) (sym one.cells)
+    (cell_held w fs n shape m t s k here.has
+    (λ v live is.
+    let shown = agree.cells t shape (Holds v) v refl is in
+    let fit = one.fit m c v shown.contents shown.shown in
+    go v (record {
+      contents = shown.contents;
+      holds = is;
+      live = sym (agree.live t.region) ∙ live;
+      parts = hold_are c (at t) byte 0 (pieces_of shape) here.contents shown.contents here.parts fit shown.held;
+      fit = fit;
+      shown = shown.shown;
+    })))
 
 -- ---- it is written
 
@@ -225,40 +228,45 @@ pub record CellWritten (w : World) (m : source.Memory) (c : core.Memory) (shape 
   pub agree : SameMemory w (m_written m s shape v) (with_values c (at s) byte (pieces_of shape) xs)
   pub later : (b : Bound) → Grown b m c (m_written m s shape v) (with_values c (at s) byte (pieces_of shape) xs)
 
+-- the source writes it where it isn't lent
+pub cell_put : (w : World) (fs : Program) (n : ℕ) (shape : Shape) (m : source.Memory) (t : Spot) (v : Scalar) (s : Unit {0} → source.Memory → steps.Step)
+    (k : core_steps.Step) → HasShape m t shape → (is_live m t.region ≡ true → IsUnlent m t → Same w fs n (s tt (m_written m t shape v)) k)
+    → Same w fs n (write_cells t (v ∷ []) s m) k
+cell_put w fs n shape m t v s k has go = by (is_live m t.region) refl
+  where
+    put_done : is_live m t.region ≡ true → IsUnlent m t → Same w fs n (put_content t (Holds v) s m) k
+    put_done live free = rw (live, has.is) (go live free)
+
+    of_type : is_live m t.region ≡ true → IsUnlent m t → (b : Bool) → is_of shape v ≡ b
+        → Same w fs n (check (is_of shape v) (λ u. put_content t (Holds v) s) m) k
+    of_type live free false e = rw e (stuck_same w fs n k)
+    of_type live free true e = rw e (put_done live free)
+
+    lent : is_live m t.region ≡ true → (b : Bool) → is_lent has.content ≡ b
+        → Same w fs n (check (not (is_lent has.content)) (λ u. check (is_of shape v) (λ u. put_content t (Holds v) s)) m) k
+    lent live true e = rw e (stuck_same w fs n k)
+    lent live false e = rw e (of_type live (unlent_is m t shape has.content has.is e) (is_of shape v) refl)
+
+    by : (b : Bool) → is_live m t.region ≡ b → Same w fs n (write_cells t (v ∷ []) s m) k
+    by false live = rw live (stuck_same w fs n k)
+    by true live = rw (live, has.is) (lent live (is_lent has.content) refl)
+
 pub cell_writes : (w : World) (fs : Program) (n : ℕ) (shape : Shape) (m : source.Memory) (c : core.Memory) (t : Spot) (byte : ℕ) (v : Scalar)
     (xs : List Content) (s : Unit {0} → source.Memory → steps.Step) (k : core_steps.Step)
     → IsCell w shape → SameMemory w m c → Leads w m c shape t byte → Shown w m c shape v xs
     → (CellWritten w m c shape t byte v xs → Same w fs n (s tt (m_written m t shape v)) k)
     → Same w fs n (write_cells t (v ∷ []) s m) k
-cell_writes w fs n shape m c t byte v xs s k one agree leads shown go = by (cell_there w m c t byte shape one leads) (is_live m t.region) refl
-  where
-    stored : CellAt m c t byte shape → is_live m t.region ≡ true → Same w fs n (s tt (m_written m t shape v)) k
-    stored here live =
-        let fit = one.fit m c v xs shown in
-        go (record {
-          old = here.contents;
-          live = sym (agree.live t.region) ∙ live;
-          parts = here.parts;
-          fit = fit;
-          agree = agree_values w m c t shape here.has.content v byte (pieces_of shape) here.contents xs agree here.has.is here.parts fit shown;
-          later = λ b. later_values b m c t shape here.has.content (Holds v) byte (pieces_of shape) here.contents xs here.has.is here.parts;
-        })
-
-    put_done : CellAt m c t byte shape → is_live m t.region ≡ true → Same w fs n (put_content t (Holds v) s m) k
-    put_done here live = rw (live, here.has.is) (stored here live)
-
-    of_type : CellAt m c t byte shape → is_live m t.region ≡ true → (b : Bool) → is_of shape v ≡ b
-        → Same w fs n (check (is_of shape v) (λ u. put_content t (Holds v) s) m) k
-    of_type here live false e = rw e (stuck_same w fs n k)
-    of_type here live true e = rw e (put_done here live)
-
-    lent : CellAt m c t byte shape → is_live m t.region ≡ true → (y : source.Content)
-        → Same w fs n (check (not (is_lent y)) (λ u. check (is_of shape v) (λ u. put_content t (Holds v) s)) m) k
-    lent here live (source.Lent x) = stuck_same w fs n k
-    lent here live source.Blank = of_type here live (is_of shape v) refl
-    lent here live source.Gone = of_type here live (is_of shape v) refl
-    lent here live (Holds u) = of_type here live (is_of shape v) refl
-
-    by : CellAt m c t byte shape → (b : Bool) → is_live m t.region ≡ b → Same w fs n (write_cells t (v ∷ []) s m) k
-    by here false live = rw live (stuck_same w fs n k)
-    by here true live = rw (live, here.has.is) (lent here live here.has.content)
+cell_writes w fs n shape m c t byte v xs s k one agree leads shown go =
+    let here = cell_there w m c t byte shape one leads in
+    let fit = one.fit m c v xs shown in
+    cell_put w fs n shape m t v s k here.has
+    (λ live free.
+    go (record {
+      old = here.contents;
+      live = sym (agree.live t.region) ∙ live;
+      parts = here.parts;
+      fit = fit;
+      agree = agree_values w m c t shape here.has.content v byte (pieces_of shape) here.contents xs xs agree here.has.is here.parts
+          (all_hold c (at t) byte 0 (pieces_of shape) xs fit) shown;
+      later = λ b. later_values b m c t shape here.has.content (Holds v) byte (pieces_of shape) here.contents xs here.has.is free here.parts;
+    }))

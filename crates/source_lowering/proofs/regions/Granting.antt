@@ -1,5 +1,5 @@
 -- A region that was born has one more object, in the source and in Core: any object that holds no value yet.
-use Rattle.std.proofs.Common.{◌≡◌, ℕ, ◌+◌, ◌≤◌, Bool, true, false, nat_eq, Option, Some, None, refl, sym, ap, ◌∙◌, subst, arith}
+use Rattle.std.proofs.Common.{◌≡◌, ℕ, ◌+◌, ◌<◌, ◌≤◌, Bool, true, false, nat_eq, Option, Some, None, refl, sym, ap, ◌∙◌, subst, arith}
 use Rattle.std.specs.Prelude.{◌&&◌, if◌then◌else◌}
 use Rattle.std.proofs.lemmas.Bool.{eqb-true, and_parts}
 use Rattle.source_meaning.specs.Shapes.{Shape}
@@ -9,9 +9,9 @@ use Rattle.source_meaning.specs.Steps.{World}
 use Rattle.core_meaning.specs.Memory as core
 use Rattle.core_meaning.specs.Memory.{Part}
 use Rattle.core_meaning.proofs.Spots.{region_same, region_self}
-use Rattle.source_lowering.specs.Simulation.{at, Bound, Grown, IsShown, SameMemory, nothing}
-use Rattle.source_lowering.proofs.memory.Keeping.{shown_later}
-use Rattle.source_lowering.proofs.memory.Entering.{held_on}
+use Rattle.source_lowering.specs.Simulation.{at, Bound, Grown, IsShown, SameMemory, nothing, kept_in}
+use Rattle.source_lowering.proofs.memory.Keeping.{stays_self, shown_later}
+use Rattle.source_lowering.proofs.memory.Entering.{held_on, later_number}
 use Rattle.source_lowering.proofs.expressions.Making.{is_here, made_cell, still_unmade}
 
 -- the parts of an object
@@ -48,10 +48,13 @@ pub more_later : (b : Bound) (w : World) (m : source.Memory) (c : core.Memory) (
     → Grown b m c (source_more m d o) (core_more c d x)
 more_later b w m c d o x a = record {
   shapes = λ t other h. record { content = h.content; is = made_cell m (source.Born d) o t _ a.unmade h.is };
+  lent = λ t other v h. made_cell m (source.Born d) o t _ a.unmade h;
   parts = λ t j offset width h. record { content = h.content; is = more_part w m c d x a t j _ h.is };
   objects = λ k h. refl;
   begun = omega arith;
   called = omega arith;
+  births = omega arith;
+  stays = λ d less. stays_self _;
   stands = λ k h. refl;
   owned = λ k t j r h. more_other c d x t j (ap (λ z. core.same_region z (core.Born d)) r);
 }
@@ -90,10 +93,11 @@ still_ungranted w m c d x a j t i r h = by (is_given c d t) refl
         ap (λ b. if b then x t.cell i else c.parts t i) e ∙ a.ungranted j t i r less
 
 pub more_agree : (w : World) (m : source.Memory) (c : core.Memory) (d : ℕ) (o : Object) (x : Parts)
-    → ((cell : ℕ) (shape : Shape) (v : Scalar) → o cell ≡ Some (record { shape = shape; content = Holds v }) → ⊥) → SameMemory w m c
+    → ((cell : ℕ) (shape : Shape) (x : source.Content) (v : Scalar) → kept_in x ≡ Some v → o cell ≡ Some (record { shape = shape; content = x }) → ⊥)
+    → d < m.births → SameMemory w m c
     → SameMemory w (source_more m d o) (core_more c d x)
-more_agree w m c d o x empty a = record {
-  cells = λ t shape v h. by (is_here m (source.Born d) t) t shape v refl h;
+more_agree w m c d o x empty born a = record {
+  cells = λ t shape y v keeps h. by (is_here m (source.Born d) t) t shape y v keeps refl h;
   live = a.live;
   activations = a.activations;
   unmade = still_unmade m (source.Born d) o a.unmade;
@@ -103,7 +107,10 @@ more_agree w m c d o x empty a = record {
   unowned = a.unowned;
   births = a.births;
   heap = a.heap;
-  lexical = a.lexical;
+  closed = a.closed;
+  unborn = λ j h.
+      let two = a.unborn j h in
+      (ap (λ b. if b then m.objects (source.Born d) + 1 else m.objects (source.Born j)) (later_number j d (omega (arith, h, born))) ∙ two.0, two.1);
   blocks = λ j.
       ap (λ z. if nat_eq j d then z + 1 else m.objects (source.Born j)) (a.blocks d) ∙
       ap (λ z. if nat_eq j d then c.objects (core.Born d) + 1 else z) (a.blocks j);
@@ -116,11 +123,11 @@ more_agree w m c d o x empty a = record {
     c' : core.Memory
     c' = core_more c d x
 
-    by : (b : Bool) (t : Spot) (shape : Shape) (v : Scalar) → is_here m (source.Born d) t ≡ b
-        → m'.cells t ≡ Some (record { shape = shape; content = Holds v }) → IsShown w m' c' t shape v
-    by true t shape v e h = absurd (empty t.cell shape v (sym (ap (λ b. if b then o t.cell else m.cells t) e) ∙ h))
-    by false t shape v e h =
-        let one = a.cells t shape v (sym (ap (λ b. if b then o t.cell else m.cells t) e) ∙ h) in
+    by : (b : Bool) (t : Spot) (shape : Shape) (y : source.Content) (v : Scalar) → kept_in y ≡ Some v → is_here m (source.Born d) t ≡ b
+        → m'.cells t ≡ Some (record { shape = shape; content = y }) → IsShown w m' c' t shape v
+    by true t shape y v keeps e h = absurd (empty t.cell shape y v keeps (sym (ap (λ b. if b then o t.cell else m.cells t) e) ∙ h))
+    by false t shape y v keeps e h =
+        let one = a.cells t shape y v keeps (sym (ap (λ b. if b then o t.cell else m.cells t) e) ∙ h) in
         record {
           contents = one.contents;
           shown = shown_later nothing w m m' c c' shape v one.contents (more_later nothing w m c d o x a) one.shown;

@@ -1,5 +1,6 @@
 -- What the cells of globals and strings hold at the start, in the source and in Core.
-use Rattle.std.proofs.Common.{◌≡◌, ℕ, zero, suc, ◌+◌, List, [], ◌∷◌, length, map, true, false, Some, None, refl, sym, ap, ◌∙◌, subst, ◌++◌, arith, ◌<◌}
+use Rattle.std.proofs.Common.{◌≡◌, ℕ, zero, suc, ◌+◌, List, [], ◌∷◌, length, map, true, false, Some, None, refl, sym, ap, ◌∙◌, subst, ◌++◌, arith, ◌<◌, Bool}
+use Rattle.std.proofs.Common.{Option}
 use Rattle.std.specs.Prelude.{◌*◌, slice_get}
 use Rattle.cyc_tree.specs.Tree as tree
 use Rattle.cyc_tree.specs.Tree.{Initial, Item}
@@ -20,11 +21,11 @@ use Rattle.source_meaning.specs.Shapes.{
   settled,
 }
 use Rattle.source_meaning.specs.Memory as source
-use Rattle.source_meaning.specs.Memory.{Scalar, Holds, Object, first_cell}
+use Rattle.source_meaning.specs.Memory.{Scalar, Holds, Object, first_cell, Cell}
 use Rattle.source_meaning.specs.Steps.{World}
 use Rattle.source_meaning.specs.Conversions.{cells_of}
 use Rattle.source_meaning.specs.Strings.{Literal}
-use Rattle.source_meaning.specs.Programs.{global_shape, global_object, global_objects, string_object}
+use Rattle.source_meaning.specs.Programs.{global_shape, global_object, global_objects, string_object, byte_cell}
 use Rattle.core_meaning.specs.Memory as core
 use Rattle.core_meaning.specs.Memory.{Content, Part, Layout}
 use Rattle.core_meaning.specs.Core.{Datum}
@@ -38,19 +39,22 @@ use Rattle.source_lowering.specs.Simulation.{Shown, HoldsFrom}
 use Rattle.source_lowering.proofs.values.Integers.{IsWordShape, IsValueShape, word_value, integer_word}
 use Rattle.source_lowering.proofs.memory.Cells.{plain_of}
 use Rattle.source_lowering.proofs.memory.StructCells.{value_cell, object_cells, HasCells}
-use Rattle.source_lowering.proofs.expressions.Making.{cell_with}
+use Rattle.source_lowering.proofs.expressions.Making.{cell_with, IsUnlentObject, cells_unlent}
 use Rattle.source_lowering.proofs.memory.Clearing.{BeginsWith, layout_first, placed_at}
 use Rattle.source_lowering.proofs.statements.Declaring.{blank_holds}
-use Rattle.source_lowering.proofs.memory.FirstCells.{IsFirstCell, first_cell_is, first_shown}
+use Rattle.source_lowering.proofs.memory.FirstCells.{IsFirstCell, first_cell_is, first_shown, first_free}
 use Rattle.source_lowering.proofs.memory.CellParts.{firsts_of}
 use Rattle.source_lowering.proofs.memory.Members.{word_pieces, cells_pieces, layout_count}
 use Rattle.source_lowering.proofs.expressions.ElementsMade.{here_on, further_on, element_blank, element_cell, cell_number}
-use Rattle.source_lowering.proofs.expressions.ArrayCells.{InElement, in_element}
+use Rattle.source_lowering.proofs.expressions.ArrayCells.{InElement, in_element, array_unlent}
 use Rattle.source_meaning.specs.Statements.{first_array}
 use Rattle.std.proofs.lemmas.List.{length-map}
 use Rattle.source_lowering.proofs.statements.WrittenTypes.{object_settled}
 pub use Rattle.source_lowering.proofs.HeapStrings.{cell_of, cell_in, IsHeapValue}
 use Rattle.source_lowering.proofs.HeapStrings.{string_value}
+use Rattle.source_meaning.specs.Values.{is_lent}
+use Rattle.std.proofs.lemmas.Option.{none-some}
+use Rattle.std.proofs.lemmas.Bool.{true≢false}
 
 abbrev pub part_of : ℕ → Content → Part
 part_of width x = record { offset = 0; width = width; content = x }
@@ -252,3 +256,30 @@ heap_value w (tree.GlobalItem g ∷ items) ss zero cell shape v structs h e =
 heap_value w (tree.GlobalItem g ∷ items) ss (suc i) cell shape v structs h e =
     let one = heap_value w items ss i cell shape v structs h.1 e in
     record { contents = one.contents; held = one.held; shown = one.shown }
+
+-- ---- nothing is lent at the start
+
+global_unlent : (w : World) (initial : Initial) (s : Shape) → IsUnlentObject (global_object w initial s)
+global_unlent w Initial.Unset s = cells_unlent source.first_content first_free (cells_of w s)
+global_unlent w (Initial.Elements count) s = array_unlent count source.first_content first_free (cells_of w s)
+global_unlent w (Initial.Given c) s = cells_unlent (λ s. source.Blank) (λ s. refl) (cells_of w s)
+
+byte_unlent : (bytes : List ℕ) (cell : ℕ) (shape : Shape) (v : Scalar) → slice_get (map byte_cell bytes) cell ≡ Some (cell_of shape (source.Lent v)) → ⊥
+byte_unlent [] cell shape v e = none-some _ e
+byte_unlent (b ∷ bytes) zero shape v e = true≢false (sym (ap lent_in e))
+  where
+    lent_in : Option Cell → Bool
+    lent_in None = false
+    lent_in (Some c) = is_lent c.content
+byte_unlent (b ∷ bytes) (suc cell) shape v e = byte_unlent bytes cell shape v e
+
+pub heap_unlent : (w : World) (items : List Item) (ss : List Literal) (i cell : ℕ) (shape : Shape) (v : Scalar)
+    → cell_in cell (slice_get (heap_objects w items ss) i) ≡ Some (cell_of shape (source.Lent v)) → ⊥
+heap_unlent w [] [] i cell shape v e = none-some _ e
+heap_unlent w [] (s ∷ ss) zero cell shape v e = byte_unlent (s.1 ++ 0 ∷ []) cell shape v e
+heap_unlent w [] (s ∷ ss) (suc i) cell shape v e = heap_unlent w [] ss i cell shape v e
+heap_unlent w (tree.StructItem s ∷ items) ss i cell shape v e = heap_unlent w items ss i cell shape v e
+heap_unlent w (tree.UnionItem u ∷ items) ss i cell shape v e = heap_unlent w items ss i cell shape v e
+heap_unlent w (tree.FunctionItem f ∷ items) ss i cell shape v e = heap_unlent w items ss i cell shape v e
+heap_unlent w (tree.GlobalItem g ∷ items) ss zero cell shape v e = (global_unlent w g.initial (settled (written g.of))).none cell shape v e
+heap_unlent w (tree.GlobalItem g ∷ items) ss (suc i) cell shape v e = heap_unlent w items ss i cell shape v e

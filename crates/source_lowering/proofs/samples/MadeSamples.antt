@@ -111,25 +111,25 @@ made_forms_taken = record {
     tt,
     (
       record {
-        result = GivesWord (record { pointers = tt; base = tt; word = tt });
+        result = GivesWord (record { base = tt; word = tt });
         main = λ e. record { pointers = refl; base = refl };
         parameters = tt;
         body = (
           tt,
           (
-            (record { pointers = (tt, tt); base = tt; known = tt }, (refl, (tt, (tt, λ t. (tt, (tt, (tt, tt))))))),
+            (record { base = tt; known = tt }, (tt, (tt, λ t. (tt, (tt, (tt, tt)))))),
             (
               (
-                record { pointers = (tt, tt); base = tt; known = tt },
+                record { base = tt; known = tt },
                 (tt, λ t. (refl, (refl, (tt, (((tt, ((tt, (tt, tt)), (tt, tt))), tt), tt))))),
               ),
               (
                 (
-                  record { pointers = (tt, (tt, tt)); base = tt; known = tt },
+                  record { base = tt; known = tt },
                   (tt, λ t. (tt, (tt, λ u. (tt, (tt, ((tt, (tt, tt)), tt)))))),
                 ),
                 (
-                  (record { pointers = (tt, tt); base = tt; known = tt }, (tt, λ t. (tt, tt))),
+                  (record { base = tt; known = tt }, (tt, λ t. (tt, tt))),
                   (
                     (
                       ((tt, (tt, (tt, tt))), tt),

@@ -56,28 +56,28 @@ end_alone_runs = refl
 all_forms_taken : IsLowerable all_forms
 all_forms_taken = record {
   items = (
-    (record { pointers = tt; base = tt; known = tt }, tt),
+    (record { base = tt; known = tt }, tt),
     (
       record {
         result = GivesNothing (record { pointers = refl; base = tt });
         main = λ e. absurd (cc e);
-        parameters = (record { pointers = tt; base = tt; word = tt }, tt);
+        parameters = (record { base = tt; word = tt }, tt);
         body = ((refl, (tt, tt)), tt);
       },
       (
         record {
-          result = GivesWord (record { pointers = tt; base = tt; word = tt });
+          result = GivesWord (record { base = tt; word = tt });
           main = λ e. record { pointers = refl; base = refl };
           parameters = tt;
           body = (
-            (record { pointers = tt; base = tt; known = tt }, tt),
+            (record { base = tt; known = tt }, tt),
             (
-              (record { pointers = tt; base = tt; known = tt }, tt),
+              (record { base = tt; known = tt }, tt),
               (
                 (
                   ((tt, (tt, tt)), ((tt, (tt, tt)), tt)),
                   (
-                    (record { pointers = tt; base = tt; known = tt }, (refl, tt)),
+                    (record { base = tt; known = tt }, (refl, tt)),
                     (
                       (tt, (((tt, (tt, tt)), ((tt, (tt, tt)), tt)), tt)),
                       ((refl, (tt, tt)), ((tt, ((tt, (tt, tt)), tt)), (((tt, (tt, tt)), tt), tt))),
@@ -228,20 +228,20 @@ struct_forms_taken = record {
     (
       tt,
       (
-        (record { pointers = tt; base = tt; known = refl }, tt),
+        (record { base = tt; known = refl }, tt),
         (
           record {
-            result = GivesWord (record { pointers = tt; base = tt; word = tt });
+            result = GivesWord (record { base = tt; word = tt });
             main = λ e. record { pointers = refl; base = refl };
             parameters = tt;
             body = (
-              (record { pointers = tt; base = tt; known = refl }, tt),
+              (record { base = tt; known = refl }, tt),
               (
-                (record { pointers = (tt, tt); base = tt; known = tt }, (tt, (refl, tt))),
+                (record { base = tt; known = tt }, (tt, (refl, tt))),
                 (
-                  (record { pointers = (tt, tt); base = tt; known = tt }, (tt, (tt, tt))),
+                  (record { base = tt; known = tt }, (tt, (tt, tt))),
                   (
-                    ((tt, ((refl, tt), tt)), (tt, tt)),
+                    ((tt, (tt, tt)), (tt, tt)),
                     (
                       ((tt, (refl, (tt, tt))), (tt, tt)),
                       (
@@ -249,16 +249,16 @@ struct_forms_taken = record {
                         (
                           (
                             (tt, (refl, (tt, tt))),
-                            ((((tt, ((refl, tt), (tt, (refl, (tt, tt))))), tt), (((tt, (tt, tt)), tt), tt)), tt),
+                            ((((tt, (tt, (tt, (refl, (tt, tt))))), tt), (((tt, (tt, tt)), tt), tt)), tt),
                           ),
                           (
-                            ((tt, ((refl, tt), (tt, (tt, tt)))), (tt, tt)),
+                            ((tt, (tt, (tt, (tt, tt)))), (tt, tt)),
                             (
-                              (((tt, ((refl, tt), tt)), tt), (refl, ((tt, tt), tt))),
+                              (((tt, (tt, tt)), tt), (refl, ((tt, tt), tt))),
                               (
-                                (record { pointers = tt; base = tt; known = refl }, ((tt, ((refl, tt), (tt, (refl, tt)))), refl)),
+                                (record { base = tt; known = refl }, ((tt, (tt, (tt, (refl, tt)))), refl)),
                                 (
-                                  (record { pointers = tt; base = tt; known = refl }, (((tt, ((refl, tt), tt)), tt), refl)),
+                                  (record { base = tt; known = refl }, (((tt, (tt, tt)), tt), refl)),
                                   (
                                     ((tt, (tt, tt)), (tt, tt)),
                                     ((((tt, (refl, (tt, tt))), tt), (((tt, (tt, tt)), tt), (((tt, (tt, tt)), tt), tt))), tt),
@@ -282,7 +282,7 @@ struct_forms_taken = record {
   );
   unions = tt;
   structs = (
-    record { new = refl; some = tt; members = (refl, ((refl, tt), (tt, tt))); small = omega arith },
+    record { new = refl; some = tt; members = (refl, (tt, (tt, tt))); small = omega arith },
     (record { new = refl; some = tt; members = (tt, (tt, tt)); small = omega arith }, tt),
   );
   strings = tt;

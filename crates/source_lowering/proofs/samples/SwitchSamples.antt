@@ -176,13 +176,13 @@ switch_forms_taken = record {
     tt,
     (
       record {
-        result = GivesWord (record { pointers = tt; base = tt; word = tt });
+        result = GivesWord (record { base = tt; word = tt });
         main = λ e. record { pointers = refl; base = refl };
         parameters = tt;
         body = (
-          (record { pointers = tt; base = tt; known = refl }, (refl, (record { number = 0; is = refl }, tt))),
+          (record { base = tt; known = refl }, (refl, (record { number = 0; is = refl }, tt))),
           (
-            (record { pointers = tt; base = tt; known = tt }, tt),
+            (record { base = tt; known = tt }, tt),
             (
               (
                 tt,

@@ -46,16 +46,16 @@ text_forms_run = refl
 text_forms_taken : IsLowerable text_forms
 text_forms_taken = record {
   items = (
-    (record { pointers = (tt, tt); base = tt; known = tt }, tt),
+    (record { base = tt; known = tt }, tt),
     (
-      (record { pointers = (tt, tt); base = tt; known = tt }, tt),
+      (record { base = tt; known = tt }, tt),
       (
         record {
-          result = GivesWord (record { pointers = tt; base = tt; word = tt });
+          result = GivesWord (record { base = tt; word = tt });
           main = λ e. record { pointers = refl; base = refl };
           parameters = tt;
           body = (
-            (record { pointers = (tt, tt); base = tt; known = tt }, tt),
+            (record { base = tt; known = tt }, tt),
             (
               ((tt, (tt, (tt, tt))), ((tt, tt), tt)),
               (

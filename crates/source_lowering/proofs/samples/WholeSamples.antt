@@ -176,25 +176,25 @@ whole_forms_taken = record {
     (
       tt,
       (
-        (record { pointers = tt; base = tt; known = refl }, tt),
+        (record { base = tt; known = refl }, tt),
         (
-          (record { pointers = tt; base = tt; known = refl }, tt),
+          (record { base = tt; known = refl }, tt),
           (
             record {
-              result = GivesWord (record { pointers = (tt, tt); base = tt; word = tt });
+              result = GivesWord (record { base = tt; word = tt });
               main = λ e. absurd (cc e);
               parameters = tt;
               body = (((tt, (tt, tt)), (tt, tt)), (tt, tt));
             },
             (
               record {
-                result = GivesWord (record { pointers = tt; base = tt; word = tt });
+                result = GivesWord (record { base = tt; word = tt });
                 main = λ e. record { pointers = refl; base = refl };
                 parameters = tt;
                 body = (
-                  (record { pointers = tt; base = tt; known = refl }, (refl, (tt, (tt, tt)))),
+                  (record { base = tt; known = refl }, (refl, (tt, (tt, tt)))),
                   (
-                    (record { pointers = tt; base = tt; known = refl }, (refl, (tt, ((tt, refl), tt)))),
+                    (record { base = tt; known = refl }, (refl, (tt, ((tt, refl), tt)))),
                     (
                       (tt, ((refl, (tt, ((refl, (tt, ((((tt, (refl, (tt, tt))), tt), (tt, tt)), tt))), tt))), refl)),
                       (

@@ -9,13 +9,12 @@ use Rattle.source_meaning.specs.Memory as source
 use Rattle.source_meaning.specs.Memory.{Scalar, Spot, is_live, same_region, state_is_live}
 use Rattle.source_meaning.specs.Steps as steps
 use Rattle.source_meaning.specs.Steps.{World, Scope, Variable, Flow, Act, need, ◌>>=◌}
-use Rattle.source_meaning.specs.Conversions.{one}
 use Rattle.source_meaning.specs.Places.{or_else, with_binding}
 use Rattle.source_meaning.specs.Regions.{in_block, local_with}
 use Rattle.source_meaning.specs.Statements as source_statements
 use Rattle.source_meaning.specs.Statements.{Held}
 use Rattle.core_meaning.specs.Memory.{Pointer, Word}
-use Rattle.core_meaning.specs.Core.{Program, Statement, Do, Constant, Apply, Equal, If, Block, Leave, Break, Statements, NoStatements, MoreStatements}
+use Rattle.core_meaning.specs.Core.{Program, Statement, Do, Constant, Apply, Equal, If, Block, Break, Statements, NoStatements, MoreStatements}
 use Rattle.core_meaning.specs.Words.{truth}
 use Rattle.core_meaning.specs.Steps as core_steps
 use Rattle.core_meaning.specs.Steps.{Config, with_temp}

@@ -32,7 +32,7 @@ use Rattle.source_meaning.specs.Memory.{
 use Rattle.source_meaning.specs.Steps as steps
 use Rattle.source_meaning.specs.Steps.{World, Variable, Scope, Flow, Act, check}
 use Rattle.source_meaning.specs.Conversions.{cells_of}
-use Rattle.source_meaning.specs.Values.{write_cells}
+use Rattle.source_meaning.specs.Values.{write_cells, is_lent}
 use Rattle.source_meaning.specs.Places.{with_binding}
 use Rattle.source_meaning.specs.Regions.{local_with}
 use Rattle.core_meaning.specs.Memory as core
@@ -66,8 +66,9 @@ use Rattle.source_lowering.specs.Simulation.{
   AValue,
   contents_in,
   VariableLeads,
+  kept_in,
 }
-use Rattle.source_lowering.proofs.memory.Keeping.{later_on, later_items, shown_later, all_led_later, statics_later, fits_later, m_written}
+use Rattle.source_lowering.proofs.memory.Keeping.{later_on, later_items, shown_later, all_led_later, statics_later, fits_later, m_written, kept_cases}
 use Rattle.source_lowering.proofs.Runs.{stuck_same}
 use Rattle.source_lowering.proofs.values.Integers.{IsTarget, IsValueShape, IsObject, value_object}
 use Rattle.source_lowering.proofs.memory.ObjectShapes.{object_leads, leads_object, object_made}
@@ -77,6 +78,7 @@ use Rattle.source_lowering.proofs.values.Values.{put_temp, other_temp, kept_cont
 use Rattle.source_lowering.proofs.memory.Loading.{stores_does}
 use Rattle.source_lowering.proofs.memory.Cells.{IsPlain}
 use Rattle.source_lowering.proofs.expressions.Making.{local_spot, cell_spot, cell_with, cells_here, m_made, objects_here, grown_later, agree_made}
+use Rattle.source_lowering.proofs.expressions.Making.{IsUnlentObject, cells_unlent}
 
 -- ---- a local more
 
@@ -116,15 +118,16 @@ object_with w g shape = object_of (map (cell_with g) (cells_of w shape))
 -- where it has an object that Core's parts show
 pub object_fits : (p : Point) (m : source.Memory) (c : Config) (name : List ℕ) (shape : Shape) (shapes : List Shape) (o : Object)
     → p.pending ≡ shape ∷ shapes → SameState p m c → VariableLeads p.world (m_made m p.frame o) c.memory shape (local_spot p.frame p.made)
+    → IsUnlentObject o
     → ((cell : ℕ) (of : Shape) (v : Scalar) → o cell ≡ Some (record { shape = of; content = Holds v })
     → IsShown p.world m c.memory (cell_spot p.frame p.made cell) of v)
     → SameState (with_local p name shape shapes) (m_made m p.frame o) c
-object_fits p m c name shape shapes o e fits leads shown =
+object_fits p m c name shape shapes o e fits leads free shown =
     let later = grown_later (around p p.frame) m c.memory p.frame o (omega arith) fits.agree.unmade in
     let all : ArePending p.world c.memory (core.Frame p.frame) p.made (shape ∷ shapes) =
     subst (λ z. ArePending p.world c.memory (core.Frame p.frame) p.made z) e fits.pending in
     record {
-      agree = agree_made p.world m c.memory p.frame p.made o fits.agree fits.made fits.begun shown;
+      agree = agree_made p.world m c.memory p.frame p.made o fits.agree fits.made fits.begun free shown;
       blocks = fits.blocks;
       locals = (leads, all_led_later (around p p.frame) p.world m (m_made m p.frame o) c.memory c.memory p.locals later fits.locals);
       held = (tt, fits.held);
@@ -139,11 +142,11 @@ object_fits p m c name shape shapes o e fits leads shown =
     }
 
 pub local_fits : (p : Point) (m : source.Memory) (c : Config) (name : List ℕ) (shape : Shape) (shapes : List Shape) (g : Shape → source.Content)
-    → IsObject p.world.unions p.world.structs shape → p.pending ≡ shape ∷ shapes → SameState p m c
+    → IsObject p.world.unions p.world.structs shape → p.pending ≡ shape ∷ shapes → SameState p m c → ((s : Shape) → is_lent (g s) ≡ false)
     → ((cell : ℕ) (of : Shape) (v : Scalar) → object_with p.world g shape cell ≡ Some (record { shape = of; content = Holds v })
     → IsShown p.world m c.memory (cell_spot p.frame p.made cell) of v)
     → SameState (with_local p name shape shapes) (m_made m p.frame (object_with p.world g shape)) c
-local_fits p m c name shape shapes g object e fits shown =
+local_fits p m c name shape shapes g object e fits free shown =
     let o : Object = object_with p.world g shape in
     let all : ArePending p.world c.memory (core.Frame p.frame) p.made (shape ∷ shapes) =
     subst (λ z. ArePending p.world c.memory (core.Frame p.frame) p.made z) e fits.pending in
@@ -151,7 +154,7 @@ local_fits p m c name shape shapes g object e fits shown =
     (leads_object p.world.unions p.world.structs p.world (m_made m p.frame o) c.memory shape (local_spot p.frame p.made) object (
       cells_here m p.frame p.made g (cells_of p.world shape) fits.made,
       object_made p.world.unions p.world.structs p.world c.memory (core.Frame p.frame) p.made shape object all.0,
-    )) shown
+    )) (cells_unlent g free (cells_of p.world shape)) shown
 
 -- what comes after a declaration: the temporaries below one stay
 pub record GoesOnIn (p q : Point) (n d : ℕ) (m0 : source.Memory) (c0 : Config) (s : source.Memory → steps.Step) (k : Config → core_steps.Step) : Type 0 where
@@ -185,6 +188,13 @@ blank_holds (x ∷ xs) zero of v e = no_value x of v e
     no_value : (s z : Shape) (u : Scalar) → Some (cell_with (λ s. source.Blank) s) ≡ Some (record { shape = z; content = Holds u }) → ⊥
     no_value s z u f = apart u (ap content_in f)
 blank_holds (x ∷ xs) (suc cell) of v e = blank_holds xs cell of v e
+
+-- nor does it keep anything
+pub blank_keeps : (xs : List Shape) (cell : ℕ) (of : Shape) (x : source.Content) (v : Scalar) → kept_in x ≡ Some v
+    → slice_get (map (cell_with (λ s. source.Blank)) xs) cell ≡ Some (record { shape = of; content = x }) → ⊥
+blank_keeps xs cell of x v keeps =
+    kept_cases (λ y u. slice_get (map (cell_with (λ s. source.Blank)) xs) cell ≡ Some (record { shape = of; content = y }) → ⊥)
+    (λ u e. blank_holds xs cell of u e) (λ u e. (cells_unlent (λ s. source.Blank) (λ s. refl) xs).none cell of u e) x v keeps
 
 -- what Core has before a value's parts are those of a local
 record BeforeStore (address : ℕ) (c : Config) (memory : core.Memory) (step : core_steps.Step) (next : Config → core_steps.Step) : Type 0 where
@@ -309,7 +319,7 @@ local_with_same p n address d scope name shape shapes vs then_act next m c rest 
     m1 = m_made m p.frame (object_with p.world (λ s. source.Blank) shape)
 
     fits1 : SameState q m1 c
-    fits1 = local_fits p m c name shape shapes (λ s. source.Blank) object pending fits
+    fits1 = local_fits p m c name shape shapes (λ s. source.Blank) object pending fits (λ s. refl)
         (λ cell of u e. absurd (blank_holds (cells_of p.world shape) cell of u e))
 
     later1 : Grown (around p p.frame) m c.memory m1 c.memory

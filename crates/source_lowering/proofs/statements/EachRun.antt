@@ -1,5 +1,5 @@
 -- Each expression that is a statement does the same as its code.
-use Rattle.std.proofs.Common.{◌≡◌, ℕ, suc, ◌+◌, ◌<◌, ◌≤◌, List, [], ◌∷◌, ◌++◌, length, Bool, true, false, refl, subst, arith}
+use Rattle.std.proofs.Common.{◌≡◌, ℕ, suc, ◌+◌, ◌<◌, ◌≤◌, List, [], ◌∷◌, ◌++◌, length, Bool, true, false, refl, sym, subst, arith}
 use Rattle.std.specs.Prelude.{if◌then◌else◌}
 use Rattle.cyc_tree.specs.Tree.{Expression}
 use Rattle.source_meaning.specs.Shapes.{
@@ -21,15 +21,17 @@ use Rattle.source_meaning.specs.Steps.{World, Scope, give, ◌>>=◌}
 use Rattle.source_meaning.specs.Expressions.{sense}
 use Rattle.core_meaning.specs.Core.{Statement, Do, Copy}
 use Rattle.source_lowering.specs.Layouts.{layout_of}
-use Rattle.source_lowering.specs.Lowered.{Named, static_shape, place_code, expression_code}
-use Rattle.source_lowering.specs.Lowerable.{IsWholeShape, Takes, TakesPlace, TakesWhole, TakesAssigned, TakesDropped, TakesCalled, TakesRun}
+use Rattle.source_lowering.specs.Lowered.{Named, static_shape, place_code, put_code, expression_code}
+use Rattle.source_lowering.specs.Lowerable.{IsOperandShape, IsWholeShape, Takes, TakesPlace, TakesWhole, TakesAssigned, TakesDropped, TakesCalled, TakesRun}
 use Rattle.source_lowering.specs.Whole.{makes_struct, expression_values, whole_values, whole_code, assigned_code, assigned_values, dropped_code, dropped_values}
 use Rattle.source_lowering.specs.Whole.{run_code, run_values}
 use Rattle.source_lowering.proofs.expressions.Calls.{CallsAs}
-use Rattle.source_lowering.proofs.expressions.EachExpression.{Known, place_in, IsKnown, place_same, expression_same, known_keeping, keeping_known, whole_same}
+use Rattle.source_lowering.proofs.expressions.EachExpression.{Known, place_in, IsKnown, named_same, place_same, expression_same, known_keeping, keeping_known, whole_same}
 use Rattle.source_lowering.specs.Simulation.{keeping}
 use Rattle.source_lowering.proofs.expressions.Places.{IsPlaced}
 use Rattle.source_lowering.proofs.statements.Statements.{RunsAs, run_same}
+use Rattle.source_lowering.proofs.statements.Ways.{onward_behind}
+use Rattle.source_lowering.proofs.expressions.Forms.{assigned_stores}
 use Rattle.source_lowering.proofs.expressions.Numbered.{AreNumbered, numbered_first, numbered_after}
 use Rattle.source_lowering.proofs.statements.WholeStatements.{whole_dropped, whole_assigned}
 
@@ -96,6 +98,30 @@ assigned_whole shape place value own scope k is takes takes_value whole numbered
     (numbered_after k.owned own values (expression_values scope.world k.names place) numbered)
     (let some = whole_some scope.world k.names value takes_value in omega (arith, some))))
 
+-- a word or a fat pointer that is assigned
+stored_run : (place value : Expression) (own : ℕ) (scope : Scope) (k : Known) → TakesPlace scope.world k.names place → Takes scope.world k.names value
+    → IsOperandShape (static_shape scope.world k.names place)
+    → AreNumbered k.owned own (expression_values scope.world k.names (Expression.Assign place value)) → k.kept ≤ own → IsKnown scope k → (n : ℕ)
+    → CallsAs scope.world k.program n
+    → RunsTo scope k n (Expression.Assign place value) (expression_code scope.world k.names (Expression.Assign place value) k.regions.all own)
+stored_run place value own scope k takes takes_value single numbered less known n calls =
+    let p = place_in scope k in
+    let d = k.regions.all in
+    let values = expression_values scope.world k.names value in
+    let more = expression_values scope.world k.names place in
+    let behind = own + length values in
+    let to = named_same place scope k takes single known n calls d behind (numbered_after k.owned own values more numbered) (omega (arith, less)) in
+    record {
+      same = λ m c next rest after fits ways.
+          assigned_stores p n d (sense place scope) (sense value scope) (static_shape scope.world k.names place) (static_shape scope.world k.names value)
+          (expression_code scope.world k.names value d own) (put_code scope.world k.names place d behind) to.shape_is to.taken to.stores
+          (expression_same value scope k takes_value known n calls d own (numbered_first k.owned own values more numbered) less) m c (λ vs. next steps.Falls)
+          rest after fits (omega arith) (λ us. record {
+            above = omega arith;
+            go = λ m1 c1 fits1 later1 kept1 given1. ways.falls m1 c1 (onward_behind p m m1 c c1 fits fits1 later1 kept1);
+          });
+    }
+
 -- what is assigned
 assigned_run : (s : Shape) (place value : Expression) (own : ℕ) (scope : Scope) (k : Known) → static_shape scope.world k.names place ≡ s
     → TakesAssigned scope.world k.names s place value → AreNumbered k.owned own (assigned_values scope.world k.names s place value) → k.kept ≤ own
@@ -106,23 +132,23 @@ assigned_run (StructShape tag) place value own scope k is h numbered less known 
 assigned_run (UnionShape tag) place value own scope k is h numbered less known n calls =
     assigned_whole (UnionShape tag) place value own scope k is h.0 h.1.0 h.1.1 numbered less known n calls
 assigned_run IntShape place value own scope k is h numbered less known n calls =
-    word_run (Expression.Assign place value) own scope k h numbered less known n calls
+    stored_run place value own scope k h.0 h.1.0 (subst IsOperandShape (sym is) tt) numbered less known n calls
 assigned_run UnsignedShape place value own scope k is h numbered less known n calls =
-    word_run (Expression.Assign place value) own scope k h numbered less known n calls
+    stored_run place value own scope k h.0 h.1.0 (subst IsOperandShape (sym is) tt) numbered less known n calls
 assigned_run CharShape place value own scope k is h numbered less known n calls =
-    word_run (Expression.Assign place value) own scope k h numbered less known n calls
+    stored_run place value own scope k h.0 h.1.0 (subst IsOperandShape (sym is) tt) numbered less known n calls
 assigned_run VoidShape place value own scope k is h numbered less known n calls =
-    word_run (Expression.Assign place value) own scope k h numbered less known n calls
+    stored_run place value own scope k h.0 h.1.0 (subst IsOperandShape (sym is) tt) numbered less known n calls
 assigned_run (ThinShape may_be_null owner to) place value own scope k is h numbered less known n calls =
-    word_run (Expression.Assign place value) own scope k h numbered less known n calls
+    stored_run place value own scope k h.0 h.1.0 (subst IsOperandShape (sym is) tt) numbered less known n calls
 assigned_run (FatShape to) place value own scope k is h numbered less known n calls =
-    word_run (Expression.Assign place value) own scope k h numbered less known n calls
+    stored_run place value own scope k h.0 h.1.0 (subst IsOperandShape (sym is) tt) numbered less known n calls
 assigned_run HandleShape place value own scope k is h numbered less known n calls =
-    word_run (Expression.Assign place value) own scope k h numbered less known n calls
+    stored_run place value own scope k h.0 h.1.0 (subst IsOperandShape (sym is) tt) numbered less known n calls
 assigned_run KeyShape place value own scope k is h numbered less known n calls =
-    word_run (Expression.Assign place value) own scope k h numbered less known n calls
+    stored_run place value own scope k h.0 h.1.0 (subst IsOperandShape (sym is) tt) numbered less known n calls
 assigned_run (ArrayShape count of) place value own scope k is h numbered less known n calls =
-    word_run (Expression.Assign place value) own scope k h numbered less known n calls
+    stored_run place value own scope k h.0 h.1.0 (subst IsOperandShape (sym is) tt) numbered less known n calls
 
 -- what is called or made
 called_run : (b : Bool) (e : Expression) (own : ℕ) (scope : Scope) (k : Known) → TakesCalled b (TakesWhole scope.world k.names e) (Takes scope.world k.names e)

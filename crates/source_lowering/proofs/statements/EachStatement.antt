@@ -78,6 +78,12 @@ use Rattle.source_lowering.proofs.statements.EachDeclaration.{known_more, known_
 use Rattle.source_lowering.proofs.statements.EachRun.{run_statement}
 use Rattle.source_lowering.proofs.statements.Clauses.{CasesAs, chosen, held_of, test_code, no_cases, case_more, none_chosen}
 use Rattle.source_lowering.proofs.statements.Switching.{switch_same}
+use Rattle.source_lowering.proofs.statements.Freeing.{name_freed}
+use Rattle.source_lowering.proofs.statements.Exchanges.{exchange_same}
+use Rattle.source_lowering.proofs.expressions.VariableForms.{variable_agrees}
+use Rattle.source_lowering.specs.Naming.{local_named}
+use Rattle.source_meaning.specs.Places.{bound_to}
+use Rattle.source_lowering.specs.Programs.{names_behind}
 
 -- ---- statements
 
@@ -150,13 +156,22 @@ mutual
       (statement_code scope.world scope.result k.names k.regions own s)
   statement_same (Statement.Empty at) own scope k h numbered less known result n calls = falls_same (place_in scope k) n (suc scope.frame) scope.result
   statement_same (Statement.Block at items) own scope k h numbered less known result n calls =
-      block_same (place_in scope k) n scope.result (block_shapes items) (λ frame. meaning_of.block_items items (record scope { frame = frame }))
+      block_same (place_in scope k) n scope.result (block_shapes scope.world (outward k.names) 0 items) (λ frame. meaning_of.block_items items (record scope { frame = frame }))
       (items_code scope.world scope.result (outward k.names) k.regions 0 own items)
-      (λ frame. items_same items own (record scope { frame = frame }) (known_inside scope k (block_shapes items)) h numbered less
-      (known_in_block scope k frame (block_shapes items) known) result n calls refl)
+      (λ frame. items_same items own (record scope { frame = frame }) (known_inside scope k (block_shapes scope.world (outward k.names) 0 items)) h numbered less
+      (known_in_block scope k frame (block_shapes scope.world (outward k.names) 0 items) known) result n calls refl)
   statement_same (Statement.Run e) own scope k h numbered less known result n calls =
       run_statement e own scope k h numbered less known n calls
-  statement_same (Statement.Exchange left right) own scope k h numbered less known result n calls = absurd h
+  statement_same (Statement.Exchange left right) own scope k h numbered less known result n calls =
+      let firsts = expression_values scope.world k.names left in
+      let others = expression_values scope.world k.names right in
+      let behind = own + length firsts in
+      let d = k.regions.all in
+      let one = place_same left scope k h.0 known n calls d own (numbered_first k.owned own firsts others numbered) less in
+      let other = place_same right scope k h.1.0 known n calls (d + 1) behind (numbered_after k.owned own firsts others numbered) (omega (arith, less)) in
+      exchange_same (place_in scope k) n scope.result (sense left scope) (sense right scope) (static_shape scope.world k.names left)
+      (static_shape scope.world k.names right) (place_code scope.world k.names left d own) (place_code scope.world k.names right (d + 1) behind)
+      one.shape_is other.shape_is h.1.1 one.placed other.placed
   statement_same (Statement.If at condition body) own scope k h numbered less known result n calls =
       let tested = expression_values scope.world k.names condition in
       let values = statement_values scope.world k.names body in
@@ -228,24 +243,26 @@ mutual
   statement_same (Statement.Return at (Some e)) own scope k h numbered less known result n calls =
       return_same (place_in scope k) n scope.result (sense e scope) (static_shape scope.world k.names e)
       (expression_code scope.world k.names e k.regions.all own) result (expression_same e scope k h known n calls k.regions.all own numbered less)
-  statement_same (Statement.FreeUnique at pointer) own scope k h numbered less known result n calls = absurd h
+  statement_same (Statement.FreeUnique at pointer) own scope k h numbered less known result n calls =
+      name_freed (place_in scope k) n scope.result pointer.text (local_named k.names pointer.text) (bound_to scope.world.globals pointer.text) h
+      (λ single. variable_agrees (place_in scope k) n k.regions.all pointer.text known.locals known.words known.world.globals known.world.structs single)
   statement_same (Statement.FreeKey at key) own scope k h numbered less known result n calls = absurd h
 
   pub items_same : (items : BlockItems) (own : ℕ) (scope : Scope) (k : Known) → TakesItems scope.world scope.result k.names k.made items
       → AreNumbered k.owned own (item_values scope.world k.names k.made items) → k.kept ≤ own → IsKnown scope k → IsTaken scope.result → (n : ℕ)
-      → CallsAs scope.world k.program n → k.pending ≡ block_shapes items → RunsAs (place_in scope k) n scope.frame scope.result
+      → CallsAs scope.world k.program n → k.pending ≡ block_shapes scope.world k.names k.made items → RunsAs (place_in scope k) n scope.frame scope.result
       (meaning_of.block_items items scope) (items_code scope.world scope.result k.names k.regions k.made own items)
   items_same NoItems own scope k h numbered less known result n calls pending = falls_same (place_in scope k) n scope.frame scope.result
   items_same (Declare d others) own scope k h numbered less known result n calls pending =
       let after = own + length (declaration_values scope.world k.names d) in
-      let names = named_here (tree.local_of d).text (local_shape d) k.made ∷ k.names in
+      let names = names_behind scope.world k.names k.made d in
       let values = item_values scope.world names (suc k.made) others in
-      declaration_same n d own scope k scope.result (block_shapes others) (meaning_of.block_items others)
+      declaration_same n d own scope k scope.result (block_shapes scope.world names (suc k.made) others) (meaning_of.block_items others)
       (items_code scope.world scope.result names (regions_with d k.regions) (suc k.made) after others) h.0
       (numbered_first k.owned own (declaration_values scope.world k.names d) values numbered) less known calls pending
-      (items_same others after (scope_more scope k (tree.local_of d).text (local_shape d)) (known_behind k d (block_shapes others)) h.1
+      (items_same others after (scope_more scope k (tree.local_of d).text (local_shape scope.world k.names d)) (known_behind scope.world k d (block_shapes scope.world names (suc k.made) others)) h.1
       (numbered_after k.owned own (declaration_values scope.world k.names d) values numbered) (omega (arith, less))
-      (known_next scope k d (block_shapes others) (shape_object scope.world k.names d h.0) known) result n calls refl)
+      (known_next scope k d (block_shapes scope.world names (suc k.made) others) (shape_object scope.world k.names d h.0) known) result n calls refl)
   items_same (Execute s others) own scope k h numbered less known result n calls pending =
       let after = own + length (statement_values scope.world k.names s) in
       let values = item_values scope.world k.names k.made others in
@@ -275,18 +292,18 @@ mutual
       subst (λ z. CasesAs (place_in scope k) n scope.result tag (λ number v. if meaning_of.is_position z number then
       Some (in_block (λ frame. local_with (record scope { frame = frame }) x.text s (v ∷ []) (meaning_of.block_items body))) else
       meaning_of.case_for others (held_of w tag number v) scope) (test_code k.regions.all (unwrap_or z 0)
-      (all_of (Block (locals_of w (s ∷ block_shapes body)) (all_of (held_loads s k.regions.all ++ (put_local s k.regions.all 0 0 ++
+      (all_of (Block (locals_of w (s ∷ block_shapes w (named_here x.text s 0 ∷ outward k.names) 1 body)) (all_of (held_loads s k.regions.all ++ (put_local s k.regions.all 0 0 ++
       items_code w scope.result (named_here x.text s 0 ∷ outward k.names) k.regions 1 own body))) ∷ Break ∷ [])) ++
       cases_code w scope.result k.names k.regions parts after others)) (sym h.0.is)
-      (case_more (place_in scope k) n scope.result scope x.text tag h.0.number s (block_shapes body) (meaning_of.block_items body)
+      (case_more (place_in scope k) n scope.result scope x.text tag h.0.number s (block_shapes w (named_here x.text s 0 ∷ outward k.names) 1 body) (meaning_of.block_items body)
       (λ number v. meaning_of.case_for others (held_of w tag number v) scope)
       (items_code w scope.result (named_here x.text s 0 ∷ outward k.names) k.regions 1 own body)
       (cases_code w scope.result k.names k.regions parts after others) refl known.world.unions is_value found.shape (omega (arith, below, few))
-      (λ frame. items_same body own (scope_more (record scope { frame = frame }) (known_inside scope k (s ∷ block_shapes body)) x.text s)
-      (known_bound scope k x.text s (block_shapes body)) h.1.0
+      (λ frame. items_same body own (scope_more (record scope { frame = frame }) (known_inside scope k (s ∷ block_shapes w (named_here x.text s 0 ∷ outward k.names) 1 body)) x.text s)
+      (known_bound scope k x.text s (block_shapes w (named_here x.text s 0 ∷ outward k.names) 1 body)) h.1.0
       (numbered_first k.owned own values (case_values w k.names parts others) numbered) less
-      (known_still (record scope { frame = frame }) (known_inside scope k (s ∷ block_shapes body)) x.text s (block_shapes body)
-      (object_named w.unions w.structs s (value_object w.unions w.structs s is_value)) (known_in_block scope k frame (s ∷ block_shapes body) known)) result n
+      (known_still (record scope { frame = frame }) (known_inside scope k (s ∷ block_shapes w (named_here x.text s 0 ∷ outward k.names) 1 body)) x.text s (block_shapes w (named_here x.text s 0 ∷ outward k.names) 1 body)
+      (object_named w.unions w.structs s (value_object w.unions w.structs s is_value)) (known_in_block scope k frame (s ∷ block_shapes w (named_here x.text s 0 ∷ outward k.names) 1 body) known)) result n
       calls refl)
       (cases_same others after scope k tag h.1.1 (numbered_after k.owned own values (case_values w k.names parts others) numbered) (omega (arith, less)) known
       result is n calls))
@@ -302,10 +319,10 @@ mutual
   default_same (MoreClauses at (Case f x) body others) own scope k parts h numbered less known result n calls =
       default_same others own scope k parts h.1.1 numbered less known result n calls
   default_same (MoreClauses at Default body others) own scope k parts h numbered less known result n calls =
-      block_same (place_in scope k) n scope.result (block_shapes body) (λ frame. meaning_of.block_items body (record scope { frame = frame }))
+      block_same (place_in scope k) n scope.result (block_shapes scope.world (outward k.names) 0 body) (λ frame. meaning_of.block_items body (record scope { frame = frame }))
       (items_code scope.world scope.result (outward k.names) k.regions 0 own body)
-      (λ frame. items_same body own (record scope { frame = frame }) (known_inside scope k (block_shapes body)) h.0 numbered less
-      (known_in_block scope k frame (block_shapes body) known) result n calls refl)
+      (λ frame. items_same body own (record scope { frame = frame }) (known_inside scope k (block_shapes scope.world (outward k.names) 0 body)) h.0 numbered less
+      (known_in_block scope k frame (block_shapes scope.world (outward k.names) 0 body) known) result n calls refl)
 
 -- ---- a function's body, whose arguments are in the first temporaries
 
@@ -333,7 +350,7 @@ pub body_same : (ps : List Part) (items : BlockItems) (scope : Scope) (k : Known
     → TakesItems scope.world scope.result (parameter_names ps k.made k.names) total items
     → AreNumbered k.owned 0 (item_values scope.world (parameter_names ps k.made k.names) total items) → k.kept ≤ 0
     → IsKnown scope k → IsTaken scope.result → CallsAs scope.world k.program n → k.made + length ps ≡ total → t + all_words (part_shapes ps) ≤ free
-    → k.regions.all ≤ free → k.pending ≡ part_shapes ps ++ block_shapes items
+    → k.regions.all ≤ free → k.pending ≡ part_shapes ps ++ block_shapes scope.world (parameter_names ps k.made k.names) total items
     → (m : source.Memory) (c : Config) (next : Flow → source.Memory → steps.Step) (rest : Statements) (after : Next) → SameState (place_in scope k) m c
     → AllGiven scope.world m c.memory (part_shapes ps) vss t c.temps
     → WaysOn scope.world k.program n k.regions (around (place_in scope k) scope.frame) m c scope.result next (meaning.statements rest after) after
@@ -344,7 +361,8 @@ body_same [] items scope k total n t free [] values h numbered less known result
     subst (λ z. SameAt (place_in scope k) n (meaning_of.block_items items scope next m) (meaning.statements (put
     (items_code scope.world scope.result k.names k.regions z 0 items) rest) after c)) e
     ((items_same items 0 scope k (subst (λ z. TakesItems scope.world scope.result k.names z items) (sym e) h)
-    (subst (λ z. AreNumbered k.owned 0 (item_values scope.world k.names z items)) (sym e) numbered) less known result n calls pending).same m c next rest
+    (subst (λ z. AreNumbered k.owned 0 (item_values scope.world k.names z items)) (sym e) numbered) less known result n calls
+    (pending ∙ ap (λ z. block_shapes scope.world k.names z items) (sym e))).same m c next rest
     after fits ways)
 body_same [] items scope k total n t free (vs ∷ vss) values h numbered less known result calls sum below regions pending m c next rest after fits given ways =
     stuck_same scope.world k.program n _
@@ -352,7 +370,8 @@ body_same (p ∷ ps) items scope k total n t free [] values h numbered less know
     stuck_same scope.world k.program n _
 body_same (p ∷ ps) items scope k total n t free (vs ∷ vss) values h numbered less known result calls sum below regions pending m c next rest
     after fits given ways =
-    let shapes : List Shape = part_shapes ps ++ block_shapes items in
+    let shapes : List Shape = part_shapes ps ++ block_shapes scope.world (parameter_names ps (suc k.made)
+    (named_here p.name p.shape k.made ∷ k.names)) total items in
     let more : Known = known_more k p.name p.shape shapes in
     let others : List core.Statement = items_code scope.world scope.result (parameter_names ps (suc k.made)
     (named_here p.name p.shape k.made ∷ k.names)) k.regions total 0 items in

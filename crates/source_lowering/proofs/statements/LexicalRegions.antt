@@ -7,20 +7,20 @@ use Rattle.source_meaning.specs.Steps as steps
 use Rattle.source_meaning.specs.Steps.{Variable, Scope, Flow, Act}
 use Rattle.source_meaning.specs.Places.{with_binding}
 use Rattle.source_meaning.specs.Regions.{lexical_region, local_with, region_freed}
-use Rattle.core_meaning.specs.Memory.{Birth}
+use Rattle.core_meaning.specs.Memory.{Birth, Born}
 use Rattle.core_meaning.specs.Core.{Do, MoreStatements, Put, RegionFree, RegionNew, Statement, Statements}
 use Rattle.core_meaning.specs.Steps as core_steps
 use Rattle.core_meaning.specs.Steps.{Config, with_memory, with_temp}
 use Rattle.core_meaning.specs.Meaning as meaning
 use Rattle.source_lowering.specs.Lowered.{put}
 use Rattle.source_lowering.specs.Programs.{RegionsAround}
-use Rattle.source_lowering.specs.Simulation.{SameState, Next, Point, SameAt, around, nothing, within}
+use Rattle.source_lowering.specs.Simulation.{Grown, IsLexical, SameState, Next, Point, SameAt, around, nothing, within}
 use Rattle.source_lowering.proofs.memory.Keeping.{fits_later, later_on}
 use Rattle.source_lowering.proofs.Runs.{put_all}
 use Rattle.source_lowering.proofs.values.Values.{other_temp, put_temp, temp_fits}
 use Rattle.source_lowering.proofs.expressions.Making.{local_spot}
 use Rattle.source_lowering.proofs.statements.Declaring.{local_with_same, with_local}
-use Rattle.source_lowering.proofs.regions.Regions.{core_born, core_freed, region_born_agree, region_born_later, region_born_same, region_freed_agree}
+use Rattle.source_lowering.proofs.regions.Regions.{IsScoped, born_scoped, scoped_later, core_born, core_freed, region_born_agree, region_born_later, region_born_same, region_freed_agree}
 use Rattle.source_lowering.proofs.regions.Regions.{region_freed_later}
 use Rattle.source_lowering.proofs.memory.Held.{numbers_more}
 use Rattle.source_lowering.proofs.regions.Regions.{region_freed_same, source_born, source_freed}
@@ -62,23 +62,24 @@ after_scope next r flow = region_freed r (λ u. next flow)
 
 -- the region is freed on each way out
 ways_freed : (p : Point) (n r : ℕ) (result : Shape) (m0 m : source.Memory) (c0 c : Config) (next : Flow → source.Memory → steps.Step) (rest : Statements)
-    (after : Next) → 0 < r → c.temps p.regions.all ≡ Birth r → Onward p.world p.regions.all (around p p.frame) m0 c0 m c
+    (after : Next) → 0 < r → IsScoped c.memory r → c.temps p.regions.all ≡ Birth r → Onward p.world p.regions.all (around p p.frame) m0 c0 m c
     → WaysOn p.world p.program n p.regions (around p p.frame) m0 c0 result next (meaning.statements rest after) after
     → WaysOn p.world p.program n (one_more p.regions) (around p p.frame) m c result (after_scope next r)
     (meaning.statements (put (free_code p.regions.all) rest) after) after
-ways_freed p n r result m0 m c0 c next rest after positive temp onward ways = record {
+ways_freed p n r result m0 m c0 c next rest after positive scope temp onward ways = record {
   falls = λ m' c' o.
-      region_freed_same p.world p.program n d r m' c' (λ u. next steps.Falls) (meaning.statements rest after) o.agree positive (held c' o.kept)
+      region_freed_same p.world p.program n d r m' c' (λ u. next steps.Falls) (meaning.statements rest after) o.agree positive
+      (scoped m' c' o.later) (held c' o.kept)
       (ways.falls (source_freed m' r) (out c') (on m' c' o));
   breaks = λ m' c' o.
       region_freed_same p.world p.program n d r m' c' (λ u. next steps.Breaks) (freed d p.regions.broken (after core_steps.Breaks)) o.agree positive
-      (held c' o.kept) (ways.breaks (source_freed m' r) (out c') (on m' c' o));
+      (scoped m' c' o.later) (held c' o.kept) (ways.breaks (source_freed m' r) (out c') (on m' c' o));
   continues = λ m' c' o.
       region_freed_same p.world p.program n d r m' c' (λ u. next steps.Continues) (freed d p.regions.continued (after core_steps.Continues)) o.agree positive
-      (held c' o.kept) (ways.continues (source_freed m' r) (out c') (on m' c' o));
+      (scoped m' c' o.later) (held c' o.kept) (ways.continues (source_freed m' r) (out c') (on m' c' o));
   returns = λ m' c' vs xs o given.
       region_freed_same p.world p.program n d r m' c' (λ u. next (steps.Returns vs)) (freed d d (after (core_steps.Returns xs))) o.agree positive
-      (held c' o.kept)
+      (scoped m' c' o.later) (held c' o.kept)
       (ways.returns (source_freed m' r) (out c') vs xs (on m' c' o)
       (result_later nothing p.world m' (source_freed m' r) c'.memory (out c').memory result vs xs (region_freed_later nothing m' c'.memory r) given));
 }
@@ -88,6 +89,9 @@ ways_freed p n r result m0 m c0 c next rest after positive temp onward ways = re
 
     out : Config → Config
     out c' = with_memory (core_freed c'.memory r) c'
+
+    scoped : (m' : source.Memory) (c' : Config) → Grown (around p p.frame) m c.memory m' c'.memory → IsLexical (c'.memory.standing (Born r))
+    scoped m' c' l = (l.stays r scope.born).lexical scope.lexical
 
     held : (c' : Config) → ((k : ℕ) → k < suc d → c'.temps k ≡ c.temps k) → c'.temps d ≡ Birth r
     held c' kept = kept d (omega arith) ∙ temp
@@ -134,6 +138,7 @@ region_declared p n scope name shapes result then_act others world frame pending
             (meaning.statements z after c2)) (sym (put_all others (free_code d) rest))
             (more.same m2 c2 (after_scope next r) (put (free_code d) rest) after (fits_in_scope p name shapes m2 c2 fits2)
             (ways_freed p n r result m m2 c c2 next rest after fits.agree.heap
+            (scoped_later (around p p.frame) m1 m2 c1.memory c2.memory r (born_scoped c.memory r fits.agree.births) later2)
             (temps2 d (omega arith) ∙ put_temp d (Birth r) (with_memory (core_born c.memory) c))
             (record {
               agree = fits2.agree;

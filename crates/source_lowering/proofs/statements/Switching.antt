@@ -60,7 +60,7 @@ held_same : (w : World) (fs : Program) (n : ℕ) (m : source.Memory) (c : core.M
     → ((number : ℕ) (u : Scalar) → v ≡ Tagged number u → Same w fs n (s (held_of w tag number u) m) k)
     → Same w fs n (held_by w (UnionShape tag) v s m) k
 held_same w fs n m c tag v s k t agree is go =
-    let shown = (agree.cells t (UnionShape tag) v is).shown in
+    let shown = (agree.cells t (UnionShape tag) (Holds v) v refl is).shown in
     subst (λ z. Same w fs n (held_by w (UnionShape tag) z s m) k) (sym shown.value) (go shown.number shown.held shown.value)
 
 pub switch_same : (p : Point) (n : ℕ) (result : Shape) (tag : List ℕ) (e : Sense) (place cases others : List Statement) (found : Held → Option (Act Flow))

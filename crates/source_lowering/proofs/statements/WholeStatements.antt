@@ -188,15 +188,16 @@ whole_assigned p n value result to from shape code place structs is_whole one pl
             dead_stuck p.world p.program n has.first.shape (shapes_in has.others) vs m2 t (λ u. next steps.Falls) _
             (shown_count p.world m2 c2.memory from_spot xs vs shown ∙ ap length cells) dead
         by true live =
-            let over = overwritten p.world m2 c2.memory t from_spot layout xs vs (layout_count p.world shape has) fits2.agree leads.0
-            (whole_copied p.world m2 c2.memory (at t) from_spot byte shape vs structs object leads.1 shown) in
             subst (λ z. SameAt p n (write_cells t vs (λ u. next steps.Falls) m2) z)
             (sym (copy_over c2 (p.regions.all + 1) p.regions.all (at t) from_spot byte layout (meaning.statements rest after) temp temp_from
             (sym (fits2.agree.live t.region) ∙ live) fits2.stands
             (laid_there c2.memory (at t) byte layout.cells leads.1) (laid_there c2.memory from_spot 0 layout.cells made) (own_apart t p.own value 0)))
             (writes_all p.world p.program n xs vs m2 t (λ u. next steps.Falls) (meaning.statements rest after c3)
             (shown_count p.world m2 c2.memory from_spot xs vs shown) live leads.0
-            (ways.falls (all_written m2 t xs vs) c3 (record {
+            (λ free.
+            let over = overwritten p.world m2 c2.memory t from_spot layout xs vs (layout_count p.world shape has) fits2.agree leads.0 free
+            (whole_copied p.world m2 c2.memory (at t) from_spot byte shape vs structs object leads.1 shown) in
+            ways.falls (all_written m2 t xs vs) c3 (record {
               agree = over.agree;
               later =
                   later_on (around p (suc p.frame)) m m2 (all_written m2 t xs vs) c.memory c2.memory c3.memory onward2.later

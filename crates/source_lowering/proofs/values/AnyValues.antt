@@ -94,8 +94,8 @@ pub thin_same : (w : World) (fs : Program) (n : ℕ) (shape : Shape) (m : source
 thin_same w fs n shape m c v x s k o go_null go_spot =
     ⊎_elim
     (λ (z : ANull o.may_be_null v (x ∷ [])). subst (λ u. Same w fs n (s u m) k) (sym z.value) (go_null (null_is x o.may_be_null v z) z.allowed))
-    (λ (z : APointer w m c o.to v (x ∷ [])).
-    subst (λ u. Same w fs n (s u m) k) (sym z.value) (go_spot z.spot z.byte (pointer_is w m c o.to x v z) z.lies z.leads))
+    (λ (z : APointer w m c o.owner o.to v (x ∷ [])).
+    subst (λ u. Same w fs n (s u m) k) (sym z.value) (go_spot z.spot z.byte (pointer_is w m c o.owner o.to x v z) z.lies z.leads))
     o.shown
 
 -- NULL, or a pointer to elements

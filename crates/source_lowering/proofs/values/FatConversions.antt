@@ -2,12 +2,12 @@
 use Rattle.std.proofs.Common.{◌≡◌, ⊎_elim, inl, inr, ℕ, ◌+◌, ◌*◌, ◌<◌, List, [], ◌∷◌, length, Bool, true, false, Option, Some, None, refl, sym, ap, ◌∙◌, subst}
 use Rattle.std.proofs.Common.{arith}
 use Rattle.std.specs.Prelude.{◌&&◌, nat_lt}
-use Rattle.std.proofs.lemmas.Bool.{and_parts}
+use Rattle.std.proofs.lemmas.Bool.{and_parts, false≢true}
 use Rattle.std.proofs.lemmas.Bool.Decides.{nat_tests}
 use Rattle.cyc_words.specs.Events.{SourceEnding}
 use Rattle.cyc_words.specs.declared.faults.Kind.TheVariants.{ArrayBounds}
 use Rattle.step_trees.specs.Trees.{Stops}
-use Rattle.source_meaning.specs.Shapes.{Owner, Shape, VoidShape, ThinShape, FatShape, goes_to, same_shape}
+use Rattle.source_meaning.specs.Shapes.{Owner, Shared, Alone, Unsaid, Shape, VoidShape, ThinShape, FatShape, goes_to, same_shape}
 use Rattle.source_meaning.specs.Memory as source
 use Rattle.source_meaning.specs.Memory.{Scalar, Thin, Wide, Spot, Span}
 use Rattle.source_meaning.specs.Steps as steps
@@ -22,7 +22,7 @@ use Rattle.core_meaning.specs.Meaning as meaning
 use Rattle.source_lowering.specs.Members.{raised, reached_code, element_code}
 use Rattle.source_lowering.specs.Layouts.{extent_of}
 use Rattle.source_lowering.specs.Lowered.{put, to_thin_code}
-use Rattle.source_lowering.specs.Simulation.{at, Leads, AFatNull, AFat, IsTakenObject, Point, SameState, SameAt, Next, AreKept, GrownAt, AValue, ANothing, Given}
+use Rattle.source_lowering.specs.Simulation.{at, Leads, AFatNull, AFat, IsOwned, IsTakenObject, Point, SameState, SameAt, Next, AreKept, GrownAt, AValue, ANothing, Given}
 use Rattle.source_lowering.specs.Simulation.{GoesOn, contents_in}
 use Rattle.source_lowering.proofs.Runs.{stuck_same, stops_same}
 use Rattle.source_lowering.proofs.memory.SameShapes.{shapes_same}
@@ -47,29 +47,38 @@ span_in y (Wide (Some x)) = x
 span_in y (Wide None) = y
 span_in y _ = y
 
+-- no fat pointer becomes unique
+owned_fat : (o : Owner) (from : Shape) (c : core.Memory) → goes_to o (FatShape from) ≡ true → (t : Spot) (byte : ℕ) → IsOwned o c t byte
+owned_fat Alone from c e t byte = absurd (false≢true e)
+owned_fat Shared from c e t byte = tt
+owned_fat Unsaid from c e t byte = tt
+
+no_span : (span : Span) → Wide None ≡ Wide (Some span) → ⊥
+no_span span e = cc e
+
 -- a pointer to an object is given on
 spot_goes : (p : Point) (n d : ℕ) (b : Bool) (o : Owner) (to : Shape) (m0 : source.Memory) (c0 : Config) (m : source.Memory) (c : Config) (t : Spot)
     (byte : ℕ) (s : List Scalar → source.Memory → steps.Step) (k : Config → core_steps.Step) → SameState p m c → GrownAt p m0 c0 m c → AreKept d c0 c
-    → c.temps d ≡ Pointer (at t) byte → IsTakenObject p.world to → Leads p.world m c.memory to t byte → GoesOn p n d m0 c0 (ThinShape b o to) s k
-    → SameAt p n (s (Thin (Some t) ∷ []) m) (k c)
-spot_goes p n d b o to m0 c0 m c t byte s k fits later kept temp lies leads goes =
+    → c.temps d ≡ Pointer (at t) byte → IsTakenObject p.world to → Leads p.world m c.memory to t byte → IsOwned o c.memory t byte
+    → GoesOn p n d m0 c0 (ThinShape b o to) s k → SameAt p n (s (Thin (Some t) ∷ []) m) (k c)
+spot_goes p n d b o to m0 c0 m c t byte s k fits later kept temp lies leads owned goes =
     goes.go m c (Thin (Some t) ∷ []) fits later kept (inl (record {
       value = Thin (Some t);
       alone = refl;
-      shown = inr (record { spot = t; byte = byte; value = refl; shown = ap (λ z. z ∷ []) temp; lies = lies; leads = leads });
+      shown = inr (record { spot = t; byte = byte; value = refl; shown = ap (λ z. z ∷ []) temp; lies = lies; leads = leads; owned = owned });
     }))
 
 -- the element is in the pointer's temporary, and the test's result behind it
 element_goes : (p : Point) (n d : ℕ) (b : Bool) (o : Owner) (to : Shape) (m0 : source.Memory) (c0 : Config) (m : source.Memory) (c : Config)
     (s : List Scalar → source.Memory → steps.Step) (k : Config → core_steps.Step) → SameState p m c → GrownAt p m0 c0 m c → AreKept d c0 c
-    → GoesOn p n d m0 c0 (ThinShape b o to) s k → ElementGoesOn p n d d to m c (λ t. s (Thin (Some t) ∷ [])) k
-element_goes p n d b o to m0 c0 m c s k fits later kept goes = record {
+    → ((t : Spot) (byte : ℕ) → IsOwned o c.memory t byte) → GoesOn p n d m0 c0 (ThinShape b o to) s k → ElementGoesOn p n d d to m c (λ t. s (Thin (Some t) ∷ [])) k
+element_goes p n d b o to m0 c0 m c s k fits later kept owned goes = record {
   go = λ t byte lies leads.
       let here : Config = with_temp (d + 1) (Word 1) c in
       spot_goes p n d b o to m0 c0 m (with_temp d (Pointer (at t) byte) here) t byte s k
       (temp_fits p m here d (Pointer (at t) byte) (temp_fits p m c (d + 1) (Word 1) fits (over goes.above (omega arith))) goes.above) later
       (kept_temp d d (Pointer (at t) byte) c0 here (omega arith) (kept_temp d (d + 1) (Word 1) c0 c (omega arith) kept))
-      (put_temp d (Pointer (at t) byte) here) lies leads goes;
+      (put_temp d (Pointer (at t) byte) here) lies leads (owned t byte) goes;
 }
 
 -- the source is stuck at each fat pointer
@@ -98,13 +107,14 @@ never_null p n d o to from = record {
   same = λ m0 c0 m c vs s rest next fits later kept given goes.
       let v = fat_value p.world m c.memory from vs (contents_in d (FatShape from) c.temps) given in
       let step : core_steps.Step = meaning.statements (put (element_code p.world to d d) rest) next c in
-      let goes_on = element_goes p n d false o to m0 c0 m c s (meaning.statements rest next) fits later kept goes in
+      let goes_on : goes_to o (FatShape from) ≡ true → ElementGoesOn p n d d to m c (λ t. s (Thin (Some t) ∷ [])) (meaning.statements rest next) =
+      λ free. element_goes p n d false o to m0 c0 m c s (meaning.statements rest next) fits later kept (owned_fat o from c.memory free) goes in
       subst (λ z. SameAt p n (converted p.world (ThinShape false o to) (FatShape from) z s m) step) (sym v.alone)
       (⊎_elim
       (λ (z : AFatNull v.value (contents_in d (FatShape from) c.temps)).
       subst (λ u. SameAt p n (converted p.world (ThinShape false o to) (FatShape from) (u ∷ []) s m) step) (sym z.value)
       (element_same p n d d to (Wide None) m c (λ t. s (Thin (Some t) ∷ [])) rest next
-      (inl (record { word = z.word; value = refl; shown = z.shown; small = z.small })) goes_on))
+      (inl (record { word = z.word; value = refl; shown = z.shown; small = z.small })) (λ y. absurd (no_span y.span y.value))))
       (λ (z : AFat p.world m c.memory from (size_of p.world from) v.value (contents_in d (FatShape from) c.temps)).
       subst (λ u. SameAt p n (converted p.world (ThinShape false o to) (FatShape from) (u ∷ []) s m) step) (sym z.value)
       (checked (goes_to o (FatShape from) && same_shape to from) refl m c z.span s rest next
@@ -115,7 +125,7 @@ never_null p n d o to from = record {
     checked : (b : Bool) → (goes_to o (FatShape from) && same_shape to from) ≡ b → (m : source.Memory) (c : Config) (span : Span)
         (s : List Scalar → source.Memory → steps.Step) (rest : Statements) (next : Next)
         → AFat p.world m c.memory from (size_of p.world from) (Wide (Some span)) (contents_in d (FatShape from) c.temps)
-        → ElementGoesOn p n d d to m c (λ t. s (Thin (Some t) ∷ [])) (meaning.statements rest next)
+        → (goes_to o (FatShape from) ≡ true → ElementGoesOn p n d d to m c (λ t. s (Thin (Some t) ∷ [])) (meaning.statements rest next))
         → SameAt p n (converted p.world (ThinShape false o to) (FatShape from) (Wide (Some span) ∷ []) s m)
         (meaning.statements (put (element_code p.world to d d) rest) next c)
     checked false e m c span s rest next z goes_on = rw e (stuck_same p.world p.program n _)
@@ -123,7 +133,8 @@ never_null p n d o to from = record {
         let same : from ≡ to = sym (shapes_same to from ((and_parts (goes_to o (FatShape from)) (same_shape to from) e).1)) in
         rw e
         (element_same p n d d to (Wide (Some span)) m c (λ t. s (Thin (Some t) ∷ [])) rest next
-        (inr (subst (λ y. AFat p.world m c.memory y (size_of p.world y) (Wide (Some span)) (contents_in d (FatShape to) c.temps)) same z)) goes_on)
+        (inr (subst (λ y. AFat p.world m c.memory y (size_of p.world y) (Wide (Some span)) (contents_in d (FatShape to) c.temps)) same z))
+        (λ y. goes_on (and_parts (goes_to o (FatShape from)) (same_shape to from) e).0))
 
 -- where it may be NULL, NULL stays, and the element of another one has to be there
 abbrev kept_code : World → Shape → ℕ → List Statement
@@ -161,7 +172,7 @@ maybe_null p n d o to from = record {
       subst (λ u. SameAt p n (converted p.world (ThinShape true o to) (FatShape from) (u ∷ []) s m) step) (sym z.value)
       (checked (goes_to o (FatShape from) && same_shape to from) refl m c z.span s rest next
       (subst (λ u. AFat p.world m c.memory from (size_of p.world from) u (contents_in d (FatShape from) c.temps)) z.value z)
-      (element_goes p n d true o to m0 c0 m c s (meaning.statements rest next) fits later kept goes)))
+      (λ free. element_goes p n d true o to m0 c0 m c s (meaning.statements rest next) fits later kept (owned_fat o from c.memory free) goes)))
       v.shown);
 }
   where
@@ -204,7 +215,7 @@ maybe_null p n d o to from = record {
     checked : (b : Bool) → (goes_to o (FatShape from) && same_shape to from) ≡ b → (m : source.Memory) (c : Config) (span : Span)
         (s : List Scalar → source.Memory → steps.Step) (rest : Statements) (next : Next)
         → (z : AFat p.world m c.memory from (size_of p.world from) (Wide (Some span)) (contents_in d (FatShape from) c.temps))
-        → ElementGoesOn p n d d to m c (λ t. s (Thin (Some t) ∷ [])) (meaning.statements rest next)
+        → (goes_to o (FatShape from) ≡ true → ElementGoesOn p n d d to m c (λ t. s (Thin (Some t) ∷ [])) (meaning.statements rest next))
         → SameAt p n (converted p.world (ThinShape true o to) (FatShape from) (Wide (Some span) ∷ []) s m)
         (meaning.statements (put (to_thin_code p.world true to d) rest) next c)
     checked false e m c span s rest next z goes_on = rw e (stuck_same p.world p.program n _)
@@ -214,7 +225,8 @@ maybe_null p n d o to from = record {
         let whole : y.span ≡ span = ap (span_in span) (sym y.value) in
         rw e
         (subst (λ u. SameAt p n (accessed (length (cells_of p.world to)) (Wide (Some u)) (λ t. s (Thin (Some t) ∷ [])) m)
-        (meaning.statements (put (to_thin_code p.world true to d) rest) next c)) whole (there m c s rest next (Wide (Some span)) y goes_on))
+        (meaning.statements (put (to_thin_code p.world true to d) rest) next c)) whole (there m c s rest next (Wide (Some span)) y
+        (goes_on (and_parts (goes_to o (FatShape from)) (same_shape to from) e).0)))
 
 -- ---- fat to fat
 

@@ -168,7 +168,7 @@ index_same p n d k to v m c s rest next operand shown goes =
     let after : Config → core_steps.Step = meaning.statements (put (element_code p.world to d (d + 1)) rest) next in
     subst (λ z. SameAt p n (accessed (length (cells_of p.world to)) (moved_value v (λ i. sum_of i k)) s m) z)
     (sym (ap (λ t. does (Apply Add t t d) after c) there ∙ both.done after))
-    (element_same p n d (d + 1) to (moved_value v (λ i. sum_of i k)) m here s rest next both.shown (goes both.index))
+    (element_same p n d (d + 1) to (moved_value v (λ i. sum_of i k)) m here s rest next both.shown (λ z. goes both.index))
 
 -- ---- `numelts`
 

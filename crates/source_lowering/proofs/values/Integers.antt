@@ -2,7 +2,7 @@
 use Rattle.std.proofs.Common.{◌≡◌, ℕ, Bool, ◌^◌, ◌<◌, ◌⊎◌, inl, inr, ⊎_elim, List, [], ◌∷◌, refl, sym, ap, subst, arith}
 use Rattle.source_meaning.specs.Shapes.{
   Shape,
-  Shared,
+  Owner,
   Layout,
   IntShape,
   UnsignedShape,
@@ -35,7 +35,7 @@ IsTaken IntShape = Unit {0}
 IsTaken UnsignedShape = Unit {0}
 IsTaken CharShape = Unit {0}
 IsTaken VoidShape = Unit {0}
-IsTaken (ThinShape may_be_null owner to) = (owner ≡ Shared) × IsTarget to
+IsTaken (ThinShape may_be_null owner to) = IsTarget to
 IsTaken (FatShape to) = IsTarget to
 IsTaken HandleShape = Unit {0}
 IsTaken KeyShape = ⊥
@@ -189,10 +189,11 @@ not_void shape h e = subst (λ z. IsWordShape z) e h
 -- a thin pointer's value and what stands for it
 pub record IsThin (w : World) (m : source.Memory) (c : core.Memory) (shape : Shape) (v : Scalar) (x : Content) : Type 0 where
   pub may_be_null : Bool
+  pub owner : Owner
   pub to : Shape
   pub taken : IsTarget to
-  pub shape_is : shape ≡ ThinShape may_be_null Shared to
-  pub shown : ANull may_be_null v (x ∷ []) ⊎ APointer w m c to v (x ∷ [])
+  pub shape_is : shape ≡ ThinShape may_be_null owner to
+  pub shown : ANull may_be_null v (x ∷ []) ⊎ APointer w m c owner to v (x ∷ [])
 
 -- a handle's value and what stands for it
 pub record IsHandle (shape : Shape) (v : Scalar) (x : Content) : Type 0 where
@@ -204,9 +205,9 @@ pub record IsHandle (shape : Shape) (v : Scalar) (x : Content) : Type 0 where
 pub null_is : (x : Content) (b : Bool) (v : Scalar) → ANull b v (x ∷ []) → x ≡ Null
 null_is x b v n = ap (first_in x) n.shown
 
-pub pointer_is : (w : World) (m : source.Memory) (c : core.Memory) (to : Shape) (x : Content) (v : Scalar) (p : APointer w m c to v (x ∷ []))
+pub pointer_is : (w : World) (m : source.Memory) (c : core.Memory) (o : Owner) (to : Shape) (x : Content) (v : Scalar) (p : APointer w m c o to v (x ∷ []))
     → x ≡ Pointer (at p.spot) p.byte
-pointer_is w m c to x v p = ap (first_in x) p.shown
+pointer_is w m c o to x v p = ap (first_in x) p.shown
 
 -- what stands for a value of a word's shape is its word, a pointer or a birth
 pub shown_one : (w : World) (m : source.Memory) (c : core.Memory) (s : Shape) (v : Scalar) (x : Content) → IsWordShape s → Shown w m c s v (x ∷ [])
@@ -241,9 +242,10 @@ shown_one w m c CharShape v x h o = inl (record {
 shown_one w m c VoidShape v x h o = absurd o
 shown_one w m c (ThinShape may_be_null owner to) v x h o = inr (inl (record {
   may_be_null = may_be_null;
+  owner = owner;
   to = to;
-  taken = h.1;
-  shape_is = ap (λ z. ThinShape may_be_null z to) h.0;
+  taken = h;
+  shape_is = refl;
   shown = o;
 }))
 shown_one w m c (FatShape to) v x h o = absurd h

@@ -4,7 +4,8 @@ use Rattle.std.specs.Prelude.{◌&&◌}
 use Rattle.std.proofs.lemmas.Bool.{and_parts, false≢true}
 use Rattle.cyc_words.specs.declared.faults.Kind.TheVariants.{NullException}
 use Rattle.cyc_words.specs.Events.{SourceEnding}
-use Rattle.source_meaning.specs.Shapes.{Owner, same_shape, goes_to, Shape, VoidShape, ThinShape, HandleShape}
+use Rattle.source_meaning.specs.Shapes.{Owner, Shared, Alone, Unsaid, same_shape, goes_to, Shape, IntShape, UnsignedShape, CharShape, VoidShape, ThinShape}
+use Rattle.source_meaning.specs.Shapes.{FatShape, HandleShape, KeyShape, StructShape, UnionShape, ArrayShape}
 use Rattle.source_meaning.specs.Memory as source
 use Rattle.source_meaning.specs.Memory.{Scalar, Thin, HandleOf, Spot}
 use Rattle.source_meaning.specs.Steps as steps
@@ -17,8 +18,9 @@ use Rattle.core_meaning.specs.Steps as core_steps
 use Rattle.core_meaning.specs.Steps.{Config}
 use Rattle.core_meaning.specs.Meaning as meaning
 use Rattle.source_lowering.specs.Lowered.{put, conversion_code}
-use Rattle.source_lowering.specs.Simulation.{at, Leads, ANull, IsTakenObject, APointer, Point, SameState, SameAt, Next, AreKept, GrownAt, AValue, ANothing, Given}
-use Rattle.source_lowering.specs.Simulation.{GoesOn}
+use Rattle.source_lowering.specs.Lowerable.{IsThinShape, IsWordShape}
+use Rattle.source_lowering.specs.Simulation.{at, Leads, ANull, IsOwned, IsTakenObject, APointer, Point, SameAt, Next, AValue, ANothing, Given}
+use Rattle.source_lowering.specs.Simulation.{contents_in}
 use Rattle.source_lowering.proofs.Runs.{stuck_same, stops_same}
 use Rattle.source_lowering.proofs.values.Integers.{null_is, pointer_is}
 use Rattle.source_lowering.proofs.memory.SameShapes.{shapes_same}
@@ -36,95 +38,145 @@ thin_value w m c b o to vs x given =
     ⊎_elim (λ (v : AValue w m c (ThinShape b o to) vs (x ∷ [])). v) (λ (v : ANothing (ThinShape b o to) vs). absurd (thin_void b o to v.void)) given
 
 -- the source is stuck at each pointer
+pub stuck_pointer : (p : Point) (n : ℕ) (to : Shape) (b : Bool) (o : Owner) (from : Shape) (m : source.Memory) (c : core.Memory) (vs : List Scalar)
+    (x : Content) (s : List Scalar → source.Memory → steps.Step) (k : core_steps.Step)
+    → ((q : Option Spot) (s : List Scalar → source.Memory → steps.Step) (m : source.Memory) (k : core_steps.Step)
+    → SameAt p n (converted p.world to (ThinShape b o from) (Thin q ∷ []) s m) k) → Given p.world m c (ThinShape b o from) vs (x ∷ [])
+    → SameAt p n (converted p.world to (ThinShape b o from) vs s m) k
+stuck_pointer p n to b o from m c vs x s k stuck given =
+    let v = thin_value p.world m c b o from vs x given in
+    subst (λ z. SameAt p n (converted p.world to (ThinShape b o from) z s m) k) (sym v.alone)
+    (⊎_elim
+    (λ (z : ANull b v.value (x ∷ [])).
+    subst (λ u. SameAt p n (converted p.world to (ThinShape b o from) (u ∷ []) s m) k) (sym z.value) (stuck None s m k))
+    (λ (z : APointer p.world m c o from v.value (x ∷ [])).
+    subst (λ u. SameAt p n (converted p.world to (ThinShape b o from) (u ∷ []) s m) k) (sym z.value) (stuck (Some z.spot) s m k))
+    v.shown)
+
 pub stuck_thin : (p : Point) (n d : ℕ) (to : Shape) (b : Bool) (o : Owner) (from : Shape) (code : List Statement)
     → ((q : Option Spot) (s : List Scalar → source.Memory → steps.Step) (m : source.Memory) (k : core_steps.Step)
     → SameAt p n (converted p.world to (ThinShape b o from) (Thin q ∷ []) s m) k) → ConvertsAs p n d to (ThinShape b o from) code
 stuck_thin p n d to b o from code stuck = record {
   same = λ m0 c0 m c vs s rest next fits later kept given goes.
-      let v = thin_value p.world m c.memory b o from vs (c.temps d) given in
-      let step : core_steps.Step = meaning.statements (put code rest) next c in
-      subst (λ z. SameAt p n (converted p.world to (ThinShape b o from) z s m) step) (sym v.alone)
-      (⊎_elim
-      (λ (z : ANull b v.value (c.temps d ∷ [])).
-      subst (λ u. SameAt p n (converted p.world to (ThinShape b o from) (u ∷ []) s m) step) (sym z.value) (stuck None s m step))
-      (λ (z : APointer p.world m c.memory from v.value (c.temps d ∷ [])).
-      subst (λ u. SameAt p n (converted p.world to (ThinShape b o from) (u ∷ []) s m) step) (sym z.value) (stuck (Some z.spot) s m step))
-      v.shown);
+      stuck_pointer p n to b o from m c.memory vs (c.temps d) s (meaning.statements (put code rest) next c) stuck given;
 }
 
 null_word : (c : Config) (d : ℕ) (b : Bool) (v : Scalar) → ANull b v (c.temps d ∷ []) → c.temps d ≡ Null
 null_word c d b v z = null_is (c.temps d) b v z
 
+-- what comes after where nothing changes but the value
+abbrev pub StaysOn : Point → (n d : ℕ) → Shape → source.Memory → Config → (List Scalar → source.Memory → steps.Step) → core_steps.Step → Type 0
+StaysOn p n d shape m c s k = (vs : List Scalar) → Given p.world m c.memory shape vs (contents_in d shape c.temps) → SameAt p n (s vs m) k
+
 -- NULL stays NULL, or raises
-null_converts : (p : Point) (n d : ℕ) (a b : Bool) (o q : Owner) (to from : Shape) (m0 : source.Memory) (c0 : Config) (m : source.Memory) (c : Config)
-    (s : List Scalar → source.Memory → steps.Step) (rest : Statements) (next : Next) → SameState p m c → GrownAt p m0 c0 m c → AreKept d c0 c → b ≡ true
-    → c.temps d ≡ Null → GoesOn p n d m0 c0 (ThinShape a o to) s (meaning.statements rest next)
+null_converts : (p : Point) (n d : ℕ) (a b : Bool) (o q : Owner) (to from : Shape) (m : source.Memory) (c : Config)
+    (s : List Scalar → source.Memory → steps.Step) (rest : Statements) (next : Next) → b ≡ true → c.temps d ≡ Null
+    → StaysOn p n d (ThinShape a o to) m c s (meaning.statements rest next c)
     → SameAt p n (thin_to_thin a None (λ r. s (r ∷ [])) m)
     (meaning.statements (put (conversion_code p.world (ThinShape a o to) (ThinShape b q from) d) rest) next c)
-null_converts p n d true b o q to from m0 c0 m c s rest next fits later kept allowed null goes =
-    goes.go m c (Thin None ∷ []) fits later kept (inl (record {
+null_converts p n d true b o q to from m c s rest next allowed null go =
+    go (Thin None ∷ []) (inl (record {
       value = Thin None;
       alone = refl;
       shown = inl (record { allowed = refl; value = refl; shown = ap (λ z. z ∷ []) null });
     }))
-null_converts p n d false true o q to from m0 c0 m c s rest next fits later kept allowed null goes =
-    rw null (stops_same p.world p.program n (SourceEnding.Raised NullException))
-null_converts p n d false false o q to from m0 c0 m c s rest next fits later kept allowed null goes = absurd (false≢true allowed)
+null_converts p n d false true o q to from m c s rest next allowed null go = rw null (stops_same p.world p.program n (SourceEnding.Raised NullException))
+null_converts p n d false false o q to from m c s rest next allowed null go = absurd (false≢true allowed)
+
+-- what is unique was so before
+owned_goes : (o q : Owner) (b : Bool) (from : Shape) (c : core.Memory) (t : Spot) (byte : ℕ) → goes_to o (ThinShape b q from) ≡ true → IsOwned q c t byte
+    → IsOwned o c t byte
+owned_goes Alone Alone b from c t byte e h = h
+owned_goes Alone Shared b from c t byte e h = absurd (false≢true e)
+owned_goes Alone Unsaid b from c t byte e h = absurd (false≢true e)
+owned_goes Shared q b from c t byte e h = tt
+owned_goes Unsaid q b from c t byte e h = tt
 
 -- another pointer stays as it is
-spot_converts : (p : Point) (n d : ℕ) (a b : Bool) (o q : Owner) (to from : Shape) (m0 : source.Memory) (c0 : Config) (m : source.Memory) (c : Config)
-    (t : Spot) (byte : ℕ) (s : List Scalar → source.Memory → steps.Step) (rest : Statements) (next : Next) → SameState p m c → GrownAt p m0 c0 m c
-    → AreKept d c0 c → c.temps d ≡ Pointer (at t) byte → IsTakenObject p.world to → Leads p.world m c.memory to t byte
-    → GoesOn p n d m0 c0 (ThinShape a o to) s (meaning.statements rest next)
+spot_converts : (p : Point) (n d : ℕ) (a b : Bool) (o q : Owner) (to from : Shape) (m : source.Memory) (c : Config)
+    (t : Spot) (byte : ℕ) (s : List Scalar → source.Memory → steps.Step) (rest : Statements) (next : Next)
+    → c.temps d ≡ Pointer (at t) byte → IsTakenObject p.world to → Leads p.world m c.memory to t byte
+    → IsOwned o c.memory t byte → StaysOn p n d (ThinShape a o to) m c s (meaning.statements rest next c)
     → SameAt p n (thin_to_thin a (Some t) (λ r. s (r ∷ [])) m)
     (meaning.statements (put (conversion_code p.world (ThinShape a o to) (ThinShape b q from) d) rest)
     next c)
-spot_converts p n d a b o q to from m0 c0 m c t byte s rest next fits later kept temp full leads goes = by a b goes
+spot_converts p n d a b o q to from m c t byte s rest next temp full leads owned go = by a b go
   where
-    there : (x : Bool) → GoesOn p n d m0 c0 (ThinShape x o to) s (meaning.statements rest next) → SameAt p n (s (Thin (Some t) ∷ []) m)
+    there : (x : Bool) → StaysOn p n d (ThinShape x o to) m c s (meaning.statements rest next c) → SameAt p n (s (Thin (Some t) ∷ []) m)
         (meaning.statements rest next c)
-    there x go = go.go m c (Thin (Some t) ∷ []) fits later kept (inl (record {
+    there x on = on (Thin (Some t) ∷ []) (inl (record {
       value = Thin (Some t);
       alone = refl;
-      shown = inr (record { spot = t; byte = byte; value = refl; shown = ap (λ z. z ∷ []) temp; lies = full; leads = leads });
+      shown = inr (record { spot = t; byte = byte; value = refl; shown = ap (λ z. z ∷ []) temp; lies = full; leads = leads; owned = owned });
     }))
 
-    by : (x y : Bool) → GoesOn p n d m0 c0 (ThinShape x o to) s (meaning.statements rest next)
+    by : (x y : Bool) → StaysOn p n d (ThinShape x o to) m c s (meaning.statements rest next c)
         → SameAt p n (thin_to_thin x (Some t) (λ r. s (r ∷ [])) m)
         (meaning.statements (put (conversion_code p.world (ThinShape x o to) (ThinShape y q from) d) rest)
         next c)
-    by true y go = there true go
-    by false true go = rw temp (there false go)
-    by false false go = there false go
+    by true y on = there true on
+    by false true on = rw temp (there false on)
+    by false false on = there false on
+
+pub thin_same : (p : Point) (n d : ℕ) (a b : Bool) (o q : Owner) (to from : Shape) (m : source.Memory) (c : Config) (vs : List Scalar)
+    (s : List Scalar → source.Memory → steps.Step) (rest : Statements) (next : Next) → Given p.world m c.memory (ThinShape b q from) vs (c.temps d ∷ [])
+    → StaysOn p n d (ThinShape a o to) m c s (meaning.statements rest next c)
+    → SameAt p n (converted p.world (ThinShape a o to) (ThinShape b q from) vs s m)
+    (meaning.statements (put (conversion_code p.world (ThinShape a o to) (ThinShape b q from) d) rest) next c)
+thin_same p n d a b o q to from m c vs s rest next given go =
+    let v = thin_value p.world m c.memory b q from vs (c.temps d) given in
+    subst (λ z. SameAt p n (converted p.world (ThinShape a o to) (ThinShape b q from) z s m) step) (sym v.alone)
+    (⊎_elim
+    (λ (z : ANull b v.value (c.temps d ∷ [])).
+    subst (λ u. SameAt p n (converted p.world (ThinShape a o to) (ThinShape b q from) (u ∷ []) s m) step) (sym z.value)
+    (null_converts p n d a b o q to from m c s rest next z.allowed (null_word c d b v.value z) go))
+    (λ (z : APointer p.world m c.memory q from v.value (c.temps d ∷ [])).
+    subst (λ u. SameAt p n (converted p.world (ThinShape a o to) (ThinShape b q from) (u ∷ []) s m) step) (sym z.value)
+    (checked (goes_to o (ThinShape b q from) && same_shape to from) refl v.value z))
+    v.shown)
+  where
+    step : core_steps.Step
+    step = meaning.statements (put (conversion_code p.world (ThinShape a o to) (ThinShape b q from) d) rest) next c
+
+    checked : (t : Bool) → (goes_to o (ThinShape b q from) && same_shape to from) ≡ t → (v : Scalar)
+        → (z : APointer p.world m c.memory q from v (c.temps d ∷ []))
+        → SameAt p n (converted p.world (ThinShape a o to) (ThinShape b q from) (Thin (Some z.spot) ∷ []) s m) step
+    checked false e v z = rw e (stuck_same p.world p.program n _)
+    checked true e v z =
+        let same : from ≡ to = sym (shapes_same to from ((and_parts (goes_to o (ThinShape b q from)) (same_shape to from) e).1)) in
+        rw e
+        (spot_converts p n d a b o q to from m c z.spot z.byte s rest next (pointer_is p.world m c.memory q from (c.temps d) v z)
+        (subst (λ y. IsTakenObject p.world y) same z.lies) (subst (λ y. Leads p.world m c.memory y z.spot z.byte) same z.leads)
+        (owned_goes o q b from c.memory z.spot z.byte (and_parts (goes_to o (ThinShape b q from)) (same_shape to from) e).0 z.owned) go)
 
 pub thin_converts : (p : Point) (n d : ℕ) (a b : Bool) (o q : Owner) (to from : Shape) → ConvertsAs p n d (ThinShape a o to) (ThinShape b q from)
     (conversion_code p.world (ThinShape a o to) (ThinShape b q from) d)
 thin_converts p n d a b o q to from = record {
   same = λ m0 c0 m c vs s rest next fits later kept given goes.
-      let v = thin_value p.world m c.memory b q from vs (c.temps d) given in
-      let step : core_steps.Step = meaning.statements (put (conversion_code p.world (ThinShape a o to) (ThinShape b q from) d) rest) next c in
-      subst (λ z. SameAt p n (converted p.world (ThinShape a o to) (ThinShape b q from) z s m) step) (sym v.alone)
-      (⊎_elim
-      (λ (z : ANull b v.value (c.temps d ∷ [])).
-      subst (λ u. SameAt p n (converted p.world (ThinShape a o to) (ThinShape b q from) (u ∷ []) s m) step) (sym z.value)
-      (null_converts p n d a b o q to from m0 c0 m c s rest next fits later kept z.allowed (null_word c d b v.value z) goes))
-      (λ (z : APointer p.world m c.memory from v.value (c.temps d ∷ [])).
-      subst (λ u. SameAt p n (converted p.world (ThinShape a o to) (ThinShape b q from) (u ∷ []) s m) step) (sym z.value)
-      (checked (goes_to o (ThinShape b q from) && same_shape to from) refl m0 c0 m c v.value s rest next fits later kept z goes))
-      v.shown);
+      thin_same p n d a b o q to from m c vs s rest next given (λ us known. goes.go m c us fits later kept known);
 }
-  where
-    checked : (t : Bool) → (goes_to o (ThinShape b q from) && same_shape to from) ≡ t → (m0 : source.Memory) (c0 : Config) (m : source.Memory) (c : Config)
-        (v : Scalar) (s : List Scalar → source.Memory → steps.Step) (rest : Statements) (next : Next) → SameState p m c → GrownAt p m0 c0 m c → AreKept d c0 c
-        → (z : APointer p.world m c.memory from v (c.temps d ∷ [])) → GoesOn p n d m0 c0 (ThinShape a o to) s (meaning.statements rest next)
-        → SameAt p n (converted p.world (ThinShape a o to) (ThinShape b q from) (Thin (Some z.spot) ∷ []) s m)
-        (meaning.statements (put (conversion_code p.world (ThinShape a o to) (ThinShape b q from) d) rest) next c)
-    checked false e m0 c0 m c v s rest next fits later kept z goes = rw e (stuck_same p.world p.program n _)
-    checked true e m0 c0 m c v s rest next fits later kept z goes =
-        let same : from ≡ to = sym (shapes_same to from ((and_parts (goes_to o (ThinShape b q from)) (same_shape to from) e).1)) in
-        rw e
-        (spot_converts p n d a b o q to from m0 c0 m c z.spot z.byte s rest next fits later kept (pointer_is p.world m c.memory from (c.temps d) v z)
-        (subst (λ y. IsTakenObject p.world y) same z.lies) (subst (λ y. Leads p.world m c.memory y z.spot z.byte) same z.leads) goes)
+
+-- a thin pointer becomes a word, or the source is stuck
+pub word_same : (p : Point) (n d : ℕ) (to from : Shape) → IsWordShape to → IsThinShape from → (m : source.Memory) (c : Config) (vs : List Scalar)
+    (s : List Scalar → source.Memory → steps.Step) (rest : Statements) (next : Next) → Given p.world m c.memory from vs (contents_in d from c.temps)
+    → StaysOn p n d to m c s (meaning.statements rest next c)
+    → SameAt p n (converted p.world to from vs s m) (meaning.statements (put (conversion_code p.world to from d) rest) next c)
+word_same p n d (ThinShape a o to) (ThinShape b q from) word thin m c vs s rest next given go = thin_same p n d a b o q to from m c vs s rest next given go
+word_same p n d IntShape (ThinShape b q from) word thin m c vs s rest next given go =
+    stuck_pointer p n IntShape b q from m c.memory vs (c.temps d) s _ (λ t s m k. stuck_same p.world p.program n k) given
+word_same p n d UnsignedShape (ThinShape b q from) word thin m c vs s rest next given go =
+    stuck_pointer p n UnsignedShape b q from m c.memory vs (c.temps d) s _ (λ t s m k. stuck_same p.world p.program n k) given
+word_same p n d CharShape (ThinShape b q from) word thin m c vs s rest next given go =
+    stuck_pointer p n CharShape b q from m c.memory vs (c.temps d) s _ (λ t s m k. stuck_same p.world p.program n k) given
+word_same p n d HandleShape (ThinShape b q from) word thin m c vs s rest next given go =
+    stuck_pointer p n HandleShape b q from m c.memory vs (c.temps d) s _ (λ t s m k. stuck_same p.world p.program n k) given
+word_same p n d VoidShape (ThinShape b q from) word thin m c vs s rest next given go = absurd word
+word_same p n d (FatShape to) (ThinShape b q from) word thin m c vs s rest next given go = absurd word
+word_same p n d KeyShape (ThinShape b q from) word thin m c vs s rest next given go = absurd word
+word_same p n d (StructShape tag) (ThinShape b q from) word thin m c vs s rest next given go = absurd word
+word_same p n d (UnionShape tag) (ThinShape b q from) word thin m c vs s rest next given go = absurd word
+word_same p n d (ArrayShape count of) (ThinShape b q from) word thin m c vs s rest next given go = absurd word
+word_same p n d to _ word thin m c vs s rest next given go = absurd thin
 
 -- ---- handles
 

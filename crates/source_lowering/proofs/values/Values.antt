@@ -1,5 +1,5 @@
 -- Values in temporaries: what is put there, and what stays.
-use Rattle.std.proofs.Common.{◌≡◌, ℕ, ◌+◌, ◌<◌, ◌≤◌, List, [], ◌∷◌, ◌++◌, false, nat_eq, refl, sym, ap, ◌∙◌, subst, arith}
+use Rattle.std.proofs.Common.{⊎_elim, ◌≡◌, ℕ, ◌+◌, ◌<◌, ◌≤◌, List, [], ◌∷◌, ◌++◌, false, nat_eq, refl, sym, ap, ◌∙◌, subst, arith}
 use Rattle.std.specs.Prelude.{if◌then◌else◌}
 use Rattle.std.proofs.lemmas.Bool.{eq-eqb}
 use Rattle.std.proofs.lemmas.Bool.Decides.{nat_tests}
@@ -33,6 +33,9 @@ use Rattle.source_lowering.proofs.memory.Keeping.{shown_later}
 use Rattle.source_lowering.specs.Members.{words_in}
 use Rattle.source_lowering.proofs.values.Integers.{given_one}
 use Rattle.source_lowering.proofs.Runs.{put_all}
+use Rattle.std.proofs.Common.{inl}
+use Rattle.source_lowering.specs.Simulation.{ANothing}
+use Rattle.std.proofs.Common.{inr}
 
 pub put_temp : (d : ℕ) (x : Content) (c : Config) → (with_temp d x c).temps d ≡ x
 put_temp d x c = ap (λ b. if b then x else c.temps d) (eq-eqb d d refl)
@@ -67,6 +70,11 @@ pub value_later : (b : Bound) (w : World) (m m' : source.Memory) (c c' : core.Me
     → AValue w m c shape vs cs → AValue w m' c' shape vs cs
 value_later b w m m' c c' shape vs cs l v =
     record { value = v.value; alone = v.alone; shown = shown_later b w m m' c c' shape v.value cs l v.shown }
+
+pub given_later : (b : Bound) (w : World) (m m' : source.Memory) (c c' : core.Memory) (shape : Shape) (vs : List Scalar) (cs : List Content) → Grown b m c m' c'
+    → Given w m c shape vs cs → Given w m' c' shape vs cs
+given_later b w m m' c c' shape vs cs l given =
+    ⊎_elim (λ (v : AValue w m c shape vs cs). inl (value_later b w m m' c c' shape vs cs l v)) (λ (v : ANothing shape vs). inr v) given
 
 -- a value is put into the temporary that it was asked for in
 pub put_value : (p : Point) (n d : ℕ) (m0 : source.Memory) (c0 : Config) (m : source.Memory) (c : Config) (shape : Shape) (vs : List Scalar) (x : Content)

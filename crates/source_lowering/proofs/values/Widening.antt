@@ -136,9 +136,9 @@ widened p n d to b q from = record {
       (λ (z : ANull b v.value (c.temps d ∷ [])).
       subst (λ u. SameAt p n (converted p.world (FatShape to) (ThinShape b q from) (u ∷ []) s m) step) (sym z.value)
       (null b z.allowed m0 c0 m c s rest next fits later kept (null_is (c.temps d) b v.value z) goes))
-      (λ (z : APointer p.world m c.memory from v.value (c.temps d ∷ [])).
+      (λ (z : APointer p.world m c.memory q from v.value (c.temps d ∷ [])).
       subst (λ u. SameAt p n (converted p.world (FatShape to) (ThinShape b q from) (u ∷ []) s m) step) (sym z.value)
-      (checked (same_shape to from) refl m0 c0 m c z.spot z.byte s rest next fits later kept (pointer_is p.world m c.memory from (c.temps d) v.value z) z.lies
+      (checked (same_shape to from) refl m0 c0 m c z.spot z.byte s rest next fits later kept (pointer_is p.world m c.memory q from (c.temps d) v.value z) z.lies
       z.leads goes))
       v.shown);
 }

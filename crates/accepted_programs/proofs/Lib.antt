@@ -1,15 +1,1 @@
-pub mod StillStates
-pub mod CopiedTypes
-pub mod CopiedWritten
-pub mod CopiedNames
-pub mod CopiedValues
-pub mod CopiedPlaces
-pub mod CopiedMakings
-pub mod CopiedExpressions
-pub mod CopiedScopes
-pub mod IdleExpressions
-pub mod StillStatements
-pub mod CopiedHeads
-pub mod StillPrograms
-pub mod NoFlow
 pub mod Accepted

@@ -3,4 +3,4 @@ use Rattle.std.specs.Prelude.{true}
 use Rattle.source_typing.specs.Taken.{Taken, with_filled}
 
 abbrev pub supported : Taken
-supported = record with_filled { unions = true }
+supported = record with_filled { unions = true; unique = true }

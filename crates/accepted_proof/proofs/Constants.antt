@@ -18,7 +18,7 @@ use Rattle.source_typing.specs.Regions.{Region, Regions, TheHeap}
 use Rattle.source_typing.specs.Scope.{Env}
 use Rattle.source_typing.specs.Taken.{constant_form, initial_form, takes_initial}
 use Rattle.accepted_programs.specs.Supported.{supported}
-use Rattle.source_typing.specs.Types.{Fat, Handle, Char, Int, Null, StaticType, Struct, Thin, Union, Unique, Unsigned, integer_type, is_integer, shape_of}
+use Rattle.source_typing.specs.Types.{Fat, Handle, Char, Int, Key, Null, StaticType, Struct, Thin, Union, Unique, Unsigned, integer_type, is_integer, shape_of}
 use Rattle.source_typing.specs.Verdicts.{Of, faults_of}
 use Rattle.source_typing.proofs.Converting.{conversion_is}
 
@@ -65,6 +65,7 @@ null_good r at place Char w e = absurd cc
 null_good r at place (Struct tag rs) w e = absurd cc
 null_good r at place (Union tag rs) w e = absurd cc
 null_good r at place (Handle q) w e = absurd cc
+null_good r at place (Key q) w e = absurd cc
 null_good r at place _ w e = absurd w
 
 -- ---- strings

@@ -34,7 +34,8 @@ use Rattle.source_typing.proofs.Inversion.{none_of_both}
 use Rattle.accepted_proof.specs.Good.{NamesBelow, Surely}
 use Rattle.accepted_proof.proofs.Constants.{InitialGood, initial_good}
 use Rattle.accepted_proof.proofs.good.Locals.{IsFitting, fitting_is}
-use Rattle.accepted_proof.proofs.good.Types.{IsWritten, KnowsTags, in_scope_good}
+use Rattle.accepted_proof.proofs.good.Pointers.{IsWritten}
+use Rattle.accepted_proof.proofs.good.Types.{KnowsTags, scope_written}
 use Rattle.accepted_proof.proofs.HeadTypes.{GivesNothing, GivesObject, ObjectGood, PlainGood, alone_good}
 use Rattle.accepted_proof.proofs.Sure.{surely_after, surely_also, surely_is}
 
@@ -108,7 +109,7 @@ plain_good : (g : Tables) (x : tree.Global) → KnowsTags g → takes_type suppo
 plain_good g x tags e =
     let names : List RegionNamed = foreign_names (spots_of g x.of) in
     surely_after (λ p. IsWritten true 0 x.of p) (λ u. PlainGood 0 x.of u) (written g names x.of) (settled_alone x.of.at)
-    (in_scope_good 0 g names x.of tags (heap_names (spots_of g x.of)) e) (λ p w. alone_good true 0 x.of.at x.of p w)
+    (scope_written 0 g names x.of tags (heap_names (spots_of g x.of))) (λ p w. alone_good true 0 x.of.at x.of p w)
 
 type_good : (g : Env) (x : tree.Global) → KnowsTags g.tables → takes_type supported x.of ≡ true
     → Surely (λ u. VariableGood g.tables x.of u) (global_type g x)

@@ -2,51 +2,28 @@
 use Rattle.std.proofs.Common.{◌≡◌, ℕ, Bool, true, false, Option, Some, None, List, [], ◌∷◌, refl, sym, subst, ap, ◌∙◌, inl, inr}
 use Rattle.std.specs.Prelude.{length, map}
 use Rattle.std.proofs.lemmas.Bool.{and_parts}
-use Rattle.cyc_tree.specs.declared.name.Sign.{Sign}
-use Rattle.cyc_tree.specs.declared.name.Sign.TheVariants as sign
 use Rattle.cyc_tree.specs.Tree as tree
 use Rattle.cyc_tree.specs.Tree.{Pointer, TypeName}
-use Rattle.source_lowering.specs.Taken.{AreShared, IsSharedRegion}
 use Rattle.source_meaning.specs.Shapes as shapes
 use Rattle.source_typing.specs.Faults.{Fault}
 use Rattle.source_typing.specs.Scope.{Env}
-use Rattle.source_typing.specs.Tables.{Entry, OfBuiltin, OfOther, OfTag, Tables, Tag, find}
+use Rattle.source_typing.specs.Tables.{Entry, OfBuiltin, OfOther, OfTag, Tables, Tag, as_tag, find, tag_in}
 use Rattle.source_typing.specs.Tags.{head_faults, head_fitting, head_type, member_faults, member_fitting, member_type, settled_alone}
 use Rattle.source_typing.specs.Taken.{takes_base, takes_pointers, takes_type}
 use Rattle.accepted_programs.specs.Supported.{supported}
 use Rattle.source_typing.specs.Types.{PartialType, StaticType, Struct, Union, same_bool}
 use Rattle.source_typing.specs.Verdicts.{Of, Unjudged, Verdict, after, faults_of, unless_faulty}
-use Rattle.source_typing.specs.Written.{Found, RegionNamed, all_found, argument_spots, counted_type, if_sound, of_kind, spot, spots_of}
+use Rattle.source_typing.specs.Written.{Found, RegionNamed, all_found, argument_spots, built, count_fits, counted_type, regions_of_tag}
+use Rattle.source_typing.specs.Written.{if_sound, of_kind, spot, spots_of}
 use Rattle.source_typing.specs.Written.{tag_of, with_arguments, written_on}
 use Rattle.source_typing.proofs.Inversion.{both_none, none_of_both}
 use Rattle.accepted_proof.specs.Good.{NamesBelow}
-use Rattle.accepted_proof.proofs.FoundRegions.{base_arguments, spots_found}
-use Rattle.accepted_proof.proofs.good.Types.{HasUniqueFat, IsUniqueFat, pointers_shared, struct_pointed, union_pointed}
-use Rattle.accepted_proof.proofs.HeadTags.{CanBe, IsCopiedPointer, IsUnjudged, MeansFirst, after_head, asks_fit, no_bad, pointed_fits, same_fault}
-use Rattle.accepted_proof.proofs.HeadTags.{struct_direct, union_asks_fit, union_direct}
+use Rattle.accepted_proof.proofs.FoundRegions.{AreAllFound, base_arguments, spots_found}
+use Rattle.accepted_proof.proofs.good.Pointers.{HasUniqueFat, PointedIfSome, struct_pointed, union_pointed}
+use Rattle.accepted_proof.proofs.good.Types.{count_is, union_count_is}
+use Rattle.accepted_proof.proofs.HeadTags.{IsTagged, IsUnjudged, MeansFirst, MemberCan, after_head, asks_fit, member_can, no_bad, pointed_fits, same_fault}
+use Rattle.accepted_proof.proofs.HeadTags.{tagged_pointers, union_asks_fit}
 use Rattle.accepted_proof.proofs.MemberTypes.{AreMembersTaken}
-use Rattle.source_lowering.proofs.statements.WrittenTypes.{owner_shared}
-
--- ---- pointers that aren't unique
-
-sign_copied : (x : Sign) (r : Option tree.RegionName) (s : shapes.Shape) → IsSharedRegion r → IsCopiedPointer (shapes.signed_shape x (shapes.owner_of r) s)
-sign_copied sign.Nullable r s h = owner_shared r h
-sign_copied sign.NotNull r s h = owner_shared r h
-sign_copied sign.Fat r s h = tt
-
-still_copied : (ps : List Pointer) (s : shapes.Shape) → AreShared ps → IsCopiedPointer s → IsCopiedPointer (shapes.pointed ps s)
-still_copied [] s k h = h
-still_copied (p ∷ ps) s k h =
-    still_copied ps (shapes.signed_shape p.sign (shapes.owner_of p.region) s) k.1 (sign_copied p.sign p.region s k.0)
-
-no_unique_fat : (ps : List Pointer) → AreShared ps → HasUniqueFat ps → ⊥
-no_unique_fat [] k h = h
-no_unique_fat (p ∷ ps) k (inl h) = by p.sign p.region k.0 h
-  where
-    by : (x : Sign) (r : Option tree.RegionName) → IsSharedRegion r → IsUniqueFat x r → ⊥
-    by sign.Fat (Some (tree.Unique at)) k h = k
-    by _ _ k h = h
-no_unique_fat (p ∷ ps) k (inr h) = no_unique_fat ps k.1 h
 
 -- ---- members
 
@@ -82,27 +59,29 @@ module _ (n : ℕ) (union : Bool) (g h : Env) (tags : (x : List ℕ) → MeansFi
             (subst (λ ss. faults_of (member_after b (all_found h.names ss) (Of 0)) ≡ []) same
             (subst (λ ns. faults_of (member_after b (all_found ns (spots_of g.tables (with_base b))) (Of 0)) ≡ []) names p))
 
-        shared : AreShared t.pointers
-        shared = pointers_shared supported refl t.pointers (and_parts (takes_base supported t.base) (takes_pointers supported t.pointers) e).1
+        -- a shape that begins with a tag, where its type is a member's
+        whole_shape : tree.Base → shapes.Shape
+        whole_shape b = shapes.pointed t.pointers (shapes.base_shape b)
 
-        -- where a tag alone would be at fault there are pointers
-        led_to : (b : tree.Base) (x : List Found × List Fault) (v : Verdict ℕ)
-            → (faults_of (after (after (written_on (record { at = t.at; base = b; pointers = [] }) x.0 x.1 v) (settled_alone t.at))
-            (member_fitting g true t.at)) ≡ [] → ⊥)
-            → faults_of (member_after b x v) ≡ [] → CanBe union (shapes.pointed t.pointers (shapes.base_shape b))
-        led_to b x v k p u = of t.pointers refl
+        names_below : NamesBelow n g.names
+        names_below = subst (λ ns. NamesBelow n ns) (sym names) below
+
+        -- what was judged of such a type
+        counted : (b : tree.Base) (m : ℕ) (x : List Found × List Fault)
+            → (x.1 ≡ [] → count_fits b m ≡ true → PointedIfSome (HasUniqueFat t.pointers) true n (whole_shape b) (built b m t.pointers x.0))
+            → IsTagged (whole_shape b) → faults_of (member_after b x (Of m)) ≡ [] → MemberCan union (HasUniqueFat t.pointers) (whole_shape b)
+        counted b m x k tagged p =
+            let none : x.1 ≡ [] = no_bad g union (with_base b) x.0 x.1 (Of m) p in
+            by (count_fits b m) refl none
+            (subst (λ fs. faults_of (after (after (unless_faulty fs (counted_type (with_base b) x.0 m (count_fits b m))) (settled_alone t.at))
+            (member_fitting g union t.at)) ≡ []) none p)
           where
-            of : (ps : List Pointer) → t.pointers ≡ ps → IsCopiedPointer (shapes.pointed t.pointers (shapes.base_shape b))
-            of [] e =
-                absurd (k (subst (λ c. faults_of (after (after (written_on (record { at = t.at; base = b; pointers = [] }) x.0 x.1 v)
-                (settled_alone t.at)) (member_fitting g c t.at)) ≡ []) u
-                (subst (λ qs. faults_of (after (after (written_on (record { at = t.at; base = b; pointers = qs }) x.0 x.1 v) (settled_alone t.at))
-                (member_fitting g union t.at)) ≡ []) e p)))
-            of (q ∷ qs) e =
-                let k : AreShared (q ∷ qs) = subst (λ zs. AreShared zs) e shared in
-                subst (λ zs. IsCopiedPointer (shapes.pointed zs (shapes.base_shape b))) (sym e)
-                (still_copied qs (shapes.signed_shape q.sign (shapes.owner_of q.region) (shapes.base_shape b)) k.1
-                (sign_copied q.sign q.region (shapes.base_shape b) k.0))
+            by : (c : Bool) → count_fits b m ≡ c → x.1 ≡ []
+                → faults_of (after (after (counted_type (with_base b) x.0 m c) (settled_alone t.at)) (member_fitting g union t.at)) ≡ []
+                → MemberCan union (HasUniqueFat t.pointers) (whole_shape b)
+            by true q none p =
+                member_can g t.at n union (HasUniqueFat t.pointers) (whole_shape b) (built b m t.pointers x.0) (k none q) tagged p
+            by false q none p = absurd cc
 
         -- a struct's, by what its tag means at the start
         tagged : tree.Name → List tree.RegionName → Verdict ℕ → Verdict StaticType
@@ -110,16 +89,27 @@ module _ (n : ℕ) (union : Bool) (g h : Env) (tags : (x : List ℕ) → MeansFi
             head_after (tree.Struct x rs) (found h.tables h.names (tree.Struct x rs)) (after v (λ n. Of (length (argument_spots h.tables x rs))))
 
         pointed : (x : tree.Name) (rs : List tree.RegionName) (m : ℕ) → (found h.tables h.names (tree.Struct x rs)).1 ≡ []
-            → CanBe union (shapes.pointed t.pointers (shapes.StructShape x.text)) → faults_of (tagged x rs (Of m)) ≡ []
+            → MemberCan union (HasUniqueFat t.pointers) (whole_shape (tree.Struct x rs)) → faults_of (tagged x rs (Of m)) ≡ []
         pointed x rs m bad can =
             let c : ℕ = length (argument_spots h.tables x rs) in
             let f : List Found × List Fault = found h.tables h.names (tree.Struct x rs) in
             subst (λ b. faults_of (after (after (unless_faulty f.1 (counted_type (with_base (tree.Struct x rs)) f.0 c b)) (settled_alone t.at))
             (head_fitting union t.at)) ≡ []) (sym (asks_fit h.tables x rs))
-            (pointed_fits t.at n union (HasUniqueFat t.pointers) (shapes.pointed t.pointers (shapes.StructShape x.text)) f.1
-            (with_arguments c (Struct x.text) [] t.pointers f.0) (no_unique_fat t.pointers shared) bad
+            (pointed_fits t.at n union (HasUniqueFat t.pointers) (whole_shape (tree.Struct x rs)) f.1
+            (with_arguments c (Struct x.text) [] t.pointers f.0) can.never bad
             (struct_pointed true n c x.text [] t.pointers f.0 tt
-            (spots_found n h.names (argument_spots h.tables x rs) t.pointers below (base_arguments h.tables (tree.Struct x rs)) bad)) can)
+            (spots_found n h.names (argument_spots h.tables x rs) t.pointers below (base_arguments h.tables (tree.Struct x rs)) bad)) can.can)
+
+        struct_can : (x : tree.Name) (rs : List tree.RegionName) (m : ℕ) → m ≡ regions_of_tag (tag_in g.tables x.text)
+            → faults_of (member_after (tree.Struct x rs) (found g.tables g.names (tree.Struct x rs)) (Of m)) ≡ []
+            → MemberCan union (HasUniqueFat t.pointers) (whole_shape (tree.Struct x rs))
+        struct_can x rs m same p =
+            let f : List Found × List Fault = found g.tables g.names (tree.Struct x rs) in
+            counted (tree.Struct x rs) m f
+            (λ none q. struct_pointed true n m x.text [] t.pointers f.0 tt
+            (subst (λ (c : ℕ). AreAllFound true n c t.pointers f.0) (count_is g.tables x rs m same q)
+            (spots_found n g.names (argument_spots g.tables x rs) t.pointers names_below (base_arguments g.tables (tree.Struct x rs)) none)))
+            (tagged_pointers t.pointers (shapes.StructShape x.text) tt) p
 
         unjudged : (x : tree.Name) (rs : List tree.RegionName) (d : Option Entry) → (found h.tables h.names (tree.Struct x rs)).1 ≡ [] → IsUnjudged d
             → faults_of (tagged x rs (tag_of d false x.at)) ≡ []
@@ -130,36 +120,36 @@ module _ (n : ℕ) (union : Bool) (g h : Env) (tags : (x : List ℕ) → MeansFi
         unjudged x rs _ bad u = absurd u
 
         -- a tag that is judged in both
-        struct_both : (x : tree.Name) (rs : List tree.RegionName) (y z : Tag) → y.is_union ≡ z.is_union → z.sound ≡ true
-            → y.sound ≡ true → (found h.tables h.names (tree.Struct x rs)).1 ≡ []
+        struct_both : (x : tree.Name) (rs : List tree.RegionName) (y z : Tag) → find g.tables x.text ≡ Some (OfTag y) → y.is_union ≡ z.is_union
+            → z.sound ≡ true → y.sound ≡ true → (found h.tables h.names (tree.Struct x rs)).1 ≡ []
             → faults_of (member_after (tree.Struct x rs) (found g.tables g.names (tree.Struct x rs)) (tag_of (Some (OfTag y)) false x.at)) ≡ []
             → faults_of (tagged x rs (tag_of (Some (OfTag z)) false x.at)) ≡ []
-        struct_both x rs y z same sound other bad p =
+        struct_both x rs y z there same sound other bad p =
             let f : List Found × List Fault = found g.tables g.names (tree.Struct x rs) in
-            let can : CanBe union (shapes.pointed t.pointers (shapes.StructShape x.text)) =
-            led_to (tree.Struct x rs) f (tag_of (Some (OfTag y)) false x.at) (λ q. struct_direct g t.at x rs f.0 f.1 y other q) p in
             subst (λ b. faults_of (tagged x rs (if_sound b (of_kind (same_bool z.is_union false) z x.at))) ≡ []) (sym sound)
             (of (same_bool z.is_union false)
             (subst (λ b. faults_of (member_after (tree.Struct x rs) f (of_kind (same_bool b false) y x.at)) ≡ []) same
-            (subst (λ b. faults_of (member_after (tree.Struct x rs) f (if_sound b (of_kind (same_bool y.is_union false) y x.at))) ≡ []) other p)) can)
+            (subst (λ b. faults_of (member_after (tree.Struct x rs) f (if_sound b (of_kind (same_bool y.is_union false) y x.at))) ≡ []) other p)))
           where
             of : (b : Bool) → faults_of (member_after (tree.Struct x rs) (found g.tables g.names (tree.Struct x rs)) (of_kind b y x.at)) ≡ []
-                → CanBe union (shapes.pointed t.pointers (shapes.StructShape x.text)) → faults_of (tagged x rs (of_kind b z x.at)) ≡ []
-            of true q can = pointed x rs z.regions bad can
-            of false q can = absurd cc
+                → faults_of (tagged x rs (of_kind b z x.at)) ≡ []
+            of true q =
+                pointed x rs z.regions bad
+                (struct_can x rs y.regions (ap (λ (o : Option Entry). regions_of_tag (as_tag o)) (sym there)) q)
+            of false q = absurd cc
 
-        struct : (x : tree.Name) (rs : List tree.RegionName) (o d : Option Entry) → MeansFirst o d
+        struct : (x : tree.Name) (rs : List tree.RegionName) (o d : Option Entry) → find g.tables x.text ≡ o → MeansFirst o d
             → (found h.tables h.names (tree.Struct x rs)).1 ≡ []
             → faults_of (member_after (tree.Struct x rs) (found g.tables g.names (tree.Struct x rs)) (tag_of o false x.at)) ≡ []
             → faults_of (tagged x rs (tag_of d false x.at)) ≡ []
-        struct x rs o d (inl u) bad p = unjudged x rs d bad u
-        struct x rs None None (inr m) bad p = absurd cc
-        struct x rs (Some (OfBuiltin a)) (Some (OfBuiltin b)) (inr m) bad p = absurd cc
-        struct x rs (Some OfOther) (Some OfOther) (inr m) bad p = absurd cc
-        struct x rs (Some (OfTag y)) (Some (OfTag z)) (inr m) bad p = struct_both x rs y z m.0.1 m.1 m.2 bad p
-        struct x rs None (Some d) (inr m) bad p = absurd m.0
-        struct x rs (Some o) None (inr m) bad p = absurd m.0
-        struct x rs (Some o) (Some d) (inr m) bad p = absurd m.0
+        struct x rs o d there (inl u) bad p = unjudged x rs d bad u
+        struct x rs None None there (inr m) bad p = absurd cc
+        struct x rs (Some (OfBuiltin a)) (Some (OfBuiltin b)) there (inr m) bad p = absurd cc
+        struct x rs (Some OfOther) (Some OfOther) there (inr m) bad p = absurd cc
+        struct x rs (Some (OfTag y)) (Some (OfTag z)) there (inr m) bad p = struct_both x rs y z there m.0.1 m.1 m.2 bad p
+        struct x rs None (Some d) there (inr m) bad p = absurd m.0
+        struct x rs (Some o) None there (inr m) bad p = absurd m.0
+        struct x rs (Some o) (Some d) there (inr m) bad p = absurd m.0
 
         -- and a union's, by what its tag means at the start
         union_tagged : tree.Name → List tree.RegionName → Verdict ℕ → Verdict StaticType
@@ -167,16 +157,27 @@ module _ (n : ℕ) (union : Bool) (g h : Env) (tags : (x : List ℕ) → MeansFi
             head_after (tree.Union x rs) (found h.tables h.names (tree.Union x rs)) (after v (λ n. Of (length (argument_spots h.tables x rs))))
 
         union_led : (x : tree.Name) (rs : List tree.RegionName) (m : ℕ) → (found h.tables h.names (tree.Union x rs)).1 ≡ []
-            → CanBe union (shapes.pointed t.pointers (shapes.UnionShape x.text)) → faults_of (union_tagged x rs (Of m)) ≡ []
+            → MemberCan union (HasUniqueFat t.pointers) (whole_shape (tree.Union x rs)) → faults_of (union_tagged x rs (Of m)) ≡ []
         union_led x rs m bad can =
             let c : ℕ = length (argument_spots h.tables x rs) in
             let f : List Found × List Fault = found h.tables h.names (tree.Union x rs) in
             subst (λ b. faults_of (after (after (unless_faulty f.1 (counted_type (with_base (tree.Union x rs)) f.0 c b)) (settled_alone t.at))
             (head_fitting union t.at)) ≡ []) (sym (union_asks_fit h.tables x rs))
-            (pointed_fits t.at n union (HasUniqueFat t.pointers) (shapes.pointed t.pointers (shapes.UnionShape x.text)) f.1
-            (with_arguments c (Union x.text) [] t.pointers f.0) (no_unique_fat t.pointers shared) bad
+            (pointed_fits t.at n union (HasUniqueFat t.pointers) (whole_shape (tree.Union x rs)) f.1
+            (with_arguments c (Union x.text) [] t.pointers f.0) can.never bad
             (union_pointed true n c x.text [] t.pointers f.0 tt
-            (spots_found n h.names (argument_spots h.tables x rs) t.pointers below (base_arguments h.tables (tree.Union x rs)) bad)) can)
+            (spots_found n h.names (argument_spots h.tables x rs) t.pointers below (base_arguments h.tables (tree.Union x rs)) bad)) can.can)
+
+        union_can : (x : tree.Name) (rs : List tree.RegionName) (m : ℕ) → m ≡ regions_of_tag (tag_in g.tables x.text)
+            → faults_of (member_after (tree.Union x rs) (found g.tables g.names (tree.Union x rs)) (Of m)) ≡ []
+            → MemberCan union (HasUniqueFat t.pointers) (whole_shape (tree.Union x rs))
+        union_can x rs m same p =
+            let f : List Found × List Fault = found g.tables g.names (tree.Union x rs) in
+            counted (tree.Union x rs) m f
+            (λ none q. union_pointed true n m x.text [] t.pointers f.0 tt
+            (subst (λ (c : ℕ). AreAllFound true n c t.pointers f.0) (union_count_is g.tables x rs m same q)
+            (spots_found n g.names (argument_spots g.tables x rs) t.pointers names_below (base_arguments g.tables (tree.Union x rs)) none)))
+            (tagged_pointers t.pointers (shapes.UnionShape x.text) tt) p
 
         union_unjudged : (x : tree.Name) (rs : List tree.RegionName) (d : Option Entry) → (found h.tables h.names (tree.Union x rs)).1 ≡ [] → IsUnjudged d
             → faults_of (union_tagged x rs (tag_of d true x.at)) ≡ []
@@ -186,36 +187,36 @@ module _ (n : ℕ) (union : Bool) (g h : Env) (tags : (x : List ℕ) → MeansFi
             (head_fitting union t.at)) ≡ []) (sym bad) refl)
         union_unjudged x rs _ bad u = absurd u
 
-        union_both : (x : tree.Name) (rs : List tree.RegionName) (y z : Tag) → y.is_union ≡ z.is_union → z.sound ≡ true
-            → y.sound ≡ true → (found h.tables h.names (tree.Union x rs)).1 ≡ []
+        union_both : (x : tree.Name) (rs : List tree.RegionName) (y z : Tag) → find g.tables x.text ≡ Some (OfTag y) → y.is_union ≡ z.is_union
+            → z.sound ≡ true → y.sound ≡ true → (found h.tables h.names (tree.Union x rs)).1 ≡ []
             → faults_of (member_after (tree.Union x rs) (found g.tables g.names (tree.Union x rs)) (tag_of (Some (OfTag y)) true x.at)) ≡ []
             → faults_of (union_tagged x rs (tag_of (Some (OfTag z)) true x.at)) ≡ []
-        union_both x rs y z same sound other bad p =
+        union_both x rs y z there same sound other bad p =
             let f : List Found × List Fault = found g.tables g.names (tree.Union x rs) in
-            let can : CanBe union (shapes.pointed t.pointers (shapes.UnionShape x.text)) =
-            led_to (tree.Union x rs) f (tag_of (Some (OfTag y)) true x.at) (λ q. union_direct g t.at x rs f.0 f.1 y other q) p in
             subst (λ b. faults_of (union_tagged x rs (if_sound b (of_kind (same_bool z.is_union true) z x.at))) ≡ []) (sym sound)
             (of (same_bool z.is_union true)
             (subst (λ b. faults_of (member_after (tree.Union x rs) f (of_kind (same_bool b true) y x.at)) ≡ []) same
-            (subst (λ b. faults_of (member_after (tree.Union x rs) f (if_sound b (of_kind (same_bool y.is_union true) y x.at))) ≡ []) other p)) can)
+            (subst (λ b. faults_of (member_after (tree.Union x rs) f (if_sound b (of_kind (same_bool y.is_union true) y x.at))) ≡ []) other p)))
           where
             of : (b : Bool) → faults_of (member_after (tree.Union x rs) (found g.tables g.names (tree.Union x rs)) (of_kind b y x.at)) ≡ []
-                → CanBe union (shapes.pointed t.pointers (shapes.UnionShape x.text)) → faults_of (union_tagged x rs (of_kind b z x.at)) ≡ []
-            of true q can = union_led x rs z.regions bad can
-            of false q can = absurd cc
+                → faults_of (union_tagged x rs (of_kind b z x.at)) ≡ []
+            of true q =
+                union_led x rs z.regions bad
+                (union_can x rs y.regions (ap (λ (o : Option Entry). regions_of_tag (as_tag o)) (sym there)) q)
+            of false q = absurd cc
 
-        of_union : (x : tree.Name) (rs : List tree.RegionName) (o d : Option Entry) → MeansFirst o d
+        of_union : (x : tree.Name) (rs : List tree.RegionName) (o d : Option Entry) → find g.tables x.text ≡ o → MeansFirst o d
             → (found h.tables h.names (tree.Union x rs)).1 ≡ []
             → faults_of (member_after (tree.Union x rs) (found g.tables g.names (tree.Union x rs)) (tag_of o true x.at)) ≡ []
             → faults_of (union_tagged x rs (tag_of d true x.at)) ≡ []
-        of_union x rs o d (inl u) bad p = union_unjudged x rs d bad u
-        of_union x rs None None (inr m) bad p = absurd cc
-        of_union x rs (Some (OfBuiltin a)) (Some (OfBuiltin b)) (inr m) bad p = absurd cc
-        of_union x rs (Some OfOther) (Some OfOther) (inr m) bad p = absurd cc
-        of_union x rs (Some (OfTag y)) (Some (OfTag z)) (inr m) bad p = union_both x rs y z m.0.1 m.1 m.2 bad p
-        of_union x rs None (Some d) (inr m) bad p = absurd m.0
-        of_union x rs (Some o) None (inr m) bad p = absurd m.0
-        of_union x rs (Some o) (Some d) (inr m) bad p = absurd m.0
+        of_union x rs o d there (inl u) bad p = union_unjudged x rs d bad u
+        of_union x rs None None there (inr m) bad p = absurd cc
+        of_union x rs (Some (OfBuiltin a)) (Some (OfBuiltin b)) there (inr m) bad p = absurd cc
+        of_union x rs (Some OfOther) (Some OfOther) there (inr m) bad p = absurd cc
+        of_union x rs (Some (OfTag y)) (Some (OfTag z)) there (inr m) bad p = union_both x rs y z there m.0.1 m.1 m.2 bad p
+        of_union x rs None (Some d) there (inr m) bad p = absurd m.0
+        of_union x rs (Some o) None there (inr m) bad p = absurd m.0
+        of_union x rs (Some o) (Some d) there (inr m) bad p = absurd m.0
 
         by : (b : tree.Base) → takes_base supported b ≡ true → faults_of (member_type g union (with_base b)) ≡ []
             → faults_of (head_type h union (with_base b)) ≡ []
@@ -229,16 +230,16 @@ module _ (n : ℕ) (union : Bool) (g h : Env) (tags : (x : List ℕ) → MeansFi
             ∙ (ap (λ (ns : List RegionNamed). (found g.tables ns (tree.Struct x rs)).1) (sym names)
             ∙ no_bad g union (with_base (tree.Struct x rs)) (found g.tables g.names (tree.Struct x rs)).0 (found g.tables g.names (tree.Struct x rs)).1
             (tag_of (find g.tables x.text) false x.at) p) in
-            struct x rs (find g.tables x.text) (find h.tables x.text) (tags x.text) bad p
+            struct x rs (find g.tables x.text) (find h.tables x.text) refl (tags x.text) bad p
         by (tree.Union x rs) q p =
             let bad : (found h.tables h.names (tree.Union x rs)).1 ≡ [] =
             same_fault h.tables g.tables h.names x rs (map (λ (p : Pointer). spot true p.region) t.pointers)
             ∙ (ap (λ (ns : List RegionNamed). (found g.tables ns (tree.Union x rs)).1) (sym names)
             ∙ no_bad g union (with_base (tree.Union x rs)) (found g.tables g.names (tree.Union x rs)).0 (found g.tables g.names (tree.Union x rs)).1
             (tag_of (find g.tables x.text) true x.at) p) in
-            of_union x rs (find g.tables x.text) (find h.tables x.text) (tags x.text) bad p
+            of_union x rs (find g.tables x.text) (find h.tables x.text) refl (tags x.text) bad p
         by (tree.Handle r) q p = plain (tree.Handle r) refl p
-        by (tree.Key r) q p = absurd cc
+        by (tree.Key r) q p = plain (tree.Key r) refl p
 
     pub heads_clean : (ms : List tree.Member) → AreMembersTaken supported ms → member_faults g union ms ≡ [] → head_faults h union ms ≡ []
     heads_clean [] e p = refl

@@ -1,25 +1,30 @@
 -- What is first known of a struct or a union: what its tag means before it is judged, and members that are in order then, where they are in the end.
 use Rattle.std.proofs.Common.{◌≡◌, ◌⊎◌, ℕ, zero, suc, Bool, true, false, Option, Some, None, List, [], ◌∷◌, ◌++◌, refl, sym, subst, ap, ◌∙◌, arith, inl, inr}
+use Rattle.std.proofs.lemmas.Bool.{and_parts}
 use Rattle.std.proofs.lemmas.Bool.Decides.{nat_tests}
 use Rattle.std.proofs.lemmas.List.{length-map}
-use Rattle.std.specs.Prelude.{◌&&◌, bytes_eq, if◌then◌else◌, length, map, replicate}
+use Rattle.std.specs.Prelude.{◌&&◌, bytes_eq, if◌then◌else◌, length, replicate}
+use Rattle.cyc_tree.specs.declared.name.Sign.{Sign}
+use Rattle.cyc_tree.specs.declared.name.Sign.TheVariants as sign
 use Rattle.cyc_tree.specs.Tree as tree
 use Rattle.cyc_tree.specs.Tree.{TypeName}
 use Rattle.source_meaning.specs.Shapes as shapes
 use Rattle.type_proof.specs.Entries.{IsObjectType}
+use Rattle.source_typing.specs.Declarations.{stands_earlier}
 use Rattle.source_typing.specs.Faults.{Fault}
 use Rattle.source_typing.specs.Missing.{as_type}
-use Rattle.source_typing.specs.Regions.{Region}
 use Rattle.source_typing.specs.Scope.{Env}
-use Rattle.source_typing.specs.Tables.{Entry, Named, OfBuiltin, OfOther, OfTag, Tables, Tag, as_tag, find}
+use Rattle.source_typing.specs.Tables.{Entry, Named, OfBuiltin, OfOther, OfTag, Tables, as_tag, find}
 use Rattle.source_typing.specs.Tags.{fits_member, head_fitting, member_fitting, settled_alone}
-use Rattle.source_typing.specs.Types.{Char, Fat, Handle, Int, PartialType, StaticType, Struct, Thin, Union, Unique, Unsigned, same_bool, shape_of}
+use Rattle.source_typing.specs.Types.{Char, Fat, Handle, Int, Key, Null, PartialType, StaticType, Struct, Thin, Union, Unique, Unsigned, shape_of}
 use Rattle.source_typing.specs.Verdicts.{Faulty, Of, Unjudged, Verdict, after, faults_of, if_fits, unless_faulty}
-use Rattle.source_typing.specs.Written.{Found, RegionNamed, Spot, all_found, argument_spots, as_region, built, count_fits, counted_type, if_sound, of_kind}
-use Rattle.source_typing.specs.Written.{regions_of_tag, spot, tag_of, type_built, with_arguments, written_on}
+use Rattle.source_typing.specs.Written.{Found, RegionNamed, Spot, all_found, argument_spots, count_fits}
+use Rattle.source_typing.specs.Written.{regions_of_tag, spot, type_built, written_on}
 use Rattle.accepted_proof.proofs.good.Locals.{FilledAlone, IsSettled, alone_filled, alone_settled}
-use Rattle.accepted_proof.proofs.good.Types.{IsPointed, KnowsTags, MeansKnown, PointedIfSome}
-use Rattle.accepted_proof.proofs.Owners.{settled_alone_is}
+use Rattle.accepted_proof.proofs.good.Pointers.{IsPointed, PointedIfSome}
+use Rattle.accepted_proof.proofs.good.Types.{KnowsTags, MeansKnown}
+use Rattle.accepted_proof.proofs.Owners.{Writes, WritesAlone, WritesChar, WritesFat, WritesFresh, WritesHandle, WritesInt, WritesOpen, WritesShared, WritesStruct}
+use Rattle.accepted_proof.proofs.Owners.{WritesUnion, WritesUnsigned, settled_alone_is}
 
 -- ---- entries of one kind
 
@@ -119,31 +124,47 @@ IsCopiedPointer (shapes.ThinShape b o t) = (shapes.shared_owner o ≡ shapes.Sha
 IsCopiedPointer (shapes.FatShape t) = Unit {0}
 IsCopiedPointer _ = ⊥
 
--- an object is a struct's member, and such a pointer to one also a union's
+-- what is written of an object is no key
+written_no_key : (left_open : Bool) (s : shapes.Shape) (p : PartialType) → Writes left_open s p → shapes.settled s ≡ shapes.KeyShape → ⊥
+written_no_key left_open s p WritesInt e = cc
+written_no_key left_open s p WritesUnsigned e = cc
+written_no_key left_open s p WritesChar e = cc
+written_no_key left_open s p WritesHandle e = cc
+written_no_key left_open s p WritesStruct e = cc
+written_no_key left_open s p WritesUnion e = cc
+written_no_key left_open s p (WritesFat w) e = cc
+written_no_key left_open s p (WritesOpen q w) e = cc
+written_no_key left_open s p (WritesFresh q w) e = cc
+written_no_key left_open s p (WritesShared w) e = cc
+written_no_key left_open s p (WritesAlone w) e = cc
+
+-- an object that is no key is a struct's member, and such a pointer to one also a union's
 abbrev pub CanBe : Bool → shapes.Shape → Type 0
 CanBe union s = union ≡ true → IsCopiedPointer s
 
-object_fits : (union : Bool) (u : StaticType) → IsObjectType u → CanBe union (shape_of u) → fits_member union u ≡ true
-object_fits false Int o h = refl
-object_fits false Unsigned o h = refl
-object_fits false Char o h = refl
-object_fits false (Thin b r t) o h = refl
-object_fits false (Fat r t) o h = refl
-object_fits false (Unique b t) o h = refl
-object_fits false (Handle r) o h = refl
-object_fits false (Struct tag rs) o h = refl
-object_fits false (Union tag rs) o h = refl
-object_fits false _ o h = absurd o
-object_fits true (Thin b r t) o h = refl
-object_fits true (Fat r t) o h = refl
-object_fits true Int o h = refl
-object_fits true Unsigned o h = refl
-object_fits true Char o h = refl
-object_fits true (Handle r) o h = refl
-object_fits true (Unique b t) o h = absurd (let unowned : shapes.Alone ≡ shapes.Shared = h refl in cc)
-object_fits true (Struct tag rs) o h = absurd (h refl)
-object_fits true (Union tag rs) o h = absurd (h refl)
-object_fits true _ o h = absurd o
+object_fits : (union : Bool) (u : StaticType) → IsObjectType u → (shape_of u ≡ shapes.KeyShape → ⊥) → CanBe union (shape_of u) → fits_member union u ≡ true
+object_fits false Int o n h = refl
+object_fits false Unsigned o n h = refl
+object_fits false Char o n h = refl
+object_fits false (Thin b r t) o n h = refl
+object_fits false (Fat r t) o n h = refl
+object_fits false (Unique b t) o n h = refl
+object_fits false (Handle r) o n h = refl
+object_fits false (Struct tag rs) o n h = refl
+object_fits false (Union tag rs) o n h = refl
+object_fits false (Key r) o n h = absurd (n refl)
+object_fits false _ o n h = absurd o
+object_fits true (Thin b r t) o n h = refl
+object_fits true (Fat r t) o n h = refl
+object_fits true Int o n h = refl
+object_fits true Unsigned o n h = refl
+object_fits true Char o n h = refl
+object_fits true (Handle r) o n h = refl
+object_fits true (Unique b t) o n h = absurd (let unowned : shapes.Alone ≡ shapes.Shared = h refl in cc)
+object_fits true (Struct tag rs) o n h = absurd (h refl)
+object_fits true (Union tag rs) o n h = absurd (h refl)
+object_fits true (Key r) o n h = absurd (n refl)
+object_fits true _ o n h = absurd o
 
 pointer_settled : (s : shapes.Shape) → IsCopiedPointer s → IsCopiedPointer (shapes.settled s)
 pointer_settled (shapes.ThinShape b o t) h = ap (λ q. shapes.shared_owner q) h
@@ -159,7 +180,7 @@ filled_fits at n union s p h k =
     let shape : shapes.settled s ≡ shape_of f.type = sym (settled_alone_is s) ∙ t.shape in
     subst (λ (o : Option StaticType). faults_of (after (as_type at o) (head_fitting union at)) ≡ []) (sym f.is)
     (ap (λ (b : Bool). faults_of (if_fits b at f.type))
-    (object_fits union f.type t.object (λ e. subst (λ z. IsCopiedPointer z) shape (pointer_settled s (k e)))))
+    (object_fits union f.type t.object (λ e. written_no_key true s p h.writes (shape ∙ e)) (λ e. subst (λ z. IsCopiedPointer z) shape (pointer_settled s (k e)))))
 
 pub pointed_fits : (at n : ℕ) (union : Bool) (why : Type 0) (s : shapes.Shape) (bad : List Fault) (o : Option PartialType) → (why → ⊥) → bad ≡ []
     → PointedIfSome why true n s o → CanBe union s
@@ -167,7 +188,7 @@ pub pointed_fits : (at n : ℕ) (union : Bool) (why : Type 0) (s : shapes.Shape)
 pointed_fits at n union why s bad None never e h k = absurd (never h)
 pointed_fits at n union why s bad (Some p) never e h k =
     subst (λ fs. faults_of (after (after (unless_faulty fs (type_built at (Some p))) (settled_alone at)) (head_fitting union at)) ≡ []) (sym e)
-    (filled_fits at n union s p h k)
+    (filled_fits at n union s p h.0 k)
 
 -- regions that are at fault are so in the end
 pub no_bad : (g : Env) (union : Bool) (t : TypeName) (fs : List Found) (bad : List Fault) (v : Verdict ℕ)
@@ -177,51 +198,67 @@ no_bad g union t fs (f ∷ bad) (Faulty c others) p = absurd cc
 no_bad g union t fs (f ∷ bad) Unjudged p = absurd cc
 no_bad g union t fs (f ∷ bad) (Of n) p = absurd cc
 
--- ---- a struct or a union is no member of a union
+-- ---- what a member may be
 
-module _ (g : Env) (at : ℕ) where
-  abbrev Refused : PartialType → Type 0
-  Refused p = faults_of (after (settled_alone at p) (member_fitting g true at)) ≡ [] → ⊥
+-- a struct, a union or a pointer
+abbrev pub IsTagged : shapes.Shape → Type 0
+IsTagged (shapes.StructShape tag) = Unit {0}
+IsTagged (shapes.UnionShape tag) = Unit {0}
+IsTagged (shapes.ThinShape b o t) = Unit {0}
+IsTagged (shapes.FatShape t) = Unit {0}
+IsTagged _ = ⊥
 
-  direct_faulty : (m : ℕ) (make : List (Option Region) → PartialType) (args fs : List Found) → ((rs : List (Option Region)) → Refused (make rs))
-      → faults_of (after (after (type_built at (with_arguments m make args [] fs)) (settled_alone at)) (member_fitting g true at)) ≡ [] → ⊥
-  direct_faulty zero make args fs k p = k (map as_region args) p
-  direct_faulty (suc m) make args [] k p = cc
-  direct_faulty (suc m) make args (f ∷ fs) k p = direct_faulty m make (args ++ f ∷ []) fs k p
+pub tagged_pointers : (ps : List tree.Pointer) (s : shapes.Shape) → IsTagged s → IsTagged (shapes.pointed ps s)
+tagged_pointers [] s h = h
+tagged_pointers (p ∷ ps) s h = tagged_pointers ps (shapes.signed_shape p.sign (shapes.owner_of p.region) s) (by p.sign)
+  where
+    by : (x : Sign) → IsTagged (shapes.signed_shape x (shapes.owner_of p.region) s)
+    by sign.Nullable = tt
+    by sign.NotNull = tt
+    by sign.Fat = tt
 
-  -- the type of a tag alone
-  abbrev alone : tree.Base → TypeName
-  alone b = record { at = at; base = b; pointers = [] }
+-- what a union may have isn't unique
+alone_fits : (b : Bool) (t : shapes.Shape) (u : StaticType) → shapes.ThinShape b shapes.Alone t ≡ shape_of u → fits_member true u ≡ true → ⊥
+alone_fits b t (Unique n v) e f = cc
+alone_fits b t (Thin n q v) e f = cc
+alone_fits b t Null e f = cc
+alone_fits b t _ e f = cc
 
-  abbrev Clean : tree.Base → List Found → List Fault → Verdict ℕ → Type 0
-  Clean b fs bad v = faults_of (after (after (written_on (alone b) fs bad v) (settled_alone at)) (member_fitting g true at)) ≡ []
+tag_fits : (tag : List ℕ) (u : StaticType) → shapes.StructShape tag ≡ shape_of u → fits_member true u ≡ true → ⊥
+tag_fits tag (Struct x rs) e f = cc
+tag_fits tag _ e f = cc
 
-  counted_faulty : (b : tree.Base) (fs : List Found) (bad : List Fault) (m : ℕ)
-      → (faults_of (after (after (type_built at (built b m [] fs)) (settled_alone at)) (member_fitting g true at)) ≡ [] → ⊥) → Clean b fs bad (Of m) → ⊥
-  counted_faulty b fs (f ∷ bad) m k p = cc
-  counted_faulty b fs [] m k p = by (count_fits b m) p
-    where
-      by : (c : Bool) → faults_of (after (after (counted_type (alone b) fs m c) (settled_alone at)) (member_fitting g true at)) ≡ [] → ⊥
-      by true p = k p
-      by false p = cc
+union_tag_fits : (tag : List ℕ) (u : StaticType) → shapes.UnionShape tag ≡ shape_of u → fits_member true u ≡ true → ⊥
+union_tag_fits tag (Union x rs) e f = cc
+union_tag_fits tag _ e f = cc
 
-  tag_faulty : (b : tree.Base) (kind : Bool) (place : ℕ) (fs : List Found) (bad : List Fault) (y : Tag) → y.sound ≡ true
-      → (Clean b fs bad (Of y.regions) → ⊥) → Clean b fs bad (tag_of (Some (OfTag y)) kind place) → ⊥
-  tag_faulty b kind place fs bad y s k p =
-      by (same_bool y.is_union kind) (subst (λ c. Clean b fs bad (if_sound c (of_kind (same_bool y.is_union kind) y place))) s p)
-    where
-      by : (c : Bool) → Clean b fs bad (of_kind c y place) → ⊥
-      by true p = k p
-      by false p = cc
+copied_fits : (s : shapes.Shape) (u : StaticType) → IsTagged s → shapes.settled s ≡ shape_of u → fits_member true u ≡ true → IsCopiedPointer s
+copied_fits (shapes.StructShape tag) u h e f = absurd (tag_fits tag u e f)
+copied_fits (shapes.UnionShape tag) u h e f = absurd (union_tag_fits tag u e f)
+copied_fits (shapes.FatShape t) u h e f = tt
+copied_fits (shapes.ThinShape b shapes.Unsaid t) u h e f = refl
+copied_fits (shapes.ThinShape b shapes.Shared t) u h e f = refl
+copied_fits (shapes.ThinShape b shapes.Alone t) u h e f = absurd (alone_fits b (shapes.settled t) u e f)
+copied_fits _ u h e f = absurd h
 
-  pub struct_direct : (x : tree.Name) (rs : List tree.RegionName) (fs : List Found) (bad : List Fault) (y : Tag) → y.sound ≡ true
-      → Clean (tree.Struct x rs) fs bad (tag_of (Some (OfTag y)) false x.at) → ⊥
-  struct_direct x rs fs bad y s p =
-      tag_faulty (tree.Struct x rs) false x.at fs bad y s
-      (λ q. counted_faulty (tree.Struct x rs) fs bad y.regions (λ c. direct_faulty y.regions (Struct x.text) [] fs (λ qs e. cc) c) q) p
+-- what is known of a member without fault
+pub record MemberCan (union : Bool) (why : Type 0) (s : shapes.Shape) : Type 0 where
+  pub never : why → ⊥
+  pub can : CanBe union s
 
-  pub union_direct : (x : tree.Name) (rs : List tree.RegionName) (fs : List Found) (bad : List Fault) (y : Tag) → y.sound ≡ true
-      → Clean (tree.Union x rs) fs bad (tag_of (Some (OfTag y)) true x.at) → ⊥
-  union_direct x rs fs bad y s p =
-      tag_faulty (tree.Union x rs) true x.at fs bad y s
-      (λ q. counted_faulty (tree.Union x rs) fs bad y.regions (λ c. direct_faulty y.regions (Union x.text) [] fs (λ qs e. cc) c) q) p
+pub member_can : (g : Env) (at n : ℕ) (union : Bool) (why : Type 0) (s : shapes.Shape) (o : Option PartialType) → PointedIfSome why true n s o
+    → IsTagged s → faults_of (after (after (type_built at o) (settled_alone at)) (member_fitting g union at)) ≡ [] → MemberCan union why s
+member_can g at n union why s None h k e = absurd cc
+member_can g at n union why s (Some p) h k e =
+    let f : FilledAlone p = alone_filled n p h.0.object in
+    let t : IsSettled n s None f.type = alone_settled true n s p f.type h.0.object h.0.writes f.is in
+    let shape : shapes.settled s ≡ shape_of f.type = sym (settled_alone_is s) ∙ t.shape in
+    let q : faults_of (member_fitting g union at f.type) ≡ [] =
+    subst (λ (o : Option StaticType). faults_of (after (as_type at o) (member_fitting g union at)) ≡ []) f.is e in
+    let fits : fits_member union f.type ≡ true =
+    (and_parts (fits_member union f.type) (stands_earlier g f.type) (by (fits_member union f.type && stands_earlier g f.type) f.type q)).0 in
+    record { never = h.1; can = λ u. copied_fits s f.type k shape (subst (λ (b : Bool). fits_member b f.type ≡ true) u fits) }
+  where
+    by : (b : Bool) (u : StaticType) → faults_of (if_fits b at u) ≡ [] → b ≡ true
+    by true u e = refl
+    by false u e = absurd cc

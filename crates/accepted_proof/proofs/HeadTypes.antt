@@ -1,6 +1,6 @@
 -- The types of a function's parameters and of its result, where they are taken: objects whose regions are the heap, a region variable that was there
 -- before, or a fresh one.
-use Rattle.std.proofs.Common.{◌≡◌, ℕ, suc, ◌<◌, ◌≤◌, Bool, true, false, Option, Some, None, List, [], ◌∷◌, refl, sym, subst, ◌∙◌, arith}
+use Rattle.std.proofs.Common.{◌≡◌, ℕ, suc, ◌<◌, ◌≤◌, Bool, true, false, Option, Some, None, List, [], ◌∷◌, refl, sym, ap, subst, ◌∙◌, arith}
 use Rattle.std.specs.Prelude.{bytes_eq, if◌then◌else◌, length, map, ◌||◌, ◌++◌}
 use Rattle.cyc_tree.specs.Tree as tree
 use Rattle.cyc_tree.specs.Tree.{Pointer, TypeName}
@@ -17,13 +17,14 @@ use Rattle.source_typing.specs.Tables.{Tables}
 use Rattle.source_typing.specs.Tags.{settled_alone}
 use Rattle.source_typing.specs.Taken.{takes_type}
 use Rattle.accepted_programs.specs.Supported.{supported}
-use Rattle.source_typing.specs.Types.{Fat, Handle, Char, Int, PartialType, StaticType, Struct, Thin, Union, Unique, Unsigned, Void, is_void, shape_of}
+use Rattle.source_typing.specs.Types.{Fat, Handle, Char, Int, Key, PartialType, StaticType, Struct, Thin, Union, Unique, Unsigned, Void, is_void, shape_of}
 use Rattle.source_typing.specs.Verdicts.{after, if_fits}
 use Rattle.source_typing.specs.Written.{Found, Is, IsUnique, Missing, RegionNamed, Spot, base_spots, find_region, spot, spots_of, written, written_with}
 use Rattle.accepted_proof.specs.Good.{NamesBelow, Surely}
 use Rattle.accepted_proof.proofs.FoundRegions.{AreAllFound, AreArguments, FoundBelow, IsFoundAs, base_arguments}
-use Rattle.accepted_proof.proofs.good.Types.{IsWritten, KnowsTags, RegionBelow, WritesNothing, WritesObject, in_scope_good, written_good}
-use Rattle.accepted_proof.proofs.good.Locals.{IsSettled, object_settled}
+use Rattle.accepted_proof.proofs.good.Pointers.{IsWritten, RegionBelow, WritesKey, WritesNothing, WritesObject}
+use Rattle.accepted_proof.proofs.good.Types.{KnowsTags, scope_written, written_good}
+use Rattle.accepted_proof.proofs.good.Locals.{IsSettled, heap_below, object_settled}
 use Rattle.accepted_proof.proofs.Owners.{settled_alone_is}
 use Rattle.accepted_proof.proofs.Sure.{surely_after, surely_also}
 
@@ -47,6 +48,7 @@ object_more n m (Unique b t) l w h = object_more n m t l w h
 object_more n m (Struct tag rs) l w h = all_more n m rs l h
 object_more n m (Union tag rs) l w h = all_more n m rs l h
 object_more n m (Handle r) l w h = below_more n m r l h
+object_more n m (Key r) l w h = below_more n m r l h
 object_more n m _ l w h = absurd w
 
 found_more : (n m : ℕ) (f : Found) → n ≤ m → FoundBelow n f → FoundBelow m f
@@ -163,6 +165,9 @@ pub data PlainGood (n : ℕ) (t : TypeName) (u : StaticType) : Type 0 where
 
 pub alone_good : (left_open : Bool) (n at : ℕ) (t : TypeName) (p : PartialType) → IsWritten left_open n t p → Surely (λ u. PlainGood n t u) (settled_alone at p)
 alone_good left_open n at t p (WritesNothing v e) = subst (λ z. Surely (λ u. PlainGood n t u) (settled_alone at z)) (sym e) (GivesNothing v refl)
+alone_good left_open n at t p (WritesKey w) =
+    subst (λ z. Surely (λ u. PlainGood n t u) (settled_alone at z)) (sym w.is)
+    (GivesObject (record { object = tt; below = heap_below n w.region w.below; shape = ap (λ s. shapes.settled s) w.shape }))
 alone_good left_open n at t p (WritesObject w) =
     surely_also (λ u. IsSettled n (shapes.written t) None u) (λ u. PlainGood n t u) (settled_alone at p)
     (object_settled left_open n at (shapes.written t) p None (λ e. refl) w.object w.writes tt) (λ u f. GivesObject (record {
@@ -188,7 +193,7 @@ parameter_good g vs t tags e h =
     let n : ℕ = s.after_all.count in
     surely_after (λ u. PlainGood n t u) (λ u. ObjectGood n t u) (after (written_with g t (s.found, s.faults)) (settled_alone t.at)) (if_parameter t.at)
     (surely_after (λ p. IsWritten false n t p) (λ u. PlainGood n t u) (written_with g t (s.found, s.faults)) (settled_alone t.at)
-    (written_good false n g t s.found s.faults tags e (λ clean. (type_spots_good g vs t h).found)) (λ p w. alone_good false n t.at t p w))
+    (written_good false n g t s.found s.faults tags (λ clean. (type_spots_good g vs t h).found)) (λ p w. alone_good false n t.at t p w))
     (λ u w. parameter_fits n t.at t u w)
 
 -- ---- results
@@ -205,7 +210,7 @@ pub result_good : (n : ℕ) (g : Tables) (names : List RegionNamed) (t : TypeNam
     → Surely (λ u. PlainGood n t u) (result_type g names t)
 result_good n g names t tags e h =
     surely_after (λ u. PlainGood n t u) (λ u. PlainGood n t u) (after (written g names t) (settled_alone t.at)) (if_result t.at)
-    (surely_after (λ p. IsWritten true n t p) (λ u. PlainGood n t u) (written g names t) (settled_alone t.at) (in_scope_good n g names t tags h e)
+    (surely_after (λ p. IsWritten true n t p) (λ u. PlainGood n t u) (written g names t) (settled_alone t.at) (scope_written n g names t tags h)
     (λ p w. alone_good true n t.at t p w))
     (λ u w. result_fits n t.at t u w)
 

@@ -44,7 +44,8 @@ use Rattle.accepted_proof.specs.Good.{IsGoodSignature, NamesBelow}
 use Rattle.accepted_proof.proofs.HeadTypes.{PlainGood, ResultGood, SpotsGood, ObjectGood, parameter_good, result_facts, result_good}
 use Rattle.accepted_proof.proofs.HeadTypes.{find_below, type_spots_good, object_more}
 use Rattle.accepted_proof.proofs.MemberTypes.{AreMembersTaken}
-use Rattle.accepted_proof.proofs.good.Types.{KnowsTags, RegionBelow}
+use Rattle.accepted_proof.proofs.good.Pointers.{RegionBelow}
+use Rattle.accepted_proof.proofs.good.Types.{KnowsTags}
 use Rattle.accepted_proof.proofs.Sure.{surely_is}
 
 -- ---- what isn't taken is at fault

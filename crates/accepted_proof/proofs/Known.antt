@@ -10,7 +10,6 @@ use Rattle.source_meaning.specs.Shapes.{
   IntShape,
   KeyShape,
   Shape,
-  Shared,
   StructShape,
   ThinShape,
   UnionShape,
@@ -41,13 +40,13 @@ use Rattle.source_typing.specs.Types.{
 
 -- ---- shapes
 
--- an integer, a struct or a union of the program, a handle, or a shared pointer to these
+-- an integer, a struct or a union of the program, a handle, or a pointer to these
 abbrev pub IsKnown : World → Shape → Type 0
 IsKnown w IntShape = Unit {0}
 IsKnown w UnsignedShape = Unit {0}
 IsKnown w CharShape = Unit {0}
 IsKnown w VoidShape = ⊥
-IsKnown w (ThinShape may_be_null owner to) = (owner ≡ Shared) × IsKnown w to
+IsKnown w (ThinShape may_be_null owner to) = IsKnown w to
 IsKnown w (FatShape to) = IsKnown w to
 IsKnown w HandleShape = Unit {0}
 IsKnown w KeyShape = ⊥
@@ -55,11 +54,11 @@ IsKnown w (StructShape tag) = (has_tag w.structs tag ≡ true)
 IsKnown w (UnionShape tag) = (has_tag w.unions tag ≡ true)
 IsKnown w (ArrayShape count of) = ⊥
 
-known_target : (w : World) (s : Shape) → IsKnown w s → IsTarget s
+pub known_target : (w : World) (s : Shape) → IsKnown w s → IsTarget s
 known_target w IntShape h = tt
 known_target w UnsignedShape h = tt
 known_target w CharShape h = tt
-known_target w (ThinShape may_be_null owner to) h = (h.0, known_target w to h.1)
+known_target w (ThinShape may_be_null owner to) h = known_target w to h
 known_target w (FatShape to) h = known_target w to h
 known_target w HandleShape h = tt
 known_target w (StructShape tag) h = tt
@@ -70,7 +69,7 @@ pub known_object : (w : World) (s : Shape) → IsKnown w s → IsObject w.unions
 known_object w IntShape h = tt
 known_object w UnsignedShape h = tt
 known_object w CharShape h = tt
-known_object w (ThinShape may_be_null owner to) h = (h.0, known_target w to h.1)
+known_object w (ThinShape may_be_null owner to) h = known_target w to h
 known_object w (FatShape to) h = known_target w to h
 known_object w HandleShape h = tt
 known_object w (StructShape tag) h = h

@@ -3,7 +3,6 @@ pub mod Wider
 pub mod kinds
 pub mod StructMembers
 pub mod good
-pub mod Settling
 pub mod Owners
 pub mod FoundRegions
 pub mod Named

@@ -26,7 +26,8 @@ use Rattle.source_typing.specs.Verdicts.{Faulty, Of, Verdict, after, faults_of, 
 use Rattle.source_typing.specs.Written.{Found, all_found, if_sound, of_kind, spots_of, tag_of, written, written_on}
 use Rattle.source_typing.proofs.Inversion.{none_of_both, test_is}
 use Rattle.accepted_proof.specs.Good.{NamesBelow, Surely}
-use Rattle.accepted_proof.proofs.good.Types.{IsWritten, KnowsTags, MeansKnown, in_scope_good}
+use Rattle.accepted_proof.proofs.good.Pointers.{IsWritten}
+use Rattle.accepted_proof.proofs.good.Types.{KnowsTags, MeansKnown, scope_written}
 use Rattle.accepted_proof.proofs.HeadTypes.{GivesNothing, GivesObject, ObjectGood, PlainGood, alone_good}
 use Rattle.accepted_proof.proofs.Sure.{surely_after, surely_is}
 
@@ -80,7 +81,8 @@ pub member_good : (n : ℕ) (g : Env) (union : Bool) (t : TypeName) → KnowsTag
     → Surely (λ u. MemberGood n g union t u) (member_type g union t)
 member_good n g union t tags h e =
     surely_after (λ u. PlainGood n t u) (λ u. MemberGood n g union t u) (after (written g.tables g.names t) (settled_alone t.at)) (member_fitting g union t.at)
-    (surely_after (λ p. IsWritten true n t p) (λ u. PlainGood n t u) (written g.tables g.names t) (settled_alone t.at) (in_scope_good n g.tables g.names t tags h e)
+    (surely_after (λ p. IsWritten true n t p) (λ u. PlainGood n t u) (written g.tables g.names t) (settled_alone t.at)
+    (scope_written n g.tables g.names t tags h)
     (λ p w. alone_good true n t.at t p w))
     (λ u k. member_fits n g union t.at t u k)
 
@@ -255,7 +257,7 @@ module _ (n : ℕ) (g : Env) (union : Bool) (ds us : List Declared) (early : Ear
         by (Fat r v) o s q = o
         by (Unique b v) o s q = o
         by (Handle r) o s q = o
-        by (Key r) o s q = absurd o
+        by (Key r) o s q = o
         by (Struct tag rs) o s q = let z : TagFound g.tables false tag = struct_found g union tag tags t e s p in early tag z.tag z.is z.kind q
         by (Union tag rs) o s q = o
 
@@ -299,6 +301,7 @@ union_member (Handle r) o e = tt
 union_member (Unique n t) o e = absurd cc
 union_member (Struct tag rs) o e = absurd cc
 union_member (Union tag rs) o e = absurd cc
+union_member (Key r) o e = absurd cc
 union_member _ o e = absurd o
 
 pub union_members : (ts : List StaticType) → AreObjects ts → AreFitting true ts → AreUnionMembers ts

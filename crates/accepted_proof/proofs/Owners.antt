@@ -1,11 +1,11 @@
 -- Which pointers of a type are unique: by its shape as it is written, and by the type that it is judged to be. A missing region is taken from another type.
 use Rattle.std.proofs.Common.{◌≡◌, Bool, true, false, Option, Some, None, List, ℕ, refl, sym, subst, ap, ◌∙◌}
-use Rattle.source_meaning.specs.Shapes.{Alone, CharShape, FatShape, HandleShape, IntShape, Owner, Shape, Shared, StructShape, ThinShape, UnionShape, Unsaid, UnsignedShape, VoidShape, first_owner, settled, settled_by, shared_owner}
+use Rattle.source_meaning.specs.Shapes.{Alone, CharShape, FatShape, HandleShape, IntShape, Owner, Shape, Shared, StructShape, ThinShape, UnionShape}
+use Rattle.source_meaning.specs.Shapes.{Unsaid, UnsignedShape, VoidShape, first_owner, settled, settled_by, shared_owner}
 use Rattle.source_typing.specs.Missing.{fat_with, filled_from, or_found, outer_region, pointee_of, thin_with, unique_with}
 use Rattle.source_typing.specs.Regions.{Region}
 use Rattle.source_typing.specs.Types.{Char, Fat, Handle, Int, Key, Null, PartialType, StaticType, Struct, Thin, Union, Unique, Unsigned, Void, shape_of}
 use Rattle.source_typing.specs.Written.{Found, Is, IsUnique, Missing}
-use Rattle.source_lowering.proofs.statements.WrittenTypes.{first_shared}
 
 -- A shape as it is written, and the type with what is found for its regions. A missing one is left open, or was given a region variable of its own.
 pub data Writes (left_open : Bool) : Shape → PartialType → Type 0 where
@@ -44,6 +44,11 @@ abbrev owner_with : Owner → Found → Owner
 owner_with o (Is r) = shared_owner o
 owner_with o IsUnique = first_owner o Alone
 owner_with o Missing = shared_owner o
+
+first_shared : (o : Owner) → first_owner o Shared ≡ shared_owner o
+first_shared Unsaid = refl
+first_shared Shared = refl
+first_shared Alone = refl
 
 thin_settled : (b : Bool) (o : Owner) (s : Shape) (u : Option StaticType)
     → settled_from (ThinShape b o s) u ≡ ThinShape b (owner_with o (outer_region u)) (settled_from s (pointee_of u))

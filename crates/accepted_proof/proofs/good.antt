@@ -1,4 +1,5 @@
 pub mod Scopes
+pub mod Pointers
 pub mod Types
 pub mod Locals
 pub mod Functions
@@ -8,6 +9,8 @@ pub mod Operators
 pub mod Places
 pub mod Makings
 pub mod Expressions
+pub mod Uniques
+pub mod Keys
 pub mod Declarations
 pub mod Switches
 pub mod Bodies

@@ -1,3 +1,4 @@
+pub mod Stands
 pub mod Forms
 pub mod Calls
 pub mod Unions
@@ -10,6 +11,8 @@ pub mod Scopes
 pub mod Switches
 pub mod Several
 pub mod Expressions
+pub mod Declarations
+pub mod Uniques
 pub mod Bodies
 pub mod StructSizes
 pub mod LaidTags

@@ -1,4 +1,5 @@
 pub mod StructSamples
 pub mod RegionSamples
 pub mod UnionSamples
+pub mod UniqueSamples
 pub mod RefusedPrograms

@@ -9,8 +9,7 @@ use Rattle.accepted_programs.specs.Supported.{supported}
 use Rattle.source_typing.specs.Named.{Below, TypeBelow, TypesBelow}
 pub use Rattle.source_typing.specs.Named.{NamesBelow}
 use Rattle.source_typing.specs.Expressions.{judge}
-use Rattle.source_typing.specs.Regions.{Region}
-use Rattle.source_typing.specs.Scope.{Enclosing, Env, In, InBlock, InRegion, Local, Nowhere, Seat, Value, in_scope, is_place}
+use Rattle.source_typing.specs.Scope.{Enclosing, Env, In, InBlock, InRegion, InUnique, Local, NotKnown, Nowhere, Seat, Value, in_scope, is_place}
 use Rattle.source_typing.specs.Statements.{items_faults}
 use Rattle.source_typing.specs.Calls.{part_types}
 use Rattle.source_typing.specs.Tables.{Arrayed, Counter, Entry, OfBuiltin, OfFunction, OfTag, OfValue, Part, Signature, Stored, Tables, Tag, What, find, tag_in}
@@ -54,11 +53,11 @@ abbrev pub AllGood : ℕ → Tables → Type 0
 AllGood count [] = Unit {0}
 AllGood count (n ∷ ns) = IsGoodEntry count n.entry × AllGood count ns
 
--- the region of the `rnew` around, or the heap: one that is in scope
-pub record IsAround (count : ℕ) (i : Enclosing) : Type 0 where
-  pub region : Region
-  pub is : i ≡ InRegion region
-  pub below : Below count region
+-- the region of the `rnew` around, or the heap: one that is in scope, or the unique one
+abbrev pub IsAround : ℕ → Enclosing → Type 0
+IsAround count (InRegion r) = Below count r
+IsAround count InUnique = Unit {0}
+IsAround count NotKnown = ⊥
 
 -- ---- structs by their tags
 

@@ -1,6 +1,6 @@
 // From a text to an image.
 
-ghost use Rattle.std.specs.Prelude.{◌≡◌, ◌⊎◌, ◌<◌, ◌≤◌, ℕ, List, length, IfOk, IfErr};
+ghost use Rattle.std.specs.Prelude.{◌≡◌, ◌⊎◌, ◌<◌, ◌≤◌, ℕ, List, Some, length, IfOk, IfErr};
 ghost use Rattle.cyc_tree.specs.Tree.{Program as Tree};
 ghost use Rattle.cyc_image.specs.Format.{Contents, Fits, code_limit, data_limit};
 ghost use Rattle.cyc_core.specs.Trees.{program_tree};
@@ -8,6 +8,10 @@ ghost use Rattle.source_meaning.specs.Programs.{unions_of};
 ghost use Rattle.source_lowering.specs.Programs.{program_code};
 ghost use Rattle.source_lowering.specs.Lowerable.{HaveFewMembers};
 ghost use Rattle.accepted_programs.specs.Accepted.{IsAccepted};
+ghost use Rattle.accepted_programs.specs.Supported.{supported};
+ghost use Rattle.check_faults.specs.Faults.{fault_of};
+ghost use Rattle.check_faults.specs.declared.fault.Fault.{Fault};
+ghost use Rattle.source_typing.specs.Answers.{effect_fault};
 ghost use Rattle.cycc_driver.specs.Texts.{IsTextOf, IsAcceptedAs};
 ghost use Rattle.cycc_driver.specs.Refusals.{IsRefusedFor, HasNoImageFor, AreSame, code_bound};
 ghost use Rattle.cycc_driver.specs.Refused.{HasNoCodeFor};
@@ -23,7 +27,7 @@ use cyc_tree::Program;
 use rv32_layout::{PlaceFault, data, place};
 use rv32_select::select;
 use std::alloc::Global;
-use unique_flow::{Checked, effects, flow, typed};
+use unique_flow::{CheckFault, Checked, effects, first_broken, flow, typed};
 
 /// The program that a text spells.
 fn parsed(alloc: Global, text: &[u8]) -> Result<Program, CompileFault>
@@ -40,8 +44,21 @@ fn parsed(alloc: Global, text: &[u8]) -> Result<Program, CompileFault>
     }
 }
 
+/// A text's first fault, where the earliest one of names, types, regions and effects in its program is this.
+fn first_of(alloc: Global, text: &[u8], program: &Program, fault: CheckFault) -> CompileFault
+    requires { (b : Fault) → fault ≡ CheckFault.Broken b → effect_fault supported program.now ≡ Some (fault_of b) }
+    ensures { IsTextOf text.now program.now → IsRefusedFor result text.now }
+{
+    let CheckFault::Broken(broken) = fault else {
+        return CompileFault::Memory;
+    };
+    match first_broken(alloc, program, broken) {
+        Ok(first) => of_checking(text, CheckFault::Broken(first)),
+        Err(_) => CompileFault::Memory,
+    }
+}
+
 /// The checked program, where it is accepted.
-#[tactic(auto, using(accepted_programs::proofs::NoFlow::first_is_of_effects))]
 fn checked(alloc: Global, text: &[u8], program: &Program) -> Result<Checked, CompileFault>
     ensures same { IfOk result (λ c. c ≡ program.now) }
     ensures accepted { IfOk result (λ _. IsAccepted program.now) }
@@ -50,7 +67,7 @@ fn checked(alloc: Global, text: &[u8], program: &Program) -> Result<Checked, Com
     let typed = typed(alloc, program)?;
     let effected = match effects(alloc, typed) {
         Ok(effected) => effected,
-        Err(fault) => return Err(of_checking(text, fault)),
+        Err(fault) => return Err(first_of(alloc, text, program, fault)),
     };
     match flow(alloc, effected) {
         Ok(checked) => Ok(checked),

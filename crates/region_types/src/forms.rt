@@ -18,7 +18,7 @@ pub fn supported() -> Taken
         strings: true,
         filled: true,
         unions: true,
-        unique: false,
+        unique: true,
         keys: false,
     }
 }

@@ -1,15 +1,16 @@
 -- The first fault of a program in which the rules before flow find none.
-use Rattle.std.proofs.Common.{◌≡◌, false, true, Bool, Option, Some, None, List, [], ◌++◌, sym, subst, ap, ap₂, ◌∙◌}
+use Rattle.std.proofs.Common.{◌≡◌, false, Option, Some, None, List, ◌++◌, append_assoc, sym, subst, ap, ap₂, ◌∙◌}
 use Rattle.cyc_tree.specs.Tree.{Program}
 use Rattle.source_typing.proofs.Inversion.{none_of_both}
 use Rattle.source_typing.proofs.TakenItems.{none_is}
 use Rattle.source_typing.specs.Answers.{effect_fault, first_fault}
-use Rattle.source_typing.specs.Faults.{Fault, earliest, is_of_flow}
+use Rattle.source_typing.specs.Faults.{Fault, earliest}
 use Rattle.source_typing.specs.Left.{flow_faults}
 use Rattle.source_typing.specs.Programs.{typing_faults}
 use Rattle.source_typing.specs.Taken.{constant_forms, only_taken}
 use Rattle.accepted_programs.specs.Supported.{supported}
-use Rattle.check_faults.specs.Faults.{faults_of, fault_of}
+use Rattle.check_faults.proofs.Earliest.{earliest_of_both, found_sooner}
+use Rattle.check_faults.specs.Faults.{fault_of, faults_of, first_of, sooner_found}
 use Rattle.check_faults.specs.declared.fault.Fault as code
 use Rattle.unique_flow.specs.Faults.{IsAs, IsFirstFault, IsOfFlowIfSome}
 use Rattle.unique_flow.specs.declared.fault.FlowFault.{FlowFault}
@@ -36,3 +37,24 @@ first_as (flow.Consumed at) f p same e = e ∙ ap (λ (g : Fault). Some g) same
 first_as (flow.Lent at) f p same e = e ∙ ap (λ (g : Fault). Some g) same
 first_as (flow.Copy at) f p same e = e ∙ ap (λ (g : Fault). Some g) same
 first_as flow.Memory f p same e = absurd same
+
+-- ---- of a program with a fault of an earlier phase
+
+-- its first fault is that one or the earliest of flow, whichever is answered of the two
+first_of_both : (p : Program) → first_fault supported p ≡ first_of (effect_fault supported p) (earliest (flow_faults (only_taken supported p)))
+first_of_both p =
+    let forms = constant_forms supported p in
+    let typing = typing_faults false (only_taken supported p) in
+    let flow = flow_faults (only_taken supported p) in
+    ap (λ (fs : List Fault). earliest fs) (sym (append_assoc forms typing flow)) ∙ earliest_of_both (forms ++ typing) flow
+
+-- and so it is of those that are found
+pub first_is_sooner : (p : Program) (broken : code.Fault) (found : Option code.Fault) → effect_fault supported p ≡ Some (fault_of broken)
+    → faults_of found ≡ earliest (flow_faults (only_taken supported p)) → first_fault supported p ≡ faults_of (sooner_found (Some broken) found)
+first_is_sooner p broken found e f =
+    first_of_both p ∙ sym (found_sooner (Some broken) found ∙ ap₂ (λ (a b : Option Fault). first_of a b) (sym e) f)
+
+-- of two one is answered
+pub sooner_is_some : (broken : code.Fault) (found : Option code.Fault) → sooner_found (Some broken) found ≡ None → ⊥
+sooner_is_some broken None e = absurd cc
+sooner_is_some broken (Some f) e = absurd cc

@@ -1,7 +1,7 @@
 // The last of the checks: flow.
 
-ghost use Rattle.std.specs.Prelude.{◌≡◌, IfOk, IfErr, true};
-ghost use Rattle.source_typing.specs.Answers.{first_fault};
+ghost use Rattle.std.specs.Prelude.{◌≡◌, IfOk, IfErr, Some, true};
+ghost use Rattle.source_typing.specs.Answers.{effect_fault, first_fault};
 ghost use Rattle.source_typing.specs.Faults.{is_of_flow};
 ghost use Rattle.accepted_programs.specs.Accepted.{IsAccepted};
 ghost use Rattle.accepted_programs.specs.Supported.{supported};
@@ -10,7 +10,8 @@ ghost use Rattle.unique_flow.specs.Faults.{IsAs, IsFirstFault, IsOfFlowIfSome};
 
 use crate::fault::FlowFault;
 use accepted_programs::Checked;
-use check_faults::{Fault, FaultKind};
+use check_faults::{Fault, FaultKind, sooner};
+use cyc_tree::Program;
 use effect_check::Effected;
 use flow_check::flow_fault;
 use region_types::supported;
@@ -58,5 +59,18 @@ pub fn flow(alloc: Global, effected: Effected) -> Result<Checked, FlowFault>
         Ok(None) => Ok(Checked::new(effected.into_program())),
         Ok(Some(fault)) => Err(refused(fault)),
         Err(_) => Err(FlowFault::Memory),
+    }
+}
+
+/// The earliest fault of a program by all rules, where this one is its earliest of names, types, regions, effects and sizes. Flow is the
+/// last phase, so a fault that is none of flow stays the first, wherever flow has one. Fails only where no host memory is left.
+pub fn first_broken(alloc: Global, program: &Program, broken: Fault) -> Result<Fault, AllocError>
+    requires { effect_fault supported program.now ≡ Some (fault_of broken) }
+    ensures { IfOk result (λ first. first_fault supported program.now ≡ Some (fault_of first)) }
+{
+    let flow = flow_fault(alloc, supported(), program)?;
+    match sooner(Some(broken), flow) {
+        Some(first) => Ok(first),
+        None => Ok(broken),
     }
 }

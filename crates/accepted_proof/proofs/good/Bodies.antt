@@ -5,7 +5,7 @@ use Rattle.cyc_tree.specs.Operands.{ClausesHaveOperands, ExpressionHasOperands, 
 use Rattle.cyc_tree.specs.Places.{expression_place}
 use Rattle.cyc_tree.specs.Tree.{BlockItems, Clauses, Declare, Execute, Expression, MoreClauses, NoClauses, NoItems, Statement}
 use Rattle.type_proof.specs.Entries.{IsPlain, IsObjectType}
-use Rattle.type_proof.specs.Judged.{ClausesJudged, Condition, ItemsJudged, Returned, StatementJudged, on_union}
+use Rattle.type_proof.specs.Judged.{ClausesJudged, Condition, Exchanging, ItemsJudged, Returned, StatementJudged, on_union}
 use Rattle.accepted_programs.specs.Supported.{supported}
 use Rattle.source_typing.specs.Conversions.{converts}
 use Rattle.source_typing.specs.Declarations.{declare}
@@ -16,15 +16,19 @@ use Rattle.source_typing.specs.Statements.{Chosen, clause_scope, clauses_faults,
 use Rattle.source_typing.specs.Statements.{in_a_switch, items_faults, returned, statement_faults}
 use Rattle.source_typing.specs.Named.{AllBelow}
 use Rattle.source_typing.specs.Taken.{clauses_taken, declaration_taken, items_taken, statement_taken, taken}
-use Rattle.source_typing.specs.Types.{Fat, Handle, Char, Int, StaticType, Struct, Thin, Union, Unique, Unsigned, Void, is_testable}
-use Rattle.source_typing.specs.Verdicts.{Faulty, Of, Unjudged, Verdict, after, faults_of, if_fits}
+use Rattle.source_typing.specs.Types.{Fat, Handle, Char, Int, Key, StaticType, Struct, Thin, Union, Unique, Unsigned, Void, is_testable}
+use Rattle.source_typing.specs.Verdicts.{Faulty, Of, Unjudged, Verdict, after, both, faults_of, if_fits}
 use Rattle.source_typing.specs.Ways.{ways_of}
 use Rattle.source_typing.proofs.Inversion.{none_of_both, test_is}
 use Rattle.source_typing.proofs.TakenExpressions.{after_clean}
 use Rattle.accepted_proof.specs.Good.{BodiesJudged, ExpressionsJudged, IsGood}
 use Rattle.accepted_proof.proofs.good.Scopes.{good_block, good_loop, good_switch}
 use Rattle.accepted_proof.proofs.good.Declarations.{converted_is, declaration_good, expression_good}
-use Rattle.accepted_proof.proofs.good.Switches.{ClauseClean, GoodPattern, GoodSwitch, SwitchClean, clause_clean, clauses_on, pattern_good, switch_clean, switch_good}
+use Rattle.accepted_proof.proofs.good.Switches.{ClauseClean, GoodPattern, GoodSwitch, SwitchClean, clause_clean, clauses_on, pattern_good, switch_clean}
+use Rattle.accepted_proof.proofs.good.Switches.{switch_good}
+use Rattle.accepted_proof.proofs.good.Keys.{key_operand}
+use Rattle.accepted_proof.proofs.good.Uniques.{ExchangeClean, exchange_clean, exchange_fits, exchange_taken, unique_operand}
+use Rattle.source_typing.specs.Exchanges.{acts, exchanged}
 
 -- ---- conditions and results
 
@@ -46,6 +50,7 @@ returned_clean g at (Unique b t) (Faulty f fs) h e = absurd cc
 returned_clean g at (Struct tag rs) (Faulty f fs) h e = absurd cc
 returned_clean g at (Union tag rs) (Faulty f fs) h e = absurd cc
 returned_clean g at (Handle r) (Faulty f fs) h e = absurd cc
+returned_clean g at (Key r) (Faulty f fs) h e = absurd cc
 returned_clean g at _ (Faulty f fs) h e = absurd h
 
 -- the function gives an object then, and the result converts to it
@@ -61,6 +66,7 @@ returned_object g at (Unique b t) v h e = (h, e)
 returned_object g at (Struct tag rs) v h e = (h, e)
 returned_object g at (Union tag rs) v h e = (h, e)
 returned_object g at (Handle r) v h e = (h, e)
+returned_object g at (Key r) v h e = (h, e)
 returned_object g at _ v h e = absurd h
 
 -- `return` alone
@@ -75,6 +81,7 @@ nothing_returned g at (Unique b t) h e = absurd cc
 nothing_returned g at (Struct tag rs) h e = absurd cc
 nothing_returned g at (Union tag rs) h e = absurd cc
 nothing_returned g at (Handle r) h e = absurd cc
+nothing_returned g at (Key r) h e = absurd cc
 nothing_returned g at _ h e = absurd h
 
 -- ---- statements
@@ -103,6 +110,21 @@ module _ (expressions : ExpressionsJudged) where
         fitting = record { accepted = a.accepted; converts = converted_is g a.accepted.value r b.1 };
       }
 
+  exchange_good : (a b : Expression) (g : Env) → IsGood g → (taken supported a ≡ a) × (taken supported b ≡ b)
+      → ExpressionHasOperands a × ExpressionHasOperands b
+      → faults_of (both (judge g a) (judge g b) (exchanged (acts a ++ acts b))) ≡ []
+      → Exchanging g a b
+  exchange_good a b g h t o p =
+      let z : ExchangeClean g a b = exchange_clean g a b p in
+      let l = expression_good expressions a g h t.0 o.0 z.left in
+      let u = expression_good expressions b g h t.1 o.1 z.right in
+      let rule : Value → Value → Verdict Value = exchanged (acts a ++ acts b) in
+      let q : faults_of (both (Of l.accepted.value) (judge g b) rule) ≡ [] = subst (λ v. faults_of (both v (judge g b) rule) ≡ []) l.accepted.judged p in
+      let w : faults_of (both (Of l.accepted.value) (Of u.accepted.value) rule) ≡ [] =
+      subst (λ v. faults_of (both (Of l.accepted.value) v rule) ≡ []) u.accepted.judged q in
+      let f = exchange_fits a b l.accepted.value u.accepted.value w in
+      record { left = l.accepted; right = u.accepted; fits = f.0; still = f.1 }
+
   mutual
     pub statement_good : (x : Statement) (g : Env) (c : Bool) (r : StaticType) → IsPlain r → g.result ≡ Some r → IsGood g
         → statement_taken supported x ≡ x
@@ -114,7 +136,8 @@ module _ (expressions : ExpressionsJudged) where
         let i : items_taken supported items ≡ items = cc in items_good items (block_entered g) c r k f (good_block g h) i o p
     statement_good (Statement.Run e) g c r k f h t o p =
         let i : taken supported e ≡ e = cc in (expression_good expressions e g h i o p).accepted
-    statement_good (Statement.Exchange a b) g c r k f h t o p = absurd cc
+    statement_good (Statement.Exchange a b) g c r k f h t o p =
+        exchange_good a b g h (exchange_taken supported.unique (expression_place a) (taken supported a) (taken supported b) a b t) o p
     statement_good (Statement.If at e x) g c r k f h t o p =
         let i : taken supported e ≡ e = cc in
         let j : statement_taken supported x ≡ x = cc in
@@ -147,8 +170,8 @@ module _ (expressions : ExpressionsJudged) where
         f ∙ ap (λ z. Some z) (nothing_returned g at r k (subst (λ z. returned g at z None ≡ []) f p))
     statement_good (Statement.Return at (Some e)) g c r k f h t o p =
         let i : taken supported e ≡ e = cc in return_good e g at r k f h i o p
-    statement_good (Statement.FreeUnique at x) g c r k f h t o p = absurd cc
-    statement_good (Statement.FreeKey at x) g c r k f h t o p = absurd cc
+    statement_good (Statement.FreeUnique at x) g c r k f h t o p = (unique_operand g x h p).held
+    statement_good (Statement.FreeKey at x) g c r k f h t o p = (key_operand g x h p).held
 
     pub items_good : (x : BlockItems) (g : Env) (c : Bool) (r : StaticType) → IsPlain r → g.result ≡ Some r → IsGood g → items_taken supported x ≡ x
         → ItemsHaveOperands x

@@ -1,5 +1,4 @@
--- A declaration of a local, of an array or of a lexical region without fault, where all is known of each name in scope: it is in order, and all is known after
--- it.
+-- A declaration without fault, where all is known of each name in scope: it is in order, and all is known after it.
 use Rattle.std.proofs.Common.{◌≡◌, ℕ, Bool, true, false, Option, Some, None, [], refl, sym, subst, ap, ◌∙◌, arith}
 use Rattle.std.specs.Prelude.{◌&&◌, ◌++◌}
 use Rattle.std.proofs.lemmas.Bool.{and_parts}
@@ -7,7 +6,7 @@ use Rattle.cyc_tree.specs.Operands.{DeclarationHasOperands, ExpressionHasOperand
 use Rattle.cyc_tree.specs.Tree as tree
 use Rattle.cyc_tree.specs.Tree.{Expression, Initializer, TypeName}
 use Rattle.type_proof.proofs.statements.Lexical.{lexical, names_with, with_region_is}
-use Rattle.type_proof.specs.Judged.{Accepted, DeclarationJudged, arrayed, extended, safe_forms}
+use Rattle.type_proof.specs.Judged.{Accepted, arrayed, extended, safe_forms}
 use Rattle.accepted_programs.specs.Supported.{supported}
 use Rattle.source_typing.specs.Conversions.{conversion, converts}
 use Rattle.source_typing.specs.Converts.{Converts}
@@ -35,6 +34,9 @@ use Rattle.accepted_proof.proofs.Sure.{surely_is}
 use Rattle.accepted_proof.proofs.Wider.{IsWithin, taken_within}
 use Rattle.accepted_proof.proofs.StructMembers.{struct_members}
 use Rattle.accepted_proof.proofs.good.Scopes.{good_array, good_local, good_region, one_more}
+use Rattle.accepted_proof.proofs.good.Uniques.{alias_good}
+pub use Rattle.accepted_proof.proofs.good.Keys.{GoodDeclaration}
+use Rattle.accepted_proof.proofs.good.Keys.{key_good, open_good}
 use Rattle.accepted_proof.proofs.good.Locals.{IsLocalType, local_begins, set_good, unset_good, unset_shape}
 
 -- ---- expressions
@@ -77,14 +79,6 @@ module _ (expressions : ExpressionsJudged) where
         };
         good = z.2;
       }
-
--- ---- what is in scope after a declaration
-
--- a declaration that is in order, and what is known after it
-pub record GoodDeclaration (g : Env) (d : tree.Declaration) : Type 0 where
-  pub judged : DeclarationJudged g d
-  pub good : IsGood (declare g d).scope
-  pub result : (declare g d).scope.result ≡ g.result
 
 -- ---- what isn't taken is at fault
 
@@ -214,9 +208,10 @@ module _ (expressions : ExpressionsJudged) where
       → (declare g d).faults ≡ []
       → GoodDeclaration g d
   declaration_good (tree.Region at r x) g h t o p = region_good g at r x h p
-  declaration_good (tree.Open at r x y) g h t o p = absurd cc
-  declaration_good (tree.Alias at r u x y) g h t o p = absurd cc
-  declaration_good (tree.NewKey at r x) g h t o p = absurd cc
+  declaration_good (tree.Open at r x y) g h t o p = open_good g at r x y h p
+  declaration_good (tree.Alias at r u x y) g h t o p =
+      let a = alias_good g h at r u x y p in record { judged = a.judged; good = a.good; result = a.result }
+  declaration_good (tree.NewKey at r x) g h t o p = key_good g at r x h p
   declaration_good (tree.Local u x i) g h t o p =
       let k = supported in
       let b = local_taken (takes_type k u && takes_initializer k i) g u.at (tree.Local u x (initializer_taken k i)) (tree.Local u x i) t p in

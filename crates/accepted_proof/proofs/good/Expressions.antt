@@ -9,10 +9,10 @@ use Rattle.source_meaning.specs.Expressions.{is_unique_region}
 use Rattle.source_typing.specs.Calls.{called, target, union_made, union_tag}
 use Rattle.source_typing.specs.Expressions.{judge, judge_all, judge_links, judge_made_in, judge_suffixes, judge_tests, number_typed}
 use Rattle.source_typing.specs.Fixing.{more}
-use Rattle.source_typing.specs.Making.{Goal, To, elements, goal_of, inside, with_counter}
+use Rattle.source_typing.specs.Making.{Goal, To, ToUnique, elements, goal_of, inside, with_counter}
 use Rattle.source_typing.specs.Operators.{applied, counted, prefixed, string, tested_both}
 use Rattle.source_typing.specs.Places.{arrow, assigned, grouped, indexed, member}
-use Rattle.source_typing.specs.Regions.{Region, TheHeap}
+use Rattle.source_typing.specs.Regions.{TheHeap}
 use Rattle.source_typing.specs.Scope.{Env, Nowhere, Value, in_scope, meant, value}
 use Rattle.source_typing.specs.Named.{TypeBelow}
 use Rattle.source_typing.specs.Taken.{all_taken, are_linked, are_some, are_suffixed, if_taken, links_taken, made_taken, suffixes_taken, taken, takes_handle}
@@ -227,16 +227,23 @@ not_unique (Expression.AllOf e es) h = no_unique (are_some es) (expression_place
 not_unique (Expression.AnyOf e es) h = no_unique (are_some es) (expression_place e) (Expression.AnyOf (kept e) (all_taken supported es)) refl
 not_unique (Expression.Assign a b) h = refl
 
--- a making in the region of a handle
+still_unique : (e : Expression) → is_unique_region e ≡ true → is_unique_region (kept e) ≡ true
+still_unique (Expression.UniqueRegion at) h = refl
+still_unique (Expression.Grouped at e) h = still_unique e h
+still_unique _ h = absurd cc
+
+-- a making in the region of a handle, or in the unique one
 new_in : (g : Env) (good : IsGood g) (at : ℕ) (handle : Expression) (new : Made) → Judged g good (kept handle)
     → ((goal : Verdict Goal) → Surely (λ x. IsGoal g x) goal → Surely (λ w. IsGoodValue g w) (judge_made_in g at goal new))
     → Judged g good (if_taken (takes_handle supported (is_unique_region handle) && true) at (Expression.NewIn at (kept handle) new))
-new_in g good at handle new h k = by (is_unique_region handle) (not_unique handle)
+new_in g good at handle new h k = by (is_unique_region handle) (not_unique handle) (still_unique handle)
   where
-    by : (b : Bool) → (b ≡ false → is_unique_region (kept handle) ≡ false)
+    by : (b : Bool) → (b ≡ false → is_unique_region (kept handle) ≡ false) → (b ≡ true → is_unique_region (kept handle) ≡ true)
         → Judged g good (if_taken (takes_handle supported b && true) at (Expression.NewIn at (kept handle) new))
-    by true n = tt
-    by false n =
+    by true n u =
+        if_kept g good (takes_handle supported true && true) at (Expression.NewIn at (kept handle) new)
+        (subst (λ c. Surely (λ w. IsGoodValue g w) (judge_made_in g at (goal_of c g (judge g (kept handle))) new)) (sym (u refl)) (k (Of ToUnique) tt))
+    by false n u =
         subst (λ c. Surely (λ w. IsGoodValue g w) (judge_made_in g at (goal_of c g (judge g (kept handle))) new)) (sym (n refl))
         (k (goal_of false g (judge g (kept handle))) (handle_good g (kept handle) h))
 
@@ -290,29 +297,28 @@ mutual
       if_kept g good (takes_prefix supported o) at (Expression.Prefixed at o (kept e))
       (surely_after (λ v. IsGoodValue g v) (λ v. IsGoodValue g v) (judge g (kept e)) (prefixed g at o) (expression_judged e g good)
       (λ a h. prefixed_judged g at o a h))
-  expression_judged (Expression.New at (One e)) g good = made_there g at TheHeap (judge g (kept e)) (expression_judged e g good) tt
+  expression_judged (Expression.New at (One e)) g good = made_there g at (To TheHeap) (judge g (kept e)) (expression_judged e g good) tt
   expression_judged (Expression.New at (Array x c e)) g good =
       let inner : Env = with_counter x g in
-      array_there g at TheHeap (both (judge g (kept c)) (judge inner (kept e)) (elements at))
+      array_there g at (To TheHeap) (both (judge g (kept c)) (judge inner (kept e)) (elements at))
       (elements_good g at (judge g (kept c)) (judge inner (kept e)) (known_operand g (judge g (kept c)) (expression_judged c g good))
       (known_operand inner (judge inner (kept e)) (expression_judged e inner (good_counter x g good)))) tt
   expression_judged (Expression.NewIn at handle (One e)) g good =
       new_in g good at handle (One (kept e)) (expression_judged handle g good)
-      (λ goal l. made_good g at goal (kept e) l (λ r b. as_outside r (expression_judged e (inside (Of (To r)) g) (good_inside r g b good))))
+      (λ goal l. made_good g at goal (kept e) l (λ y b. as_outside y (expression_judged e (inside (Of y) g) (good_inside y g b good))))
     where
-      outside : (r : Region) (v : Value) → IsGoodValue (inside (Of (To r)) g) v → IsGoodValue g v
-      outside r v h = record { type = h.type; below = h.below; seat = h.seat; object = h.object }
+      outside : (y : Goal) (v : Value) → IsGoodValue (inside (Of y) g) v → IsGoodValue g v
+      outside y v h = record { type = h.type; below = h.below; seat = h.seat; object = h.object }
 
-      as_outside : (r : Region) → Surely (λ v. IsGoodValue (inside (Of (To r)) g) v) (judge (inside (Of (To r)) g) (kept e))
-          → Surely (λ v. IsGoodValue g v) (judge (inside (Of (To r)) g) (kept e))
-      as_outside r h =
-          surely_also (λ v. IsGoodValue (inside (Of (To r)) g) v) (λ v. IsGoodValue g v) (judge (inside (Of (To r)) g) (kept e)) h (outside r)
+      as_outside : (y : Goal) → Surely (λ v. IsGoodValue (inside (Of y) g) v) (judge (inside (Of y) g) (kept e))
+          → Surely (λ v. IsGoodValue g v) (judge (inside (Of y) g) (kept e))
+      as_outside y h = surely_also (λ v. IsGoodValue (inside (Of y) g) v) (λ v. IsGoodValue g v) (judge (inside (Of y) g) (kept e)) h (outside y)
   expression_judged (Expression.NewIn at handle (Array x c e)) g good =
       new_in g good at handle (Array x (kept c) (kept e)) (expression_judged handle g good)
-      (λ goal l. array_good g at goal x (kept c) (kept e) l (λ r b.
-      let within : Env = inside (Of (To r)) g in
+      (λ goal l. array_good g at goal x (kept c) (kept e) l (λ y b.
+      let within : Env = inside (Of y) g in
       let inner : Env = with_counter x within in
-      let good_within : IsGood within = good_inside r g b good in
+      let good_within : IsGood within = good_inside y g b good in
       elements_good g at (judge within (kept c)) (judge inner (kept e))
       (known_operand within (judge within (kept c)) (expression_judged c within good_within))
       (known_operand inner (judge inner (kept e)) (expression_judged e inner (good_counter x within good_within)))))

@@ -17,7 +17,7 @@ use Rattle.type_proof.specs.Programs.{FunctionJudged, name_alone, with_all}
 use Rattle.source_typing.specs.Faults.{name_rule, own_after, test, type_rule}
 use Rattle.source_typing.specs.Functions.{Head, body_scope, end_reached, function_faults, function_scope, head_of, needs_return, variables, with_parameters}
 use Rattle.source_typing.specs.Left.{body_flow}
-use Rattle.source_typing.specs.Regions.{TheHeap, entry_regions}
+use Rattle.source_typing.specs.Regions.{entry_regions}
 use Rattle.source_typing.specs.Scope.{Env, at_item, is_second, with_local}
 use Rattle.source_typing.specs.Statements.{items_faults}
 use Rattle.source_typing.specs.Tables.{Arrayed, Counter, Entry, OfBuiltin, OfFunction, OfOther, OfTag, OfValue, Signature, Stored, Tables, Unknown, find}
@@ -116,7 +116,7 @@ outside_good g i f a kinds k =
       names = tables_more (n + 1) g a;
       regions = names_up n h.names k.names;
       frame = omega arith;
-      enclosing = record { region = TheHeap; is = refl; below = tt };
+      enclosing = tt;
       kinds = record { tables = kinds; locals = tt };
       blocks = tt;
     }

@@ -21,15 +21,15 @@ use Rattle.source_typing.specs.Scope.{Env, Value, in_scope}
 use Rattle.source_typing.specs.Tables.{has_beginning, or_heap}
 use Rattle.source_typing.specs.Taken.{takes_type}
 use Rattle.accepted_programs.specs.Supported.{supported}
-use Rattle.source_typing.specs.Types.{Handle, Char, Fat, Int, PartialType, StaticType, Struct, Thin, Union, Unique, Unsigned, Void, shape_of}
+use Rattle.source_typing.specs.Types.{Handle, Char, Fat, Int, Key, PartialType, StaticType, Struct, Thin, Union, Unique, Unsigned, Void, shape_of}
 use Rattle.source_typing.specs.Verdicts.{Of, after, if_fits}
 use Rattle.source_typing.specs.Written.{Found, Is, IsUnique, Missing, Spot, any_missing, base_spots, spot}
 use Rattle.accepted_proof.specs.Good.{IsGood, IsValueType, Surely}
 use Rattle.accepted_proof.proofs.Sure.{surely_after, surely_also}
 use Rattle.accepted_proof.proofs.good.Operators.{object_value}
 use Rattle.accepted_proof.proofs.FoundRegions.{FoundBelow}
-use Rattle.accepted_proof.proofs.good.Types.{IsPartialObject, IsWritten, RegionBelow, RegionsBelow, WritesNothing, WritesObject, WrittenObject}
-use Rattle.accepted_proof.proofs.good.Types.{good_tags, in_scope_good}
+use Rattle.accepted_proof.proofs.good.Pointers.{IsPartialObject, IsWritten, RegionBelow, RegionsBelow, WritesKey, WritesNothing, WritesObject, WrittenKey, WrittenObject}
+use Rattle.accepted_proof.proofs.good.Types.{good_tags, scope_written}
 use Rattle.accepted_proof.proofs.Owners.{IsSaid, ShapedIfSome, Writes, filled_shaped, said_alone, settled_alone_is, settled_from}
 
 -- ---- missing regions
@@ -93,7 +93,7 @@ arguments_filled n (None ∷ rs) [] h k = (tt, arguments_filled n rs [] h.1 tt)
 arguments_filled n (Some r ∷ rs) (q ∷ others) h k = (h.0, arguments_filled n rs others h.1 k.1)
 arguments_filled n (None ∷ rs) (q ∷ others) h k = (k.0, arguments_filled n rs others h.1 k.1)
 
-heap_below : (n : ℕ) (r : Option Region) → RegionBelow n r → Below n (or_heap r)
+pub heap_below : (n : ℕ) (r : Option Region) → RegionBelow n r → Below n (or_heap r)
 heap_below n None h = tt
 heap_below n (Some r) h = h
 
@@ -220,10 +220,26 @@ nothing_local g of at count set s =
     no None e = cc
     no (Some n) e = cc
 
+-- a key is, where it has an initializer
+key_local : (g : Env) (of : TypeName) (at : ℕ) (count : Option ℕ) (set : Bool) (s : Option StaticType) (p : PartialType)
+    → WrittenKey g.regions.count of p → Surely (λ t. IsLocalType g of set s t) (local_type g at count set s p)
+key_local g of at count set s p w =
+    let t : StaticType = Key (or_heap w.region) in
+    subst (λ z. Surely (λ t. IsLocalType g of set s t) (local_type g at count set s z)) (sym w.is)
+    (surely_also (λ u. IsFitting g count (set || has_beginning g.tables t) t u) (λ u. IsLocalType g of set s u) (fitting_local g at count set t)
+    (fitting_is g at count (set || has_beginning g.tables t) t)
+    (λ u h. subst (λ z. IsLocalType g of set s z) (sym h.same) (record {
+      object = tt;
+      below = heap_below g.regions.count w.region w.below;
+      shape = ap (λ q. settled_from q s) w.shape;
+      begins = h.fits_it;
+    })))
+
 local_good : (g : Env) (of : TypeName) (at : ℕ) (count : Option ℕ) (set : Bool) (s : Option StaticType) (p : PartialType)
     → IsWritten true g.regions.count of p → SourceBelow g.regions.count s
     → Surely (λ t. IsLocalType g of set s t) (local_type g at count set s p)
 local_good g of at count set s p (WritesObject w) k = object_local g of at count set s p w k
+local_good g of at count set s p (WritesKey w) k = key_local g of at count set s p w
 local_good g of at count set s p (WritesNothing v e) k =
     subst (λ z. Surely (λ t. IsLocalType g of set s t) (local_type g at count set s z)) (sym e) (nothing_local g of at count set s)
 
@@ -234,7 +250,7 @@ pub unset_good : (g : Env) (t : TypeName) (count : Option ℕ) → IsGood g → 
     → Surely (λ u. IsLocalType g t false None u) (unset_type g t count)
 unset_good g t count h e =
     surely_after (λ p. IsWritten true g.regions.count t p) (λ u. IsLocalType g t false None u) (type_in_scope g t) (local_type g t.at count false None)
-    (in_scope_good g.regions.count (in_scope g) g.names t (good_tags g.regions.count (in_scope g) h.names) h.regions e)
+    (scope_written g.regions.count (in_scope g) g.names t (good_tags g.regions.count (in_scope g) h.names) h.regions)
     (λ p w. local_good g t t.at count false None p w tt)
 
 -- a type of which no region is missing
@@ -304,7 +320,7 @@ pub set_good : (g : Env) (t : TypeName) (v : Value) → IsGood g → IsValueType
 set_good g t v h k b e =
     surely_after (λ p. IsWritten true g.regions.count t p) (λ u. IsLocalType g t true (Some v.type) u) (type_in_scope g t)
     (taken_from g t.at (misses_region g t) (Of v))
-    (in_scope_good g.regions.count (in_scope g) g.names t (good_tags g.regions.count (in_scope g) h.names) h.regions e)
+    (scope_written g.regions.count (in_scope g) g.names t (good_tags g.regions.count (in_scope g) h.names) h.regions)
     (λ p w. from_good g t (misses_region g t) v p refl (k, b) w)
 
 -- ---- beginnings

@@ -3,8 +3,8 @@ use Rattle.std.proofs.Common.{◌≡◌, ℕ, Bool, true, false, List, refl}
 use Rattle.cyc_tree.specs.Tree.{Array, Expression, Name, One}
 use Rattle.source_typing.specs.Expressions.{judge, judge_made_in}
 use Rattle.source_typing.specs.Faults.{Fault}
-use Rattle.source_typing.specs.Making.{Goal, NoHandle, To, ToUnique, array_made, elements, goal_of, handled, handled_of, inside, live_goal, made, made_to}
-use Rattle.source_typing.specs.Making.{with_counter, with_goal}
+use Rattle.source_typing.specs.Making.{Goal, NoHandle, To, ToUnique, array_made, elements, enclosed, goal_of, handled, handled_of, inside, live_goal, made}
+use Rattle.source_typing.specs.Making.{made_to, with_counter, with_goal}
 use Rattle.source_typing.specs.Regions.{Region}
 use Rattle.source_typing.specs.Scope.{Env, Nowhere, Value, is_live}
 use Rattle.source_typing.specs.Types.{Char, Fat, Handle, Int, Key, Null, StaticType, Struct, Thin, Union, Unique, Unsigned, Void, is_integer, is_makeable}
@@ -13,7 +13,7 @@ use Rattle.std.specs.Prelude.{◌&&◌}
 use Rattle.std.proofs.lemmas.Bool.{and_parts, false≢true}
 use Rattle.type_proof.specs.Entries.{IsObjectType}
 use Rattle.source_typing.specs.Named.{Below, TypeBelow}
-use Rattle.accepted_proof.specs.Good.{IsGoodValue, IsValueType, Surely}
+use Rattle.accepted_proof.specs.Good.{IsAround, IsGoodValue, IsValueType, Surely}
 use Rattle.accepted_proof.proofs.good.Places.{valued}
 use Rattle.accepted_proof.proofs.Sure.{surely_after, surely_both, surely_fits}
 
@@ -33,16 +33,26 @@ module _ (g : Env) where
   makeable_object (Struct tag rs) h e = h
   makeable_object (Union tag rs) h e = h
 
-  made_below : (at : ℕ) (r : Region) (v : Value) → IsGoodValue g v → Below g.regions.count r → Surely (λ w. IsGoodValue g w) (made at (To r) v)
-  made_below at r v h b =
-      surely_fits (λ w. IsGoodValue g w) (is_makeable v.type) at v.type (made_to at (To r))
-      (λ e. valued g (record { at = at; type = Thin false r v.type; seat = Nowhere })
-      (record { type = makeable_object v.type h.type e; below = (b, h.below); nowhere = refl }))
+  -- a goal that is known
+  abbrev pub IsKnownGoal : Goal → Type 0
+  IsKnownGoal x = IsAround g.regions.count (enclosed (Of x))
 
-  -- a handle of a region that is live, and so in scope; or no handle
+  made_below : (at : ℕ) (x : Goal) (v : Value) → IsGoodValue g v → IsKnownGoal x → Surely (λ w. IsGoodValue g w) (made at x v)
+  made_below at x v h b = surely_fits (λ w. IsGoodValue g w) (is_makeable v.type) at v.type (made_to at x) (λ e. by x b e)
+    where
+      by : (x : Goal) → IsKnownGoal x → is_makeable v.type ≡ true → Surely (λ w. IsGoodValue g w) (made_to at x v.type)
+      by (To r) b e =
+          valued g (record { at = at; type = Thin false r v.type; seat = Nowhere })
+          (record { type = makeable_object v.type h.type e; below = (b, h.below); nowhere = refl })
+      by ToUnique b e =
+          valued g (record { at = at; type = Unique false v.type; seat = Nowhere })
+          (record { type = makeable_object v.type h.type e; below = h.below; nowhere = refl })
+      by NoHandle b e = tt
+
+  -- a handle of a region that is live, and so in scope; the unique region; or no handle
   abbrev pub IsGoal : Goal → Type 0
   IsGoal (To r) = Below g.regions.count r
-  IsGoal ToUnique = ⊥
+  IsGoal ToUnique = Unit {0}
   IsGoal NoHandle = Unit {0}
 
   live_good : (b : Bool) (at : ℕ) (r : Region) → Below g.regions.count r → Surely (λ x. IsGoal x) (live_goal b at r)
@@ -80,20 +90,24 @@ module _ (g : Env) where
   goal_faulty at f fs Unjudged rule = tt
   goal_faulty at f fs (Of v) rule = tt
 
-  pub made_there : (at : ℕ) (r : Region) (v : Verdict Value) → Surely (λ w. IsGoodValue g w) v → Below g.regions.count r
-      → Surely (λ w. IsGoodValue g w) (with_goal at (Of (To r)) v (made at))
-  made_there at r (Faulty c cs) h b = tt
-  made_there at r Unjudged h b = absurd h
-  made_there at r (Of v) h b = made_below at r v h b
+  pub made_there : (at : ℕ) (x : Goal) (v : Verdict Value) → Surely (λ w. IsGoodValue g w) v → IsKnownGoal x
+      → Surely (λ w. IsGoodValue g w) (with_goal at (Of x) v (made at))
+  made_there at NoHandle v h b = absurd b
+  made_there at (To r) (Faulty c cs) h b = tt
+  made_there at (To r) Unjudged h b = absurd h
+  made_there at (To r) (Of v) h b = made_below at (To r) v h b
+  made_there at ToUnique (Faulty c cs) h b = tt
+  made_there at ToUnique Unjudged h b = absurd h
+  made_there at ToUnique (Of v) h b = made_below at ToUnique v h b
 
   -- its operand is judged in the region of the handle
   pub made_good : (at : ℕ) (goal : Verdict Goal) (e : Expression) → Surely (λ x. IsGoal x) goal
-      → ((r : Region) → Below g.regions.count r → Surely (λ w. IsGoodValue g w) (judge (inside (Of (To r)) g) e))
+      → ((x : Goal) → IsKnownGoal x → Surely (λ w. IsGoodValue g w) (judge (inside (Of x) g) e))
       → Surely (λ w. IsGoodValue g w) (judge_made_in g at goal (One e))
   made_good at (Faulty f fs) e h k = goal_faulty at f fs (judge (inside (Faulty f fs) g) e) (made at)
   made_good at Unjudged e h k = absurd h
-  made_good at (Of (To r)) e h k = made_there at r (judge (inside (Of (To r)) g) e) (k r h) h
-  made_good at (Of ToUnique) e h k = absurd h
+  made_good at (Of (To r)) e h k = made_there at (To r) (judge (inside (Of (To r)) g) e) (k (To r) h) h
+  made_good at (Of ToUnique) e h k = made_there at ToUnique (judge (inside (Of ToUnique) g) e) (k ToUnique tt) tt
   made_good at (Of NoHandle) e h k = made_nowhere at (judge (inside (Of NoHandle) g) e)
 
   -- ---- arrays
@@ -116,17 +130,21 @@ module _ (g : Env) where
       by a b m true z = (makeable_object b.type m.0 (and_parts (is_integer a.type) (is_makeable b.type) z).1, m.1)
       by a b m false z = tt
 
-  pub array_there : (at : ℕ) (r : Region) (v : Verdict Value) → Surely (λ w. IsElement w) v → Below g.regions.count r
-      → Surely (λ w. IsGoodValue g w) (with_goal at (Of (To r)) v (array_made at))
-  array_there at r (Faulty c cs) h b = tt
-  array_there at r Unjudged h b = absurd h
-  array_there at r (Of v) h b =
+  pub array_there : (at : ℕ) (x : Goal) (v : Verdict Value) → Surely (λ w. IsElement w) v → IsKnownGoal x
+      → Surely (λ w. IsGoodValue g w) (with_goal at (Of x) v (array_made at))
+  array_there at NoHandle v h b = absurd b
+  array_there at ToUnique (Faulty c cs) h b = tt
+  array_there at ToUnique Unjudged h b = absurd h
+  array_there at ToUnique (Of v) h b = tt
+  array_there at (To r) (Faulty c cs) h b = tt
+  array_there at (To r) Unjudged h b = absurd h
+  array_there at (To r) (Of v) h b =
       valued g (record { at = at; type = Fat r v.type; seat = Nowhere }) (record { type = h.0; below = (b, h.1); nowhere = refl })
 
   -- count and element are judged in the region of the handle
   pub array_good : (at : ℕ) (goal : Verdict Goal) (x : Name) (c e : Expression) → Surely (λ y. IsGoal y) goal
-      → ((r : Region) → Below g.regions.count r
-      → Surely (λ w. IsElement w) (both (judge (inside (Of (To r)) g) c) (judge (with_counter x (inside (Of (To r)) g)) e) (elements at)))
+      → ((y : Goal) → IsKnownGoal y
+      → Surely (λ w. IsElement w) (both (judge (inside (Of y) g) c) (judge (with_counter x (inside (Of y) g)) e) (elements at)))
       → Surely (λ w. IsGoodValue g w) (judge_made_in g at goal (Array x c e))
   array_good at (Faulty f fs) x c e h k =
       let inner : Env = inside (Faulty f fs) g in
@@ -134,8 +152,10 @@ module _ (g : Env) where
   array_good at Unjudged x c e h k = absurd h
   array_good at (Of (To r)) x c e h k =
       let inner : Env = inside (Of (To r)) g in
-      array_there at r (both (judge inner c) (judge (with_counter x inner) e) (elements at)) (k r h) h
-  array_good at (Of ToUnique) x c e h k = absurd h
+      array_there at (To r) (both (judge inner c) (judge (with_counter x inner) e) (elements at)) (k (To r) h) h
+  array_good at (Of ToUnique) x c e h k =
+      let inner : Env = inside (Of ToUnique) g in
+      array_there at ToUnique (both (judge inner c) (judge (with_counter x inner) e) (elements at)) (k ToUnique tt) tt
   array_good at (Of NoHandle) x c e h k =
       let inner : Env = inside (Of NoHandle) g in array_nowhere at (both (judge inner c) (judge (with_counter x inner) e) (elements at))
 

@@ -31,7 +31,7 @@ use Rattle.source_typing.specs.Calls.{
 use Rattle.source_typing.specs.Faults.{effect_rule, outlives_rule, test}
 use Rattle.source_typing.specs.Fixing.{Fit, all_fits, first_fit, fixed_from, fixed_known, fixed_one, is_found, more}
 use Rattle.source_typing.specs.Regions.{Level, Region, same_id}
-use Rattle.source_typing.specs.Scope.{Enclosing, Env, InRegion, Nowhere, Value, value}
+use Rattle.source_typing.specs.Scope.{Enclosing, Env, InRegion, InUnique, NotKnown, Nowhere, Value, value}
 use Rattle.source_typing.specs.Tables.{Arrayed, Counter, Entry, OfBuiltin, OfFunction, OfOther, OfTag, OfValue, Part, Stored, Tables, Tag, Unknown, argument}
 use Rattle.source_typing.specs.Tables.{find, part_in}
 use Rattle.source_typing.specs.Types.{Char, Fat, Handle, Int, Key, Null, StaticType, Struct, Thin, Union, Unique, Unsigned, Void, renamed}
@@ -91,22 +91,34 @@ abbrev Any : {A : Type 0} → A → Type 0
 Any a = Unit {0}
 
 -- a region variable stands for a region, or it can't
-one_fixed : (r : Region) (at : ℕ) (fs : List Fit) (k : ℕ) → Surely (λ (r : Region). Any r) (fixed_one (InRegion r) at (first_fit fs k))
-one_fixed r at [] k = tt
-one_fixed r at (f ∷ fs) k = by (same_id f.of (Level k)) f.is (one_fixed r at fs k)
+none_fixed : (count : ℕ) (i : Enclosing) (at : ℕ) → IsAround count i → Surely (λ (r : Region). Any r) (fixed_one i at None)
+none_fixed count (InRegion r) at h = tt
+none_fixed count InUnique at h = tt
+none_fixed count NotKnown at h = absurd h
+
+one_fixed : (count : ℕ) (i : Enclosing) (at : ℕ) (fs : List Fit) (k : ℕ) → IsAround count i
+    → Surely (λ (r : Region). Any r) (fixed_one i at (first_fit fs k))
+one_fixed count i at [] k h = none_fixed count i at h
+one_fixed count i at (f ∷ fs) k h = by (same_id f.of (Level k)) f.is (one_fixed count i at fs k h)
   where
-    by : (b : Bool) (i : Found) → Surely (λ (r : Region). Any r) (fixed_one (InRegion r) at (first_fit fs k))
-        → Surely (λ (r : Region). Any r) (fixed_one (InRegion r) at (if b && is_found i then Some (record f { is = i }) else first_fit fs k))
+    by : (b : Bool) (q : Found) → Surely (λ (r : Region). Any r) (fixed_one i at (first_fit fs k))
+        → Surely (λ (r : Region). Any r) (fixed_one i at (if b && is_found q then Some (record f { is = q }) else first_fit fs k))
     by true (Is q) l = tt
     by true IsUnique l = tt
     by true Missing l = l
-    by false i l = l
+    by false q l = l
 
-all_fixed : (r : Region) (at : ℕ) (fs : List Fit) (k n : ℕ) → Surely (λ (rs : List Region). Any rs) (fixed_from (InRegion r) at fs k n)
-all_fixed r at fs k zero = tt
-all_fixed r at fs k (suc n) =
-    surely_both (λ (r : Region). Any r) (λ (rs : List Region). Any rs) (λ (rs : List Region). Any rs) (fixed_one (InRegion r) at (first_fit fs k))
-    (fixed_from (InRegion r) at fs (suc k) n) more (one_fixed r at fs k) (all_fixed r at fs (suc k) n) (λ r rs a b. tt)
+all_fixed : (count : ℕ) (i : Enclosing) (at : ℕ) (fs : List Fit) (k n : ℕ) → IsAround count i
+    → Surely (λ (rs : List Region). Any rs) (fixed_from i at fs k n)
+all_fixed count i at fs k zero h = tt
+all_fixed count i at fs k (suc n) h =
+    surely_both (λ (r : Region). Any r) (λ (rs : List Region). Any rs) (λ (rs : List Region). Any rs) (fixed_one i at (first_fit fs k))
+    (fixed_from i at fs (suc k) n) more (one_fixed count i at fs k h) (all_fixed count i at fs (suc k) n h) (λ r rs a b. tt)
+
+around_below : (count : ℕ) (i : Enclosing) → IsAround count i → EnclosingBelow count i
+around_below count (InRegion r) h = h
+around_below count InUnique h = tt
+around_below count NotKnown h = absurd h
 
 -- ---- arguments
 
@@ -128,9 +140,8 @@ arguments_judged g at n ts vs e w h = by (nat_eq (length (some_types ts)) (lengt
     fixed : Surely (λ (rs : List Region). AllBelow g.regions.count rs) (fixed_from g.enclosing at fits 0 n)
     fixed =
         surely_since (λ (rs : List Region). Any rs) (λ (rs : List Region). AllBelow g.regions.count rs) (fixed_from g.enclosing at fits 0 n)
-        (subst (λ (i : Enclosing). Surely (λ (rs : List Region). Any rs) (fixed_from i at fits 0 n)) (sym e.is) (all_fixed e.region at fits 0 n))
-        (λ rs is k. fixed_within g.regions.count at n g.enclosing ts vs rs
-        (subst (λ (i : Enclosing). EnclosingBelow g.regions.count i) (sym e.is) e.below) w h is)
+        (all_fixed g.regions.count g.enclosing at fits 0 n e)
+        (λ rs is k. fixed_within g.regions.count at n g.enclosing ts vs rs (around_below g.regions.count g.enclosing e) w h is)
 
     converted : (some : List (Option Region)) (v : Verdict (List Region)) → Surely (λ (rs : List Region). AllBelow g.regions.count rs) v
         → Surely (λ (rs : List Region). AllBelow g.regions.count rs) (arguments_converted g some (some_types ts) vs v)
@@ -162,7 +173,7 @@ plain_value (Thin n r t) h = h
 plain_value (Fat r t) h = h
 plain_value (Unique n t) h = h
 plain_value (Handle r) h = tt
-plain_value (Key r) h = absurd h
+plain_value (Key r) h = tt
 plain_value (Struct tag rs) h = h
 plain_value (Union tag rs) h = h
 

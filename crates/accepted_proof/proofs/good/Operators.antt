@@ -132,13 +132,13 @@ module _ (count : ℕ) (g : Env) where
   compared_judged at (Thin n r t) (Fat q u) h k = tt
   compared_judged at (Thin n r t) (Unique m u) h k = tt
   compared_judged at (Thin n r t) (Handle q) h k = tt
-  compared_judged at (Thin n r t) (Key q) h k = absurd k
+  compared_judged at (Thin n r t) (Key q) h k = tt
   compared_judged at (Thin n r t) (Struct tag qs) h k = tt
   compared_judged at (Thin n r t) (Union tag qs) h k = tt
   compared_judged at (Fat r t) u h k = null_judged ((is_pointer (Fat r t) && is_null u) || (is_null (Fat r t) && is_pointer u)) at
   compared_judged at (Unique n t) u h k = null_judged ((is_pointer (Unique n t) && is_null u) || (is_null (Unique n t) && is_pointer u)) at
   compared_judged at (Handle r) u h k = null_judged ((is_pointer (Handle r) && is_null u) || (is_null (Handle r) && is_pointer u)) at
-  compared_judged at (Key r) u h k = absurd h
+  compared_judged at (Key r) u h k = null_judged ((is_pointer (Key r) && is_null u) || (is_null (Key r) && is_pointer u)) at
   compared_judged at (Struct tag rs) u h k =
       null_judged ((is_pointer (Struct tag rs) && is_null u) || (is_null (Struct tag rs) && is_pointer u)) at
   compared_judged at (Union tag rs) u h k =
@@ -174,6 +174,6 @@ module _ (count : ℕ) (g : Env) where
   applied_judged o at (Fat r t) u h b k = fat_judged (is_move o && is_integer u) o at (Fat r t) u h b k
   applied_judged o at (Unique n t) u h b k = joined_judged (is_integer (Unique n t) && is_integer u) o at (Unique n t) u refl h k
   applied_judged o at (Handle r) u h b k = joined_judged (is_integer (Handle r) && is_integer u) o at (Handle r) u refl h k
-  applied_judged o at (Key r) u h b k = absurd h
+  applied_judged o at (Key r) u h b k = joined_judged (is_integer (Key r) && is_integer u) o at (Key r) u refl h k
   applied_judged o at (Struct tag rs) u h b k = joined_judged (is_integer (Struct tag rs) && is_integer u) o at (Struct tag rs) u refl h k
   applied_judged o at (Union tag rs) u h b k = joined_judged (is_integer (Union tag rs) && is_integer u) o at (Union tag rs) u refl h k

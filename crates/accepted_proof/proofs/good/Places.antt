@@ -77,7 +77,7 @@ contents_judged g at (Thin n r t) w h = live_judged g.regions.count (is_live g r
 contents_judged g at (Fat r t) w h = live_judged g.regions.count (is_live g r) at t r w h.1 h.0
 contents_judged g at (Unique n t) w h = record { type = w; below = h; seat = tt }
 contents_judged g at (Handle r) w h = tt
-contents_judged g at (Key r) w h = absurd w
+contents_judged g at (Key r) w h = tt
 contents_judged g at (Struct tag rs) w h = tt
 contents_judged g at (Union tag rs) w h = tt
 
@@ -161,7 +161,7 @@ member_judged g x at (Thin n q t) (In r) h w b k = tt
 member_judged g x at (Fat q t) (In r) h w b k = tt
 member_judged g x at (Unique n t) (In r) h w b k = tt
 member_judged g x at (Handle q) (In r) h w b k = tt
-member_judged g x at (Key q) (In r) h w b k = absurd w
+member_judged g x at (Key q) (In r) h w b k = tt
 member_judged g x at (Struct tag rs) (In r) h w b k = part_judged g at (In r) tag rs x h b k
 member_judged g x at (Union tag rs) (In r) h w b k = tt
 member_judged g x at Int InBlock h w b k = tt
@@ -173,7 +173,7 @@ member_judged g x at (Thin n q t) InBlock h w b k = tt
 member_judged g x at (Fat q t) InBlock h w b k = tt
 member_judged g x at (Unique n t) InBlock h w b k = tt
 member_judged g x at (Handle q) InBlock h w b k = tt
-member_judged g x at (Key q) InBlock h w b k = absurd w
+member_judged g x at (Key q) InBlock h w b k = tt
 member_judged g x at (Struct tag rs) InBlock h w b k = part_judged g at InBlock tag rs x h b k
 member_judged g x at (Union tag rs) InBlock h w b k = tt
 
@@ -194,7 +194,7 @@ thin_arrow g x at n r Null h w b k = absurd w
 thin_arrow g x at n r (Fat q t) h w b k = tt
 thin_arrow g x at n r (Unique m t) h w b k = tt
 thin_arrow g x at n r (Handle q) h w b k = tt
-thin_arrow g x at n r (Key q) h w b k = absurd w
+thin_arrow g x at n r (Key q) h w b k = tt
 thin_arrow g x at n r (Union tag rs) h w b k = tt
 
 -- through a unique pointer, into its block
@@ -210,7 +210,7 @@ unique_arrow g x at n Null h w b = absurd w
 unique_arrow g x at n (Fat q t) h w b = tt
 unique_arrow g x at n (Unique m t) h w b = tt
 unique_arrow g x at n (Handle q) h w b = tt
-unique_arrow g x at n (Key q) h w b = absurd w
+unique_arrow g x at n (Key q) h w b = tt
 unique_arrow g x at n (Union tag rs) h w b = tt
 
 -- through a fat pointer as through a thin one
@@ -230,7 +230,7 @@ arrow_judged g x at (Fat r t) h w b =
     subst (λ v. Surely (λ w. IsGoodPlace g.regions.count w) v) (sym (fat_arrow g x at r t)) (thin_arrow g x at true r t h w b.1 b.0)
 arrow_judged g x at (Unique n t) h w b = unique_arrow g x at n t h w b
 arrow_judged g x at (Handle r) h w b = tt
-arrow_judged g x at (Key r) h w b = absurd w
+arrow_judged g x at (Key r) h w b = tt
 arrow_judged g x at (Struct tag rs) h w b = tt
 arrow_judged g x at (Union tag rs) h w b = tt
 
@@ -251,7 +251,7 @@ assigned_value t o = by t o
     by (Fat r t) o = o
     by (Unique n t) o = tt
     by (Handle r) o = tt
-    by (Key r) o = absurd o
+    by (Key r) o = tt
     by (Union tag rs) o = tt
 
 pub assigned_judged : (g : Env) (to from : Value) → IsGoodValue g to → Surely (λ v. IsGoodValue g v) (assigned g to from)

@@ -1,20 +1,22 @@
 -- A scope in which all is known of each name stays one: where a block, a loop or a `switch` begins, in an `rnew` and an element, and after a local, an
--- array and a lexical region.
-use Rattle.std.proofs.Common.{◌≡◌, ℕ, Bool, true, false, List, [], ◌∷◌, ap, arith, refl}
+-- array, a lexical region, an alias, a dynamic region and an opened one.
+use Rattle.std.proofs.Common.{◌≡◌, ℕ, Bool, true, false, List, [], ◌∷◌, refl, ap, arith}
 use Rattle.std.specs.Prelude.{◌+◌, ◌&&◌, ◌||◌, bytes_eq, if◌then◌else◌, is_some, nat_eq, not}
 use Rattle.std.proofs.lemmas.Bool.{eqb-true}
 use Rattle.cyc_tree.specs.Tree as tree
 use Rattle.type_proof.specs.Entries.{IsObjectType}
 use Rattle.type_proof.specs.Judged.{arrayed, extended, named}
 use Rattle.source_typing.specs.Named.{Below, TypeBelow}
+use Rattle.type_proof.proofs.statements.AliasScope.{aliasing, opening, with_named}
 use Rattle.type_proof.proofs.statements.Lexical.{lexical, names_with}
 use Rattle.source_typing.proofs.NamedBelow.{below_up, names_up}
 use Rattle.type_proof.proofs.statements.Surroundings.{type_up}
 use Rattle.source_typing.specs.Declarations.{name_added}
 use Rattle.source_typing.specs.Faults.{name_rule, test}
-use Rattle.source_typing.specs.Making.{To, inside, with_counter}
+use Rattle.source_typing.specs.Making.{Goal, enclosed, inside, with_counter}
 use Rattle.source_typing.specs.Regions.{Region}
-use Rattle.source_typing.specs.Scope.{Enclosing, Env, Local, block_entered, in_scope, is_second, next_region, second, with_local}
+use Rattle.source_typing.specs.Scope.{Enclosing, Env, InRegion, InUnique, Local, NotKnown, block_entered, in_scope, is_second, next_region, second}
+use Rattle.source_typing.specs.Scope.{with_local}
 use Rattle.source_typing.specs.Statements.{in_a_loop, in_a_switch}
 use Rattle.source_typing.specs.Tables.{Arrayed, Counter, Entry, OfBuiltin, OfFunction, OfOther, OfTag, OfValue, Stored, Tables, Unknown, What}
 use Rattle.source_typing.specs.Types.{StaticType}
@@ -40,7 +42,9 @@ entries_up n [] h = tt
 entries_up n (x ∷ xs) h = (entry_up n x.entry h.0, entries_up n xs h.1)
 
 pub around_up : (n : ℕ) (i : Enclosing) → IsAround n i → IsAround (n + 1) i
-around_up n i h = record { region = h.region; is = h.is; below = below_up n h.region h.below }
+around_up n (InRegion r) h = below_up n r h
+around_up n InUnique h = tt
+around_up n NotKnown h = absurd h
 
 -- ---- scopes
 
@@ -80,14 +84,14 @@ good_switch g h = record {
   blocks = h.blocks;
 }
 
--- in an `rnew` of a region that is in scope
-pub good_inside : (r : Region) (g : Env) → Below g.regions.count r → IsGood g → IsGood (inside (Of (To r)) g)
-good_inside r g b h = record {
+-- in an `rnew` of a region that is in scope, or of the unique one
+pub good_inside : (x : Goal) (g : Env) → IsAround g.regions.count (enclosed (Of x)) → IsGood g → IsGood (inside (Of x) g)
+good_inside x g b h = record {
   names = h.names;
   regions = h.regions;
   frame = h.frame;
-  enclosing = record { region = r; is = refl; below = b };
-  kinds = inside_known (IsStructTag g.tables) (Of (To r)) g h.kinds;
+  enclosing = b;
+  kinds = inside_known (IsStructTag g.tables) (Of x) g h.kinds;
   blocks = h.blocks;
 }
 
@@ -107,7 +111,7 @@ name_below : (n : ℕ) (names : List RegionNamed) (x : tree.Name) (r : Region) (
 name_below n names x r true h k = h
 name_below n names x r false h k = (k, h)
 
-region_names : (r : tree.RegionName) (g : Env) → IsGood g → NamesBelow (g.regions.count + 1) (names_with r g)
+pub region_names : (r : tree.RegionName) (g : Env) → IsGood g → NamesBelow (g.regions.count + 1) (names_with r g)
 region_names (tree.Named x) g h =
     name_below (g.regions.count + 1) g.names x (next_region g) (is_some (find_region g.names x.text)) (names_up g.regions.count g.names h.regions)
     (omega arith)
@@ -120,6 +124,32 @@ good_region r g h = record {
   regions = region_names r g h;
   frame = below_up g.regions.count g.frame h.frame;
   enclosing = around_up g.regions.count g.enclosing h.enclosing;
+  kinds = record { tables = h.kinds.tables; locals = h.kinds.locals };
+  blocks = h.blocks;
+}
+
+-- after a region that only the heap outlives, which is live or not
+pub good_named : (live : Bool) (r : tree.RegionName) (g : Env) → IsGood g → IsGood (with_named live g (names_with r g))
+good_named live r g h = record {
+  names = entries_up g.regions.count (in_scope g) h.names;
+  regions = region_names r g h;
+  frame = below_up g.regions.count g.frame h.frame;
+  enclosing = around_up g.regions.count g.enclosing h.enclosing;
+  kinds = record { tables = h.kinds.tables; locals = h.kinds.locals };
+  blocks = h.blocks;
+}
+
+-- after an alias
+pub good_alias : (r : tree.RegionName) (g : Env) → IsGood g → IsGood (aliasing g (names_with r g))
+good_alias r g h = good_named true r g h
+
+-- where a key's region is open
+pub good_open : (r : Region) (g : Env) → IsGood g → IsGood (opening g r)
+good_open r g h = record {
+  names = h.names;
+  regions = h.regions;
+  frame = h.frame;
+  enclosing = h.enclosing;
   kinds = record { tables = h.kinds.tables; locals = h.kinds.locals };
   blocks = h.blocks;
 }

@@ -14,7 +14,7 @@ use Rattle.source_typing.specs.Calls.{Target, ToBuiltin, ToFunction, ToStruct, a
 use Rattle.source_typing.specs.Calls.{call_entered, called, part_types, target, target_of_tag, typed_result}
 use Rattle.source_typing.specs.Converts.{Converts}
 use Rattle.source_typing.specs.Regions.{Region}
-use Rattle.source_typing.specs.Scope.{Env, Nowhere, Value, is_place, value}
+use Rattle.source_typing.specs.Scope.{Env, Value, is_place, value}
 use Rattle.source_typing.specs.Tables as typing
 use Rattle.source_typing.specs.Tables.{Arrayed, Counter, Entry, OfBuiltin, OfFunction, OfOther, OfTag, OfValue, Signature, Stored, Tag, Unknown, argument}
 use Rattle.source_typing.specs.Types.{Char, Fat, Handle, Int, Key, Null, StaticType, Struct, Thin, Union, Unique, Unsigned, Void, renamed, shape_of}
@@ -27,7 +27,9 @@ use Rattle.type_proof.proofs.expressions.Members.{members_known}
 use Rattle.type_proof.proofs.invariant.Sound.{shape_renamed}
 use Rattle.type_proof.proofs.expressions.WordRules.{Valued, value_of}
 use Rattle.accepted_proof.proofs.Known.{IsKnown, IsKnownValue, IsWhole, IsWord, converts_whole, converts_word, word_shape}
-use Rattle.accepted_proof.proofs.lowered.Forms.{AreKnown, AreWords, IsGiven, IsTaken, KnownEntry, KnownFunction, KnownKind, KnownTag, TakenAs, word_is}
+use Rattle.accepted_proof.proofs.lowered.Forms.{AreKnown, AreWords, IsGiven, IsTaken, KnownEntry, KnownFunction, KnownKind, KnownTag, TakenAs, TakenWord}
+use Rattle.accepted_proof.proofs.lowered.Forms.{word_is}
+use Rattle.accepted_proof.proofs.lowered.Stands.{stands_same}
 
 no_kind : {A : Type 0} (c : Bool) (at : ℕ) (v : A) → other_kind c at ≡ Of v → ⊥
 no_kind true at v e = cc
@@ -117,7 +119,7 @@ module _ (w : World) (names : List Named) where
   word_member (shapes.ArrayShape n t) whole word h k = k
 
   -- a type is a word's, a struct's or a union's, where its shape is known
-  word_or_whole : (t : StaticType) → IsKnown w (shape_of t) → IsWord t ⊎ IsWhole t
+  pub word_or_whole : (t : StaticType) → IsKnown w (shape_of t) → IsWord t ⊎ IsWhole t
   word_or_whole Void h = absurd h
   word_or_whole (Struct tag rs) h = inr tt
   word_or_whole (Union tag rs) h = inr tt
@@ -188,25 +190,30 @@ module _ (w : World) (names : List Named) where
   given_known f Int h = tt
   given_known f Unsigned h = tt
   given_known f Char h = tt
-  given_known f (Thin n r t) h = (h.1.0, subst (λ s. IsKnown w s) (sym (shape_renamed f t)) h.1.1)
+  given_known f (Thin n r t) h = subst (λ s. IsKnown w s) (sym (shape_renamed f t)) h.1
   given_known f (Fat r t) h = subst (λ s. IsKnown w s) (sym (shape_renamed f t)) h.1
-  given_known f (Unique n t) h = absurd (let q : shapes.Alone ≡ shapes.Shared = h.1.0 in cc)
+  given_known f (Unique n t) h = subst (λ s. IsKnown w s) (sym (shape_renamed f t)) h.1
   given_known f (Handle r) h = tt
   given_known f (Key r) h = absurd h.1
   given_known f (Union tag rs) h = absurd h.0
 
+  given_word : (f : Region → Region) (t : StaticType) (e : Expression) → Takes w names e → static_shape w names e ≡ shape_of t
+      → TakenWord w names e (renamed f t)
+  given_word f t e k s =
+      record { takes = k; shape = stands_same (static_shape w names e) (shape_of (renamed f t)) (s ∙ sym (shape_renamed f t)) }
+
   given_value : (f : Region → Region) (t : StaticType) (e : Expression) → IsGiven w t → Takes w names e
       → static_shape w names e ≡ shape_of t → TakenAs w names (renamed f t) e
   given_value f Void e h k s = tt
-  given_value f Null e h k s = record { takes = k; shape = s }
+  given_value f Null e h k s = given_word f Null e k s
   given_value f (Struct tag rs) e h k s = absurd h.0
-  given_value f Int e h k s = record { takes = k; shape = s }
-  given_value f Unsigned e h k s = record { takes = k; shape = s }
-  given_value f Char e h k s = record { takes = k; shape = s }
-  given_value f (Thin n r t) e h k s = record { takes = k; shape = s ∙ sym (shape_renamed f (Thin n r t)) }
-  given_value f (Fat r t) e h k s = record { takes = k; shape = s ∙ sym (shape_renamed f (Fat r t)) }
-  given_value f (Unique n t) e h k s = record { takes = k; shape = s ∙ sym (shape_renamed f (Unique n t)) }
-  given_value f (Handle r) e h k s = record { takes = k; shape = s }
+  given_value f Int e h k s = given_word f Int e k s
+  given_value f Unsigned e h k s = given_word f Unsigned e k s
+  given_value f Char e h k s = given_word f Char e k s
+  given_value f (Thin n r t) e h k s = given_word f (Thin n r t) e k s
+  given_value f (Fat r t) e h k s = given_word f (Fat r t) e k s
+  given_value f (Unique n t) e h k s = given_word f (Unique n t) e k s
+  given_value f (Handle r) e h k s = given_word f (Handle r) e k s
   given_value f (Key r) e h k s = absurd h.1
   given_value f (Union tag rs) e h k s = absurd h.0
 
@@ -218,7 +225,6 @@ module _ (w : World) (names : List Named) where
     run = subst (λ b. TakesCalled b (TakesWhole w names (Expression.Call x es)) (Takes w names (Expression.Call x es)))
         (sym (makes_none w x.text n)) (n, k);
     place = λ z. absurd (false≢true (sym (ap (λ (y : Rattle.source_typing.specs.Scope.Seat). is_place y) d.seat) ∙ z));
-    outside = λ z. let y : Nowhere ≡ Rattle.source_typing.specs.Scope.InBlock = sym d.seat ∙ z in cc;
   }
 
   module _ (g : Env) where
@@ -270,7 +276,6 @@ module _ (w : World) (names : List Named) where
           });
           run = subst (λ b. TakesCalled b (TakesWhole w names (Expression.Call x es)) (Takes w names (Expression.Call x es))) (sym one) (one, made);
           place = λ y. absurd (false≢true (sym (ap (λ (y : Rattle.source_typing.specs.Scope.Seat). is_place y) d.seat) ∙ y));
-          outside = λ y. let z : Nowhere ≡ Rattle.source_typing.specs.Scope.InBlock = sym d.seat ∙ y in cc;
         }
 
     pub call_taken : (x : Name) (es : Expressions) (o : Option Entry) (t : Target) (vs : List Value) (v : Value)

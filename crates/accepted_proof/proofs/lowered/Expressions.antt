@@ -4,21 +4,22 @@ use Rattle.std.specs.Prelude.{◌&&◌, length, nat_lt}
 use Rattle.cyc_tree.specs.Places.{expression_place}
 use Rattle.cyc_tree.specs.Tree.{Array, Arrow, Dot, Expression, Expressions, Index, Links, MoreExpressions, MoreLinks, Name, NoExpressions, NoLinks, NoSuffixes}
 use Rattle.cyc_tree.specs.Tree.{One, Suffixes}
-use Rattle.source_lowering.specs.Lowerable.{IsOperandShape}
-use Rattle.source_lowering.specs.Lowered.{Named, number_named, static_shape, valued}
+use Rattle.source_lowering.specs.Lowerable.{IsOperandShape, Takes}
+use Rattle.source_lowering.specs.Lowered.{Named, named_shape, number_named, static_shape, valued}
+use Rattle.source_lowering.specs.Pieces.{owner_in}
 use Rattle.source_meaning.specs.Calls.{number_type}
 use Rattle.source_meaning.specs.Expressions.{is_unique_region}
 use Rattle.source_meaning.specs.Memory.{IntegerType, AsInt, AsUnsigned, AsChar}
 use Rattle.source_meaning.specs.Programs.{integer_shape}
-use Rattle.source_meaning.specs.Shapes.{Shape, UnsignedShape}
+use Rattle.source_meaning.specs.Shapes.{Shape, ThinShape, UnsignedShape}
 use Rattle.source_meaning.specs.Steps.{World}
 use Rattle.source_typing.specs.Expressions.{judge, judge_all, judge_links, judge_suffixes, judge_tests}
 use Rattle.source_typing.specs.Fixing.{more}
-use Rattle.source_typing.specs.Making.{Goal, To, array_made, elements, goal_of, handled, inside, made, with_counter}
+use Rattle.source_typing.specs.Making.{Goal, To, ToUnique, array_made, elements, goal_of, handled, inside, made, with_counter}
 use Rattle.source_typing.specs.Operators.{applied, counted, is_fat, tested_both}
 use Rattle.source_typing.specs.Places.{grouped, variable}
 use Rattle.source_typing.specs.Regions.{TheHeap}
-use Rattle.source_typing.specs.Scope.{Env, In, InBlock, Value, meant}
+use Rattle.source_typing.specs.Scope.{Env, In, Value, meant}
 use Rattle.source_typing.specs.Tables.{Arrayed, Counter, Entry, OfBuiltin, OfFunction, OfOther, OfTag, OfValue, Stored, Unknown}
 use Rattle.source_typing.specs.Taken.{all_taken, are_suffixed, if_taken, links_taken, suffixes_taken, taken, takes_handle, takes_suffixes}
 use Rattle.accepted_programs.specs.Supported.{supported}
@@ -34,7 +35,8 @@ use Rattle.accepted_proof.proofs.lowered.Forms.{IsKnownScope, IsTaken, TakenWord
 use Rattle.accepted_proof.proofs.lowered.Calls.{AllTaken, call_taken}
 use Rattle.accepted_proof.proofs.lowered.Unions.{union_taken}
 use Rattle.source_typing.specs.Calls.{union_made, union_tag}
-use Rattle.accepted_proof.proofs.lowered.Makings.{array_taken, making_taken}
+use Rattle.accepted_proof.proofs.lowered.Makings.{array_taken, making_taken, unique_making_taken}
+use Rattle.accepted_proof.proofs.lowered.Stands.{Exactly, stands_same, stands_to, valued_stands}
 use Rattle.accepted_proof.proofs.lowered.Members.{IndicesTaken, suffixed_taken}
 use Rattle.accepted_proof.proofs.lowered.Operators.{are_joined, assign_taken, fits_seat, no_place, prefixed_taken}
 use Rattle.accepted_proof.proofs.lowered.Scopes.{scope_counter, scope_inside}
@@ -76,32 +78,31 @@ suffixes_kept : (e : Expression) (es : Suffixes) (b : Bool) → are_suffixed es 
 suffixes_kept e es true q t = refl
 suffixes_kept e es false q t = absurd cc
 
--- a making in the region of a handle that is taken: none in the unique region
+-- a making in the region of a handle that is taken, or in the unique region
 record HandleKept (h e : Expression) : Type 0 where
-  shared : is_unique_region h ≡ false
   handle : taken supported h ≡ h
   value : taken supported e ≡ e
 
-handle_kept : (at : ℕ) (h e : Expression) (b : Bool) → is_unique_region h ≡ b
+handle_kept : (at : ℕ) (h e : Expression) (b : Bool)
     → if_taken (takes_handle supported b && true) at (Expression.NewIn at (taken supported h) (One (taken supported e)))
     ≡ Expression.NewIn at h (One e) → HandleKept h e
-handle_kept at h e true q t = absurd cc
-handle_kept at h e false q t =
-    let i : taken supported h ≡ h = cc in let j : taken supported e ≡ e = cc in record { shared = q; handle = i; value = j }
+handle_kept at h e true t = let i : taken supported h ≡ h = cc in let j : taken supported e ≡ e = cc in record { handle = i; value = j }
+handle_kept at h e false t = let i : taken supported h ≡ h = cc in let j : taken supported e ≡ e = cc in record { handle = i; value = j }
 
 record ArrayKept (h n e : Expression) : Type 0 where
-  shared : is_unique_region h ≡ false
   handle : taken supported h ≡ h
   count : taken supported n ≡ n
   value : taken supported e ≡ e
 
-array_kept : (at : ℕ) (h : Expression) (x : Name) (n e : Expression) (b : Bool) → is_unique_region h ≡ b
+array_kept : (at : ℕ) (h : Expression) (x : Name) (n e : Expression) (b : Bool)
     → if_taken (takes_handle supported b && true) at (Expression.NewIn at (taken supported h) (Array x (taken supported n) (taken supported e)))
     ≡ Expression.NewIn at h (Array x n e) → ArrayKept h n e
-array_kept at h x n e true q t = absurd cc
-array_kept at h x n e false q t =
+array_kept at h x n e true t =
     let i : taken supported h ≡ h = cc in let j : taken supported n ≡ n = cc in let k : taken supported e ≡ e = cc in
-    record { shared = q; handle = i; count = j; value = k }
+    record { handle = i; count = j; value = k }
+array_kept at h x n e false t =
+    let i : taken supported h ≡ h = cc in let j : taken supported n ≡ n = cc in let k : taken supported e ≡ e = cc in
+    record { handle = i; count = j; value = k }
 
 module _ (w : World) (names : List Named) (g : Env) (scope : IsKnownScope w names g) where
   abbrev Is : Expression → Value → Type 0
@@ -113,19 +114,29 @@ module _ (w : World) (names : List Named) (g : Env) (scope : IsKnownScope w name
       let k = scope.entries x.text (OfValue (Stored t r)) q in
       let z : record { at = x.at; type = t; seat = In r } ≡ v = of_is (record { at = x.at; type = t; seat = In r }) v e in
       taken_place w names (Expression.Variable x) v t (ap (λ (y : Value). y.type) (sym z))
-      (λ s. let y : In r ≡ InBlock = ap (λ (y : Value). y.seat) z ∙ s in cc)
-      (record { takes = tt; shape = ap (λ (s : Shape). valued s) k.0 ∙ valued_type t; known = k.1 }) (known_value w t k.1) (λ y. y) (λ y. y) (λ y. y)
+      (record {
+        takes = tt;
+        shape = stands_to (static_shape w names (Expression.Variable x)) (valued (shape_of t)) (shape_of t)
+            (valued_stands (named_shape w names x.text) (shape_of t) k.0) (valued_type t);
+        known = k.1;
+      }) (known_value w t k.1) (λ y. y) (λ y. y) (λ y. y)
   variable_taken x (Some (OfValue (Arrayed t r))) v q e =
       let k = scope.entries x.text (OfValue (Arrayed t r)) q in
       let d : Valued v (Fat r t) = value_of x.at (Fat r t) v e in
       let shape : static_shape w names (Expression.Variable x) ≡ shape_of (Fat r t) = ap (λ (s : Shape). valued s) k.1 in
       taken_word w names (Expression.Variable x) v (Fat r t) d.type (no_place v d.seat) tt k.2
-      (record { takes = subst (λ (s : Shape). IsOperandShape s) (sym shape) tt; shape = shape }) (λ z. z)
+      (record {
+        takes = subst (λ (s : Shape). IsOperandShape s) (sym shape) tt;
+        shape = stands_same (static_shape w names (Expression.Variable x)) (shape_of (Fat r t)) shape;
+      }) (λ z. z)
   variable_taken x (Some (OfValue Counter)) v q e =
       let d : Valued v Unsigned = value_of x.at Unsigned v e in
       let shape : static_shape w names (Expression.Variable x) ≡ UnsignedShape = ap (λ (s : Shape). valued s) (scope.entries x.text (OfValue Counter) q) in
       taken_word w names (Expression.Variable x) v Unsigned d.type (no_place v d.seat) tt tt
-      (record { takes = subst (λ (s : Shape). IsOperandShape s) (sym shape) tt; shape = shape }) (λ z. z)
+      (record {
+        takes = subst (λ (s : Shape). IsOperandShape s) (sym shape) tt;
+        shape = stands_same (static_shape w names (Expression.Variable x)) UnsignedShape shape;
+      }) (λ z. z)
   variable_taken x (Some (OfValue Unknown)) v q e = absurd cc
   variable_taken x (Some (OfTag t)) v q e = absurd (no_kind t.sound x.at v e)
   variable_taken x (Some (OfFunction s)) v q e = absurd (no_kind s.sound x.at v e)
@@ -134,22 +145,43 @@ module _ (w : World) (names : List Named) (g : Env) (scope : IsKnownScope w name
 
   -- ---- makings
 
-  made_in_taken : (at : ℕ) (h e : Expression) → is_unique_region h ≡ false → (x : Goal) (y a v : Value) → handled g y ≡ Of x → Is h y → Is e a
-      → made at x a ≡ Of v → Is (Expression.NewIn at h (One e)) v
-  made_in_taken at h e shared x y a v q k i p =
-      let d : Handled g y.type x = handled_is g y.at at y.type x a v q p in
-      let handle : TakenWord w names h y.type = word_is w names y.type h (subst (λ u. IsWord u) (sym d.is) tt) k.value in
-      making_taken w names (Expression.NewIn at h (One e)) at d.region e a v i (subst (λ (z : Goal). made at z a ≡ Of v) d.goal p)
-      (λ n. (shared, (handle.takes, n))) refl (λ z. z)
+  -- `unique_region` has no code
+  unique_takes : (h : Expression) → is_unique_region h ≡ true → Takes w names h
+  unique_takes (Expression.UniqueRegion at) q = tt
+  unique_takes (Expression.Grouped at h) q = unique_takes h q
+  unique_takes _ q = absurd cc
 
-  array_in_taken : (at : ℕ) (h : Expression) (x : Name) (n e : Expression) → is_unique_region h ≡ false → (to : Goal) (y c a b v : Value)
-      → handled g y ≡ Of to → Is h y → Is n c → ((t : ℕ) → IsTaken w (number_named x.text t ∷ names) e a) → elements at c a ≡ Of b
+  owned_by : (e h : Expression) (b : Bool) → is_unique_region h ≡ b
+      → ThinShape false (owner_in (is_unique_region h)) (static_shape w names e) ≡ ThinShape false (owner_in b) (static_shape w names e)
+  owned_by e h b q = ap (λ (c : Bool). ThinShape false (owner_in c) (static_shape w names e)) q
+
+  made_in_taken : (at : ℕ) (h e : Expression) (b : Bool) → is_unique_region h ≡ b → (x : Goal) (a v : Value) → goal_of b g (judge g h) ≡ Of x
+      → ((y : Value) → judge g h ≡ Of y → Is h y) → Is e a → made at x a ≡ Of v → Is (Expression.NewIn at h (One e)) v
+  made_in_taken at h e true unique x a v q k i p =
+      unique_making_taken w names (Expression.NewIn at h (One e)) at e a v i (subst (λ (z : Goal). made at z a ≡ Of v) (sym (of_is ToUnique x q)) p)
+      (λ n. (unique_takes h unique, n)) (owned_by e h true unique) (λ z. z)
+  made_in_taken at h e false shared x a v q k i p =
+      let y = after_is (judge g h) (handled g) x q in
+      let d : Handled g (y.0).type x = handled_is g (y.0).at at (y.0).type x a v y.2 p in
+      let handle : TakenWord w names h (y.0).type = word_is w names (y.0).type h (subst (λ u. IsWord u) (sym d.is) tt) (k y.0 y.1).value in
+      making_taken w names (Expression.NewIn at h (One e)) at d.region e a v i (subst (λ (z : Goal). made at z a ≡ Of v) d.goal p)
+      (λ n. (handle.takes, n)) (owned_by e h false shared) (λ z. z)
+
+  -- an array isn't made in the unique region
+  array_in_taken : (at : ℕ) (h : Expression) (x : Name) (n e : Expression) (u : Bool) (to : Goal) (c a b v : Value) → goal_of u g (judge g h) ≡ Of to
+      → ((y : Value) → judge g h ≡ Of y → Is h y) → Is n c → ((t : ℕ) → IsTaken w (number_named x.text t ∷ names) e a) → elements at c a ≡ Of b
       → array_made at to b ≡ Of v → Is (Expression.NewIn at h (Array x n e)) v
-  array_in_taken at h x n e shared to y c a b v q k i l m p =
-      let d : Handled g y.type to = array_handled g y.at at y.type to b v q p in
-      let handle : TakenWord w names h y.type = word_is w names y.type h (subst (λ u. IsWord u) (sym d.is) tt) k.value in
+  array_in_taken at h x n e true to c a b v q k i l m p =
+      absurd (never (subst (λ (z : Goal). array_made at z b ≡ Of v) (sym (of_is ToUnique to q)) p))
+    where
+      never : array_made at ToUnique b ≡ Of v → ⊥
+      never z = cc
+  array_in_taken at h x n e false to c a b v q k i l m p =
+      let y = after_is (judge g h) (handled g) to q in
+      let d : Handled g (y.0).type to = array_handled g (y.0).at at (y.0).type to b v y.2 p in
+      let handle : TakenWord w names h (y.0).type = word_is w names (y.0).type h (subst (λ u. IsWord u) (sym d.is) tt) (k y.0 y.1).value in
       array_taken w names (Expression.NewIn at h (Array x n e)) at d.region x n e c a b v i l m (subst (λ (z : Goal). array_made at z b ≡ Of v) d.goal p)
-      (λ o. (shared, (handle.takes, o))) refl (λ z. z)
+      (λ o. (handle.takes, o)) refl (λ z. z)
 
 -- ---- all of them
 
@@ -161,19 +193,19 @@ module _ (w : World) where
         let i : IntegerType = number_type n suffix in
         let d : Valued v (integer_type i) = value_of at (integer_type i) v p in
         taken_word w names (Expression.Number at n suffix) v (integer_type i) d.type (no_place v d.seat) (number_word i) (number_known w i)
-        (record { takes = tt; shape = number_shape i }) (λ z. z)
+        (record { takes = tt; shape = stands_same (integer_shape i) (shape_of (integer_type i)) (number_shape i) }) (λ z. z)
     taken_is names g scope (Expression.Character at byte) v t p =
         let d : Valued v Char = value_of at Char v p in
-        taken_word w names (Expression.Character at byte) v Char d.type (no_place v d.seat) tt tt (record { takes = tt; shape = refl }) (λ z. z)
+        taken_word w names (Expression.Character at byte) v Char d.type (no_place v d.seat) tt tt (record { takes = tt; shape = Exactly }) (λ z. z)
     taken_is names g scope (Expression.Text at bytes) v t p =
         let d : Valued v (Fat TheHeap Char) = text_valued at v (nat_lt (length bytes) 4096) p in
-        taken_word w names (Expression.Text at bytes) v (Fat TheHeap Char) d.type (no_place v d.seat) tt tt (record { takes = tt; shape = refl }) (λ z. z)
+        taken_word w names (Expression.Text at bytes) v (Fat TheHeap Char) d.type (no_place v d.seat) tt tt (record { takes = tt; shape = Exactly }) (λ z. z)
     taken_is names g scope (Expression.Null at) v t p =
         let d : Valued v Null = value_of at Null v p in
-        taken_word w names (Expression.Null at) v Null d.type (no_place v d.seat) tt tt (record { takes = tt; shape = refl }) (λ z. z)
+        taken_word w names (Expression.Null at) v Null d.type (no_place v d.seat) tt tt (record { takes = tt; shape = Exactly }) (λ z. z)
     taken_is names g scope (Expression.HeapRegion at) v t p =
         let d : Valued v (Handle TheHeap) = value_of at (Handle TheHeap) v p in
-        taken_word w names (Expression.HeapRegion at) v (Handle TheHeap) d.type (no_place v d.seat) tt tt (record { takes = tt; shape = refl }) (λ z. z)
+        taken_word w names (Expression.HeapRegion at) v (Handle TheHeap) d.type (no_place v d.seat) tt tt (record { takes = tt; shape = Exactly }) (λ z. z)
     taken_is names g scope (Expression.UniqueRegion at) v t p = absurd cc
     taken_is names g scope (Expression.Variable x) v t p = variable_taken w names g scope x (meant g x.text) v refl p
     taken_is names g scope (Expression.Call x es) v t p =
@@ -190,7 +222,7 @@ module _ (w : World) where
         let r = counted_is at z.0 v z.2 in
         let k : TakenWord w names e z.0.type = word_is w names z.0.type e (fat_word z.0.type r.0) (taken_is names g scope e z.0 i z.1).value in
         taken_word w names (Expression.NumElts at e) v Unsigned r.1 (no_place v (fits_seat (is_fat z.0.type) at at Unsigned v z.2)) tt tt
-        (record { takes = k.takes; shape = refl }) (λ y. y)
+        (record { takes = k.takes; shape = Exactly }) (λ y. y)
     taken_is names g scope (Expression.Grouped at e) v t p =
         let i : taken supported e ≡ e = cc in
         let z = after_is (judge g e) (grouped at) v p in
@@ -234,22 +266,20 @@ module _ (w : World) where
         (λ m. taken_is (number_named x.text m ∷ names) inner (scope_counter w names g x m scope) e y.1 j y.3) y.4
         (subst (λ (q : Goal). array_made at q z.1 ≡ Of v) (sym (of_is (To TheHeap) z.0 z.2)) z.4) (λ q. q) refl (λ q. q)
     taken_is names g scope (Expression.NewIn at h (One e)) v t p =
-        let own : HandleKept h e = handle_kept at h e (is_unique_region h) refl t in
+        let own : HandleKept h e = handle_kept at h e (is_unique_region h) t in
         let goal : Verdict Goal = goal_of (is_unique_region h) g (judge g h) in
         let z = goal_is at goal (judge (inside goal g) e) (made at) v p in
-        let y = after_is (judge g h) (handled g) z.0 (subst (λ b. goal_of b g (judge g h) ≡ Of z.0) own.shared z.2) in
-        made_in_taken w names g scope at h e own.shared z.0 y.0 z.1 v y.2 (taken_is names g scope h y.0 own.handle y.1)
+        made_in_taken w names g scope at h e (is_unique_region h) refl z.0 z.1 v z.2 (λ y q. taken_is names g scope h y own.handle q)
         (taken_is names (inside goal g) (scope_inside w names goal g scope) e z.1 own.value z.3) z.4
     taken_is names g scope (Expression.NewIn at h (Array x n e)) v t p =
-        let own : ArrayKept h n e = array_kept at h x n e (is_unique_region h) refl t in
+        let own : ArrayKept h n e = array_kept at h x n e (is_unique_region h) t in
         let goal : Verdict Goal = goal_of (is_unique_region h) g (judge g h) in
         let within : Env = inside goal g in
         let inner : Env = with_counter x within in
         let known : IsKnownScope w names within = scope_inside w names goal g scope in
         let z = goal_is at goal (both (judge within n) (judge inner e) (elements at)) (array_made at) v p in
         let u = both_is (judge within n) (judge inner e) (elements at) z.1 z.3 in
-        let y = after_is (judge g h) (handled g) z.0 (subst (λ b. goal_of b g (judge g h) ≡ Of z.0) own.shared z.2) in
-        array_in_taken w names g scope at h x n e own.shared z.0 y.0 u.0 u.1 z.1 v y.2 (taken_is names g scope h y.0 own.handle y.1)
+        array_in_taken w names g scope at h x n e (is_unique_region h) z.0 u.0 u.1 z.1 v z.2 (λ y q. taken_is names g scope h y own.handle q)
         (taken_is names within known n u.0 own.count u.2)
         (λ m. taken_is (number_named x.text m ∷ names) inner (scope_counter w names within x m known) e u.1 own.value u.3) u.4 z.4
     taken_is names g scope (Expression.Chain e NoLinks) v t p = absurd cc
@@ -266,14 +296,14 @@ module _ (w : World) where
         let j : all_taken supported (MoreExpressions y es) ≡ MoreExpressions y es = cc in
         let f = tests_first g (judge g e) (MoreExpressions y es) v p in
         tests_whole w names g scope (Expression.AllOf e (MoreExpressions y es)) e (MoreExpressions y es) f.0 v (taken_is names g scope e f.0 i f.1)
-        (tests_are names g scope (MoreExpressions y es) (judge g e) v j p) f.1 (λ z. record { takes = z; shape = refl }) (λ z. z)
+        (tests_are names g scope (MoreExpressions y es) (judge g e) v j p) f.1 (λ z. record { takes = z; shape = Exactly }) (λ z. z)
     taken_is names g scope (Expression.AnyOf e NoExpressions) v t p = absurd cc
     taken_is names g scope (Expression.AnyOf e (MoreExpressions y es)) v t p =
         let i : taken supported e ≡ e = cc in
         let j : all_taken supported (MoreExpressions y es) ≡ MoreExpressions y es = cc in
         let f = tests_first g (judge g e) (MoreExpressions y es) v p in
         tests_whole w names g scope (Expression.AnyOf e (MoreExpressions y es)) e (MoreExpressions y es) f.0 v (taken_is names g scope e f.0 i f.1)
-        (tests_are names g scope (MoreExpressions y es) (judge g e) v j p) f.1 (λ z. record { takes = z; shape = refl }) (λ z. z)
+        (tests_are names g scope (MoreExpressions y es) (judge g e) v j p) f.1 (λ z. record { takes = z; shape = Exactly }) (λ z. z)
     taken_is names g scope (Expression.Assign to from) v t p =
         let i : taken supported to ≡ to = cc in
         let j : taken supported from ≡ from = cc in

@@ -1,5 +1,5 @@
 -- What lowering takes of an expression, by its type, where all is known of each name in scope.
-use Rattle.std.proofs.Common.{◌≡◌, ℕ, ◌≤◌, Bool, true, false, Some, List, [], ◌∷◌, refl, sym, subst, ap}
+use Rattle.std.proofs.Common.{◌≡◌, ℕ, ◌≤◌, Bool, true, false, Some, List, [], ◌∷◌, refl, sym, subst}
 use Rattle.std.specs.Prelude.{bytes_eq, codes, map}
 use Rattle.cyc_tree.specs.Tree.{Expression}
 use Rattle.source_lowering.specs.Lowerable.{IsMember, IsOperandShape, IsWholeShape, Takes, TakesDropped, TakesPlace, TakesRun, TakesWhole}
@@ -8,7 +8,7 @@ use Rattle.source_meaning.specs.Shapes as shapes
 use Rattle.source_meaning.specs.Shapes.{ArrayShape, Shape, StructShape, UnionShape, UnsignedShape, has_tag, part_shape, parts_of}
 use Rattle.source_meaning.specs.Steps.{World}
 use Rattle.source_typing.specs.Extents.{size_of}
-use Rattle.source_typing.specs.Scope.{Env, InBlock, Seat, Value, is_place, meant}
+use Rattle.source_typing.specs.Scope.{Env, Value, is_place, meant}
 use Rattle.source_typing.specs.Tables.{
   Arrayed,
   Counter,
@@ -45,6 +45,7 @@ use Rattle.source_typing.specs.Types.{
 use Rattle.type_proof.specs.Entries.{Builtin}
 use Rattle.type_proof.specs.Structs.{AreMembers}
 use Rattle.accepted_proof.proofs.Known.{IsKnown, IsKnownValue, IsWord, word_shape}
+use Rattle.accepted_proof.proofs.lowered.Stands.{StandsAs, known_stands, operand_stands, stands_exactly}
 
 -- ---- names
 
@@ -102,7 +103,7 @@ KnownKind w false x t = KnownTag w x t
 KnownKind w true x t = KnownUnion w x t
 
 abbrev pub KnownEntry : World → List Named → List ℕ → Entry → Type 0
-KnownEntry w names x (OfValue (Stored t r)) = (named_shape w names x ≡ shape_of t) × IsKnown w (shape_of t)
+KnownEntry w names x (OfValue (Stored t r)) = StandsAs (named_shape w names x) (shape_of t) × IsKnown w (shape_of t)
 KnownEntry w names x (OfValue (Arrayed t r)) = (count : ℕ) × (named_shape w names x ≡ ArrayShape count (shape_of t)) × IsKnown w (shape_of t)
 KnownEntry w names x (OfValue Counter) = (named_shape w names x ≡ UnsignedShape)
 KnownEntry w names x (OfValue Unknown) = ⊥
@@ -152,7 +153,7 @@ module _ (w : World) (names : List Named) where
   -- a word, of the shape that its type says
   pub record TakenWord (e : Expression) (t : StaticType) : Type 0 where
     pub takes : Takes w names e
-    pub shape : static_shape w names e ≡ shape_of t
+    pub shape : StandsAs (static_shape w names e) (shape_of t)
 
   -- a struct, of the shape that its type says
   pub record TakenStruct (e : Expression) (tag : List ℕ) : Type 0 where
@@ -173,7 +174,7 @@ module _ (w : World) (names : List Named) where
 
   pub record TakenPlace (e : Expression) (t : StaticType) : Type 0 where
     pub takes : TakesPlace w names e
-    pub shape : static_shape w names e ≡ shape_of t
+    pub shape : StandsAs (static_shape w names e) (shape_of t)
     pub known : IsKnown w (shape_of t)
 
   -- an expression that lowering takes: as a value of its type, where its value is dropped, and as a place where it is one
@@ -182,7 +183,6 @@ module _ (w : World) (names : List Named) where
     pub value : TakenAs v.type e
     pub run : TakesRun w names e
     pub place : is_place v.seat ≡ true → TakenPlace e v.type
-    pub outside : v.seat ≡ InBlock → ⊥
 
   -- ---- by the type
 
@@ -230,7 +230,7 @@ module _ (w : World) (names : List Named) where
 
   pub dropped_word : (t : StaticType) (e : Expression) → IsWord t → TakenWord e t → TakesDropped w names (static_shape w names e) e
   dropped_word t e h k =
-      dropped_shape (static_shape w names e) e (subst (λ s. IsOperandShape s) (sym k.shape) (word_shape t h)) k.takes
+      dropped_shape (static_shape w names e) e (operand_stands (static_shape w names e) (shape_of t) k.shape (word_shape t h)) k.takes
 
   -- a word that is no place
   pub taken_word : (e : Expression) (v : Value) (t : StaticType) → v.type ≡ t → (is_place v.seat ≡ true → ⊥) → IsWord t → IsKnownValue w t
@@ -240,7 +240,6 @@ module _ (w : World) (names : List Named) where
     value = subst (λ z. TakenAs z e) (sym q) (word_as t e h d);
     run = run (dropped_word t e h d);
     place = λ z. absurd (s z);
-    outside = λ z. s (ap (λ (y : Seat). is_place y) z);
   }
 
   -- a place is taken as a value too: as a struct, as a union, or as a word
@@ -250,53 +249,59 @@ module _ (w : World) (names : List Named) where
   union_there : (tag : List ℕ) → has_tag w.unions tag ≡ true → (s : Shape) → s ≡ UnionShape tag → IsWholeShape w.unions w.structs s
   union_there tag h s e = subst (λ z. IsWholeShape w.unions w.structs z) (sym e) h
 
+  -- the shape of a place of a struct or a union is its type's
+  place_word : (t : StaticType) (e : Expression) → IsWord t → TakenPlace e t → (IsOperandShape (static_shape w names e) → Takes w names e) → TakenWord e t
+  place_word t e i p word =
+      record { takes = word (operand_stands (static_shape w names e) (shape_of t) p.shape (word_shape t i)); shape = p.shape }
+
   place_value : (t : StaticType) (e : Expression) → TakenPlace e t → (IsOperandShape (static_shape w names e) → Takes w names e)
       → (TakesPlace w names e × IsWholeShape w.unions w.structs (static_shape w names e) → TakesWhole w names e) → TakenAs t e
   place_value Void e p word whole = tt
   place_value (Struct tag rs) e p word whole =
-      record { takes = whole (p.takes, struct_there tag p.known (static_shape w names e) p.shape); shape = p.shape }
+      let shape : static_shape w names e ≡ StructShape tag = stands_exactly (static_shape w names e) (StructShape tag) p.shape tt in
+      record { takes = whole (p.takes, struct_there tag p.known (static_shape w names e) shape); shape = shape }
   place_value (Union tag rs) e p word whole =
-      record { takes = whole (p.takes, union_there tag p.known (static_shape w names e) p.shape); shape = p.shape }
-  place_value Null e p word whole = record { takes = word (subst (λ s. IsOperandShape s) (sym p.shape) tt); shape = p.shape }
-  place_value Int e p word whole = record { takes = word (subst (λ s. IsOperandShape s) (sym p.shape) tt); shape = p.shape }
-  place_value Unsigned e p word whole = record { takes = word (subst (λ s. IsOperandShape s) (sym p.shape) tt); shape = p.shape }
-  place_value Char e p word whole = record { takes = word (subst (λ s. IsOperandShape s) (sym p.shape) tt); shape = p.shape }
-  place_value (Thin n r t) e p word whole = record { takes = word (subst (λ s. IsOperandShape s) (sym p.shape) tt); shape = p.shape }
-  place_value (Fat r t) e p word whole = record { takes = word (subst (λ s. IsOperandShape s) (sym p.shape) tt); shape = p.shape }
-  place_value (Unique n t) e p word whole = record { takes = word (subst (λ s. IsOperandShape s) (sym p.shape) tt); shape = p.shape }
-  place_value (Handle r) e p word whole = record { takes = word (subst (λ s. IsOperandShape s) (sym p.shape) tt); shape = p.shape }
+      let shape : static_shape w names e ≡ UnionShape tag = stands_exactly (static_shape w names e) (UnionShape tag) p.shape tt in
+      record { takes = whole (p.takes, union_there tag p.known (static_shape w names e) shape); shape = shape }
+  place_value Null e p word whole = place_word Null e tt p word
+  place_value Int e p word whole = place_word Int e tt p word
+  place_value Unsigned e p word whole = place_word Unsigned e tt p word
+  place_value Char e p word whole = place_word Char e tt p word
+  place_value (Thin n r t) e p word whole = place_word (Thin n r t) e tt p word
+  place_value (Fat r t) e p word whole = place_word (Fat r t) e tt p word
+  place_value (Unique n t) e p word whole = place_word (Unique n t) e tt p word
+  place_value (Handle r) e p word whole = place_word (Handle r) e tt p word
   place_value (Key r) e p word whole = absurd p.known
 
   place_dropped : (t : StaticType) (e : Expression) → TakenPlace e t → (IsOperandShape (static_shape w names e) → Takes w names e)
       → (TakesPlace w names e × IsWholeShape w.unions w.structs (static_shape w names e) → TakesWhole w names e)
       → TakesDropped w names (static_shape w names e) e
-  place_dropped t e p word whole = by (static_shape w names e) word whole p.shape
+  place_dropped t e p word whole =
+      by (static_shape w names e) word whole (known_stands w (static_shape w names e) (shape_of t) p.shape p.known)
     where
       by : (s : Shape) → (IsOperandShape s → Takes w names e) → (TakesPlace w names e × IsWholeShape w.unions w.structs s → TakesWhole w names e)
-          → s ≡ shape_of t
-          → TakesDropped w names s e
-      by (StructShape tag) word whole q = whole (p.takes, subst (λ z. IsKnown w z) (sym q) p.known)
-      by shapes.IntShape word whole q = word tt
-      by shapes.UnsignedShape word whole q = word tt
-      by shapes.CharShape word whole q = word tt
-      by shapes.VoidShape word whole q = word tt
-      by (shapes.ThinShape n o s) word whole q = word tt
-      by (shapes.FatShape s) word whole q = word tt
-      by shapes.HandleShape word whole q = word tt
-      by shapes.KeyShape word whole q = word tt
-      by (UnionShape tag) word whole q = whole (p.takes, subst (λ z. IsKnown w z) (sym q) p.known)
-      by (shapes.ArrayShape n s) word whole q = word tt
+          → IsKnown w s → TakesDropped w names s e
+      by (StructShape tag) word whole k = whole (p.takes, k)
+      by shapes.IntShape word whole k = word tt
+      by shapes.UnsignedShape word whole k = word tt
+      by shapes.CharShape word whole k = word tt
+      by shapes.VoidShape word whole k = word tt
+      by (shapes.ThinShape n o s) word whole k = word tt
+      by (shapes.FatShape s) word whole k = word tt
+      by shapes.HandleShape word whole k = word tt
+      by shapes.KeyShape word whole k = word tt
+      by (UnionShape tag) word whole k = whole (p.takes, k)
+      by (shapes.ArrayShape n s) word whole k = word tt
 
-  pub taken_place : (e : Expression) (v : Value) (t : StaticType) → v.type ≡ t → (v.seat ≡ InBlock → ⊥) → TakenPlace e t → IsKnownValue w t
+  pub taken_place : (e : Expression) (v : Value) (t : StaticType) → v.type ≡ t → TakenPlace e t → IsKnownValue w t
       → (IsOperandShape (static_shape w names e) → Takes w names e)
       → (TakesPlace w names e × IsWholeShape w.unions w.structs (static_shape w names e) → TakesWhole w names e)
       → (TakesDropped w names (static_shape w names e) e → TakesRun w names e) → IsTaken e v
-  taken_place e v t q o p k word whole run = record {
+  taken_place e v t q p k word whole run = record {
     known = subst (λ z. IsKnownValue w z) (sym q) k;
     value = subst (λ z. TakenAs z e) (sym q) (place_value t e p word whole);
     run = run (place_dropped t e p word whole);
     place = λ s. subst (λ z. TakenPlace e z) (sym q) p;
-    outside = o;
   }
 
   -- ---- parentheses
@@ -322,5 +327,4 @@ module _ (w : World) (names : List Named) where
     value = grouped_as a.type at e h.value;
     run = h.run;
     place = λ z. let p : TakenPlace e a.type = h.place z in record { takes = p.takes; shape = p.shape; known = p.known };
-    outside = h.outside;
   }

@@ -115,6 +115,7 @@ module _ (w : World) (g : Tables) (tags : TagsThere w g) (sound : AreSound g) wh
   given_is (Struct tag rs) e o k = absurd cc
   given_is (Union tag rs) e o k = absurd cc
   given_is (Handle r) e o k = (tt, k o)
+  given_is (Key r) e o k = (tt, k o)
   given_is _ e o k = absurd o
 
   pub record ResultLowered (t : TypeName) (u : StaticType) : Type 0 where

@@ -20,7 +20,7 @@ use Rattle.source_typing.specs.Scope.{Env}
 use Rattle.source_typing.specs.Tables.{Entry, Named, OfBuiltin, OfFunction, OfOther, OfTag, OfValue, Part, Tables, find}
 use Rattle.source_typing.specs.Tags.{member_faults, member_fitting, member_type, settled_alone, tag_parts, tag_scope}
 use Rattle.accepted_programs.specs.Supported.{supported}
-use Rattle.source_typing.specs.Types.{Char, Fat, Handle, Int, StaticType, Struct, Thin, Union, Unique, Unsigned, shape_of}
+use Rattle.source_typing.specs.Types.{Char, Fat, Handle, Int, Key, StaticType, Struct, Thin, Union, Unique, Unsigned, shape_of}
 use Rattle.source_typing.specs.Verdicts.{after, faults_of}
 use Rattle.source_typing.specs.Written.{all_found, spots_of}
 use Rattle.source_typing.proofs.Entries.{entries_more}
@@ -85,12 +85,13 @@ member_object : (w : World) (ds : List Declared) (ls : List Layout) (t : StaticT
 member_object w ds ls Int k h r = tt
 member_object w ds ls Unsigned k h r = tt
 member_object w ds ls Char k h r = tt
-member_object w ds ls (Thin n q t) k h r = (r.0, reached_target w (shape_of t) r.1)
+member_object w ds ls (Thin n q t) k h r = reached_target w (shape_of t) r
 member_object w ds ls (Fat q t) k h r = reached_target w (shape_of t) r
-member_object w ds ls (Unique b t) k h r = absurd (let unowned : shapes.Alone ≡ shapes.Shared = r.0 in cc)
+member_object w ds ls (Unique b t) k h r = reached_target w (shape_of t) r
 member_object w ds ls (Struct tag rs) k h r = k tag ∙ h
 member_object w ds ls (Union tag rs) k h r = r
 member_object w ds ls (Handle q) k h r = tt
+member_object w ds ls (Key q) k h r = absurd r
 member_object w ds ls _ k h r = absurd h
 
 members_objects : (w : World) (ds : List Declared) (ls : List Layout) (ps : List Part) (qs : List shapes.Part) (ts : List StaticType)
@@ -111,7 +112,7 @@ member_value : (w : World) (t : StaticType) → IsUnionMember t → IsReached w 
 member_value w Int o r = tt
 member_value w Unsigned o r = tt
 member_value w Char o r = tt
-member_value w (Thin n q t) o r = (r.0, reached_target w (shape_of t) r.1)
+member_value w (Thin n q t) o r = reached_target w (shape_of t) r
 member_value w (Fat q t) o r = reached_target w (shape_of t) r
 member_value w (Handle q) o r = tt
 member_value w _ o r = absurd o

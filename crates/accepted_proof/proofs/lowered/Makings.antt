@@ -1,19 +1,19 @@
 -- Makings that lowering takes: of one value or of an array, in the heap or in the region of a handle.
-use Rattle.std.proofs.Common.{◌≡◌, ℕ, true, false, List, ◌∷◌, refl, sym, subst, ap, ◌∙◌}
+use Rattle.std.proofs.Common.{◌≡◌, ℕ, Bool, true, false, List, ◌∷◌, refl, sym, subst}
 use Rattle.std.specs.Prelude.{◌&&◌}
 use Rattle.std.proofs.lemmas.Bool.{and_parts}
 use Rattle.cyc_tree.specs.Tree.{Array, Expression, Name, One}
 use Rattle.source_lowering.specs.Lowerable.{IsOperandShape, IsObject, Takes, TakesDropped, TakesMember, TakesNew, TakesRun, TakesWhole}
 use Rattle.source_lowering.specs.Lowered.{Named, number_named, static_shape}
 use Rattle.source_meaning.specs.Shapes as shapes
-use Rattle.source_meaning.specs.Shapes.{FatShape, Shape, ThinShape}
+use Rattle.source_meaning.specs.Shapes.{FatShape, Owner, ThinShape}
 use Rattle.source_meaning.specs.Steps.{World}
-use Rattle.source_typing.specs.Making.{To, array_made, elements, made}
+use Rattle.source_typing.specs.Making.{To, ToUnique, array_made, elements, made, made_to}
 use Rattle.source_typing.specs.Regions.{Region}
 use Rattle.source_typing.specs.Scope.{Value}
 use Rattle.source_typing.specs.Types.{Char, Fat, Handle, Int, Key, Null, StaticType, Struct, Thin, Union, Unique, Unsigned, Void, is_integer, is_makeable}
 use Rattle.source_typing.specs.Types.{shape_of}
-use Rattle.source_typing.specs.Verdicts.{Of}
+use Rattle.source_typing.specs.Verdicts.{Of, after, if_fits}
 use Rattle.source_typing.proofs.Inversion.{fits_is, of_is}
 use Rattle.type_proof.proofs.expressions.Makings.{made_there}
 use Rattle.type_proof.proofs.expressions.WordRules.{Valued, value_of}
@@ -21,6 +21,7 @@ use Rattle.accepted_proof.proofs.Known.{IsKnown, IsKnownValue, IsWord, integer_w
 use Rattle.accepted_proof.proofs.lowered.Calls.{word_member}
 use Rattle.accepted_proof.proofs.lowered.Forms.{IsTaken, TakenAs, TakenStruct, TakenUnion, TakenWord, taken_word, word_is}
 use Rattle.accepted_proof.proofs.lowered.Operators.{no_place}
+use Rattle.accepted_proof.proofs.lowered.Stands.{FatAs, StandsAs, ThinAs, known_stands, operand_stands, stands_from, stands_same, stands_to}
 
 module _ (w : World) (names : List Named) where
   -- ---- what is made
@@ -29,14 +30,14 @@ module _ (w : World) (names : List Named) where
   record NewTaken (e : Expression) (t : StaticType) : Type 0 where
     takes : TakesNew w names (One e)
     known : IsKnown w (shape_of t)
-    shape : static_shape w names e ≡ shape_of t
+    shape : StandsAs (static_shape w names e) (shape_of t)
 
   word_made : (e : Expression) (t : StaticType) → IsWord t → IsKnown w (shape_of t) → TakenWord w names e t → NewTaken e t
   word_made e t i k h =
-      let none : IsOperandShape (static_shape w names e) = subst (λ s. IsOperandShape s) (sym h.shape) (word_shape t i) in
+      let none : IsOperandShape (static_shape w names e) = operand_stands (static_shape w names e) (shape_of t) h.shape (word_shape t i) in
       record {
         takes = (
-          subst (λ s. IsObject w.unions w.structs s) (sym h.shape) (known_object w (shape_of t) k),
+          known_object w (static_shape w names e) (known_stands w (static_shape w names e) (shape_of t) h.shape k),
           word_member w names (static_shape w names e) (TakesWhole w names e) (Takes w names e) none h.takes,
         );
         known = k;
@@ -51,7 +52,7 @@ module _ (w : World) (names : List Named) where
       subst (λ s. TakesMember s (TakesWhole w names e) (Takes w names e)) (sym h.shape) h.takes,
     );
     known = k;
-    shape = h.shape;
+    shape = stands_same (static_shape w names e) (shape_of (Struct tag rs)) h.shape;
   }
 
   union_made : (e : Expression) (tag : List ℕ) (rs : List Region) → IsKnown w (shape_of (Union tag rs)) → TakenUnion w names e tag
@@ -62,7 +63,7 @@ module _ (w : World) (names : List Named) where
       subst (λ s. TakesMember s (TakesWhole w names e) (Takes w names e)) (sym h.shape) h.takes,
     );
     known = k;
-    shape = h.shape;
+    shape = stands_same (static_shape w names e) (shape_of (Union tag rs)) h.shape;
   }
 
   value_made : (e : Expression) (t : StaticType) → is_makeable t ≡ true → IsKnownValue w t → TakenAs w names t e → NewTaken e t
@@ -73,7 +74,7 @@ module _ (w : World) (names : List Named) where
   value_made e Char m k h = word_made e Char tt k h
   value_made e (Thin n r t) m k h = word_made e (Thin n r t) tt k h
   value_made e (Fat r t) m k h = word_made e (Fat r t) tt k h
-  value_made e (Unique n t) m k h = absurd (let z : shapes.Alone ≡ shapes.Shared = k.0 in cc)
+  value_made e (Unique n t) m k h = word_made e (Unique n t) tt k h
   value_made e (Handle r) m k h = word_made e (Handle r) tt k h
   value_made e (Key r) m k h = absurd k
   value_made e (Struct tag rs) m k h = struct_made e tag rs k h
@@ -81,15 +82,41 @@ module _ (w : World) (names : List Named) where
 
   -- ---- makings
 
+  -- a thin pointer to what is made
+  thin_taken : (x e : Expression) (a v : Value) (o : Owner) (t : StaticType) → IsTaken w names e a → is_makeable a.type ≡ true → Valued v t → IsWord t
+      → shape_of t ≡ ThinShape false o (shape_of a.type) → (IsKnown w (shape_of a.type) → IsKnownValue w t) → (TakesNew w names (One e) → Takes w names x)
+      → static_shape w names x ≡ ThinShape false o (static_shape w names e)
+      → (TakesDropped w names (static_shape w names x) x → TakesRun w names x) → IsTaken w names x v
+  thin_taken x e a v o t h m d i to known takes shape run =
+      let n : NewTaken e a.type = value_made e a.type m h.known h.value in
+      let stands : StandsAs (ThinShape false o (static_shape w names e)) (ThinShape false o (shape_of a.type)) = ThinAs (λ z. z) n.shape in
+      taken_word w names x v t d.type (no_place v d.seat) i (known n.known)
+      (record {
+        takes = takes n.takes;
+        shape = stands_from (static_shape w names x) (ThinShape false o (static_shape w names e)) (shape_of t) shape
+            (stands_to (ThinShape false o (static_shape w names e)) (ThinShape false o (shape_of a.type)) (shape_of t) stands (sym to));
+      }) run
+
   -- a making in a region
   pub making_taken : (x : Expression) (at : ℕ) (r : Region) (e : Expression) (a v : Value) → IsTaken w names e a → made at (To r) a ≡ Of v
       → (TakesNew w names (One e) → Takes w names x) → static_shape w names x ≡ ThinShape false shapes.Shared (static_shape w names e)
       → (TakesDropped w names (static_shape w names x) x → TakesRun w names x) → IsTaken w names x v
   making_taken x at r e a v h q takes shape run =
       let d : (is_makeable a.type ≡ true) × Valued v (Thin false r a.type) = made_there (is_makeable a.type) at r a.type v q in
-      let n : NewTaken e a.type = value_made e a.type d.0 h.known h.value in
-      taken_word w names x v (Thin false r a.type) d.1.type (no_place v d.1.seat) tt (refl, n.known)
-      (record { takes = takes n.takes; shape = shape ∙ ap (λ (s : Shape). ThinShape false shapes.Shared s) n.shape }) run
+      thin_taken x e a v shapes.Shared (Thin false r a.type) h d.0 d.1 tt refl (λ k. k) takes shape run
+
+  made_alone : (c : Bool) (at : ℕ) (t : StaticType) (v : Value) → after (if_fits c at t) (made_to at ToUnique) ≡ Of v
+      → (c ≡ true) × Valued v (Unique false t)
+  made_alone true at t v e = (refl, value_of at (Unique false t) v e)
+  made_alone false at t v e = absurd cc
+
+  -- and in the unique region
+  pub unique_making_taken : (x : Expression) (at : ℕ) (e : Expression) (a v : Value) → IsTaken w names e a → made at ToUnique a ≡ Of v
+      → (TakesNew w names (One e) → Takes w names x) → static_shape w names x ≡ ThinShape false shapes.Alone (static_shape w names e)
+      → (TakesDropped w names (static_shape w names x) x → TakesRun w names x) → IsTaken w names x v
+  unique_making_taken x at e a v h q takes shape run =
+      let d : (is_makeable a.type ≡ true) × Valued v (Unique false a.type) = made_alone (is_makeable a.type) at a.type v q in
+      thin_taken x e a v shapes.Alone (Unique false a.type) h d.0 d.1 tt refl (λ k. k) takes shape run
 
 module _ (w : World) (names : List Named) where
   -- an array in a region: its element is taken whichever temporary has the index
@@ -105,7 +132,11 @@ module _ (w : World) (names : List Named) where
       let count : TakenWord w names n c.type = word_is w names c.type n (integer_word c.type fits.0) h.value in
       let one : NewTaken w (number_named index.text 0 ∷ names) e a.type = each fits.1 0 in
       taken_word w names x v (Fat r a.type) d.type (no_place v d.seat) tt one.known
-      (record { takes = takes (count.takes, λ t. (each fits.1 t).takes); shape = shape ∙ ap (λ (s : Shape). FatShape s) one.shape }) run
+      (record {
+        takes = takes (count.takes, λ t. (each fits.1 t).takes);
+        shape = stands_from (static_shape w names x) (FatShape (static_shape w (number_named index.text 0 ∷ names) e)) (FatShape (shape_of a.type)) shape
+            (FatAs one.shape);
+      }) run
     where
       each : is_makeable a.type ≡ true → (t : ℕ) → NewTaken w (number_named index.text t ∷ names) e a.type
       each m t = let k : IsTaken w (number_named index.text t ∷ names) e a = i t in value_made w (number_named index.text t ∷ names) e a.type m k.known k.value

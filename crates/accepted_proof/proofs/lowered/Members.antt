@@ -4,8 +4,7 @@ use Rattle.cyc_tree.specs.Tree.{Arrow, Dot, Expression, Index, NoSuffixes, Suffi
 use Rattle.source_lowering.specs.Lowerable.{IsOperandShape, IsObject, TakesMembers, TakesSuffixes}
 use Rattle.source_lowering.specs.Lowered.{Named, member_shape, static_shape, suffixed_shape}
 use Rattle.source_lowering.specs.Lowerable.{Takes, TakesPlace}
-use Rattle.source_meaning.specs.Shapes as shapes
-use Rattle.source_meaning.specs.Shapes.{Shape, StructShape, has_tag, pointee}
+use Rattle.source_meaning.specs.Shapes.{FatShape, Shape, StructShape, has_tag, pointee}
 use Rattle.source_meaning.specs.Steps.{World}
 use Rattle.source_typing.specs.Expressions.{judge, judge_suffixes}
 use Rattle.source_typing.specs.Places.{arrow, indexed, member}
@@ -19,59 +18,66 @@ use Rattle.source_typing.proofs.PlacesFit.{ArrowTo, HasPart, MemberOf, Spans, ar
 use Rattle.type_proof.proofs.invariant.Sound.{shape_renamed}
 use Rattle.accepted_proof.proofs.Known.{IsKnown, IsKnownValue, integer_word, known_object, known_value}
 use Rattle.accepted_proof.proofs.lowered.Forms.{IsKnownScope, IsTaken, KnownMember, TakenPlace, TakenWord, taken_place, word_is}
+use Rattle.accepted_proof.proofs.lowered.Stands.{StandsAs, known_stands, operand_stands, pointee_stands, stands_exactly, stands_same, stands_to}
 
 module _ (w : World) (names : List Named) (g : Env) (scope : IsKnownScope w names g) where
   -- a place of a shape
   record Reached (s : Shape) (v : Value) : Type 0 where
-    shape : s ≡ shape_of v.type
+    shape : StandsAs s (shape_of v.type)
     known : IsKnown w (shape_of v.type)
     place : is_place v.seat ≡ true
-    outside : v.seat ≡ InBlock → ⊥
 
   part_reached : (tag f : List ℕ) (rs : List Region) (at : Seat) (v : Value) → has_tag w.structs tag ≡ true → is_place at ≡ true
-      → (at ≡ InBlock → ⊥) → HasPart g tag rs f at v
-      → Reached (member_shape w (StructShape tag) f) v
-  part_reached tag f rs at v there p o h =
+      → HasPart g tag rs f at v → Reached (member_shape w (StructShape tag) f) v
+  part_reached tag f rs at v there p h =
       let k : KnownMember w tag f h.type = scope.members tag f h.part h.type there h.found h.typed in
       let same : shape_of h.type ≡ shape_of v.type = sym (shape_renamed (argument rs) h.type) ∙ ap (λ (t : StaticType). shape_of t) (sym h.is.0) in
       record {
-        shape = k.shape ∙ same;
+        shape = stands_same (member_shape w (StructShape tag) f) (shape_of v.type) (k.shape ∙ same);
         known = subst (λ s. IsKnown w s) same k.known;
         place = ap (λ (s : Seat). is_place s) h.is.1 ∙ p;
-        outside = λ z. o (sym h.is.1 ∙ z);
       }
 
-  member_reached : (t : StaticType) (at : Seat) (s : Shape) (f : List ℕ) (v : Value) → s ≡ shape_of t → IsKnown w (shape_of t) → is_place at ≡ true
-      → (at ≡ InBlock → ⊥) → MemberOf g f t at v → Reached (member_shape w s f) v
-  member_reached (Struct tag rs) at s f v q k p o h = subst (λ z. Reached (member_shape w z f) v) (sym q) (part_reached tag f rs at v k p o h)
-  member_reached _ at s f v q k p o h = absurd h
+  member_reached : (t : StaticType) (at : Seat) (s : Shape) (f : List ℕ) (v : Value) → StandsAs s (shape_of t) → IsKnown w (shape_of t)
+      → is_place at ≡ true → MemberOf g f t at v → Reached (member_shape w s f) v
+  member_reached (Struct tag rs) at s f v q k p h =
+      subst (λ z. Reached (member_shape w z f) v) (sym (stands_exactly s (StructShape tag) q tt)) (part_reached tag f rs at v k p h)
+  member_reached _ at s f v q k p h = absurd h
 
   -- what `->` is behind leads to a struct
-  arrow_reached : (t : StaticType) (s : Shape) (f : List ℕ) (v : Value) → s ≡ shape_of t → IsKnownValue w t → ArrowTo g f t v
+  behind_reached : (s to : Shape) (tag f : List ℕ) (v : Value) → StandsAs s to → pointee to ≡ StructShape tag → Reached (member_shape w (StructShape tag) f) v
+      → Reached (member_shape w (pointee s) f) v
+  behind_reached s to tag f v q e r =
+      let same : pointee s ≡ StructShape tag =
+      stands_exactly (pointee s) (StructShape tag) (stands_to (pointee s) (pointee to) (StructShape tag) (pointee_stands s to q) e) tt in
+      subst (λ z. Reached (member_shape w z f) v) (sym same) r
+
+  arrow_reached : (t : StaticType) (s : Shape) (f : List ℕ) (v : Value) → StandsAs s (shape_of t) → IsKnownValue w t → ArrowTo g f t v
       → IsOperandShape s × Reached (member_shape w (pointee s) f) v
-  arrow_reached (Thin n r (Struct tag rs)) s f v q k h = (
-    subst (λ z. IsOperandShape z) (sym q) tt,
-    subst (λ z. Reached (member_shape w (pointee z) f) v) (sym q) (part_reached tag f rs (In r) v k.1 refl (λ z. cc) h.1),
-  )
-  arrow_reached (Fat r (Struct tag rs)) s f v q k h = (
-    subst (λ z. IsOperandShape z) (sym q) tt,
-    subst (λ z. Reached (member_shape w (pointee z) f) v) (sym q) (part_reached tag f rs (In r) v k refl (λ z. cc) h.1),
-  )
-  arrow_reached (Unique n t) s f v q k h = absurd (let z : shapes.Alone ≡ shapes.Shared = k.0 in cc)
+  arrow_reached (Thin n r (Struct tag rs)) s f v q k h =
+      let to : StaticType = Thin n r (Struct tag rs) in
+      (operand_stands s (shape_of to) q tt, behind_reached s (shape_of to) tag f v q refl (part_reached tag f rs (In r) v k refl h.1))
+  arrow_reached (Fat r (Struct tag rs)) s f v q k h =
+      let to : StaticType = Fat r (Struct tag rs) in
+      (operand_stands s (shape_of to) q tt, behind_reached s (shape_of to) tag f v q refl (part_reached tag f rs (In r) v k refl h.1))
+  arrow_reached (Unique n (Struct tag rs)) s f v q k h =
+      let to : StaticType = Unique n (Struct tag rs) in
+      (operand_stands s (shape_of to) q tt, behind_reached s (shape_of to) tag f v q refl (part_reached tag f rs InBlock v k refl h))
   arrow_reached _ s f v q k h = absurd h
 
   object_reached : (s : Shape) (v : Value) → Reached s v → IsObject w.unions w.structs s
-  object_reached s v h = subst (λ z. IsObject w.unions w.structs z) (sym h.shape) (known_object w (shape_of v.type) h.known)
+  object_reached s v h = known_object w s (known_stands w s (shape_of v.type) h.shape h.known)
 
   -- what a subscript is behind leads to elements
-  element_reached : (t : StaticType) (s : Shape) (v : Value) → s ≡ shape_of t → IsKnownValue w t → Spans g t v → IsOperandShape s × Reached (pointee s) v
+  element_reached : (t : StaticType) (s : Shape) (v : Value) → StandsAs s (shape_of t) → IsKnownValue w t → Spans g t v
+      → IsOperandShape s × Reached (pointee s) v
   element_reached (Fat r t) s v q k h = (
-    subst (λ z. IsOperandShape z) (sym q) tt,
+    operand_stands s (FatShape (shape_of t)) q tt,
     record {
-      shape = ap pointee q ∙ ap (λ (u : StaticType). shape_of u) (sym h.1.0);
+      shape = stands_to (pointee s) (shape_of t) (shape_of v.type) (pointee_stands s (FatShape (shape_of t)) q)
+          (ap (λ (u : StaticType). shape_of u) (sym h.1.0));
       known = subst (λ (u : StaticType). IsKnown w (shape_of u)) (sym h.1.0) k;
       place = ap (λ (s : Seat). is_place s) h.1.1;
-      outside = λ z. let y : In r ≡ InBlock = sym h.1.1 ∙ z in cc;
     },
   )
   element_reached _ s v q k h = absurd h
@@ -102,7 +108,7 @@ module _ (w : World) (names : List Named) (g : Env) (scope : IsKnownScope w name
   members_taken (Dot f es) a v s h i p =
       let z : (b : Value) × (member g f a ≡ Of b) = suffixes_first g (member g f a) es v p in
       let m = member_is g f a.at a.type a.seat z.0 z.1 in
-      let r : Reached (member_shape w s f.text) z.0 = member_reached a.type a.seat s f.text z.0 h.shape h.known m.0 h.outside m.1 in
+      let r : Reached (member_shape w s f.text) z.0 = member_reached a.type a.seat s f.text z.0 h.shape h.known m.0 m.1 in
       let rest = members_taken es z.0 v (member_shape w s f.text) r i (subst (λ (y : Verdict Value). judge_suffixes g y es ≡ Of v) z.1 p) in
       ((object_reached (member_shape w s f.text) z.0 r, rest.0), rest.1)
   members_taken (Arrow f es) a v s h i p =
@@ -142,7 +148,7 @@ module _ (w : World) (names : List Named) (g : Env) (scope : IsKnownScope w name
       let z : (b : Value) × (member g f a ≡ Of b) = suffixes_first g (member g f a) es v p in
       let m = member_is g f a.at a.type a.seat z.0 z.1 in
       let k : TakenPlace w names e a.type = h.place m.0 in
-      let r = members_taken (Dot f es) a v (static_shape w names e) (record { shape = k.shape; known = k.known; place = m.0; outside = h.outside }) i p in
+      let r = members_taken (Dot f es) a v (static_shape w names e) (record { shape = k.shape; known = k.known; place = m.0 }) i p in
       ((k.takes, r.0), r.1)
   suffixes_taken e (Arrow f es) a v h i p some =
       let z : (b : Value) × (arrow g f a ≡ Of b) = suffixes_first g (arrow g f a) es v p in
@@ -158,5 +164,5 @@ module _ (w : World) (names : List Named) (g : Env) (scope : IsKnownScope w name
       → IsTaken w names (Expression.Suffixed e es) v
   suffixed_taken e es a v h i p some =
       let r = suffixes_taken e es a v h i p some in
-      taken_place w names (Expression.Suffixed e es) v v.type refl r.1.outside (record { takes = r.0; shape = r.1.shape; known = r.1.known })
+      taken_place w names (Expression.Suffixed e es) v v.type refl (record { takes = r.0; shape = r.1.shape; known = r.1.known })
       (known_value w v.type r.1.known) (λ z. (r.0, z)) (λ z. z) (λ z. z)

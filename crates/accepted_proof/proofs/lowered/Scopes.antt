@@ -12,7 +12,7 @@ use Rattle.type_proof.specs.Judged.{arrayed, extended, named}
 use Rattle.type_proof.specs.Programs.{name_alone, with_all}
 use Rattle.source_typing.specs.Declarations.{with_region}
 use Rattle.source_typing.specs.Making.{Goal, inside, with_counter}
-use Rattle.source_typing.specs.Regions.{with_scope}
+use Rattle.source_typing.specs.Regions.{Regions}
 use Rattle.source_typing.specs.Scope.{Env, block_entered, in_scope, meant}
 use Rattle.source_typing.specs.Statements.{in_a_loop, in_a_switch}
 use Rattle.source_typing.specs.Tables.{Arrayed, Counter, Entry, OfBuiltin, OfFunction, OfOther, OfTag, OfValue, Stored, Tag, Unknown, What}
@@ -21,6 +21,7 @@ use Rattle.source_typing.specs.Verdicts.{Verdict}
 use Rattle.accepted_proof.proofs.Known.{IsKnown}
 use Rattle.accepted_proof.proofs.lowered.Forms.{AreKnown, IsKnownScope, KnownEntry, KnownKind}
 use Rattle.accepted_proof.proofs.lowered.Types.{AreSound, TagThere, TagsThere}
+use Rattle.accepted_proof.proofs.lowered.Stands.{StandsAs, stands_from, stands_same}
 
 -- a name of a shape, wherever it is
 abbrev named_at : List ℕ → Shape → Home → Named
@@ -30,7 +31,8 @@ module _ (w : World) where
   -- a name keeps what is known of it while it has its shape
   entry_kept : (names others : List Named) (x : List ℕ) (e : Entry) → named_shape w others x ≡ named_shape w names x → KnownEntry w names x e
       → KnownEntry w others x e
-  entry_kept names others x (OfValue (Stored t r)) q h = (q ∙ h.0, h.1)
+  entry_kept names others x (OfValue (Stored t r)) q h =
+      (stands_from (named_shape w others x) (named_shape w names x) (shape_of t) q h.0, h.1)
   entry_kept names others x (OfValue (Arrayed t r)) q h = (h.0, q ∙ h.1, h.2)
   entry_kept names others x (OfValue Counter) q h = q ∙ h
   entry_kept names others x (OfValue Unknown) q h = h
@@ -80,9 +82,10 @@ module _ (w : World) where
           (ap (λ (b : Bool). shape_by (if b then Some (named_at x.text s home) else local_named names y) (bound_to w.globals y)) r)
           (scope.entries y e p)
 
-  pub scope_local : (names : List Named) (g : Env) (x : tree.Name) (t : StaticType) (s : Shape) (index : ℕ) → s ≡ shape_of t → IsKnown w (shape_of t)
-      → IsKnownScope w names g → IsKnownScope w (named_here x.text s index ∷ names) (extended g x t)
-  scope_local names g x t s index q k scope = scope_named names g x (Stored t g.frame) s (InBlock 0 index) (λ others y z. (z ∙ q, k)) scope
+  pub scope_local : (names : List Named) (g : Env) (x : tree.Name) (t : StaticType) (s : Shape) (index : ℕ) → StandsAs s (shape_of t)
+      → IsKnown w (shape_of t) → IsKnownScope w names g → IsKnownScope w (named_here x.text s index ∷ names) (extended g x t)
+  scope_local names g x t s index q k scope =
+      scope_named names g x (Stored t g.frame) s (InBlock 0 index) (λ others y z. (stands_from (named_shape w others y) s (shape_of t) z q, k)) scope
 
   pub scope_array : (names : List Named) (g : Env) (x : tree.Name) (t : StaticType) (s : Shape) (count index : ℕ) → s ≡ shape_of t
       → IsKnown w (shape_of t) → IsKnownScope w names g
@@ -123,10 +126,11 @@ module _ (w : World) where
   scope_loop names g scope = record { entries = scope.entries; members = scope.members; choices = scope.choices; sizes = scope.sizes }
 
   -- where a region begins, and within an operand of `rnew`
-  pub scope_region : (names : List Named) (r : tree.RegionName) (g : Env) → IsKnownScope w names g → IsKnownScope w names (with_region r with_scope g)
-  scope_region names (tree.Named n) g scope = record { entries = scope.entries; members = scope.members; choices = scope.choices; sizes = scope.sizes }
-  scope_region names (tree.Heap at) g scope = record { entries = scope.entries; members = scope.members; choices = scope.choices; sizes = scope.sizes }
-  scope_region names (tree.Unique at) g scope = record { entries = scope.entries; members = scope.members; choices = scope.choices; sizes = scope.sizes }
+  pub scope_region : (names : List Named) (r : tree.RegionName) (f : Regions → Regions) (g : Env) → IsKnownScope w names g
+      → IsKnownScope w names (with_region r f g)
+  scope_region names (tree.Named n) f g scope = record { entries = scope.entries; members = scope.members; choices = scope.choices; sizes = scope.sizes }
+  scope_region names (tree.Heap at) f g scope = record { entries = scope.entries; members = scope.members; choices = scope.choices; sizes = scope.sizes }
+  scope_region names (tree.Unique at) f g scope = record { entries = scope.entries; members = scope.members; choices = scope.choices; sizes = scope.sizes }
 
   pub scope_inside : (names : List Named) (goal : Verdict Goal) (g : Env) → IsKnownScope w names g → IsKnownScope w names (inside goal g)
   scope_inside names goal g scope = record { entries = scope.entries; members = scope.members; choices = scope.choices; sizes = scope.sizes }
@@ -140,6 +144,6 @@ module _ (w : World) where
       let a : p.shape ≡ shape_of t = cc in
       let b : part_shapes ps ≡ map (λ (t : StaticType). shape_of t) ts = cc in
       scope_all ps ts (suc index) (named_here p.name p.shape index ∷ names) (extended g (name_alone p.name) t) b k.1
-      (scope_local names g (name_alone p.name) t p.shape index a k.0 scope)
+      (scope_local names g (name_alone p.name) t p.shape index (stands_same p.shape (shape_of t) a) k.0 scope)
   scope_all [] (t ∷ ts) index names g q k scope = absurd cc
   scope_all (p ∷ ps) [] index names g q k scope = absurd cc

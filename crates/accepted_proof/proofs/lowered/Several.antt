@@ -19,6 +19,7 @@ use Rattle.type_proof.proofs.expressions.WordRules.{value_of}
 use Rattle.accepted_proof.proofs.Known.{IsKnownValue, IsWord, testable_word}
 use Rattle.accepted_proof.proofs.lowered.Forms.{IsKnownScope, IsTaken, TakenWord, taken_word, word_is}
 use Rattle.accepted_proof.proofs.lowered.Operators.{AreJoined, applied_seat, are_joined, no_place}
+use Rattle.accepted_proof.proofs.lowered.Stands.{StandsAs}
 
 both_seat : (a b v : Value) → tested_both a b ≡ Of v → v.seat ≡ Nowhere
 both_seat a b v e = by (is_testable a.type && is_testable b.type) e
@@ -65,7 +66,7 @@ module _ (w : World) (names : List Named) (g : Env) (scope : IsKnownScope w name
     pub word : IsWord v.type
     pub known : IsKnownValue w v.type
     pub seat : v.seat ≡ Nowhere
-    pub shape : (s : Shape) → s ≡ shape_of first.type → linked_shape w names es s ≡ shape_of v.type
+    pub shape : (s : Shape) → StandsAs s (shape_of first.type) → StandsAs (linked_shape w names es s) (shape_of v.type)
 
   abbrev pub AreLinked : Links → Verdict Value → Value → Type 0
   AreLinked NoLinks a v = (a ≡ Of v)
@@ -79,10 +80,9 @@ module _ (w : World) (names : List Named) (g : Env) (scope : IsKnownScope w name
       let t : TakenWord w names e y.type = word_is w names y.type e j.second h.value in
       by es k j t
     where
-      joined_shape : AreJoined w o x.type y.type c.type → TakenWord w names e y.type → (s : Shape) → s ≡ shape_of x.type
-          → operator_shape o s (static_shape w names e) ≡ shape_of c.type
-      joined_shape j t s z =
-          ap (λ u. operator_shape o u (static_shape w names e)) z ∙ (ap (λ u. operator_shape o (shape_of x.type) u) t.shape ∙ j.shape)
+      joined_shape : AreJoined w o x.type y.type c.type → TakenWord w names e y.type → (s : Shape) → StandsAs s (shape_of x.type)
+          → StandsAs (operator_shape o s (static_shape w names e)) (shape_of c.type)
+      joined_shape j t s z = j.shape s (static_shape w names e) z t.shape
 
       by : (es : Links) → AreLinked es (both a (judge g e) (applied g o)) v → AreJoined w o x.type y.type c.type → TakenWord w names e y.type
           → Joined (MoreLinks o e es) a v
@@ -96,7 +96,7 @@ module _ (w : World) (names : List Named) (g : Env) (scope : IsKnownScope w name
             word = subst (λ (y : Value). IsWord y.type) z j.word;
             known = subst (λ (y : Value). IsKnownValue w y.type) z j.known;
             seat = ap (λ (y : Value). y.seat) (sym z) ∙ applied_seat g o x.at x.type y.type c q;
-            shape = λ s u. joined_shape j t s u ∙ ap (λ (y : Value). shape_of y.type) z;
+            shape = λ s u. subst (λ (y : Value). StandsAs (operator_shape o s (static_shape w names e)) (shape_of y.type)) z (joined_shape j t s u);
           }
       by (MoreLinks o2 d ds) k j t =
           let z : c ≡ k.first = of_is c k.first (sym b ∙ k.is) in
@@ -108,7 +108,8 @@ module _ (w : World) (names : List Named) (g : Env) (scope : IsKnownScope w name
             word = k.word;
             known = k.known;
             seat = k.seat;
-            shape = λ s u. k.shape (operator_shape o s (static_shape w names e)) (joined_shape j t s u ∙ ap (λ (y : Value). shape_of y.type) z);
+            shape = λ s u. k.shape (operator_shape o s (static_shape w names e))
+                (subst (λ (y : Value). StandsAs (operator_shape o s (static_shape w names e)) (shape_of y.type)) z (joined_shape j t s u));
           }
 
   pub tests_whole : (x e : Expression) (es : Expressions) (a v : Value) → Is e a → Tested es (judge g e) v → judge g e ≡ Of a
@@ -128,4 +129,7 @@ module _ (w : World) (names : List Named) (g : Env) (scope : IsKnownScope w name
       let z : a ≡ k.first = of_is a k.first (sym p ∙ k.is) in
       let s : TakenWord w names e a.type = word_is w names a.type e (subst (λ (x : Value). IsWord x.type) (sym z) k.first_word) h.value in
       taken_word w names (Expression.Chain e es) v v.type refl (no_place v k.seat) k.word k.known
-      (record { takes = (s.takes, k.takes); shape = k.shape (static_shape w names e) (s.shape ∙ ap (λ (x : Value). shape_of x.type) z) }) (λ x. x)
+      (record {
+        takes = (s.takes, k.takes);
+        shape = k.shape (static_shape w names e) (subst (λ (x : Value). StandsAs (static_shape w names e) (shape_of x.type)) z s.shape);
+      }) (λ x. x)

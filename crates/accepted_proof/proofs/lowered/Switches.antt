@@ -15,6 +15,7 @@ use Rattle.source_typing.specs.Tables.{argument}
 use Rattle.source_typing.specs.Types.{StaticType, Union, renamed, shape_of}
 use Rattle.accepted_proof.proofs.lowered.Forms.{IsKnownScope, IsTaken, KnownChoice, TakenPlace}
 use Rattle.accepted_proof.proofs.lowered.Scopes.{scope_block, scope_local}
+use Rattle.accepted_proof.proofs.lowered.Stands.{stands_exactly, stands_same}
 use Rattle.accepted_proof.proofs.Known.{IsKnown}
 
 -- what a `switch` is on is a place
@@ -36,7 +37,7 @@ module _ (w : World) (names : List Named) where
       let seat : is_place v.seat ≡ true =
       switched_place v.type v.seat (record { tag = s.tag; regions = s.regions }) (ap (λ z. chosen z) (sym s.accepted.judged) ∙ s.place) in
       let p : TakenPlace w names e (Union s.tag s.regions) = subst (λ t. TakenPlace w names e t) s.is (k.place seat) in
-      record { takes = p.takes; shape = p.shape; there = p.known }
+      record { takes = p.takes; shape = stands_exactly (static_shape w names e) (UnionShape s.tag) p.shape tt; there = p.known }
 
   pub place_shape : (e : Expression) (tag : List ℕ) → UnionPlace e tag → IsUnionShape w.unions (static_shape w names e)
   place_shape e tag p = subst (λ (z : Shape). IsUnionShape w.unions z) (sym p.shape) p.there
@@ -56,7 +57,8 @@ module _ (w : World) (names : List Named) where
       record {
         member = k.member;
         scope = subst (λ z. IsKnownScope w (named_here x.text (part_shape (parts_of w.unions c.tag) f.text) 0 ∷ outward names) z) (sym j.scope)
-            (scope_local w (outward names) (block_entered g) x t (part_shape (parts_of w.unions c.tag) f.text) 0 (k.shape ∙ same)
+            (scope_local w (outward names) (block_entered g) x t (part_shape (parts_of w.unions c.tag) f.text) 0
+            (stands_same (part_shape (parts_of w.unions c.tag) f.text) (shape_of t) (k.shape ∙ same))
             (subst (λ (z : Shape). IsKnown w z) same k.known) (scope_block w names g scope));
         result = ap (λ (z : Env). z.result) j.scope;
       }

@@ -3,7 +3,7 @@ use Rattle.std.proofs.Common.{◌≡◌, ◌⊎◌, ℕ, suc, Bool, true, false,
 use Rattle.std.specs.Prelude.{bytes_eq, codes, if◌then◌else◌, map}
 use Rattle.cyc_tree.specs.Tree as tree
 use Rattle.cyc_tree.specs.Tree.{Item, Program}
-use Rattle.source_lowering.specs.Lowered.{call_shape, entity_shape, result_shape}
+use Rattle.source_lowering.specs.Lowered.{call_shape, entity_shape, named_shape, result_shape}
 use Rattle.source_meaning.specs.Calls.{function_of}
 use Rattle.source_meaning.specs.Programs.{world_of}
 use Rattle.source_meaning.specs.Shapes as shapes
@@ -37,6 +37,7 @@ use Rattle.accepted_proof.proofs.lowered.Forms.{AreKnown, AreWords, IsGiven, Kno
 use Rattle.accepted_proof.proofs.lowered.Forms.{KnownTag, KnownUnion}
 use Rattle.accepted_proof.proofs.lowered.Heads.{HeadLowered, global_known, head_lowered}
 use Rattle.accepted_proof.proofs.lowered.Types.{AreSound, IsReached, TagsThere, reached_known}
+use Rattle.accepted_proof.proofs.lowered.Stands.{stands_same}
 use Rattle.accepted_proof.proofs.StructsFound.{StructsFound, not_made}
 
 -- ---- the types of each entry
@@ -262,8 +263,10 @@ module _ (p : Program) (judged : ProgramJudged p (tables_of false p)) (found : S
 
     pub entry_known : (x : List ℕ) (e : Entry) → find tables x ≡ Some e → KnownEntry world [] x e
     entry_known x (OfValue (Stored t r)) q =
-        let v : GlobalFound world x t r = judged.variables x t r q in
-        (ap (λ (o : Option Entity). entity_shape o) v.is, found_types world tables x (OfValue (Stored t r)) known q)
+        let v : GlobalFound world x t r = judged.variables x t r q in (
+          stands_same (named_shape world [] x) (shape_of t) (ap (λ (o : Option Entity). entity_shape o) v.is),
+          found_types world tables x (OfValue (Stored t r)) known q,
+        )
     entry_known x (OfValue (Arrayed t r)) q =
         let v : ArrayFound world x t r = judged.arrays x t r q in
         (v.count, ap (λ (o : Option Entity). entity_shape o) v.is, found_types world tables x (OfValue (Arrayed t r)) known q)

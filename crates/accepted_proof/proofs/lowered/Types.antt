@@ -7,7 +7,7 @@ use Rattle.cyc_tree.specs.Tree as tree
 use Rattle.cyc_tree.specs.Tree.{Pointer, TypeName}
 use Rattle.source_lowering.specs.Lowerable as lowering
 use Rattle.source_lowering.specs.Lowerable.{GivesNothing, GivesWord, HasBeginning, IsKnownIn, IsOperandShape, IsObjectBase, IsTarget, TakesResult}
-use Rattle.source_lowering.specs.Taken.{AreShared, HasFirst, IsIntType, IsSharedRegion, IsVoidType}
+use Rattle.source_lowering.specs.Taken.{HasFirst, IsIntType, IsVoidType}
 use Rattle.source_meaning.specs.Shapes.{
   Alone,
   ArrayShape,
@@ -28,6 +28,7 @@ use Rattle.source_meaning.specs.Shapes.{
   owner_of,
   pointed,
   settled,
+  settled_by,
   signed_shape,
   written,
 }
@@ -37,15 +38,13 @@ use Rattle.source_typing.specs.Faults.{Fault}
 use Rattle.source_typing.specs.Tables.{Entry, OfBuiltin, OfFunction, OfOther, OfTag, OfValue, Tables, Tag, find, has_beginning}
 use Rattle.source_typing.specs.Taken.{takes_base, takes_pointers, takes_type}
 use Rattle.accepted_programs.specs.Supported.{supported}
-use Rattle.source_typing.specs.Types.{Char, Fat, Handle, Int, PartialType, StaticType, Struct, Thin, Union, Unique, Unsigned, Void, same_bool, shape_of}
+use Rattle.source_typing.specs.Types.{Char, Fat, Handle, Int, Key, PartialType, StaticType, Struct, Thin, Union, Unique, Unsigned, Void, same_bool, shape_of}
 use Rattle.source_typing.specs.Verdicts.{Faulty, Verdict, after, faults_of}
 use Rattle.source_typing.specs.Written.{Found, if_sound, of_kind, tag_of, written_on, written_with}
-use Rattle.source_lowering.proofs.statements.WrittenTypes.{owner_shared}
-use Rattle.accepted_proof.proofs.good.Types.{KnowsTags, MeansKnown, pointers_shared}
+use Rattle.accepted_proof.proofs.good.Types.{KnowsTags, MeansKnown}
 use Rattle.accepted_proof.proofs.Known.{IsKnown, IsWord, word_shape}
 use Rattle.accepted_proof.proofs.lowered.Forms.{IsGiven}
 use Rattle.accepted_proof.proofs.MemberTypes.{IsPointerShape, sign_pointer, still_pointer}
-use Rattle.accepted_proof.proofs.Settling.{IsOpen}
 
 -- ---- tags
 
@@ -116,13 +115,13 @@ base_there w g t (fs, bad) rest tags known keeps p = by t.base p
 
 -- ---- shapes
 
--- an integer, a struct or a union of the program, a handle, nothing, or a shared pointer to these
+-- an integer, a struct or a union of the program, a handle, nothing, or a pointer to these
 abbrev pub IsReached : World → Shape → Type 0
 IsReached w IntShape = Unit {0}
 IsReached w UnsignedShape = Unit {0}
 IsReached w CharShape = Unit {0}
 IsReached w VoidShape = Unit {0}
-IsReached w (ThinShape may_be_null owner to) = (owner ≡ Shared) × IsReached w to
+IsReached w (ThinShape may_be_null owner to) = IsReached w to
 IsReached w (FatShape to) = IsReached w to
 IsReached w HandleShape = Unit {0}
 IsReached w KeyShape = ⊥
@@ -135,48 +134,42 @@ reached_target w IntShape h = tt
 reached_target w UnsignedShape h = tt
 reached_target w CharShape h = tt
 reached_target w VoidShape h = tt
-reached_target w (ThinShape may_be_null owner to) h = (h.0, reached_target w to h.1)
+reached_target w (ThinShape may_be_null owner to) h = reached_target w to h
 reached_target w (FatShape to) h = reached_target w to h
 reached_target w HandleShape h = tt
 reached_target w (StructShape tag) h = tt
 reached_target w (UnionShape tag) h = tt
 reached_target w _ h = absurd h
 
-reached_in : (w : World) (s : Shape) → IsReached w s → IsKnownIn w.unions w.structs s
-reached_in w (StructShape tag) h = h
-reached_in w (UnionShape tag) h = h
-reached_in w _ h = tt
-
 -- an object's shape has nothing under its pointers
 pub reached_known : (w : World) (u : StaticType) → IsObjectType u → IsReached w (shape_of u) → IsKnown w (shape_of u)
 reached_known w Int o h = tt
 reached_known w Unsigned o h = tt
 reached_known w Char o h = tt
-reached_known w (Thin b r t) o h = (h.0, reached_known w t o h.1)
+reached_known w (Thin b r t) o h = reached_known w t o h
 reached_known w (Fat r t) o h = reached_known w t o h
-reached_known w (Unique b t) o h = absurd (let unowned : Alone ≡ Shared = h.0 in cc)
+reached_known w (Unique b t) o h = reached_known w t o h
 reached_known w (Struct tag rs) o h = h
 reached_known w (Union tag rs) o h = h
 reached_known w (Handle r) o h = tt
+reached_known w (Key r) o h = absurd h
 reached_known w _ o h = absurd o
 
 module _ (w : World) where
-  signed_reached : (x : Sign) (r : Option tree.RegionName) (s : Shape) → IsSharedRegion r → IsReached w (settled s)
-      → IsReached w (settled (signed_shape x (owner_of r) s))
-  signed_reached sign.Nullable r s h o = (owner_shared r h, o)
-  signed_reached sign.NotNull r s h o = (owner_shared r h, o)
-  signed_reached sign.Fat r s h o = o
+  signed_reached : (x : Sign) (r : Option tree.RegionName) (s : Shape) → IsReached w (settled s) → IsReached w (settled (signed_shape x (owner_of r) s))
+  signed_reached sign.Nullable r s h = h
+  signed_reached sign.NotNull r s h = h
+  signed_reached sign.Fat r s h = h
 
-  all_reached : (ps : List Pointer) (s : Shape) → AreShared ps → IsReached w (settled s) → IsReached w (settled (pointed ps s))
-  all_reached [] s k h = h
-  all_reached (p ∷ ps) s k h =
-      all_reached ps (signed_shape p.sign (owner_of p.region) s) k.1 (signed_reached p.sign p.region s k.0 h)
+  all_reached : (ps : List Pointer) (s : Shape) → IsReached w (settled s) → IsReached w (settled (pointed ps s))
+  all_reached [] s h = h
+  all_reached (p ∷ ps) s h = all_reached ps (signed_shape p.sign (owner_of p.region) s) (signed_reached p.sign p.region s h)
 
   -- what is written of a type that is taken
   pub type_reached : (t : TypeName) → takes_type supported t ≡ true → BaseThere w t.base → IsReached w (settled (written t))
   type_reached t e h =
       let a = and_parts (takes_base supported t.base) (takes_pointers supported t.pointers) e in
-      all_reached t.pointers (base_shape t.base) (pointers_shared supported refl t.pointers a.1) (by t.base a.0 h)
+      all_reached t.pointers (base_shape t.base) (by t.base a.0 h)
     where
       by : (b : tree.Base) → takes_base supported b ≡ true → BaseThere w b → IsReached w (settled (base_shape b))
       by tree.Int q h = tt
@@ -193,46 +186,78 @@ module _ (w : World) where
       → settled (written t) ≡ shape_of u → IsKnown w (shape_of u)
   written_known t u e h o s = reached_known w u o (subst (λ z. IsReached w z) s (type_reached t e h))
 
+  -- an initializer's type says no more than which pointers are unique
+  reached_by : (s from : Shape) → IsReached w (settled s) → IsReached w (settled_by s from)
+  reached_by (ThinShape b o s) (ThinShape c q from) h = reached_by s from h
+  reached_by (ThinShape b o s) (FatShape from) h = reached_by s from h
+  reached_by (FatShape s) (ThinShape c q from) h = reached_by s from h
+  reached_by (FatShape s) (FatShape from) h = reached_by s from h
+  reached_by (ThinShape b o s) _ h = h
+  reached_by (FatShape s) _ h = h
+  reached_by _ from h = h
+
+  known_by : (s from : Shape) → IsKnown w (settled_by s from) → IsKnown w (settled s)
+  known_by (ThinShape b o s) (ThinShape c q from) h = known_by s from h
+  known_by (ThinShape b o s) (FatShape from) h = known_by s from h
+  known_by (FatShape s) (ThinShape c q from) h = known_by s from h
+  known_by (FatShape s) (FatShape from) h = known_by s from h
+  known_by (ThinShape b o s) _ h = h
+  known_by (FatShape s) _ h = h
+  known_by _ from h = h
+
+  pub settled_known : (t : TypeName) (from : Shape) (u : StaticType) → takes_type supported t ≡ true → BaseThere w t.base → IsObjectType u
+      → settled_by (written t) from ≡ shape_of u → IsKnown w (shape_of u)
+  settled_known t from u e h o s = reached_known w u o (subst (λ z. IsReached w z) s (reached_by (written t) from (type_reached t e h)))
+
   -- ---- types as lowering takes them
 
   signed_under : (x : Sign) (r : Option tree.RegionName) (s : Shape) → IsKnown w (settled (signed_shape x (owner_of r) s))
       → IsKnown w (settled s)
-  signed_under sign.Nullable r s h = h.1
-  signed_under sign.NotNull r s h = h.1
+  signed_under sign.Nullable r s h = h
+  signed_under sign.NotNull r s h = h
   signed_under sign.Fat r s h = h
 
   known_under : (ps : List Pointer) (s : Shape) → IsKnown w (settled (pointed ps s)) → IsKnown w (settled s)
   known_under [] s h = h
   known_under (p ∷ ps) s h = signed_under p.sign p.region s (known_under ps (signed_shape p.sign (owner_of p.region) s) h)
 
-  object_base : (b : tree.Base) → takes_base supported b ≡ true → IsKnown w (settled (base_shape b)) → IsObjectBase b
-  object_base tree.Int q h = tt
-  object_base tree.Unsigned q h = tt
-  object_base tree.Char q h = tt
-  object_base tree.Void q h = absurd h
-  object_base (tree.Struct tag rs) q h = tt
-  object_base (tree.Union tag rs) q h = tt
-  object_base (tree.Handle r) q h = tt
-  object_base (tree.Key r) q h = absurd h
+  object_base : (b : tree.Base) → IsKnown w (settled (base_shape b)) → IsObjectBase b
+  object_base tree.Int h = tt
+  object_base tree.Unsigned h = tt
+  object_base tree.Char h = tt
+  object_base tree.Void h = absurd h
+  object_base (tree.Struct tag rs) h = tt
+  object_base (tree.Union tag rs) h = tt
+  object_base (tree.Handle r) h = tt
+  object_base (tree.Key r) h = absurd h
+
+  known_in : (s : Shape) → IsKnown w s → IsKnownIn w.unions w.structs s
+  known_in (StructShape tag) h = h
+  known_in (UnionShape tag) h = h
+  known_in _ h = tt
+
+  known_type : (t : TypeName) → IsKnown w (settled (written t)) → lowering.IsObjectType w.unions w.structs t
+  known_type t k = record {
+    base = object_base t.base (known_under t.pointers (base_shape t.base) k);
+    known = known_in (settled (written t)) k;
+  }
 
   -- the type of a variable
   pub object_type : (t : TypeName) (u : StaticType) → takes_type supported t ≡ true → BaseThere w t.base → IsObjectType u
       → settled (written t) ≡ shape_of u → lowering.IsObjectType w.unions w.structs t
-  object_type t u e h o s =
-      let a = and_parts (takes_base supported t.base) (takes_pointers supported t.pointers) e in
-      let k : IsKnown w (settled (written t)) = subst (λ z. IsKnown w z) (sym s) (written_known t u e h o s) in
-      record {
-        pointers = pointers_shared supported refl t.pointers a.1;
-        base = object_base t.base a.0 (known_under t.pointers (base_shape t.base) k);
-        known = reached_in w (settled (written t)) (type_reached t e h);
-      }
+  object_type t u e h o s = known_type t (subst (λ z. IsKnown w z) (sym s) (written_known t u e h o s))
+
+  -- that of a variable with an initializer
+  pub settled_type : (t : TypeName) (from : Shape) (u : StaticType) → IsKnown w (shape_of u) → settled_by (written t) from ≡ shape_of u
+      → lowering.IsObjectType w.unions w.structs t
+  settled_type t from u k s = known_type t (known_by (written t) from (subst (λ z. IsKnown w z) (sym s) k))
 
   -- that of a parameter
   pub word_type : (t : TypeName) (u : StaticType) → takes_type supported t ≡ true → BaseThere w t.base → IsObjectType u → IsWord u
       → settled (written t) ≡ shape_of u → lowering.IsWordType t
   word_type t u e h o i s =
       let k : lowering.IsObjectType w.unions w.structs t = object_type t u e h o s in
-      record { pointers = k.pointers; base = k.base; word = subst (λ z. IsOperandShape z) (sym s) (word_shape u i) }
+      record { base = k.base; word = subst (λ z. IsOperandShape z) (sym s) (word_shape u i) }
 
 -- ---- `void` and `int`
 
@@ -296,6 +321,7 @@ result_takes w t (Unique b u) e h o i s = GivesWord (word_type w t (Unique b u) 
 result_takes w t (Struct tag rs) e h o i s = absurd i.0
 result_takes w t (Union tag rs) e h o i s = absurd i.0
 result_takes w t (Handle r) e h o i s = GivesWord (word_type w t (Handle r) e h o i.0 s)
+result_takes w t (Key r) e h o i s = GivesWord (word_type w t (Key r) e h o i.0 s)
 result_takes w t _ e h o i s = absurd o
 
 -- ---- beginnings
@@ -311,29 +337,5 @@ begins_first g (Unique b t) o e = subst (λ z. HasFirst (ThinShape z Alone (shap
 begins_first g (Struct tag rs) o e = tt
 begins_first g (Union tag rs) o e = absurd cc
 begins_first g (Handle r) o e = absurd cc
+begins_first g (Key r) o e = absurd cc
 begins_first g _ o e = absurd o
-
--- an owner that a type leaves open isn't unique
-pub type_open : (t : TypeName) → takes_type supported t ≡ true → IsOpen (written t)
-type_open t e =
-    let a = and_parts (takes_base supported t.base) (takes_pointers supported t.pointers) e in
-    all_open t.pointers (base_shape t.base) (pointers_shared supported refl t.pointers a.1) (by t.base a.0)
-  where
-    signed_open : (x : Sign) (r : Option tree.RegionName) (s : Shape) → IsSharedRegion r → IsOpen s → IsOpen (signed_shape x (owner_of r) s)
-    signed_open sign.Nullable r s h o = (owner_shared r h, o)
-    signed_open sign.NotNull r s h o = (owner_shared r h, o)
-    signed_open sign.Fat r s h o = o
-
-    all_open : (ps : List Pointer) (s : Shape) → AreShared ps → IsOpen s → IsOpen (pointed ps s)
-    all_open [] s k h = h
-    all_open (p ∷ ps) s k h = all_open ps (signed_shape p.sign (owner_of p.region) s) k.1 (signed_open p.sign p.region s k.0 h)
-
-    by : (b : tree.Base) → takes_base supported b ≡ true → IsOpen (base_shape b)
-    by tree.Int q = tt
-    by tree.Unsigned q = tt
-    by tree.Char q = tt
-    by tree.Void q = tt
-    by (tree.Struct tag rs) q = tt
-    by (tree.Union tag rs) q = tt
-    by (tree.Handle r) q = tt
-    by (tree.Key r) q = absurd cc

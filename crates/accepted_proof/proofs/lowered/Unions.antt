@@ -10,7 +10,7 @@ use Rattle.source_meaning.specs.Shapes.{UnionShape, has_tag, parts_of}
 use Rattle.source_meaning.specs.Steps.{World}
 use Rattle.source_typing.specs.Calls.{arguments_fit, if_union, union_made, union_member, union_tag}
 use Rattle.source_typing.specs.Regions.{Region}
-use Rattle.source_typing.specs.Scope.{Env, InBlock, Nowhere, Seat, Value, is_place, value}
+use Rattle.source_typing.specs.Scope.{Env, Seat, Value, is_place, value}
 use Rattle.source_typing.specs.Tables.{Arrayed, Counter, Entry, OfBuiltin, OfFunction, OfOther, OfTag, OfValue, Part, Stored, Tag, Unknown, argument, part_in}
 use Rattle.source_typing.specs.Types.{StaticType, Union, renamed}
 use Rattle.source_typing.specs.Verdicts.{Of, other_kind}
@@ -95,7 +95,6 @@ module _ (w : World) (names : List Named) (g : Env) where
             (record { takes = takes; shape = ap (λ (y : List ℕ). UnionShape y) (sym k.named) });
         run = takes;
         place = λ y. absurd (false≢true (sym (ap (λ (s : Seat). is_place s) d.seat) ∙ y));
-        outside = λ y. let x : Nowhere ≡ InBlock = sym d.seat ∙ y in cc;
       }
 
   pub union_taken : (tag f : tree.Name) (e : Expression) (o : Option Entry) (tp : Tag × Part) (a v : Value)

@@ -1,4 +1,4 @@
-use Rattle.std.proofs.Common.{◌≡◌, ap}
+use Rattle.std.proofs.Common.{ap}
 use Rattle.source_typing.specs.Faults.{fault}
 use Rattle.check_faults.specs.Faults.{number_of}
 use Rattle.check_faults.specs.declared.fault.FaultKind.{FaultKind}

@@ -27,19 +27,29 @@ left_parameters ms n m within m_is =
 abbrev pub all_parameters : Routine → List Statement
 all_parameters f = parameters_code f.parameters 0 0 (all_words (part_shapes f.parameters))
 
+-- the locals that the body declares itself
+abbrev pub body_shapes : World → Routine → List Shape
+body_shapes w f = block_shapes w (parameter_names f.parameters 0 []) (length f.parameters) f.body
+
 -- the body's block: its locals, and what is inside
 pub record Inside (w : World) (f : Routine) (locals : List Local) (inside : List Statement) : Type 0 where
-  pub locals_are : locals ≡ locals_of w (part_shapes f.parameters ++ block_shapes f.body)
+  pub locals_are : locals ≡ locals_of w (part_shapes f.parameters ++ body_shapes w f)
   pub inside_is :
       inside ≡ all_parameters f ++ items_code w f.result (parameter_names f.parameters 0 []) no_regions (length f.parameters) 0 f.body
 
 pub inside_of :
     (w : World) (f : Routine) (taken shapes : List Shape) (names : List Named) (first inside : List Statement) (locals : List Local) →
     taken ≡ part_shapes f.parameters → names ≡ parameter_names f.parameters 0 [] → first ≡ all_parameters f →
-    inside ≡ first ++ items_code w f.result names no_regions (length taken) 0 f.body → shapes ≡ taken ++ block_shapes f.body → locals ≡ locals_of w shapes →
+    inside ≡ first ++ items_code w f.result names no_regions (length taken) 0 f.body → shapes ≡ taken ++ block_shapes w names (length taken) f.body →
+    locals ≡ locals_of w shapes →
     Inside w f locals inside
 inside_of w f taken shapes names first inside locals taken_is names_are first_is inside_is shapes_are locals_are = record {
-  locals_are = locals_are ∙ ap (locals_of w) (shapes_are ∙ ap (λ (ss : List Shape). ss ++ block_shapes f.body) taken_is);
+  locals_are =
+      locals_are
+      ∙ ap (locals_of w)
+      (shapes_are ∙ ap (λ (ns : List Named). taken ++ block_shapes w ns (length taken) f.body) names_are
+      ∙ ap (λ (n : ℕ). taken ++ block_shapes w (parameter_names f.parameters 0 []) n f.body) (ap length taken_is ∙ as_many_shapes f.parameters)
+      ∙ ap (λ (ss : List Shape). ss ++ body_shapes w f) taken_is);
   inside_is =
       inside_is ∙ ap (λ (ss : List Statement). ss ++ items_code w f.result names no_regions (length taken) 0 f.body) first_is
       ∙ ap (λ (ns : List Named). all_parameters f ++ items_code w f.result ns no_regions (length taken) 0 f.body) names_are
@@ -56,4 +66,4 @@ body_of w f locals inside none blocked body is none_is blocked_is body_is =
     ∙ ap (MoreStatements (Block locals (all_of inside))) (all_is (end_code f.result))
     ∙ ap (λ (ls : List Local). MoreStatements (Block ls (all_of inside)) (all_of (end_code f.result))) is.locals_are
     ∙ ap (λ (ss : List Statement).
-    MoreStatements (Block (locals_of w (part_shapes f.parameters ++ block_shapes f.body)) (all_of ss)) (all_of (end_code f.result))) is.inside_is
+    MoreStatements (Block (locals_of w (part_shapes f.parameters ++ body_shapes w f)) (all_of ss)) (all_of (end_code f.result))) is.inside_is

@@ -44,6 +44,7 @@ use Rattle.source_lowering.specs.Programs.{
   leaving_code,
   local_shape,
   named_here,
+  names_behind,
   regions_behind,
   regions_with,
   statement_code,
@@ -120,14 +121,18 @@ module _ (w : World) (result : Shape) (names more : List Named) (h inside : Regi
   moved_values others names_is next_is =
       ap (λ (x : List Named). item_values w x next others) names_is ∙ ap (λ (x : ℕ). item_values w names x others) next_is
 
+  moved_shapes : (others : BlockItems) → more ≡ names → next ≡ index → block_shapes w more next others ≡ block_shapes w names index others
+  moved_shapes others names_is next_is =
+      ap (λ (x : List Named). block_shapes w x next others) names_is ∙ ap (λ (x : ℕ). block_shapes w names x others) next_is
+
 -- a declaration, and all behind it
 declared_items : (w : World) (result : Shape) (names : List Named) (h : RegionsAround) (first index own : ℕ) (d : Declaration) (others : BlockItems)
     → first ≤ h.all → ending_items w result names h first index own (Declare d others)
     ≡ declaration_code w names d h.all index own ++
-    ending_items w result (named_here (tree.local_of d).text (local_shape d) index ∷ names) (regions_with d h) first (suc index)
+    ending_items w result (names_behind w names index d) (regions_with d h) first (suc index)
     (own + length (declaration_values w names d)) others
 declared_items w result names h first index own d others within =
-    let inside = items_code w result (named_here (tree.local_of d).text (local_shape d) index ∷ names) (regions_with d h) (suc index)
+    let inside = items_code w result (names_behind w names index d) (regions_with d h) (suc index)
     (own + length (declaration_values w names d)) others in
     append_assoc (declaration_code w names d h.all index own) (inside ++ ending_code d h.all) (leaving_code h.all (h.all - first))
     ∙ ap (λ (x : List core.Statement). declaration_code w names d h.all index own ++ x)
@@ -136,13 +141,13 @@ declared_items w result names h first index own d others within =
 
 -- an item after which others are left, among more names and regions, from another number on
 module _ (w : World) (result : Shape) (names more : List Named) (h inside : RegionsAround) (first index next own number : ℕ) (others left : BlockItems) where
-  module _ (d : Declaration) (names_are : more ≡ named_here (tree.local_of d).text (local_shape d) index ∷ names) (next_is : next ≡ suc index)
+  module _ (d : Declaration) (names_are : more ≡ names_behind w names index d) (next_is : next ≡ suc index)
       (left_is : left ≡ Declare d others) where
     pub code_declared : (before after all : List core.Statement) → inside ≡ regions_with d h → first ≤ h.all
         → number ≡ own + length (declaration_values w names d) → after ≡ before ++ declaration_code w names d h.all index own
         → before ++ ending_items w result names h first index own left ≡ all → after ++ ending_items w result more inside first next number others ≡ all
     code_declared before after all regions_are within number_is after_is is =
-        let inner = named_here (tree.local_of d).text (local_shape d) index ∷ names in
+        let inner = names_behind w names index d in
         let further = own + length (declaration_values w names d) in
         behind before (declaration_code w names d h.all index own) (ending_items w result inner (regions_with d h) first (suc index) further others) after
         (ending_items w result more inside first next number others) all after_is
@@ -153,16 +158,19 @@ module _ (w : World) (result : Shape) (names more : List Named) (h inside : Regi
     pub values_declared : (before after all : List Shape) → after ≡ before ++ declaration_values w names d
         → before ++ item_values w names index left ≡ all → after ++ item_values w more next others ≡ all
     values_declared before after all after_is is =
-        let inner = named_here (tree.local_of d).text (local_shape d) index ∷ names in
+        let inner = names_behind w names index d in
         behind before (declaration_values w names d) (item_values w inner (suc index) others) after (item_values w more next others) all after_is
         (moved_values w result inner more h inside first (suc index) next others names_are next_is)
         (ap (λ (x : BlockItems). before ++ item_values w names index x) (sym left_is) ∙ is)
 
-    pub shapes_declared : (before after all : List Shape) (s : Shape) → after ≡ before ++ s ∷ [] → s ≡ local_shape d
-        → before ++ block_shapes left ≡ all → after ++ block_shapes others ≡ all
+    pub shapes_declared : (before after all : List Shape) (s : Shape) → after ≡ before ++ s ∷ [] → s ≡ local_shape w names d
+        → before ++ block_shapes w names index left ≡ all → after ++ block_shapes w more next others ≡ all
     shapes_declared before after all s after_is shape_is is =
-        ap (λ (x : List Shape). x ++ block_shapes others) (after_is ∙ ap (λ (x : Shape). before ++ x ∷ []) shape_is)
-        ∙ append_assoc before (local_shape d ∷ []) (block_shapes others) ∙ ap (λ (x : BlockItems). before ++ block_shapes x) (sym left_is) ∙ is
+        let inner = names_behind w names index d in
+        behind before (local_shape w names d ∷ []) (block_shapes w inner (suc index) others) after (block_shapes w more next others) all
+        (after_is ∙ ap (λ (x : Shape). before ++ x ∷ []) shape_is)
+        (moved_shapes w result inner more h inside first (suc index) next others names_are next_is)
+        (ap (λ (x : BlockItems). before ++ block_shapes w names index x) (sym left_is) ∙ is)
 
   module _ (s : tree.Statement) (names_are : more ≡ names) (next_is : next ≡ index) (left_is : left ≡ Execute s others) where
     pub code_executed : (before after all : List core.Statement) → inside ≡ h → number ≡ own + length (statement_values w names s)
@@ -183,3 +191,10 @@ module _ (w : World) (result : Shape) (names more : List Named) (h inside : Regi
         behind before (statement_values w names s) (item_values w names index others) after (item_values w more next others) all after_is
         (moved_values w result names more h inside first index next others names_are next_is)
         (ap (λ (x : BlockItems). before ++ item_values w names index x) (sym left_is) ∙ is)
+
+    pub shapes_executed : (before after all : List Shape) → after ≡ before → before ++ block_shapes w names index left ≡ all
+        → after ++ block_shapes w more next others ≡ all
+    shapes_executed before after all after_is is =
+        ap (λ (x : List Shape). x ++ block_shapes w more next others) after_is
+        ∙ ap (λ (x : List Shape). before ++ x) (moved_shapes w result names more h inside first index next others names_are next_is)
+        ∙ ap (λ (x : BlockItems). before ++ block_shapes w names index x) (sym left_is) ∙ is

@@ -2,7 +2,9 @@ mod Arguments
 mod Arrays
 mod Bodies
 mod Clauses
+mod Exchanges
 mod Following
+mod Initials
 mod Items
 mod Linking
 mod Lists
@@ -17,6 +19,7 @@ mod Reaching
 mod Remaining
 mod Rows
 mod StructLayouts
+mod Settling
 mod Structs
 mod Suffixes
 mod Tables

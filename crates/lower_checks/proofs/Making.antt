@@ -1,5 +1,5 @@
 -- What is written of an object that is made: its value first, and then what asks for it.
-use Rattle.std.proofs.Common.{◌≡◌, ◌∙◌, ℕ, ◌+◌, refl, sym, subst, List, [], Option, Some, None}
+use Rattle.std.proofs.Common.{◌≡◌, ◌∙◌, ℕ, ◌+◌, refl, sym, subst, Bool, List, [], Option, Some, None}
 use Rattle.std.specs.Prelude.{is_some, option_map}
 use Rattle.cyc_tree.specs.Tree.{Expression}
 use Rattle.source_meaning.specs.Shapes.{Layout, Shape, StructShape, UnionShape}
@@ -31,34 +31,39 @@ room_whole unions structs (UnionShape tag) one room =
 room_whole unions structs _ one room = absurd one
 
 -- a struct
-struct_made : (w : World) (names : List Named) (e : Expression) (a b z : Body) (d : ℕ) (tag : List ℕ) → static_shape w names e ≡ StructShape tag
-    → IsWritten a b (whole_code w names e (d + 1) (next_of a)) (whole_values w names e) → IsEmitted b z (new_code_by w (StructShape tag) d [] [])
+struct_made : (w : World) (names : List Named) (unique : Bool) (e : Expression) (a b z : Body) (d : ℕ) (tag : List ℕ)
+    → static_shape w names e ≡ StructShape tag
+    → IsWritten a b (whole_code w names e (d + 1) (next_of a)) (whole_values w names e) → IsEmitted b z (new_code_by w unique (StructShape tag) d [] [])
     → IsWritten a z
-    (new_code_by w (static_shape w names e) d (whole_code w names e (d + 1) (next_of a)) (expression_code w names e (d + 1) (next_of a)))
+    (new_code_by w unique (static_shape w names e) d (whole_code w names e (d + 1) (next_of a)) (expression_code w names e (d + 1) (next_of a)))
     (values_by (static_shape w names e) (whole_values w names e) (expression_values w names e))
-struct_made w names e a b z d tag shape_is one two =
+struct_made w names unique e a b z d tag shape_is one two =
     let whole = whole_code w names e (d + 1) (next_of a) in
     let word = expression_code w names e (d + 1) (next_of a) in
-    subst (λ s. IsWritten a z (new_code_by w s d whole word) (values_by s (whole_values w names e) (expression_values w names e))) (sym shape_is)
-    (write_emit a b z whole (new_code_by w (StructShape tag) d [] []) (new_code_by w (StructShape tag) d whole word) (whole_values w names e) one two refl)
+    subst (λ s. IsWritten a z (new_code_by w unique s d whole word) (values_by s (whole_values w names e) (expression_values w names e))) (sym shape_is)
+    (write_emit a b z whole (new_code_by w unique (StructShape tag) d [] []) (new_code_by w unique (StructShape tag) d whole word) (whole_values w names e)
+    one two refl)
 
 -- a tagged union
-union_made : (w : World) (names : List Named) (e : Expression) (a b z : Body) (d : ℕ) (tag : List ℕ) → static_shape w names e ≡ UnionShape tag
-    → IsWritten a b (whole_code w names e (d + 1) (next_of a)) (whole_values w names e) → IsEmitted b z (new_code_by w (UnionShape tag) d [] [])
+union_made : (w : World) (names : List Named) (unique : Bool) (e : Expression) (a b z : Body) (d : ℕ) (tag : List ℕ)
+    → static_shape w names e ≡ UnionShape tag
+    → IsWritten a b (whole_code w names e (d + 1) (next_of a)) (whole_values w names e) → IsEmitted b z (new_code_by w unique (UnionShape tag) d [] [])
     → IsWritten a z
-    (new_code_by w (static_shape w names e) d (whole_code w names e (d + 1) (next_of a)) (expression_code w names e (d + 1) (next_of a)))
+    (new_code_by w unique (static_shape w names e) d (whole_code w names e (d + 1) (next_of a)) (expression_code w names e (d + 1) (next_of a)))
     (values_by (static_shape w names e) (whole_values w names e) (expression_values w names e))
-union_made w names e a b z d tag shape_is one two =
+union_made w names unique e a b z d tag shape_is one two =
     let whole = whole_code w names e (d + 1) (next_of a) in
     let word = expression_code w names e (d + 1) (next_of a) in
-    subst (λ s. IsWritten a z (new_code_by w s d whole word) (values_by s (whole_values w names e) (expression_values w names e))) (sym shape_is)
-    (write_emit a b z whole (new_code_by w (UnionShape tag) d [] []) (new_code_by w (UnionShape tag) d whole word) (whole_values w names e) one two refl)
+    subst (λ s. IsWritten a z (new_code_by w unique s d whole word) (values_by s (whole_values w names e) (expression_values w names e))) (sym shape_is)
+    (write_emit a b z whole (new_code_by w unique (UnionShape tag) d [] []) (new_code_by w unique (UnionShape tag) d whole word) (whole_values w names e)
+    one two refl)
 
-pub whole_made : (w : World) (names : List Named) (e : Expression) (a b z : Body) (d : ℕ) (s : Shape) → IsWholeOne s → static_shape w names e ≡ s
-    → IsWritten a b (whole_code w names e (d + 1) (next_of a)) (whole_values w names e) → IsEmitted b z (new_code_by w s d [] [])
+pub whole_made : (w : World) (names : List Named) (unique : Bool) (e : Expression) (a b z : Body) (d : ℕ) (s : Shape) → IsWholeOne s
+    → static_shape w names e ≡ s
+    → IsWritten a b (whole_code w names e (d + 1) (next_of a)) (whole_values w names e) → IsEmitted b z (new_code_by w unique s d [] [])
     → IsWritten a z
-    (new_code_by w (static_shape w names e) d (whole_code w names e (d + 1) (next_of a)) (expression_code w names e (d + 1) (next_of a)))
+    (new_code_by w unique (static_shape w names e) d (whole_code w names e (d + 1) (next_of a)) (expression_code w names e (d + 1) (next_of a)))
     (values_by (static_shape w names e) (whole_values w names e) (expression_values w names e))
-whole_made w names e a b z d (StructShape tag) one shape_is written object = struct_made w names e a b z d tag shape_is written object
-whole_made w names e a b z d (UnionShape tag) one shape_is written object = union_made w names e a b z d tag shape_is written object
-whole_made w names e a b z d _ one shape_is written object = absurd one
+whole_made w names unique e a b z d (StructShape tag) one shape_is written object = struct_made w names unique e a b z d tag shape_is written object
+whole_made w names unique e a b z d (UnionShape tag) one shape_is written object = union_made w names unique e a b z d tag shape_is written object
+whole_made w names unique e a b z d _ one shape_is written object = absurd one

@@ -1,7 +1,9 @@
 -- The code of an expression from that of its parts, by the names that a function has for these, and by the number of the next unnamed value.
-use Rattle.std.proofs.Common.{◌≡◌, ◌∙◌, ℕ, ◌+◌, sym, ap, List, [], ◌∷◌, ◌++◌, length, append_assoc}
+use Rattle.std.proofs.Common.{◌≡◌, ◌∙◌, ℕ, ◌+◌, refl, sym, ap, Bool, true, false, List, [], ◌∷◌, ◌++◌, length, append_assoc}
 use Rattle.cyc_tree.specs.Tree.{Expression, Expressions, Links, Made, Suffixes}
-use Rattle.source_meaning.specs.Shapes.{Shape}
+use Rattle.source_meaning.specs.Expressions.{is_unique_region}
+use Rattle.source_meaning.specs.Memory.{is_alone}
+use Rattle.source_meaning.specs.Shapes.{Owner, Shape}
 use Rattle.source_meaning.specs.Steps.{World}
 use Rattle.core_meaning.specs.Core.{Do, HeapHandle}
 use Rattle.source_lowering.specs.Lowered.{
@@ -16,6 +18,7 @@ use Rattle.source_lowering.specs.Lowered.{
   links_code,
   new_code,
   new_values,
+  owner_in,
   place_code,
   pointer_to,
   put_code,
@@ -26,6 +29,11 @@ use Rattle.source_lowering.specs.Lowered.{
 }
 use Rattle.source_lowering.specs.Members.{words_in}
 use Rattle.lower_checks.specs.Reaching.{suffixed_left}
+
+-- what is made with the unique region alone is unique
+alone_in : (unique : Bool) → is_alone (owner_in unique) ≡ unique
+alone_in true = refl
+alone_in false = refl
 
 module _ (w : World) (names : List Named) (d own : ℕ) (e : Expression) where
   pub chain_code : (first a : Expression) (others b : Links) (s : Shape) (n : ℕ) → e ≡ Expression.Chain first others → a ≡ first → b ≡ others
@@ -83,12 +91,15 @@ module _ (w : World) (names : List Named) (d own : ℕ) (e : Expression) where
       put_code w names a d (own + length (expression_values w names b)))) (sym from_is)
       ∙ ap (λ x. expression_code w names b d own ++ (conversion_code w (static_shape w names a) from d ++ put_code w names a d x)) (sym n_is)
 
-  pub new_in_code : (at : ℕ) (handle a : Expression) (new : Made) (n : ℕ) → e ≡ Expression.NewIn at handle new → a ≡ handle
-      → n ≡ own + length (expression_values w names a) → expression_code w names e d own ≡ expression_code w names a d own ++ new_code w names new d n
-  new_in_code at handle a new n e_is a_is n_is =
+  pub new_in_code : (at : ℕ) (handle a : Expression) (new : Made) (owner : Owner) (n : ℕ) → e ≡ Expression.NewIn at handle new → a ≡ handle
+      → owner ≡ owner_in (is_unique_region a) → n ≡ own + length (expression_values w names a)
+      → expression_code w names e d own ≡ expression_code w names a d own ++ new_code w names (is_alone owner) new d n
+  new_in_code at handle a new owner n e_is a_is owner_is n_is =
       ap (λ x. expression_code w names x d own) e_is
-      ∙ ap (λ x. expression_code w names x d own ++ new_code w names new d (own + length (expression_values w names x))) (sym a_is)
-      ∙ ap (λ x. expression_code w names a d own ++ new_code w names new d x) (sym n_is)
+      ∙ ap (λ x. expression_code w names x d own ++ new_code w names (is_unique_region x) new d (own + length (expression_values w names x))) (sym a_is)
+      ∙ ap (λ x. expression_code w names a d own ++ new_code w names x new d (own + length (expression_values w names a)))
+      (sym (ap is_alone owner_is ∙ alone_in (is_unique_region a)))
+      ∙ ap (λ x. expression_code w names a d own ++ new_code w names (is_alone owner) new d x) (sym n_is)
 
   -- of a primary expression with suffixes
   pub suffixed_is : (primary a : Expression) (suffixes b : Suffixes) → e ≡ Expression.Suffixed primary suffixes → a ≡ primary → b ≡ suffixes
@@ -112,7 +123,8 @@ module _ (w : World) (names : List Named) (d own : ℕ) (e : Expression) where
       ∙ ap (λ x. store_to (suffixed_left w names (Expression.Suffixed primary suffixes) own) x d) (sym p_is)
       ∙ ap (λ x. store_to (suffixed_left w names x own) p d) (sym e_is)
 
-  pub new_heap_code : (at : ℕ) (new : Made) → e ≡ Expression.New at new → expression_code w names e d own ≡ (Do (HeapHandle d) ∷ []) ++ new_code w names new d own
+  pub new_heap_code : (at : ℕ) (new : Made) → e ≡ Expression.New at new
+      → expression_code w names e d own ≡ (Do (HeapHandle d) ∷ []) ++ new_code w names false new d own
   new_heap_code at new e_is = ap (λ x. expression_code w names x d own) e_is
 
 -- ---- the unnamed values of an expression from those of its parts

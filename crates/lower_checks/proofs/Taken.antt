@@ -6,7 +6,7 @@ use Rattle.source_meaning.specs.Shapes.{Shape, ArrayShape, Layout, part_of, part
 use Rattle.source_meaning.specs.Programs.{global_shape}
 use Rattle.source_meaning.specs.Steps.{World}
 use Rattle.source_lowering.specs.Lowered.{Named}
-use Rattle.source_lowering.specs.Programs.{block_shapes, local_shape, named_here}
+use Rattle.source_lowering.specs.Programs.{block_shapes, names_behind}
 use Rattle.source_lowering.specs.Lowerable.{AreWords, IsObject, TakesItems}
 use Rattle.source_lowering.proofs.statements.EachDeclaration.{shape_object}
 use Rattle.source_lowering.proofs.values.Integers.{value_object}
@@ -25,7 +25,7 @@ no_array shape.Unsigned count of is = absurd cc is
 no_array shape.Char count of is = absurd cc is
 no_array shape.Void count of is = absurd cc is
 no_array (shape.Thin may_be_null owner to) count of is = absurd cc is
-no_array (shape.Address pointers to) count of is = absurd cc is
+no_array (shape.Address owner pointers to) count of is = absurd cc is
 no_array (shape.Fat to) count of is = absurd cc is
 no_array shape.Handle count of is = absurd cc is
 no_array shape.Key count of is = absurd cc is
@@ -50,10 +50,10 @@ array_global unions structs (Initial.Given c) s count of is object = absurd (sub
 -- ---- locals
 
 pub block_variables : (w : World) (result : Shape) (names : List Named) (index : ℕ) (items : BlockItems) → TakesItems w result names index items
-    → AreVariables w.unions w.structs (block_shapes items)
+    → AreVariables w.unions w.structs (block_shapes w names index items)
 block_variables w result names index NoItems h = tt
 block_variables w result names index (Declare d others) h =
-    (shape_object w names d h.0, block_variables w result (named_here (tree.local_of d).text (local_shape d) index ∷ names) (suc index) others h.1)
+    (shape_object w names d h.0, block_variables w result (names_behind w names index d) (suc index) others h.1)
 block_variables w result names index (Execute s others) h = block_variables w result names index others h.1
 
 -- the parameters of a function, and further locals

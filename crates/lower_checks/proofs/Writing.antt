@@ -150,6 +150,30 @@ apart_emit a b c x p one two = record {
 pub apart_next : (a b : Body) (p : List Shape) → IsApart a b p → next_of b ≡ next_of a + length p
 apart_next a b p is = grown shape_tree b.own.items a.own.items p is.values
 
+-- a part that is emitted apart, and goes into a statement
+pub part_emitted : (e b x f z : Body) (outer part first : List Statement) (whole : List Statement → List Statement) → IsBegun e b → outer ≡ code_of e
+    → IsEmitted b x first → IsEnded x f outer → part ≡ code_of x → IsEmitted f z (whole part) → IsEmitted e z (whole first)
+part_emitted e b x f z outer part first whole begun outer_is one ended part_is done = record {
+  sound = sym begun.failed ∙ one.sound;
+  code = done.code ∙ ap (λ ss. ss ++ whole part) (ended.code ∙ outer_is)
+      ∙ ap (λ ss. code_of e ++ whole ss) (part_is ∙ one.code ∙ ap (λ ss. ss ++ first) begun.code);
+  own = done.own ∙ ended.own ∙ one.own ∙ begun.own;
+}
+
+pub same_emit : (a b c : Body) (x : List Statement) → IsSame a b → IsEmitted b c x → IsEmitted a c x
+same_emit a b c x one two = record {
+  sound = one.sound;
+  code = two.code ∙ ap (λ code. map statement_tree code.items ++ x) one.code;
+  own = two.own ∙ one.own;
+}
+
+pub emit_emit : (a b c : Body) (x y z : List Statement) → IsEmitted a b x → IsEmitted b c y → z ≡ x ++ y → IsEmitted a c z
+emit_emit a b c x y z one two code_is = record {
+  sound = one.sound;
+  code = then_of (code_of a) x (code_of b) y (code_of c) z one.code two.code code_is;
+  own = two.own ∙ one.own;
+}
+
 -- what is emitted here is no longer left
 pub emitting_more : (a b z : Body) (all here rest : List Statement) → IsEmitting a b all (here ++ rest) → IsEmitted b z here → IsEmitting a z all rest
 emitting_more a b z all here rest left is = record {

@@ -6,6 +6,7 @@ pub mod Promise
 pub mod Reaching
 pub mod Refusals
 pub mod Scoped
+pub mod Given
 pub mod Signs
 pub mod Structs
 pub mod Tables

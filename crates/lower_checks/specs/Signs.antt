@@ -1,27 +1,41 @@
--- The signs of pointers around each other, from the outside inwards, and the shape of such pointers.
+-- The kinds of pointers around each other, from the outside inwards, and the shape of such pointers.
 use Rattle.std.specs.Prelude.{ℕ, zero, suc, ◌==◌, ◌%◌, ◌/◌, Bool, true, false, List, [], ◌∷◌, ◌++◌}
-use Rattle.source_meaning.specs.Shapes.{Shape, Shared, ThinShape, FatShape}
+use Rattle.source_meaning.specs.Shapes.{Shape, Shared, Alone, ThinShape, FatShape}
+use Rattle.lower_checks.specs.declared.signs.Pointing.{Pointing}
+use Rattle.lower_checks.specs.declared.signs.Pointing.TheVariants as pointing
 use Rattle.lower_checks.specs.declared.signs.Row.{Row}
 use Rattle.lower_checks.specs.declared.signs.Signs.{Signs}
 
--- so many signs, from a number's last binary digit on: whether each is 1
-abbrev pub signs_from : ℕ → ℕ → List Bool
-signs_from zero digits = []
-signs_from (suc n) digits = (digits % 2 == 1) ∷ signs_from n (digits / 2)
+-- a pointer, by whether it is fat, and else whether it is unique
+abbrev pub pointing_of : (fat alone : Bool) → Pointing
+pointing_of true alone = pointing.Fat
+pointing_of false true = pointing.Alone
+pointing_of false false = pointing.Shared
 
--- a sign as such a digit
-abbrev pub digit_of : Bool → ℕ
-digit_of true = 1
-digit_of false = 0
+-- so many, by the last binary digits of two numbers
+abbrev pub signs_from : (many fat alone : ℕ) → List Pointing
+signs_from zero fat alone = []
+signs_from (suc n) fat alone = pointing_of (fat % 2 == 1) (alone % 2 == 1) ∷ signs_from n (fat / 2) (alone / 2)
 
-abbrev pub row_signs : Row → List Bool
-row_signs r = signs_from r.many r.fat
+abbrev pub fat_digit : Pointing → ℕ
+fat_digit pointing.Fat = 1
+fat_digit pointing.Shared = 0
+fat_digit pointing.Alone = 0
 
-abbrev pub signs_of : Signs → List Bool
+abbrev pub alone_digit : Pointing → ℕ
+alone_digit pointing.Fat = 0
+alone_digit pointing.Shared = 0
+alone_digit pointing.Alone = 1
+
+abbrev pub row_signs : Row → List Pointing
+row_signs r = signs_from r.many r.fat r.alone
+
+abbrev pub signs_of : Signs → List Pointing
 signs_of s = row_signs s.outer ++ row_signs s.inner
 
--- pointers around a shape: a fat one, or one that is shared and never NULL
-abbrev pub around : List Bool → Shape → Shape
+-- pointers around a shape: a fat one, or one that is never NULL
+abbrev pub around : List Pointing → Shape → Shape
 around [] s = s
-around (true ∷ others) s = FatShape (around others s)
-around (false ∷ others) s = ThinShape false Shared (around others s)
+around (pointing.Fat ∷ others) s = FatShape (around others s)
+around (pointing.Shared ∷ others) s = ThinShape false Shared (around others s)
+around (pointing.Alone ∷ others) s = ThinShape false Alone (around others s)

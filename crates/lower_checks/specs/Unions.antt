@@ -17,6 +17,11 @@ use Rattle.lower_checks.specs.declared.unions.Union as code
 abbrev pub cell_by : Bool → Cell
 cell_by fat = (if fat then cell.TaggedFat else cell.Tagged)
 
+-- how many words the cell of a union has
+abbrev pub cell_words : Cell → ℕ
+cell_words cell.TaggedFat = 4
+cell_words c = 2
+
 -- a union, as the code has it
 pub record Union : Type 0 where
   pub parts : List Part

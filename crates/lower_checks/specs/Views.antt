@@ -18,7 +18,6 @@ use Rattle.source_meaning.specs.Shapes.{
   UnionShape,
   ArrayShape,
   base_shape,
-  pointed,
   settled,
 }
 use Rattle.source_meaning.specs.Steps.{Entity, Variable}
@@ -43,6 +42,7 @@ use Rattle.lower_checks.specs.declared.leaving.RegionsAround as code_regions
 use Rattle.lower_checks.specs.declared.names.Named as code_named
 use Rattle.lower_checks.specs.declared.table.Found as code_found
 use Rattle.lower_checks.specs.declared.table.Text as code_text
+use Rattle.lower_checks.specs.Given.{pointed_given}
 use Rattle.lower_checks.specs.Signs.{around, signs_of}
 
 abbrev pub owner_tree : code_owner.Owner → Owner
@@ -52,7 +52,7 @@ owner_tree owner_is.Alone = Alone
 -- what a pointer leads to, as it is written
 abbrev pub written_tree : code_written.Written → Shape
 written_tree written.Nothing = VoidShape
-written_tree (written.Pointed pointers base) = pointed (map pointer_tree pointers.now) (base_shape (base_tree base.now))
+written_tree (written.Pointed pointers base given) = pointed_given given.alone (map pointer_tree pointers.now) (base_shape (base_tree base.now))
 
 -- the shape of what a pointer leads to
 abbrev pub written_shape : code_written.Written → Shape
@@ -81,7 +81,7 @@ shape_tree shape.Unsigned = UnsignedShape
 shape_tree shape.Char = CharShape
 shape_tree shape.Void = VoidShape
 shape_tree (shape.Thin may_be_null owner to) = ThinShape may_be_null (owner_tree owner) (written_shape to)
-shape_tree (shape.Address signs to) = ThinShape false Shared (around (signs_of signs) (plain_tree to))
+shape_tree (shape.Address owner signs to) = ThinShape false (owner_tree owner) (around (signs_of signs) (plain_tree to))
 shape_tree (shape.Fat to) = FatShape (pointee_shape to)
 shape_tree shape.Handle = HandleShape
 shape_tree shape.Key = KeyShape

@@ -2,9 +2,10 @@
 
 ghost use Rattle.std.specs.Prelude.{◌+◌, ◌++◌, ◌∷◌, [], length};
 ghost use Rattle.core_meaning.specs.Core as core;
+ghost use Rattle.cyc_tree.specs.Tree.{Expression as tree};
 ghost use Rattle.cyc_tree.specs.View.{expression_tree};
 ghost use Rattle.source_lowering.specs.Layouts.{layout_of};
-ghost use Rattle.source_lowering.specs.Lowered.{expression_values, place_code, static_shape};
+ghost use Rattle.source_lowering.specs.Lowered.{expression_code, expression_values, place_code, static_shape};
 ghost use Rattle.source_lowering.specs.Whole.{
   dropped_code,
   dropped_values,
@@ -15,6 +16,7 @@ ghost use Rattle.source_lowering.specs.Whole.{
 };
 ghost use Rattle.source_lowering.specs.Lowerable.{
   IsWholeShape,
+  Takes,
   TakesDropped,
   TakesPlace,
   TakesRun,
@@ -24,7 +26,7 @@ ghost use Rattle.lower_checks.specs.Scoped.{names_in, world_in};
 ghost use Rattle.lower_checks.specs.Writing.{IsSound, Writes, next_of};
 
 use crate::body::Body;
-use crate::expression::lower_expression;
+use crate::expression::{lower_assign, lower_expression};
 use crate::objects::lower_copy;
 use crate::place::lower_place;
 use crate::scope::Scope;
@@ -62,6 +64,28 @@ fn lower_assigned<'p>(
     let at = body.further(to, 1);
     let shape = lower_place(scope, place, body, at);
     lower_copy(scope.program, &shape, body, at, to);
+}
+
+/// Appends what evaluates a word or a fat pointer, and stores it in a place, which may hold a unique pointer; appends the shapes of the
+/// unnamed values, those of the value first.
+fn lower_given<'p>(
+    scope: &Scope<'_, 'p>,
+    place: &'p Expression,
+    value: &'p Expression,
+    body: &mut Body<'p>,
+    to: Temporary,
+)
+    requires taken { let w = world_in scope.now in
+        let names = names_in scope.now in
+        IsSound body.old → TakesPlace w names (expression_tree place.now) × Takes w names (expression_tree value.now) }
+    ensures writes { let w = world_in scope.now in
+        let names = names_in scope.now in
+        let p = expression_tree place.entry.now in
+        let v = expression_tree value.entry.now in
+        Writes body.old body.new (expression_code w names (tree.Assign p v) to.0 (next_of body.old)) (expression_values w names v ++ expression_values w names p) }
+{
+    let from = lower_expression(scope, value, body, to);
+    lower_assign(scope, place, body, &from, to);
 }
 
 /// Appends what evaluates an expression, and drops its value; appends the shapes of the unnamed values.
@@ -109,9 +133,7 @@ pub fn lower_run<'p>(
                 Shape::Struct(_) | Shape::Union(_) => {
                     lower_assigned(scope, place, value, body, to)
                 }
-                _ => {
-                    lower_expression(scope, expression, body, to);
-                }
+                _ => lower_given(scope, place, value, body, to),
             }
         }
         Expression::Grouped(_, inner) => lower_run(scope, inner, body, to),
@@ -136,7 +158,7 @@ pub fn lower_run<'p>(
         | Expression::Chain(_, _)
         | Expression::AllOf(_, _)
         | Expression::AnyOf(_, _)
-        | Expression::MakeUnion(_, _, _) => lower_dropped(scope, expression, body, to),
-        Expression::UniqueRegion(_) => body.never(),
+        | Expression::MakeUnion(_, _, _)
+        | Expression::UniqueRegion(_) => lower_dropped(scope, expression, body, to),
     }
 }

@@ -162,7 +162,7 @@ pub fn first_datum(
     match shape {
         Shape::Struct(_) => Ok(Datum::Whole(object_layout(alloc, program, shape)?, 1)),
         Shape::Fat(_) => fat_datum(alloc, program, initial),
-        Shape::Thin(_, _, _) | Shape::Address(_, _) => pointer_datum(program, initial),
+        Shape::Thin(_, _, _) | Shape::Address(_, _, _) => pointer_datum(program, initial),
         Shape::Char => Ok(Datum::Byte((initial_word(initial)? % 256) as u8)),
         Shape::Int | Shape::Unsigned => Ok(Datum::Word(initial_word(initial)?)),
         _ => Err(LowerFault::NotTaken),

@@ -2,44 +2,86 @@
 
 ghost use Rattle.std.specs.Prelude.{◌≡◌, ◌+◌, ◌∷◌, ◌++◌, [], if◌then◌else◌};
 ghost use Rattle.core_meaning.specs.Core as core;
-ghost use Rattle.cyc_tree.specs.View.{expression_tree, declaration_tree};
+ghost use Rattle.cyc_tree.specs.Tree.{Expression as tree};
+ghost use Rattle.cyc_tree.specs.View.{expression_tree, declaration_tree, name_tree, type_tree};
 ghost use Rattle.source_meaning.specs.Programs.{world_of};
+ghost use Rattle.source_meaning.specs.Shapes.{settled_by, written};
+ghost use Rattle.source_lowering.specs.Lowered.{static_shape};
 ghost use Rattle.source_lowering.specs.Layouts.{layout_of, local_of};
 ghost use Rattle.source_lowering.specs.Programs.{declaration_code, declaration_values, initial_values, local_shape, source_code, unset_code, value_code};
 ghost use Rattle.source_lowering.specs.Whole.{expression_values, is_made, whole_values};
-ghost use Rattle.source_lowering.specs.Lowerable.{IsObject, IsWholeShape, IsVariable, TakesDeclaration, TakesValue, TakesWhole};
+ghost use Rattle.source_lowering.specs.Lowerable.{IsObject, IsWholeShape, IsWordShape, IsVariable, TakesDeclaration, TakesValue, TakesWhole};
 ghost use Rattle.lower_checks.specs.Scoped.{names_in, world_in};
 ghost use Rattle.lower_checks.specs.Views.{shape_tree, stored_tree};
-ghost use Rattle.lower_checks.specs.Writing.{Emits, IsSound, Writes, next_of};
+ghost use Rattle.lower_checks.specs.Writing.{Emits, IsSound, Stays, Writes, next_of};
 
 use crate::body::Body;
 use crate::expression::lower_expression;
+use crate::given::settled_by;
 use crate::objects::{lower_copy, stored_layout};
 use crate::place::lower_place;
 use crate::scope::Scope;
 use crate::shape::Shape;
-use crate::shaped::makes;
+use crate::shaped::{makes, named_shape, shape_of};
 use crate::stored::Stored;
 use crate::table::Table;
 use crate::values::{first_value, lower_conversion};
-use crate::variable::lower_put_local;
+use crate::variable::{lower_get, lower_put_local};
 use crate::whole::lower_whole;
 use cyc_core::{Operation, Statement, Temporary, Variable, Width};
-use cyc_tree::{Declaration, Expression, Initializer};
+use cyc_tree::{Declaration, Expression, Initializer, Name, TypeName};
+
+/// The shape of a local of a type with an initializer.
+fn initial_shape<'p>(
+    scope: &Scope<'_, 'p>,
+    of: &'p TypeName,
+    value: &'p Expression,
+    body: &mut Body<'p>,
+) -> Shape<'p>
+    ensures stays { Stays body.old body.new }
+    ensures shape { IsSound body.new → shape_tree result ≡
+        settled_by (written (type_tree of.entry.now)) (static_shape (world_in scope.now) (names_in scope.now) (expression_tree value.entry.now)) }
+{
+    let by = body.known(shape_of(scope, value));
+    body.known(settled_by(of, by))
+}
+
+/// The shape of an alias of a type for a pointer.
+fn alias_shape<'p>(
+    scope: &Scope<'_, 'p>,
+    of: &'p TypeName,
+    pointer: &'p Name,
+    body: &mut Body<'p>,
+) -> Shape<'p>
+    ensures stays { Stays body.old body.new }
+    ensures shape { IsSound body.new → shape_tree result ≡
+        settled_by (written (type_tree of.entry.now)) (static_shape (world_in scope.now) (names_in scope.now) (tree.Variable (name_tree pointer.entry.now))) }
+{
+    let by = named_shape(scope, &pointer.text);
+    body.known(settled_by(of, by))
+}
 
 /// What a local is, as it is declared.
 pub fn declared<'p>(
-    scope: &Scope<'_, '_>,
+    scope: &Scope<'_, 'p>,
     declaration: &'p Declaration,
-    body: &Body<'_>,
+    body: &mut Body<'p>,
 ) -> Stored<'p>
-    requires taken { IsSound body.now → TakesDeclaration (world_in scope.now) (names_in scope.now) (declaration_tree declaration.now) }
-    ensures { IsSound body.now → stored_tree result ≡ local_shape (declaration_tree declaration.entry.now) }
+    requires taken { IsSound body.old → TakesDeclaration (world_in scope.now) (names_in scope.now) (declaration_tree declaration.now) }
+    ensures stays { Stays body.old body.new }
+    ensures declared { IsSound body.new →
+        stored_tree result ≡ local_shape (world_in scope.now) (names_in scope.now) (declaration_tree declaration.entry.now) }
 {
     match declaration {
         Declaration::Local(of, _, Initializer::Array(count)) => Stored::array(of, *count),
-        Declaration::Local(of, _, Initializer::None | Initializer::Value(_)) => Stored::one(of),
+        Declaration::Local(of, _, Initializer::None) => Stored::one(of),
+        Declaration::Local(of, _, Initializer::Value(value)) => {
+            Stored::One(initial_shape(scope, of, value, body))
+        }
         Declaration::Region(_, _, _) => Stored::One(Shape::Handle),
+        Declaration::Alias(_, _, of, _, pointer) => {
+            Stored::One(alias_shape(scope, of, pointer, body))
+        }
         _ => {
             body.never();
             Stored::One(Shape::Void)
@@ -192,8 +234,31 @@ fn lower_region(body: &mut Body<'_>, to: Temporary, index: u32)
     body.operation(Operation::Put(local, Width::Word, to));
 }
 
-/// Appends what gives the local of a number its first value: that of its shape, its initializer's value, or a new region's handle, which
-/// comes into a temporary; appends the shapes of the unnamed values.
+/// Appends what gives the local of a number a copy of the pointer of a name, by way of a temporary.
+fn lower_alias<'p>(
+    scope: &Scope<'_, 'p>,
+    of: &'p TypeName,
+    pointer: &'p Name,
+    body: &mut Body<'p>,
+    to: Temporary,
+    index: u32,
+)
+    requires taken { let s = static_shape (world_in scope.now) (names_in scope.now) (tree.Variable (name_tree pointer.now)) in
+        IsSound body.old → IsWordShape (settled_by (written (type_tree of.now)) s) }
+    ensures writes { let w = world_in scope.now in
+        let names = names_in scope.now in
+        let p = tree.Variable (name_tree pointer.entry.now) in
+        Writes body.old body.new (value_code w names (settled_by (written (type_tree of.entry.now)) (static_shape w names p)) p to.0 index (next_of body.old)) [] }
+{
+    let shape = alias_shape(scope, of, pointer, body);
+    let from = lower_get(scope, body, &pointer.text, to);
+    lower_conversion(scope.program, body, &shape, &from, to);
+    let local = Variable { out: 0, index };
+    lower_put_local(body, &Stored::One(shape), local, to);
+}
+
+/// Appends what gives the local of a number its first value: that of its shape, its initializer's value, that of an alias's pointer, or a
+/// new region's handle, which comes into a temporary; appends the shapes of the unnamed values.
 pub fn lower_declaration<'p>(
     scope: &Scope<'_, 'p>,
     declaration: &'p Declaration,
@@ -215,9 +280,13 @@ pub fn lower_declaration<'p>(
             lower_unset(scope.program, &Stored::array(of, *count), body, to, index)
         }
         Declaration::Local(of, _, Initializer::Value(value)) => {
-            lower_set(scope, &Shape::of(of), value, body, to, index)
+            let shape = initial_shape(scope, of, value, body);
+            lower_set(scope, &shape, value, body, to, index)
         }
         Declaration::Region(_, _, _) => lower_region(body, to, index),
+        Declaration::Alias(_, _, of, _, pointer) => {
+            lower_alias(scope, of, pointer, body, to, index)
+        }
         _ => body.never(),
     }
 }

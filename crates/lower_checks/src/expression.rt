@@ -25,8 +25,8 @@ use crate::operands::{lower_all, lower_any, lower_called, lower_links};
 use crate::operator::operator_shape;
 use crate::place::{lower_place, lower_pointer, lower_put, lower_suffixed};
 use crate::scope::Scope;
-use crate::shape::Shape;
-use crate::shaped::{number_shape, shape_of};
+use crate::shape::{Owner, Shape};
+use crate::shaped::{number_shape, owner_for, shape_of};
 use crate::text::lower_text;
 use crate::values::{lower_conversion, lower_not, lower_operator, lower_truth, lower_word};
 use crate::variable::lower_get;
@@ -88,11 +88,11 @@ pub fn lower_expression<'p>(
         }
         Expression::New(_, made) => {
             body.operation(Operation::HeapHandle(to));
-            lower_new(scope, made, body, to)
+            lower_new(scope, made, Owner::Shared, body, to)
         }
         Expression::NewIn(_, handle, made) => {
             lower_expression(scope, handle, body, to);
-            lower_new(scope, made, body, to)
+            lower_new(scope, made, owner_for(handle), body, to)
         }
         Expression::Chain(first, links) => {
             let left = lower_expression(scope, first, body, to);
@@ -117,7 +117,8 @@ pub fn lower_expression<'p>(
             lower_assign(scope, place, body, &from, to)
         }
         Expression::Call(name, arguments) => lower_called(scope, arguments, body, &name.text, to),
-        Expression::UniqueRegion(_) | Expression::MakeUnion(_, _, _) => {
+        Expression::UniqueRegion(_) => Shape::Void,
+        Expression::MakeUnion(_, _, _) => {
             body.never();
             Shape::Void
         }
@@ -126,7 +127,7 @@ pub fn lower_expression<'p>(
 
 /// Appends what converts the value in a temporary to a place's shape, and stores it there; gives the place's shape.
 #[cycle(expression)]
-fn lower_assign<'p>(
+pub fn lower_assign<'p>(
     scope: &Scope<'_, 'p>,
     place: &'p Expression,
     body: &mut Body<'p>,
@@ -199,7 +200,7 @@ fn lower_prefixed<'p>(
         }
         Prefix::AddressOf => {
             let shape = lower_place(scope, operand, body, to);
-            body.known(shape.address())
+            body.known(shape.address(Owner::Shared))
         }
     }
 }

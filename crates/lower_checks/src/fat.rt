@@ -142,7 +142,7 @@ pub fn lower_to_fat(body: &mut Body<'_>, from: &Shape<'_>, pointer: Temporary)
             body.operation(Operation::Apply(Binary::Xor, count, index, count));
             body.operation(Operation::Constant(index, 0));
         }
-        Shape::Thin(false, _, _) | Shape::Address(_, _) => lower_bounds(body, pointer, 1),
+        Shape::Thin(false, _, _) | Shape::Address(_, _, _) => lower_bounds(body, pointer, 1),
         _ => {}
     }
 }

@@ -76,7 +76,7 @@ pub fn cell_of(shape: Shape<'_>) -> Result<Cell, LowerFault>
     match shape {
         Shape::Char => Ok(Cell::Byte),
         Shape::Int | Shape::Unsigned => Ok(Cell::Word),
-        Shape::Thin(_, _, _) | Shape::Address(_, _) => Ok(Cell::Pointer),
+        Shape::Thin(_, _, _) | Shape::Address(_, _, _) => Ok(Cell::Pointer),
         Shape::Fat(_) => Ok(Cell::Fat),
         Shape::Handle => Ok(Cell::Handle),
         _ => Err(LowerFault::NotTaken),

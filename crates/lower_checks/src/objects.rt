@@ -110,7 +110,7 @@ pub fn object_layout(
     match shape {
         Shape::Char => cell_layout(alloc, Cell::Byte),
         Shape::Int | Shape::Unsigned => cell_layout(alloc, Cell::Word),
-        Shape::Thin(_, _, _) | Shape::Address(_, _) => cell_layout(alloc, Cell::Pointer),
+        Shape::Thin(_, _, _) | Shape::Address(_, _, _) => cell_layout(alloc, Cell::Pointer),
         Shape::Fat(_) => cell_layout(alloc, Cell::Fat),
         Shape::Handle => cell_layout(alloc, Cell::Handle),
         Shape::Struct(tag) => struct_layout(program, tag),
@@ -127,7 +127,7 @@ fn value_of(program: &Table<'_>, shape: Shape<'_>) -> Result<Local, LowerFault>
     match shape {
         Shape::Char => Ok(Local::Scalar(Cell::Byte)),
         Shape::Int | Shape::Unsigned => Ok(Local::Scalar(Cell::Word)),
-        Shape::Thin(_, _, _) | Shape::Address(_, _) => Ok(Local::Scalar(Cell::Pointer)),
+        Shape::Thin(_, _, _) | Shape::Address(_, _, _) => Ok(Local::Scalar(Cell::Pointer)),
         Shape::Fat(_) => Ok(Local::Scalar(Cell::Fat)),
         Shape::Handle => Ok(Local::Scalar(Cell::Handle)),
         Shape::Struct(tag) => Ok(Local::Whole(struct_layout(program, tag)?, 1)),

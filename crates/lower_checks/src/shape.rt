@@ -1,19 +1,22 @@
 // Shapes, and what depends on them alone.
 
-ghost use Rattle.std.specs.Prelude.{◌≡◌, ◌∷◌, ◌++◌, [], suc, true, false, length, IfOk, OnOk, map, option_map};
+ghost use Rattle.std.specs.Prelude.{◌≡◌, ◌∷◌, ◌++◌, [], suc, List, true, false, length, IfOk, OnOk, map, option_map};
 ghost use Rattle.cyc_tree.specs.View.{base_tree, pointer_tree, region_tree, type_tree};
+ghost use Rattle.source_meaning.specs.Shapes as shapes;
 ghost use Rattle.source_meaning.specs.Shapes.{CharShape, FatShape, ThinShape, VoidShape, Shared, base_shape, owner_of, pointee, settled, shared_owner, signed_shape, written};
 ghost use Rattle.source_lowering.specs.Lowered.{results_in, width_of};
 ghost use Rattle.source_lowering.specs.Members.{words_in};
 ghost use Rattle.cyc_core.specs.Trees.{bytes_of, optional_tree};
 ghost use Rattle.lower_checks.specs.declared.shape.Written.TheVariants.{Pointed};
+ghost use Rattle.lower_checks.specs.Given.{owner_given};
 ghost use Rattle.lower_checks.specs.Signs.{around, signs_of};
 ghost use Rattle.lower_checks.specs.Views.{owner_tree, plain_tree, pointee_shape, shape_tree, written_shape, written_tree};
 ghost use Rattle.lower_checks.specs.Refusals.{NeverRefused};
 
 use crate::fault::LowerFault;
+use crate::given::Given;
 use crate::names::further;
-use crate::signs::Signs;
+use crate::signs::{Pointing, Signs};
 use cyc_core::{Temporary, Width, Words};
 use cyc_tree::{Base, Pointer, RegionName, Sign, TypeName};
 
@@ -26,13 +29,25 @@ pub enum Owner {
     Alone,
 }
 
+impl Owner {
+    /// A pointer to one object, which is never NULL.
+    fn pointing(self) -> Pointing
+        ensures { (signs : List Pointing) (s : shapes.Shape) → around (result ∷ signs) s ≡ ThinShape false (owner_tree self) (around signs s) }
+    {
+        match self {
+            Owner::Shared => Pointing::Shared,
+            Owner::Alone => Pointing::Alone,
+        }
+    }
+}
+
 /// What a pointer of a type as it is written leads to.
 #[derive(Clone, Copy)]
 pub enum Written<'p> {
     /// Nothing: so `NULL` has it.
     Nothing,
-    /// A type as it is written: the pointers, from the base outwards, and the base.
-    Pointed(&'p [Pointer], &'p Base),
+    /// A type as it is written: the pointers, from the base outwards, the base, and which pointers are unique though that isn't written.
+    Pointed(&'p [Pointer], &'p Base, Given),
 }
 
 /// A shape that neither `&` nor `new` gives: that of a type as it is written, or of a value that has no type in the text.
@@ -55,7 +70,7 @@ pub enum Plain<'p> {
 pub enum Pointee<'p> {
     /// What a type as it is written leads to.
     Written(Written<'p>),
-    /// What `new` and `rnew` made the elements of: pointers with these signs around each other, and what the innermost one leads to.
+    /// What `new` and `rnew` made the elements of: such pointers around each other, and what the innermost one leads to.
     Made(Signs, Plain<'p>),
 }
 
@@ -72,9 +87,9 @@ pub enum Shape<'p> {
     Void,
     /// A pointer to one object: whether it may be NULL, whether it is unique, and what it leads to.
     Thin(bool, Owner, Written<'p>),
-    /// A pointer to one object as `&` and `new` give it, shared and never NULL: the signs of the pointers that it leads to, one after the
-    /// other, and what the last one leads to.
-    Address(Signs, Plain<'p>),
+    /// A pointer to one object as `&`, `new` and `rnew` give it, never NULL: whether it is unique, the pointers that it leads to, one after
+    /// the other, and what the last one leads to.
+    Address(Owner, Signs, Plain<'p>),
     /// A pointer that carries bounds, by what it leads to.
     Fat(Pointee<'p>),
     /// A region's handle.
@@ -87,12 +102,13 @@ pub enum Shape<'p> {
     Union(&'p [u8]),
 }
 
-/// Whether a pointer with this region is unique: only one into the unique region is.
-fn owner_in(region: &Option<RegionName>) -> Owner
-    ensures { owner_tree result ≡ shared_owner (owner_of (option_map region_tree region.now)) }
+/// Whether a pointer with this region is unique: one into the unique region is, and one whose region isn't written where it is given.
+fn owner_in(region: &Option<RegionName>, given: bool) -> Owner
+    ensures { owner_tree result ≡ shared_owner (owner_given given (owner_of (option_map region_tree region.now))) }
 {
     match region {
         Some(RegionName::Unique(_)) => Owner::Alone,
+        None if given => Owner::Alone,
         _ => Owner::Shared,
     }
 }
@@ -114,10 +130,11 @@ fn base_shape<'p>(base: &'p Base) -> Shape<'p>
 }
 
 /// The shape of a pointer to what is written.
-fn pointer_shape<'p>(pointer: &Pointer, to: Written<'p>) -> Shape<'p>
-    ensures { let p = pointer_tree pointer.now in shape_tree result ≡ settled (signed_shape p.sign (owner_of p.region) (written_tree to.entry)) }
+fn pointer_shape<'p>(pointer: &Pointer, given: bool, to: Written<'p>) -> Shape<'p>
+    ensures { let p = pointer_tree pointer.now in
+        shape_tree result ≡ settled (signed_shape p.sign (owner_given given (owner_of p.region)) (written_tree to.entry)) }
 {
-    let owner = owner_in(&pointer.region);
+    let owner = owner_in(&pointer.region, given);
     match pointer.sign {
         Sign::Nullable => Shape::Thin(true, owner, to),
         Sign::NotNull => Shape::Thin(false, owner, to),
@@ -125,12 +142,13 @@ fn pointer_shape<'p>(pointer: &Pointer, to: Written<'p>) -> Shape<'p>
     }
 }
 
-/// The shape of a base with pointers to it.
-fn type_shape<'p>(pointers: &'p [Pointer], base: &'p Base) -> Shape<'p>
-    ensures { shape_tree result ≡ written_shape (Pointed pointers.entry base.entry) }
+/// The shape of a base with pointers to it, some of which are unique though that isn't written.
+pub fn type_shape<'p>(pointers: &'p [Pointer], base: &'p Base, given: Given) -> Shape<'p>
+    ensures { shape_tree result ≡ written_shape (Pointed pointers.entry base.entry given) }
 {
     if let [others @ .., outer] = pointers {
-        return pointer_shape(outer, Written::Pointed(others, base));
+        let to = Written::Pointed(others, base, given.within());
+        return pointer_shape(outer, given.outermost(), to);
     }
     base_shape(base)
 }
@@ -142,7 +160,7 @@ impl<'p> Written<'p> {
     {
         match self {
             Written::Nothing => Shape::Void,
-            Written::Pointed(pointers, base) => type_shape(pointers, base),
+            Written::Pointed(pointers, base, given) => type_shape(pointers, base, given),
         }
     }
 }
@@ -172,8 +190,9 @@ fn pointers_shape<'p>(signs: Signs, to: Plain<'p>) -> Shape<'p>
     ensures { shape_tree result ≡ around (signs_of signs) (plain_tree to.entry) }
 {
     match signs.outermost() {
-        Some((true, others)) => Shape::Fat(Pointee::Made(others, to)),
-        Some((false, others)) => Shape::Address(others, to),
+        Some((Pointing::Fat, others)) => Shape::Fat(Pointee::Made(others, to)),
+        Some((Pointing::Shared, others)) => Shape::Address(Owner::Shared, others, to),
+        Some((Pointing::Alone, others)) => Shape::Address(Owner::Alone, others, to),
         None => to.shape(),
     }
 }
@@ -202,7 +221,7 @@ impl<'p> Shape<'p> {
     pub fn of(of: &'p TypeName) -> Shape<'p>
         ensures { shape_tree result ≡ settled (written (type_tree of.entry.now)) }
     {
-        type_shape(&of.pointers, &of.base)
+        type_shape(&of.pointers, &of.base, Given::none())
     }
 
     /// The shape of `NULL`.
@@ -226,7 +245,7 @@ impl<'p> Shape<'p> {
         match self {
             Shape::Thin(_, _, to) => to.shape(),
             Shape::Fat(to) => to.shape(),
-            Shape::Address(signs, to) => pointers_shape(signs, to),
+            Shape::Address(_, signs, to) => pointers_shape(signs, to),
             _ => Shape::Void,
         }
     }
@@ -237,15 +256,15 @@ impl<'p> Shape<'p> {
         ensures taken { NeverRefused result }
     {
         let to = match self {
-            Shape::Address(signs, to) => {
+            Shape::Address(owner, signs, to) => {
                 return Ok(Pointers {
-                    signs: signs.within(false)?,
+                    signs: signs.within(owner.pointing())?,
                     to,
                 });
             }
             Shape::Fat(Pointee::Made(signs, to)) => {
                 return Ok(Pointers {
-                    signs: signs.within(true)?,
+                    signs: signs.within(Pointing::Fat)?,
                     to,
                 });
             }
@@ -266,13 +285,13 @@ impl<'p> Shape<'p> {
         })
     }
 
-    /// The shape of a pointer to an object of the shape, as `&` and `new` give it: shared, and never NULL.
-    pub fn address(self) -> Result<Shape<'p>, LowerFault>
-        ensures address { IfOk result (λ shape. shape_tree shape ≡ ThinShape false Shared (shape_tree self.entry)) }
+    /// The shape of a pointer to an object of the shape, as `&`, `new` and `rnew` give it: never NULL.
+    pub fn address(self, owner: Owner) -> Result<Shape<'p>, LowerFault>
+        ensures address { IfOk result (λ shape. shape_tree shape ≡ ThinShape false (owner_tree owner) (shape_tree self.entry)) }
         ensures taken { NeverRefused result }
     {
         let pointers = self.pointers()?;
-        Ok(Shape::Address(pointers.signs, pointers.to))
+        Ok(Shape::Address(owner, pointers.signs, pointers.to))
     }
 
     /// The shape of a fat pointer to objects of the shape, as `new` and `rnew` give it.

@@ -5,19 +5,43 @@ ghost use Rattle.cyc_tree.specs.View.{expression_tree, link_tree, links_of, made
 ghost use Rattle.source_meaning.specs.Shapes.{FatShape, part_of, part_shape};
 ghost use Rattle.source_meaning.specs.Calls.{number_type};
 ghost use Rattle.source_meaning.specs.Programs.{world_of, integer_shape};
-ghost use Rattle.source_lowering.specs.Lowered.{call_shape, linked_shape, makes_struct, member_shape, named_shape, new_shape, number_named, prefix_shape, static_shape, suffixed_shape, valued};
+ghost use Rattle.source_lowering.specs.Lowered.{call_shape, linked_shape, makes_struct, member_shape, named_shape, new_shape, number_named, owner_in, prefix_shape, static_shape, suffixed_shape, valued};
 ghost use Rattle.lower_checks.specs.Refusals.{NeverRefused};
 ghost use Rattle.lower_checks.specs.Scoped.{names_in, world_in};
-ghost use Rattle.lower_checks.specs.Views.{shape_tree};
+ghost use Rattle.source_meaning.specs.Expressions.{is_unique_region};
+ghost use Rattle.lower_checks.specs.Views.{owner_tree, shape_tree};
 
 use crate::fault::LowerFault;
 use crate::numbers::{number_named, with_number};
 use crate::operator::operator_shape;
 use crate::scope::Scope;
-use crate::shape::Shape;
+use crate::shape::{Owner, Shape};
 use crate::table::Table;
 use cyc_core::Temporary;
 use cyc_tree::{Expression, Link, Made, Member, Name, Operator, Prefix, Suffix};
+
+/// Whether an expression is the unique region.
+#[cycle(unique)]
+pub fn is_unique(expression: &Expression) -> bool
+    ensures { result ≡ is_unique_region (expression_tree expression.now) }
+{
+    match expression {
+        Expression::UniqueRegion(_) => true,
+        Expression::Grouped(_, inner) => is_unique(inner),
+        _ => false,
+    }
+}
+
+/// Whether what is made with this handle is unique.
+pub fn owner_for(handle: &Expression) -> Owner
+    ensures { owner_tree result ≡ owner_in (is_unique_region (expression_tree handle.now)) }
+{
+    if is_unique(handle) {
+        Owner::Alone
+    } else {
+        Owner::Shared
+    }
+}
 
 /// The shape of a number: one without a suffix up to 2,147,483,647 is an int.
 pub fn number_shape<'p>(value: u32, suffix: bool) -> Shape<'p>
@@ -58,7 +82,7 @@ pub fn call_shape<'p>(program: &Table<'p>, name: &'p [u8]) -> Shape<'p>
 
 /// The shape of the value of the variable of a name: an element's number, a local, or else a global; `void` where there is none.
 #[tactic(auto, using(crate::proofs::Naming::found_first, crate::proofs::Naming::found_behind))]
-fn named_shape<'p>(scope: &Scope<'_, 'p>, name: &[u8]) -> Shape<'p>
+pub fn named_shape<'p>(scope: &Scope<'_, 'p>, name: &[u8]) -> Shape<'p>
     ensures { shape_tree result ≡ valued (named_shape (world_in scope.now) (names_in scope.now) name.now) }
 {
     if let Some(_) = number_named(&scope.numbers, name) {
@@ -124,7 +148,7 @@ fn prefix_shape<'p>(operator: Prefix, operand: Shape<'p>) -> Result<Shape<'p>, L
         Prefix::Complement => Ok(operator_shape(Operator::BitXor, Shape::Int, operand)),
         Prefix::Not => Ok(Shape::Int),
         Prefix::Dereference => Ok(operand.pointee()),
-        Prefix::AddressOf => operand.address(),
+        Prefix::AddressOf => operand.address(Owner::Shared),
     }
 }
 
@@ -171,14 +195,19 @@ fn elements_shape<'p>(
     shape_of(&inside, element)?.elements()
 }
 
-/// The shape of a pointer to what `new` makes: a fat one to the elements of an array.
+/// The shape of a pointer to what `new` and `rnew` make: a fat one to the elements of an array.
 #[cycle(shape)]
-fn new_shape<'p>(scope: &Scope<'_, 'p>, made: &'p Made) -> Result<Shape<'p>, LowerFault>
-    ensures shape { IfOk result (λ shape. shape_tree shape ≡ new_shape (world_in scope.now) (names_in scope.now) (made_tree made.entry.now)) }
+fn new_shape<'p>(
+    scope: &Scope<'_, 'p>,
+    owner: Owner,
+    made: &'p Made,
+) -> Result<Shape<'p>, LowerFault>
+    ensures shape { IfOk result
+        (λ shape. shape_tree shape ≡ new_shape (world_in scope.now) (names_in scope.now) (owner_tree owner) (made_tree made.entry.now)) }
     ensures taken { NeverRefused result }
 {
     match made {
-        Made::One(value) => shape_of(scope, value)?.address(),
+        Made::One(value) => shape_of(scope, value)?.address(owner),
         Made::Array(index, _, element) => elements_shape(scope, index, element),
     }
 }
@@ -207,8 +236,8 @@ pub fn shape_of<'p>(
         Expression::Prefixed(_, operator, operand) => {
             prefix_shape(*operator, shape_of(scope, operand)?)
         }
-        Expression::New(_, made) => new_shape(scope, made),
-        Expression::NewIn(_, _, made) => new_shape(scope, made),
+        Expression::New(_, made) => new_shape(scope, Owner::Shared, made),
+        Expression::NewIn(_, handle, made) => new_shape(scope, owner_for(handle), made),
         Expression::Chain(first, links) => {
             let left = shape_of(scope, first)?;
             linked_shape(scope, links, left)

@@ -64,7 +64,7 @@ pub fn extent(program: &Table<'_>, shape: Shape<'_>) -> Room
         Shape::Int
         | Shape::Unsigned
         | Shape::Thin(_, _, _)
-        | Shape::Address(_, _)
+        | Shape::Address(_, _, _)
         | Shape::Handle
         | Shape::Key => words(1),
         Shape::Fat(_) => words(3),

@@ -5,8 +5,8 @@ ghost use Rattle.cyc_tree.specs.View.{expression_tree, statement_tree as source_
 ghost use Rattle.cyc_core.specs.Trees.{statement_tree};
 ghost use Rattle.source_meaning.specs.Programs.{world_of};
 ghost use Rattle.core_meaning.specs.Core as core;
-ghost use Rattle.source_lowering.specs.Lowered.{all_of, expression_code, expression_values};
-ghost use Rattle.source_lowering.specs.Programs.{block_shapes, item_values, items_code, locals_of, outward, statement_code, statement_values};
+ghost use Rattle.source_lowering.specs.Lowered.{all_of, expression_code, expression_values, get_code};
+ghost use Rattle.source_lowering.specs.Programs.{block_shapes, item_values, items_code, locals_of, outward, statement_code, statement_values, unique_free};
 ghost use Rattle.source_lowering.specs.Lowerable.{Takes, TakesItems, TakesStatement};
 ghost use Rattle.lower_checks.specs.Scoped.{names_in, world_in};
 ghost use Rattle.lower_checks.specs.Structs.{AreVariables};
@@ -17,6 +17,7 @@ ghost use Rattle.lower_checks.specs.Writing.{Emits, IsApart, IsSound, Stays, Wri
 use crate::assigned::lower_run;
 use crate::body::Body;
 use crate::declaration::{declared, lower_declaration};
+use crate::exchange::lower_exchange;
 use crate::expression::lower_expression;
 use crate::leaving::{RegionsAround, lower_leaving, lower_left, lower_return};
 use crate::locals::Locals;
@@ -27,7 +28,8 @@ use crate::shape::Shape;
 use crate::stored::{Stored, add_stored};
 use crate::switch::lower_switch;
 use crate::table::Table;
-use cyc_core::{Statement, Temporary};
+use crate::variable::lower_get;
+use cyc_core::{Operation, Statement, Temporary};
 use cyc_tree::{BlockItem, Expression, Name, Statement as Source};
 
 /// Appends what a statement does, in a function with a result of this shape, among regions; appends the shapes of the unnamed values. The
@@ -129,8 +131,42 @@ fn lower_statement<'p>(
                 around,
             )
         }
-        Source::Exchange(_, _) | Source::FreeUnique(_, _) | Source::FreeKey(_, _) => body.never(),
+        Source::Exchange(left, right) => lower_exchange(
+            &Scope {
+                alloc: body.alloc,
+                program,
+                locals,
+                numbers: None,
+            },
+            left,
+            right,
+            body,
+            to,
+        ),
+        Source::FreeUnique(_, pointer) => lower_free(
+            &Scope {
+                alloc: body.alloc,
+                program,
+                locals,
+                numbers: None,
+            },
+            pointer,
+            body,
+            to,
+        ),
+        Source::FreeKey(_, _) => body.never(),
     }
+}
+
+/// Appends what frees the block of the unique pointer of a name, which comes into a temporary, if it isn't NULL.
+fn lower_free(scope: &Scope<'_, '_>, pointer: &Name, body: &mut Body<'_>, to: Temporary)
+    ensures { Emits body.old body.new (get_code (world_in scope.now) (names_in scope.now) (name_tree pointer.now).text to.0 ++ unique_free to.0) }
+{
+    lower_get(scope, body, &pointer.text, to);
+    let outer = body.begin();
+    body.operation(Operation::UniqueFree(to));
+    let free = body.end(outer);
+    body.branch(to, free, Vec::new(body.alloc));
 }
 
 /// What leaves the value of a loop's condition in a temporary; appends the shapes of the unnamed values.
@@ -215,7 +251,7 @@ pub fn lower_block<'p>(
         let names = outward (names_of locals.old) in
         let inside = items_of (map item_tree items.entry.now) in
         Writes body.old body.new
-        (core.Block (locals_of w (block_shapes inside))
+        (core.Block (locals_of w (block_shapes w names 0 inside))
         (all_of (items_code w (shape_tree shape.now) names (regions_tree around) 0 (next_of body.old) inside)) ∷ [])
         (item_values w names 0 inside) }
     ensures kept { IsSound body.new → locals.new ≡ locals.old }
@@ -303,7 +339,8 @@ pub fn lower_items<'p>(
         Writes body.old body.new (items_code w (shape_tree shape.now) names (regions_tree around) index (next_of body.old) inside)
         (item_values w names index inside) }
     ensures shapes { IsSound body.new →
-        map stored_tree declared_here.new.items ≡ map stored_tree declared_here.old.items ++ block_shapes (items_of (map item_tree items.entry.now)) }
+        map stored_tree declared_here.new.items ≡ map stored_tree declared_here.old.items ++
+        block_shapes (world_of program.now) (names_of locals.old) (length declared_here.old.items) (items_of (map item_tree items.entry.now)) }
     ensures left { IsSound body.new → left locals.new ≡ left locals.old }
 {
     let mut regions = around;

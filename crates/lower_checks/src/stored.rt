@@ -8,6 +8,7 @@ ghost use Rattle.lower_checks.specs.Refusals.{NeverRefused};
 ghost use Rattle.lower_checks.specs.Views.{shape_tree, stored_tree};
 
 use crate::fault::LowerFault;
+use crate::given::Given;
 use crate::shape::{Pointee, Shape, Written};
 use cyc_tree::TypeName;
 
@@ -32,7 +33,10 @@ impl<'p> Stored<'p> {
     pub fn array(of: &'p TypeName, count: u32) -> Stored<'p>
         ensures { stored_tree result ≡ ArrayShape count (settled (written (type_tree of.entry.now))) }
     {
-        Stored::Array(count, Written::Pointed(&of.pointers, &of.base))
+        Stored::Array(
+            count,
+            Written::Pointed(&of.pointers, &of.base, Given::none()),
+        )
     }
 
     /// The shape of its name as a value: an array's is a fat pointer to its first element.

@@ -126,7 +126,7 @@ fn lower_clause<'p>(
         let h = regions_tree around in
         let inside = items_of (map item_tree items.entry.now) in
         IsSound body.new → map statement_tree result.items ≡
-        core.Block (locals_of w (s ∷ block_shapes inside))
+        core.Block (locals_of w (s ∷ block_shapes w inner 1 inside))
         (all_of (held_loads s h.all ++ (put_local s h.all 0 0 ++ items_code w (shape_tree shape.now) inner h 1 (next_of body.old) inside))) ∷
         core.Break ∷ [] }
     ensures kept { IsSound body.new → locals.new ≡ locals.old }
@@ -180,7 +180,7 @@ fn lower_case<'p>(
         (core.Do (core.Constant (h.all + 2) chosen.entry.number) ∷ core.Do (core.Apply core.Equal (h.all + 2) (h.all + 1) (h.all + 2)) ∷
         core.If (h.all + 2)
         (all_of
-        (core.Block (locals_of w (s ∷ block_shapes inside))
+        (core.Block (locals_of w (s ∷ block_shapes w inner 1 inside))
         (all_of (held_loads s h.all ++ (put_local s h.all 0 0 ++ items_code w (shape_tree shape.now) inner h 1 (next_of body.old) inside))) ∷
         core.Break ∷ []))
         core.NoStatements ∷

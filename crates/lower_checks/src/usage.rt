@@ -50,7 +50,12 @@ fn of_operation(operation: Operation) -> u64
         | Operation::Getchar(t)
         | Operation::HeapHandle(t)
         | Operation::RegionNew(t)
-        | Operation::RegionFree(t) => up_to(t),
+        | Operation::RegionFree(t)
+        | Operation::UniqueFree(t)
+        | Operation::KeyNew(t)
+        | Operation::KeyOpen(t)
+        | Operation::KeyClose(t)
+        | Operation::KeyFree(t) => up_to(t),
         Operation::Move(t, x)
         | Operation::Narrow(t, x)
         | Operation::Offset(t, x, _, _)
@@ -80,6 +85,7 @@ fn of_statement(statement: &Statement) -> u64
         Statement::Block(_, body) | Statement::Leave(body) => temporaries(body),
         Statement::Copy(to, from, _) => u64::max(up_to(*to), up_to(*from)),
         Statement::Clear(pointer, _, _) => up_to(*pointer),
+        Statement::UniqueAlloc(to, _) => up_to(*to),
         Statement::RegionAlloc(to, handle, count, _) => {
             u64::max(up_to(*to), u64::max(up_to(*handle), up_to(*count)))
         }
@@ -115,6 +121,7 @@ fn passed_in(statement: &Statement) -> usize
         | Statement::Copy(..)
         | Statement::Clear(..)
         | Statement::RegionAlloc(..)
+        | Statement::UniqueAlloc(..)
         | Statement::Break
         | Statement::Continue
         | Statement::Return(_)

@@ -41,7 +41,7 @@ pub fn lower_word(body: &mut Body<'_>, shape: &Shape<'_>, to: Temporary)
     ensures { Emits body.old body.new (word_code (shape_tree shape.now) to.0) }
 {
     match shape {
-        Shape::Thin(_, _, _) | Shape::Address(_, _) | Shape::Fat(_) => {
+        Shape::Thin(_, _, _) | Shape::Address(_, _, _) | Shape::Fat(_) => {
             body.operation(Operation::IsNull(to, to));
             lower_turned(body, to);
         }
@@ -55,7 +55,7 @@ pub fn lower_not(body: &mut Body<'_>, shape: &Shape<'_>, to: Temporary)
 {
     let right = body.further(to, 1);
     match shape {
-        Shape::Thin(_, _, _) | Shape::Address(_, _) | Shape::Fat(_) => {
+        Shape::Thin(_, _, _) | Shape::Address(_, _, _) | Shape::Fat(_) => {
             body.operation(Operation::IsNull(to, right));
         }
         _ => {
@@ -107,7 +107,7 @@ pub fn lower_operator(
     let operand = body.further(to, 1);
     match left {
         Shape::Fat(_) => lower_fat(body, operator, to),
-        Shape::Thin(_, _, _) | Shape::Address(_, _) => match right {
+        Shape::Thin(_, _, _) | Shape::Address(_, _, _) => match right {
             Shape::Fat(_) => lower_null(body, operator, to, operand),
             _ => lower_pointers(body, operator, to),
         },
@@ -165,7 +165,7 @@ pub fn lower_conversion(
         Shape::Thin(may_be_null, _, element) => {
             lower_thinned(program, body, *may_be_null, &element.shape(), from, value)
         }
-        Shape::Address(_, _) => lower_thinned(program, body, false, &to.pointee(), from, value),
+        Shape::Address(_, _, _) => lower_thinned(program, body, false, &to.pointee(), from, value),
         Shape::Fat(_) => lower_to_fat(body, from, value),
         _ => {}
     }
@@ -176,7 +176,7 @@ pub fn first_value(shape: &Shape<'_>, to: Temporary) -> Operation
     ensures { operation_tree result ≡ first_code (shape_tree shape.now) to.0 }
 {
     match shape {
-        Shape::Thin(_, _, _) | Shape::Address(_, _) => Operation::NullPointer(to),
+        Shape::Thin(_, _, _) | Shape::Address(_, _, _) => Operation::NullPointer(to),
         _ => Operation::Constant(to, 0),
     }
 }

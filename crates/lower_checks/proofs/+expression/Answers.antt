@@ -1,6 +1,6 @@
-use Rattle.std.proofs.Common.{rules, ◌≡◌, ◌∙◌, ◌+◌, ◌-◌, ◌<◌, ℕ, suc, IfOk, arith, refl, sym, ap, subst, add_assoc, List, [], ◌∷◌, ◌++◌, length, map, drop, take, append_assoc, Some}
+use Rattle.std.proofs.Common.{rules, false, ◌≡◌, ◌∙◌, ◌+◌, ◌-◌, ◌<◌, ℕ, suc, IfOk, arith, refl, sym, ap, subst, add_assoc, List, [], ◌∷◌, ◌++◌, length, map, drop, take, append_assoc, Some}
 use Rattle.std.proofs.lemmas.List.{at_drop_all}
-use Rattle.cyc_tree.proofs.Forms.{all_of_tree, any_of_tree, assign_tree, chain_tree, new_in_tree, new_tree, suffixed_tree}
+use Rattle.cyc_tree.proofs.Forms.{all_of_tree, any_of_tree, assign_tree, chain_tree, new_in_tree, new_tree, suffixed_tree, unique_region_tree}
 use Rattle.cyc_tree.specs.View.{expression_tree, expressions_of, link_tree, links_of, made_tree, member_tree, name_tree, suffix_tree, suffixes_of}
 use Rattle.core_meaning.specs.Core.{Apply, Constant, Do, HeapHandle, If, LessUnsigned, NoStatements, OwnAddress, RegionAlloc, Statement, While}
 use Rattle.cyc_core.specs.Trees.{statement_tree}
@@ -8,6 +8,8 @@ use Rattle.cyc_tree.specs.Tree.{MoreExpressions, NoExpressions, Suffixes}
 use Rattle.cyc_tree.specs.declared.expression.Expression as code_expression
 use Rattle.cyc_tree.specs.declared.expression.Expression.TheFolds.{the_lemmas}
 use Rattle.source_meaning.specs.Conversions.{cells_of}
+use Rattle.source_meaning.specs.Expressions.{is_unique_region}
+use Rattle.source_meaning.specs.Memory.{is_alone}
 use Rattle.source_meaning.specs.Operators.{operator_shape}
 use Rattle.source_meaning.specs.Shapes.{FatShape, Part, Shape, StructShape, UnionShape, part_of, part_shape, parts_of, pointee}
 use Rattle.source_meaning.specs.Sizes.{Extent, rounded_up}
@@ -44,6 +46,7 @@ use Rattle.source_lowering.specs.Lowered.{
   next_number,
   number_named,
   offset_code,
+  owner_in,
   operator_code,
   place_code,
   put_code,
@@ -74,7 +77,7 @@ use Rattle.lower_checks.specs.Numbers.{numbers_in}
 use Rattle.lower_checks.specs.Scoped.{names_in, world_in}
 use Rattle.lower_checks.specs.Structs.{HaveRoom, room_tree}
 use Rattle.lower_checks.specs.Unions.{union_tree}
-use Rattle.lower_checks.specs.Views.{shape_tree}
+use Rattle.lower_checks.specs.Views.{owner_tree, shape_tree}
 use Rattle.lower_checks.specs.Visible.{names_of}
 use Rattle.lower_checks.specs.Writing.{IsEmitted, IsLeft, IsSound, IsWritten, next_of}
 use Rattle.lower_checks.proofs.Parts.{
@@ -129,6 +132,7 @@ use Rattle.lower_checks.proofs.Writing.{
 }
 use Rattle.lower_checks.proofs.Arrays.{TakesElement, array_is, array_tree, array_written, made_code, made_shapes}
 use Rattle.lower_checks.proofs.Arguments.{no_members, no_values}
+use Rattle.lower_checks.proofs.Nothing.{written_none}
 use Rattle.lower_checks.proofs.Remaining.{first_of, left_links, left_operands, left_suffixes}
 use Rattle.lower_checks.proofs.+expression.Goals as goal
 
@@ -279,9 +283,11 @@ expression::lower_expression-returns-in-NewIn-clause-writes t c sound =
     let values = expression_values w names handle in
     let e_is = ap expression_tree c.in-NewIn.is ∙ new_in_tree c.in-NewIn.field-0 c.in-NewIn.handle c.in-NewIn.made in
     let handle_is = ap expression_tree c.deref-in-NewIn.ensures in
-    write_write a b c.lower_new-in-NewIn.new.body handle_code (new_code w names made d (next_of b)) (expression_code w names e d own) values
+    let owner = owner_tree c.owner_for.result in
+    let owner_is = c.owner_for.ensures ∙ ap (λ x. owner_in (is_unique_region x)) (ap expression_tree c.deref-in-NewIn-2.ensures ∙ sym handle_is) in
+    write_write a b c.lower_new-in-NewIn.new.body handle_code (new_code w names (is_alone owner) made d (next_of b)) (expression_code w names e d own) values
     (new_values w names made) (expression_values w names e) one two
-    (new_in_code w names d own e c.in-NewIn.field-0 (expression_tree c.in-NewIn.handle.value) handle made (next_of b) e_is handle_is
+    (new_in_code w names d own e c.in-NewIn.field-0 (expression_tree c.in-NewIn.handle.value) handle made owner (next_of b) e_is handle_is owner_is
     (next_is a b handle_code values one))
     (new_in_values w names e c.in-NewIn.field-0 (expression_tree c.in-NewIn.handle.value) handle made e_is handle_is)
 
@@ -300,10 +306,23 @@ expression::lower_expression-returns-in-New-clause-writes t c sound =
     let e_is = ap expression_tree c.in-New.is ∙ new_tree c.in-New.field-0 c.in-New.made in
     let number = ap (λ own. length own.items) one.own in
     let done =
-    emit_write a b c.lower_new.new.body (Do (HeapHandle d) ∷ []) (new_code w names made d (next_of b)) (expression_code w names e d own)
+    emit_write a b c.lower_new.new.body (Do (HeapHandle d) ∷ []) (new_code w names false made d (next_of b)) (expression_code w names e d own)
     (new_values w names made) one two
-    (new_heap_code w names d own e c.in-New.field-0 made e_is ∙ ap (λ k. (Do (HeapHandle d) ∷ []) ++ new_code w names made d k) (sym number)) in
+    (new_heap_code w names d own e c.in-New.field-0 made e_is ∙ ap (λ k. (Do (HeapHandle d) ∷ []) ++ new_code w names false made d k) (sym number)) in
     subst (λ p. IsWritten a c.lower_new.new.body (expression_code w names e d own) p) (sym (ap (expression_values w names) e_is)) done
+
+-- the unique region has no code
+pub expression::lower_expression-returns-in-UniqueRegion-clause-writes : goal.expression::lower_expression-returns-in-UniqueRegion-clause-writes
+expression::lower_expression-returns-in-UniqueRegion-clause-writes t c sound =
+    let w = world_in c.args.scope.now in
+    let names = names_in c.args.scope.now in
+    let d = c.args.to.0 in
+    let a = c.args.body.now in
+    let own = next_of a in
+    let e = expression_tree c.args.expression.now in
+    let e_is = ap expression_tree c.in-UniqueRegion.is ∙ unique_region_tree c.in-UniqueRegion.field-0 in
+    written_none a (expression_code w names e d own) (expression_values w names e) sound (ap (λ x. expression_code w names x d own) e_is)
+    (ap (expression_values w names) e_is)
 
 pub expression::lower_expression-returns-in-Suffixed-clause-writes : goal.expression::lower_expression-returns-in-Suffixed-clause-writes
 expression::lower_expression-returns-in-Suffixed-clause-writes t c sound =
@@ -1102,7 +1121,7 @@ made::lower_one-returns-in-Struct-clause-writes t c sound =
     subst (λ n. IsWritten a b (whole_code w names e n own) values) next_is
     (moved a m b (λ n. whole_code w names e next n) values (same_same a g m one (same_same g k m two three)) four) in
     let one_whole : IsWholeOne shape = search rules in
-    whole_made w names e a b z d shape one_whole (sym shape_is) written five
+    whole_made w names (is_alone (owner_tree c.args.owner)) e a b z d shape one_whole (sym shape_is) written five
 
 -- an array is made: its count comes first, in the temporary behind the handle
 pub made::lower_new-returns-in-Array-clause-writes : goal.made::lower_new-returns-in-Array-clause-writes
@@ -1121,7 +1140,7 @@ made::lower_new-returns-in-Array-clause-writes t c sound =
     subst (λ n. IsWritten a b (expression_code w names count n (next_of a)) values) (c.further-many.ensures.further two.sound)
     (moved a c.further-many.new.self b (λ n. expression_code w names count many n) values one two) in
     array_written w names (made_tree c.args.made.now) (name_tree c.in-Array.index) (expression_tree c.in-Array.count.value) count
-    (expression_tree c.in-Array.element.value) (expression_tree c.deref-in-Array-2.result.now) a b c.lower_array.new.body c.args.to.0
+    (expression_tree c.in-Array.element.value) (expression_tree c.deref-in-Array-2.result.now) (is_alone (owner_tree c.args.owner)) a b c.lower_array.new.body c.args.to.0
     (ap made_tree c.in-Array.is ∙ array_tree c.in-Array.index c.in-Array.count c.in-Array.element) (ap expression_tree c.deref-in-Array.ensures)
     (ap expression_tree c.deref-in-Array-2.ensures) counted three
 
@@ -1134,7 +1153,7 @@ made::lower_new-returns-in-Array-clause-shape t c sound =
     let made_is = array_is w names (made_tree c.args.made.now) index (expression_tree c.in-Array.count.value) (expression_tree c.deref-in-Array.result.now)
     (expression_tree c.in-Array.element.value) element (ap made_tree c.in-Array.is ∙ array_tree c.in-Array.index c.in-Array.count c.in-Array.element)
     (ap expression_tree c.deref-in-Array.ensures) (ap expression_tree c.deref-in-Array-2.ensures) in
-    c.lower_array.ensures.shape sound ∙ ap FatShape (element_shape w names index.text (c.args.to.0 + 2) 0 element) ∙ ap (new_shape w names) (sym made_is)
+    c.lower_array.ensures.shape sound ∙ ap FatShape (element_shape w names index.text (c.args.to.0 + 2) 0 element) ∙ ap (new_shape w names (owner_tree c.args.owner)) (sym made_is)
 
 -- the number of the element is a further name
 pub array::lower_array-lower_elements-requires : goal.array::lower_array-lower_elements-requires

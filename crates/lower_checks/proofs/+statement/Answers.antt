@@ -16,7 +16,7 @@ use Rattle.cyc_tree.specs.View.{
 }
 use Rattle.cyc_tree.specs.Tree as tree
 use Rattle.cyc_tree.specs.Tree.{Name, BlockItems, NoItems, Declare, Execute, Clauses, NoClauses, MoreClauses, local_of}
-use Rattle.cyc_tree.proofs.StatementForms.{if_tree, if_else_tree, while_tree, switch_tree, declare_tree, execute_tree}
+use Rattle.cyc_tree.proofs.StatementForms.{exchange_tree, free_unique_tree, if_tree, if_else_tree, while_tree, switch_tree, declare_tree, execute_tree}
 use Rattle.cyc_tree.specs.declared.statement.BlockItem.TheFolds.{the_lemmas}
 use Rattle.core_meaning.specs.Core as core
 use Rattle.cyc_core.specs.Trees.{statement_tree}
@@ -27,6 +27,7 @@ use Rattle.source_lowering.specs.Lowered.{
   all_of,
   expression_code,
   expression_values,
+  get_code,
   held_loads,
   member_number,
   place_code,
@@ -44,6 +45,7 @@ use Rattle.source_lowering.specs.Programs.{
   default_values,
   declaration_values,
   declaration_code,
+  exchange_code,
   in_loop,
   in_switch,
   item_values,
@@ -52,10 +54,12 @@ use Rattle.source_lowering.specs.Programs.{
   local_shape,
   locals_of,
   named_here,
+  names_behind,
   outward,
   regions_with,
   statement_code,
   statement_values,
+  unique_free,
 }
 use Rattle.source_lowering.specs.Lowerable.{AreValues, IsMember, IsUnionShape, IsVariable, TakesClauses, TakesItems, TakesPlace, TakesStatement}
 use Rattle.lower_checks.specs.Structs.{AreVariables}
@@ -71,6 +75,7 @@ use Rattle.lower_checks.proofs.Items.{
   declared_within,
   values_declared,
   shapes_declared,
+  shapes_executed,
   code_executed,
   values_executed,
 }
@@ -251,6 +256,56 @@ statement::lower_statement-returns-in-While-clause-writes t c sound =
     subst (λ s. IsWritten a z (statement_code w result names h own s) (statement_values w names s))
     (sym (ap source_tree c.in-While.is ∙ while_tree c.in-While.field-0 c.in-While.condition c.in-While.turn)) done
 
+-- an exchange, whose places are taken
+pub statement::lower_statement-lower_exchange-requires : goal.statement::lower_statement-lower_exchange-requires
+statement::lower_statement-lower_exchange-requires t c = record {
+  taken = λ sound.
+      subst (TakesStatement (world_of c.args.program.now) (shape_tree c.args.shape.now) (names_of c.args.locals.now))
+      (ap source_tree c.in-Exchange.is ∙ exchange_tree c.in-Exchange.left c.in-Exchange.right) (c.requires.taken sound);
+}
+
+pub statement::lower_statement-returns-in-Exchange-clause-writes : goal.statement::lower_statement-returns-in-Exchange-clause-writes
+statement::lower_statement-returns-in-Exchange-clause-writes t c sound =
+    let w = world_of c.args.program.now in
+    let names = names_of c.args.locals.now in
+    let result = shape_tree c.args.shape.now in
+    let h = regions_tree c.args.around in
+    let a = c.args.body.now in
+    let own = next_of a in
+    let z = c.lower_exchange.new.body in
+    let left = expression_tree c.in-Exchange.left in
+    let right = expression_tree c.in-Exchange.right in
+    let to_is : c.value-to.result.0 ≡ h.all = c.value-to.ensures in
+    let done =
+    subst
+    (λ n. IsWritten a z
+    (place_code w names left n own ++
+    (place_code w names right (n + 1) (own + length (expression_values w names left)) ++ exchange_code w (static_shape w names left) n))
+    (expression_values w names left ++ expression_values w names right)) to_is (c.lower_exchange.ensures.writes sound) in
+    subst (λ s. IsWritten a z (statement_code w result names h own s) (statement_values w names s))
+    (sym (ap source_tree c.in-Exchange.is ∙ exchange_tree c.in-Exchange.left c.in-Exchange.right)) done
+
+-- a unique pointer that is freed
+pub statement::lower_statement-returns-in-FreeUnique-clause-writes : goal.statement::lower_statement-returns-in-FreeUnique-clause-writes
+statement::lower_statement-returns-in-FreeUnique-clause-writes t c sound =
+    let w = world_of c.args.program.now in
+    let names = names_of c.args.locals.now in
+    let result = shape_tree c.args.shape.now in
+    let h = regions_tree c.args.around in
+    let a = c.args.body.now in
+    let own = next_of a in
+    let z = c.lower_free.new.body in
+    let name = (name_tree c.in-FreeUnique.pointer).text in
+    let to_is : c.value-to.result.0 ≡ h.all = c.value-to.ensures in
+    let freed = subst (λ n. IsEmitted a z (get_code w names name n ++ unique_free n)) to_is (c.lower_free.ensures sound) in
+    let done : IsWritten a z (get_code w names name h.all ++ unique_free h.all) [] = record {
+      sound = freed.sound;
+      code = freed.code;
+      values = ap (λ own. map shape_tree own.items) freed.own ∙ sym (append-nil (values_of a));
+    } in
+    subst (λ s. IsWritten a z (statement_code w result names h own s) (statement_values w names s))
+    (sym (ap source_tree c.in-FreeUnique.is ∙ free_unique_tree c.in-FreeUnique.field-0 c.in-FreeUnique.pointer)) done
+
 -- a part
 pub statement::lower_part-returns-clause-apart : goal.statement::lower_part-returns-clause-apart
 statement::lower_part-returns-clause-apart t c sound =
@@ -282,11 +337,14 @@ statement::lower_block-lower_inside-requires t c = record {
       let items = items_of (map item_tree c.args.items.now) in
       let three = c.lower_items.ensures.writes (sym c.end-inside.ensures.ended.failed ∙ sound) in
       let two = c.enter.ensures.stays three.sound in
-      let shapes_are : map stored_tree c.deref.result.now ≡ block_shapes items =
+      let names = outward (names_of c.args.locals.now) in
+      let shapes_are : map stored_tree c.deref.result.now ≡ block_shapes w names 0 items =
       ap (map stored_tree) c.deref.ensures.value ∙ c.lower_items.ensures.shapes (sym c.end-inside.ensures.ended.failed ∙ sound)
-      ∙ ap (λ ss. map stored_tree ss ++ block_shapes items) c.new-declared_here.ensures.items in
+      ∙ ap (λ ms. map stored_tree c.new-declared_here.result.items ++ block_shapes w (names_of ms) (length c.new-declared_here.result.items) items)
+      (c.enter.ensures.entered three.sound)
+      ∙ ap (λ ss. map stored_tree ss ++ block_shapes w names (length ss) items) c.new-declared_here.ensures.items in
       subst (AreVariables w.unions w.structs) (sym shapes_are)
-      (block_variables w result (outward (names_of c.args.locals.now)) 0 items (c.requires.taken (sym c.begin-outer.ensures.begun.failed ∙ two.sound)));
+      (block_variables w result names 0 items (c.requires.taken (sym c.begin-outer.ensures.begun.failed ∙ two.sound)));
 }
 
 pub statement::lower_block-returns-clause-writes : goal.statement::lower_block-returns-clause-writes
@@ -320,13 +378,15 @@ statement::lower_block-returns-clause-writes t c sound =
     let part = map statement_tree c.end-inside.result.items in
     let inside_is : part ≡ code (next_of a) = part_is a b x part code values begun inner c.end-inside.ensures.part in
     let apart = part_apart a b x f (map statement_tree c.begin-outer.result.items) (code (next_of b)) values begun c.begin-outer.ensures.aside inner ended in
-    let shapes_are : map stored_tree c.deref.result.now ≡ block_shapes items =
+    let shapes = block_shapes w names 0 items in
+    let shapes_are : map stored_tree c.deref.result.now ≡ shapes =
     ap (map stored_tree) c.deref.ensures.value ∙ c.lower_items.ensures.shapes filled
-    ∙ ap (λ ss. map stored_tree ss ++ block_shapes items) c.new-declared_here.ensures.items in
+    ∙ ap (λ (ns : List Named). map stored_tree c.new-declared_here.result.items ++ block_shapes w ns (length c.new-declared_here.result.items) items) names_are
+    ∙ ap (λ ss. map stored_tree ss ++ block_shapes w names (length ss) items) c.new-declared_here.ensures.items in
     let block =
-    subst (λ ss. IsEmitted f z (core.Block (locals_of w (block_shapes items)) (all_of ss) ∷ [])) inside_is
+    subst (λ ss. IsEmitted f z (core.Block (locals_of w shapes) (all_of ss) ∷ [])) inside_is
     (subst (λ ss. IsEmitted f z (core.Block (locals_of w ss) (all_of part) ∷ [])) shapes_are four) in
-    apart_emit a f z (core.Block (locals_of w (block_shapes items)) (all_of (code (next_of a))) ∷ []) values apart block
+    apart_emit a f z (core.Block (locals_of w shapes) (all_of (code (next_of a))) ∷ []) values apart block
 
 -- before the first item no region was opened
 pub statement::lower_items-each-init : goal.statement::lower_items-each-init
@@ -342,9 +402,9 @@ statement::lower_items-each-init t c sound =
       code = record {
         sound = sound;
         written = ap (λ (x : List core.Statement). code_of a ++ x) (none_opened w result names (regions_tree c.args.around) index (next_of a) items);
-        values = refl;
+        values = refl {a = values_of a ++ item_values w names index items};
       };
-      shapes = refl;
+      shapes = refl {a = map stored_tree c.args.declared_here.now.items ++ block_shapes w names index items};
       left = refl;
       taken = c.requires.taken sound;
     }
@@ -374,7 +434,7 @@ statement::lower_items-lower_declaration-requires t c = record {
       let d = declaration_tree c.in-Declare.declaration in
       let here = left_items c.args.items.now n c.item-item.result (OneItem.Declare d) c.each-test.true c.item-item.is
       (ap item_tree c.in-Declare.is ∙ declare_tree c.in-Declare.declaration) in
-      let invariant = c.each.invariant (c.number-index.ensures.stays sound).sound in
+      let invariant = c.each.invariant (c.number-index.ensures.stays (c.declared-stored.ensures.stays sound).sound).sound in
       (subst (λ (x : BlockItems). TakesItems w result names (length c.each.declared_here.items) x) here invariant.taken).0;
 }
 
@@ -418,7 +478,8 @@ statement::lower_items-each-preserved t c sound =
     let values = values_of a ++ item_values w (names_of c.args.locals.now) index_0 all in
     elim c.match-item.branch [
       | statement::lower_items-in-Declare v ↦
-          let m = v.number-index.new.self in
+          let g = v.number-index.new.self in
+          let m = v.declared-stored.new.body in
           let x = v.lower_declaration.new.body in
           let y = v.declare.new.body in
           let last = v.with-regions.new.body in
@@ -428,15 +489,18 @@ statement::lower_items-each-preserved t c sound =
           let five = v.with-regions.ensures.stays (subst IsSound v.body-is sound) in
           let four = v.declare.ensures.stays five.sound in
           let three = v.lower_declaration.ensures.writes four.sound in
-          let two = v.number-index.ensures.stays three.sound in
-          let invariant = c.each.invariant two.sound in
-          let counted = subst (λ r. IfOk r (λ i. i ≡ v.len.result)) (v.number-index.ensures.number three.sound) v.number.ensures.number in
+          let settled = v.declared-stored.ensures.stays three.sound in
+          let one = v.number-index.ensures.stays settled.sound in
+          let two = same_same b g m one settled in
+          let invariant = c.each.invariant one.sound in
+          let counted = subst (λ r. IfOk r (λ i. i ≡ v.len.result)) (v.number-index.ensures.number settled.sound) v.number.ensures.number in
           let index_is : v.number-index.result ≡ index = omega (arith, counted, v.len.ensures, c.each.declared_here.ok.0) in
-          let stored_is = v.declared-stored.ensures three.sound in
+          let stored_is = v.declared-stored.ensures.declared three.sound in
+          let of = local_shape w names d in
           let locals_are = v.locals-is ∙ v.declare.ensures.declared five.sound in
-          let names_are : more ≡ named_here (local_of d).text (local_shape d) index ∷ names =
+          let names_are : more ≡ names_behind w names index d =
           ap names_of locals_are
-          ∙ same_name (name_tree v.local.result.now).text (local_of d).text (stored_tree v.declared-stored.result) (local_shape d)
+          ∙ same_name (name_tree v.local.result.now).text (local_of d).text (stored_tree v.declared-stored.result) of
           v.number-index.result index names (ap (λ (q : Name). q.text) v.local.ensures) stored_is index_is in
           let shapes_is : next ≡ length v.declare.new.declared_here.items = cc v.declared_here-is in
           let next_is_suc : next ≡ suc index = shapes_is ∙ v.declare.ensures.grows five.sound in
@@ -464,11 +528,11 @@ statement::lower_items-each-preserved t c sound =
                 let added : map stored_tree c.match-item.declared_here.items ≡ map stored_tree v.declare.new.declared_here.items = cc v.declared_here-is in
                 shapes_declared w result names more h inside first index next own number others left d names_are next_is_suc here
                 (map stored_tree c.each.declared_here.items) (map stored_tree c.match-item.declared_here.items)
-                (map stored_tree c.args.declared_here.now.items ++ block_shapes all) (stored_tree v.declared-stored.result)
+                (map stored_tree c.args.declared_here.now.items ++ block_shapes w (names_of c.args.locals.now) index_0 all) (stored_tree v.declared-stored.result)
                 (added ∙ v.declare.ensures.added five.sound) stored_is invariant.shapes;
             left = ap left_of locals_are ∙ invariant.left;
             taken =
-                let inner = named_here (local_of d).text (local_shape d) index ∷ names in
+                let inner = names_behind w names index d in
                 subst (λ (q : List Named). TakesItems w result q next others) (sym names_are)
                 (subst (λ (q : ℕ). TakesItems w result inner q others) (sym next_is_suc)
                 (subst (λ (q : BlockItems). TakesItems w result names index q) here invariant.taken).1);
@@ -497,8 +561,9 @@ statement::lower_items-each-preserved t c sound =
             };
             shapes =
                 let same : map stored_tree c.match-item.declared_here.items ≡ map stored_tree c.each.declared_here.items = cc v.declared_here-is in
-                ap (λ (q : List Shape). q ++ block_shapes others) same
-                ∙ ap (λ (q : BlockItems). map stored_tree c.each.declared_here.items ++ block_shapes q) (sym here) ∙ invariant.shapes;
+                shapes_executed w result names more h inside first index next own number others left s names_are next_same here
+                (map stored_tree c.each.declared_here.items) (map stored_tree c.match-item.declared_here.items)
+                (map stored_tree c.args.declared_here.now.items ++ block_shapes w (names_of c.args.locals.now) index_0 all) same invariant.shapes;
             left = ap left_of locals_are ∙ invariant.left;
             taken =
                 subst (λ (q : List Named). TakesItems w result q next others) (sym names_are)
@@ -588,9 +653,16 @@ switch::lower_clause-lower_inside-requires t c = record {
       let three = c.declare.ensures.stays four.sound in
       let two = c.enter.ensures.stays three.sound in
       let begun = sym c.begin-outer.ensures.begun.failed ∙ two.sound in
-      let shapes_are : map stored_tree c.deref.result.now ≡ s ∷ block_shapes items =
+      let count = length c.declare.new.declared_here.items in
+      let names_are : names_of c.declare.new.locals ≡ inner =
+      ap names_of (c.declare.ensures.declared four.sound)
+      ∙ ap (λ (ns : List Named). named_here (name_tree c.args.name.now).text s 0 ∷ ns) (ap names_of (c.enter.ensures.entered three.sound)) in
+      let index_is : count ≡ 1 = c.declare.ensures.grows four.sound ∙ ap (λ xs. suc (length xs)) c.new-declared_here.ensures.items in
+      let shapes_are : map stored_tree c.deref.result.now ≡ s ∷ block_shapes w inner 1 items =
       ap (map stored_tree) c.deref.ensures.value ∙ c.lower_items.ensures.shapes filled
-      ∙ ap (λ ss. ss ++ block_shapes items)
+      ∙ ap (λ (ns : List Named). map stored_tree c.declare.new.declared_here.items ++ block_shapes w ns count items) names_are
+      ∙ ap (λ (n : ℕ). map stored_tree c.declare.new.declared_here.items ++ block_shapes w inner n items) index_is
+      ∙ ap (λ ss. ss ++ block_shapes w inner 1 items)
       (c.declare.ensures.added four.sound ∙ ap (λ ss. map stored_tree ss ++ s ∷ []) c.new-declared_here.ensures.items) in
       subst (AreVariables w.unions w.structs) (sym shapes_are) (c.requires.variable begun, block_variables w result inner 1 items (c.requires.taken begun));
 }
@@ -623,34 +695,40 @@ switch::lower_clause-returns t c =
     let inside_ended = c.end-inside.ensures.ended in
     let ended = c.end.ensures.ended in
     let part = map statement_tree c.end-inside.result.items in
-    let block = core.Block (locals_of w (s ∷ block_shapes items)) (all_of (whole (next_of a))) ∷ [] in
+    let shapes = s ∷ block_shapes w inner 1 items in
+    let block = core.Block (locals_of w shapes) (all_of (whole (next_of a))) ∷ [] in
     let eight : IsSound z → IsEmitted g k (core.Break ∷ []) = λ sound. c.breaks.ensures (sym ended.failed ∙ sound) in
     let filled : IsSound z → IsSound x = λ sound. sym inside_ended.failed ∙ (c.lower_inside.ensures (eight sound).sound).sound in
     let four : IsSound z → IsEmitted o p (held_loads s c.value-to.result.0) = λ sound.
     c.lower_held_loads.ensures (c.lower_put_local.ensures (c.lower_items.ensures.writes (filled sound)).sound).sound in
     let to_is : c.value-to.result.0 ≡ d = c.value-to.ensures in
+    let names_are : IsSound z → names_of c.declare.new.locals ≡ inner = λ sound.
+    ap names_of (c.declare.ensures.declared (four sound).sound)
+    ∙ ap (λ (ns : List Named). named_here (name_tree c.args.name.now).text s 0 ∷ ns)
+    (ap names_of (c.enter.ensures.entered (c.declare.ensures.stays (four sound).sound).sound)) in
+    let index_is : IsSound z → count ≡ 1 = λ sound.
+    c.declare.ensures.grows (four sound).sound ∙ ap (λ xs. suc (length xs)) c.new-declared_here.ensures.items in
     let inside : IsSound z → IsWritten b x (whole (next_of b)) values = λ sound.
     let six = c.lower_items.ensures.writes (filled sound) in
     let five = c.lower_put_local.ensures six.sound in
     let three = c.declare.ensures.stays (four sound).sound in
     let two = c.enter.ensures.stays three.sound in
-    let names_are : names_of c.declare.new.locals ≡ inner =
-    ap names_of (c.declare.ensures.declared (four sound).sound)
-    ∙ ap (λ (ns : List Named). named_here (name_tree c.args.name.now).text s 0 ∷ ns) (ap names_of (c.enter.ensures.entered three.sound)) in
-    let index_is : count ≡ 1 = c.declare.ensures.grows (four sound).sound ∙ ap (λ xs. suc (length xs)) c.new-declared_here.ensures.items in
     let named =
-    subst (λ (ns : List Named). IsWritten q x (items_code w result ns h count (next_of q) items) (item_values w ns count items)) names_are six in
-    let written = subst (λ (m : ℕ). IsWritten q x (items_code w result inner h m (next_of q) items) (item_values w inner m items)) index_is named in
+    subst (λ (ns : List Named). IsWritten q x (items_code w result ns h count (next_of q) items) (item_values w ns count items)) (names_are sound) six in
+    let written =
+    subst (λ (m : ℕ). IsWritten q x (items_code w result inner h m (next_of q) items) (item_values w inner m items)) (index_is sound) named in
     let loads = subst (λ (m : ℕ). IsEmitted o p (held_loads s m)) to_is (four sound) in
     let puts = subst (λ (m : ℕ). IsEmitted p q (put_local s m 0 0)) to_is five in
     clause_written b o p q x (held_loads s d) (put_local s d 0 0) code values (same_same b n o two three) loads puts written in
-    let shapes_are : IsSound z → map stored_tree c.deref.result.now ≡ s ∷ block_shapes items = λ sound.
+    let shapes_are : IsSound z → map stored_tree c.deref.result.now ≡ shapes = λ sound.
     ap (map stored_tree) c.deref.ensures.value ∙ c.lower_items.ensures.shapes (filled sound)
-    ∙ ap (λ ss. ss ++ block_shapes items)
+    ∙ ap (λ (ns : List Named). map stored_tree c.declare.new.declared_here.items ++ block_shapes w ns count items) (names_are sound)
+    ∙ ap (λ (n : ℕ). map stored_tree c.declare.new.declared_here.items ++ block_shapes w inner n items) (index_is sound)
+    ∙ ap (λ ss. ss ++ block_shapes w inner 1 items)
     (c.declare.ensures.added (four sound).sound ∙ ap (λ ss. map stored_tree ss ++ s ∷ []) c.new-declared_here.ensures.items) in
     let blocked : IsSound z → IsEmitted f g block = λ sound.
     let part_are : part ≡ whole (next_of a) = part_is a b x part whole values begun (inside sound) c.end-inside.ensures.part in
-    subst (λ ss. IsEmitted f g (core.Block (locals_of w (s ∷ block_shapes items)) (all_of ss) ∷ [])) part_are
+    subst (λ ss. IsEmitted f g (core.Block (locals_of w shapes) (all_of ss) ∷ [])) part_are
     (subst (λ ss. IsEmitted f g (core.Block (locals_of w ss) (all_of part) ∷ [])) (shapes_are sound) (c.lower_inside.ensures (eight sound).sound)) in
     let none = map statement_tree c.new.result.items in
     let outer = map statement_tree c.begin-outer.result.items in
@@ -700,7 +778,7 @@ switch::lower_case-returns-clause-writes t c sound =
     let clause = map statement_tree c.lower_clause-clause.result.items in
     let values = item_values w inner 1 items in
     let block : ℕ → List core.Statement = λ n.
-    core.Block (locals_of w (s ∷ block_shapes items))
+    core.Block (locals_of w (s ∷ block_shapes w inner 1 items))
     (all_of (held_loads s h.all ++ (put_local s h.all 0 0 ++ items_code w result inner h 1 n items))) ∷ core.Break ∷ [] in
     let six = c.branch-body.ensures sound in
     let five = c.lower_clause-clause.ensures.apart six.sound in
@@ -821,7 +899,7 @@ switch::lower_cases-each-preserved t c sound =
           core.Do (core.Constant (h.all + 2) number) ∷ core.Do (core.Apply core.Equal (h.all + 2) (h.all + 1) (h.all + 2)) ∷
           core.If (h.all + 2)
           (all_of
-          (core.Block (locals_of w (of ∷ block_shapes is))
+          (core.Block (locals_of w (of ∷ block_shapes w (named_here text of 0 ∷ outward ns) 1 is))
           (all_of (held_loads of h.all ++ (put_local of h.all 0 0 ++ items_code w result (named_here text of 0 ∷ outward ns) h 1 n is))) ∷
           core.Break ∷ []))
           core.NoStatements ∷ [] in
@@ -951,7 +1029,7 @@ switch::lower_default-returns-in-Default-clause-writes t c sound =
     let its = items_of (map item_tree c.deref.result.now) in
     let items_are : its ≡ items = ap (λ is. items_of (map item_tree is)) c.deref.ensures.value in
     let code : List Named → BlockItems → ℕ → List core.Statement = λ ns is n.
-    core.Block (locals_of w (block_shapes is)) (all_of (items_code w result (outward ns) h 0 n is)) ∷ [] in
+    core.Block (locals_of w (block_shapes w (outward ns) 0 is)) (all_of (items_code w result (outward ns) h 0 n is)) ∷ [] in
     let done = c.lower_block.ensures.writes sound in
     let at_names =
     subst (λ ms. IsWritten b z (code (names_of ms) its (next_of b)) (item_values w (outward (names_of ms)) 0 its)) invariant.locals done in

@@ -25,7 +25,8 @@ invariant-statement::lower_items-each l =
       code : IsLeft l.initial.body l.body (items_code w result (names_of l.initial.locals) (regions_tree l.around) first (next_of l.initial.body) all)
           (ending_items w result (names_of l.locals) (regions_tree l.regions) l.around.all index (next_of l.body) others)
           (item_values w (names_of l.initial.locals) first all) (item_values w (names_of l.locals) index others);
-      shapes : map stored_tree l.declared_here.items ++ block_shapes others ≡ map stored_tree l.initial.declared_here.items ++ block_shapes all;
+      shapes : map stored_tree l.declared_here.items ++ block_shapes w (names_of l.locals) index others
+          ≡ map stored_tree l.initial.declared_here.items ++ block_shapes w (names_of l.initial.locals) first all;
       left : left l.locals ≡ left l.initial.locals;
       taken : TakesItems w result (names_of l.locals) index others;
     }

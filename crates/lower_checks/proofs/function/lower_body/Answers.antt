@@ -12,7 +12,7 @@ use Rattle.lower_checks.specs.Views.{regions_tree, shape_tree, stored_tree}
 use Rattle.lower_checks.specs.Visible.{names_of}
 use Rattle.lower_checks.specs.Writing.{code_of, next_of, values_of}
 use Rattle.lower_checks.proofs.Taken.{block_variables, parameter_variables}
-use Rattle.lower_checks.proofs.Bodies.{all_parameters, as_many_shapes, inside_of, body_of}
+use Rattle.lower_checks.proofs.Bodies.{all_parameters, as_many_shapes, body_shapes, inside_of, body_of}
 use Rattle.lower_checks.proofs.function.lower_body.Goals as goal
 
 -- its items are taken, by what its parameters are
@@ -57,14 +57,25 @@ lower_inside-requires c = record {
       c.lower_parameters.ensures.stored begun
       ∙ ap (λ ms. map stored_tree c.new-all.result.items ++ part_shapes (map part_of (map member_tree ms))) c.deref.ensures.value
       ∙ ap (λ ss. map stored_tree ss ++ part_shapes r.parameters) c.new-all.ensures.items in
-      let shapes_are : shapes ≡ taken ++ block_shapes f.body =
-      c.lower_items.ensures.shapes filled ∙ ap (λ bs. taken ++ block_shapes (items_of (map item_tree bs))) c.deref-2.ensures.value in
-      let declared : AreVariables w.unions w.structs (block_shapes f.body) =
-      block_variables w r.result (parameter_names r.parameters 0 []) (length r.parameters) f.body c.requires.taken.body in
-      let all : AreVariables w.unions w.structs (part_shapes r.parameters ++ block_shapes f.body) =
-      parameter_variables w.unions w.structs f.parameters (block_shapes f.body) c.requires.taken.parameters declared in
-      let same : map stored_tree c.deref-3.result.now ≡ part_shapes r.parameters ++ block_shapes f.body =
-      ap (map stored_tree) c.deref-3.ensures.value ∙ shapes_are ∙ ap (λ ss. ss ++ block_shapes f.body) taken_is in
+      let count = length c.lower_parameters.new.all.items in
+      let names = names_of c.lower_parameters.new.locals in
+      let count_is : count ≡ length r.parameters =
+      sym (length-map c.lower_parameters.new.all.items stored_tree) ∙ ap length taken_is ∙ as_many_shapes r.parameters in
+      let names_are : names ≡ parameter_names r.parameters 0 [] =
+      c.lower_parameters.ensures.names begun
+      ∙ ap (λ ms. parameter_names (map part_of (map member_tree ms)) 0 (names_of c.new-locals.result)) c.deref.ensures.value
+      ∙ ap (λ ns. parameter_names r.parameters 0 (names_of ns)) c.new-locals.ensures in
+      let own = body_shapes w r in
+      let shapes_are : shapes ≡ taken ++ own =
+      c.lower_items.ensures.shapes filled ∙ ap (λ bs. taken ++ block_shapes w names count (items_of (map item_tree bs))) c.deref-2.ensures.value
+      ∙ ap (λ (ns : List Named). taken ++ block_shapes w ns count r.body) names_are
+      ∙ ap (λ (n : ℕ). taken ++ block_shapes w (parameter_names r.parameters 0 []) n r.body) count_is in
+      let declared : AreVariables w.unions w.structs own =
+      block_variables w r.result (parameter_names r.parameters 0 []) (length r.parameters) r.body c.requires.taken.body in
+      let all : AreVariables w.unions w.structs (part_shapes r.parameters ++ own) =
+      parameter_variables w.unions w.structs f.parameters own c.requires.taken.parameters declared in
+      let same : map stored_tree c.deref-3.result.now ≡ part_shapes r.parameters ++ own =
+      ap (map stored_tree) c.deref-3.ensures.value ∙ shapes_are ∙ ap (λ ss. ss ++ own) taken_is in
       subst (AreVariables w.unions w.structs) (sym same) all;
 }
 
@@ -115,8 +126,9 @@ returns-clause-code c sound =
     ∙ ap (λ (s : Shape). first ++ items_code w s names regions count 0 f.body) result_is
     ∙ ap (λ (h : RegionsAround). first ++ items_code w f.result names h count 0 f.body) c.none.ensures
     ∙ ap (λ (k : ℕ). first ++ items_code w f.result names no_regions k 0 f.body) (sym (length-map c.lower_parameters.new.all.items stored_tree)) in
-    let shapes_are : shapes ≡ taken ++ block_shapes f.body =
-    c.lower_items.ensures.shapes filled ∙ ap (λ bs. taken ++ block_shapes (items_of (map item_tree bs))) c.deref-2.ensures.value in
+    let shapes_are : shapes ≡ taken ++ block_shapes w names (length taken) f.body =
+    c.lower_items.ensures.shapes filled ∙ ap (λ bs. taken ++ block_shapes w names count (items_of (map item_tree bs))) c.deref-2.ensures.value
+    ∙ ap (λ (n : ℕ). taken ++ block_shapes w names n f.body) (sym (length-map c.lower_parameters.new.all.items stored_tree)) in
     let locals_are : locals ≡ locals_of w shapes = ap (λ ss. locals_of w (map stored_tree ss)) c.deref-3.ensures.value in
     let none_is : code_of outer ≡ [] = ended.code ∙ ap (map statement_tree) c.new.ensures.items in
     let body_is : code_of z ≡ code_of b ++ end_code f.result = five.code ∙ ap (λ (s : Shape). code_of b ++ end_code s) result_is in

@@ -1,0 +1,186 @@
+-- The shape of a type by an initializer's: which pointers are unique though the type leaves their region out.
+use Rattle.std.proofs.Common.{
+  ◌≡◌,
+  ◌∙◌,
+  ◌<◌,
+  ◌+◌,
+  ◌-◌,
+  ◌*◌,
+  ◌/◌,
+  ◌%◌,
+  ◌^◌,
+  ℕ,
+  Bool,
+  true,
+  false,
+  Option,
+  None,
+  Some,
+  refl,
+  sym,
+  ap,
+  ap₂,
+  arith,
+  List,
+  [],
+  ◌∷◌,
+  ◌++◌,
+  map,
+  length,
+  take,
+  get_or,
+  reverse,
+}
+use Rattle.std.specs.Prelude.{◌==◌}
+use Rattle.std.proofs.Math.Nat.{mul-add, mul_assoc}
+use Rattle.std.proofs.lemmas.Grind.{reverse_onto}
+use Rattle.std.proofs.lemmas.List.{reverse-append, reverse-reverse}
+use Rattle.cyc_tree.specs.Tree as tree
+use Rattle.cyc_tree.specs.Tree.{Base, Pointer, RegionName}
+use Rattle.cyc_tree.specs.View.{pointer_tree}
+use Rattle.cyc_tree.specs.declared.name.Pointer as code_pointer
+use Rattle.cyc_tree.specs.declared.name.Sign.{Sign}
+use Rattle.cyc_tree.specs.declared.name.Sign.TheVariants.{Nullable, NotNull, Fat}
+use Rattle.source_meaning.specs.Shapes.{
+  Owner,
+  Shared,
+  Alone,
+  Unsaid,
+  Shape,
+  ThinShape,
+  FatShape,
+  VoidShape,
+  base_shape,
+  first_owner,
+  owner_of,
+  pointed,
+  pointee,
+  settled,
+  settled_by,
+  shared_owner,
+  signed_shape,
+}
+use Rattle.lower_checks.specs.Given.{bit_of, given_by, given_inwards, given_to, is_given, is_unique, owner_given, pointed_given}
+use Rattle.lower_checks.proofs.Pointers.{last_apart, outer_given, outer_pointed}
+
+-- ---- owners
+
+-- an owner by a shape at the same place
+abbrev owner_by : Owner → Shape → Owner
+owner_by o (ThinShape may_be_null other from) = first_owner o other
+owner_by o s = shared_owner o
+
+shared_stays : (by : Shape) → Shared ≡ owner_by Shared by
+shared_stays (ThinShape n other from) = refl
+shared_stays s = refl
+
+alone_stays : (by : Shape) → Alone ≡ owner_by Alone by
+alone_stays (ThinShape n other from) = refl
+alone_stays s = refl
+
+unsaid_is : (by : Shape) → shared_owner (owner_given (is_unique by) Unsaid) ≡ owner_by Unsaid by
+unsaid_is (ThinShape n Shared from) = refl
+unsaid_is (ThinShape n Alone from) = refl
+unsaid_is (ThinShape n Unsaid from) = refl
+unsaid_is s = refl
+
+nullable_owner : (region : Option RegionName) (by : Shape) → shared_owner (owner_given (given_to Nullable region by) (owner_of region)) ≡ owner_by (owner_of region) by
+nullable_owner None by = unsaid_is by
+nullable_owner (Some (tree.Heap at)) by = shared_stays by
+nullable_owner (Some (tree.Unique at)) by = alone_stays by
+nullable_owner (Some (tree.Named name)) by = shared_stays by
+
+not_null_owner : (region : Option RegionName) (by : Shape) → shared_owner (owner_given (given_to NotNull region by) (owner_of region)) ≡ owner_by (owner_of region) by
+not_null_owner None by = unsaid_is by
+not_null_owner (Some (tree.Heap at)) by = shared_stays by
+not_null_owner (Some (tree.Unique at)) by = alone_stays by
+not_null_owner (Some (tree.Named name)) by = shared_stays by
+
+-- ---- shapes
+
+by_void : (s : Shape) → settled_by s VoidShape ≡ settled s
+by_void (ThinShape n owner to) = refl
+by_void s = refl
+
+base_settles : (b : Base) (by : Shape) → settled (base_shape b) ≡ settled_by (base_shape b) by
+base_settles (tree.Struct tag arguments) by = refl
+base_settles b by = refl
+
+fat_settles : (by x y : Shape) → settled x ≡ settled_by y (pointee by) → FatShape (settled x) ≡ settled_by (FatShape y) by
+fat_settles (ThinShape n other from) x y is = ap FatShape is
+fat_settles (FatShape from) x y is = ap FatShape is
+fat_settles by x y is = ap FatShape (is ∙ by_void y)
+
+thin_settles :
+    (m : Bool) (o p : Owner) (by x y : Shape) → shared_owner p ≡ owner_by o by → settled x ≡ settled_by y (pointee by) →
+    ThinShape m (shared_owner p) (settled x) ≡ settled_by (ThinShape m o y) by
+thin_settles m o p (ThinShape n other from) x y owner is = ap₂ (ThinShape m) owner is
+thin_settles m o p (FatShape from) x y owner is = ap₂ (ThinShape m) owner is
+thin_settles m o p by x y owner is = ap₂ (ThinShape m) owner (is ∙ by_void y)
+
+pointer_settles :
+    (sign : Sign) (region : Option RegionName) (by x y : Shape) → settled x ≡ settled_by y (pointee by) →
+    settled (signed_shape sign (owner_given (given_to sign region by) (owner_of region)) x) ≡ settled_by (signed_shape sign (owner_of region) y) by
+pointer_settles Nullable region by x y is =
+    thin_settles true (owner_of region) (owner_given (given_to Nullable region by) (owner_of region)) by x y (nullable_owner region by) is
+pointer_settles NotNull region by x y is =
+    thin_settles false (owner_of region) (owner_given (given_to NotNull region by) (owner_of region)) by x y (not_null_owner region by) is
+pointer_settles Fat region by x y is = fat_settles by x y is
+
+-- ---- digits
+
+last_digit : (b : Bool) (n : ℕ) → ((bit_of b + 2 * n) % 2 == 1) ≡ b
+last_digit true n =
+    let one : (1 + 2 * n) % 2 ≡ 1 = omega arith in
+    ap (λ (r : ℕ). r == 1) one
+last_digit false n =
+    let none : (0 + 2 * n) % 2 ≡ 0 = omega arith in
+    ap (λ (r : ℕ). r == 1) none
+
+other_digits : (b : Bool) (n : ℕ) → (bit_of b + 2 * n) / 2 ≡ n
+other_digits true n = omega arith
+other_digits false n = omega arith
+
+inwards_settle :
+    (s : Shape) (ps : List Pointer) (by : Shape) → ((other : Shape) → settled s ≡ settled_by s other) →
+    settled (pointed_given (given_inwards ps by) (reverse ps) s) ≡ settled_by (pointed (reverse ps) s) by
+inwards_settle s [] by base = base by
+inwards_settle s (p ∷ ps) by base =
+    let others = given_inwards ps (pointee by) in
+    let given = bit_of (is_given p by) + 2 * others in
+    let inner = reverse ps in
+    let back : reverse (p ∷ ps) ≡ inner ++ p ∷ [] = reverse_onto ps p [] in
+    ap (λ (qs : List Pointer). settled (pointed_given given qs s)) back ∙ ap settled (outer_given given inner p s)
+    ∙ ap₂ (λ (b : Bool) (g : ℕ). settled (signed_shape p.sign (owner_given b (owner_of p.region)) (pointed_given g inner s)))
+    (last_digit (is_given p by) others) (other_digits (is_given p by) others)
+    ∙ pointer_settles p.sign p.region by (pointed_given others inner s) (pointed inner s) (inwards_settle s ps (pointee by) base)
+    ∙ ap (λ (whole : Shape). settled_by whole by) (sym (outer_pointed inner p s))
+    ∙ ap (λ (qs : List Pointer). settled_by (pointed qs s) by) (sym back)
+
+-- the digits that a shape gives make a type what it is by that shape
+pub given_settles :
+    (ps : List Pointer) (b : Base) (by : Shape) → settled (pointed_given (given_by ps by) ps (base_shape b)) ≡ settled_by (pointed ps (base_shape b)) by
+given_settles ps b by =
+    let s = base_shape b in
+    let back = reverse-reverse ps in
+    ap (λ (qs : List Pointer). settled (pointed_given (given_by ps by) qs s)) (sym back) ∙ inwards_settle s (reverse ps) by (base_settles b)
+    ∙ ap (λ (qs : List Pointer). settled_by (pointed qs s) by) back
+
+-- ---- in the loop, from the outermost pointer inwards
+
+pub one_inwards :
+    (ps : List code_pointer.Pointer) (n : ℕ) (p : code_pointer.Pointer) (by : Shape) → n < length ps → p ≡ get_or ps n p →
+    given_inwards (reverse (map pointer_tree (take (n + 1) ps))) by ≡
+    bit_of (is_given (pointer_tree p) by) + 2 * given_inwards (reverse (map pointer_tree (take n ps))) (pointee by)
+one_inwards ps n p by within is =
+    ap (λ (qs : List Pointer). given_inwards qs by)
+    (ap reverse (last_apart ps n p within is) ∙ reverse-append (map pointer_tree (take n ps)) (pointer_tree p ∷ []))
+
+pub one_summed :
+    (sum more weight double bit others all : ℕ) → sum + weight * (bit + 2 * others) ≡ all → more ≡ sum + weight * bit → double ≡ weight * 2 →
+    more + double * others ≡ all
+one_summed sum more weight double bit others all is more_is double_is =
+    let parts = mul-add weight bit (2 * others) in
+    let turned = mul_assoc weight 2 others in
+    let doubled : double * others ≡ weight * 2 * others = ap (λ (d : ℕ). d * others) double_is in
+    omega (arith, is, more_is, parts, turned, doubled)

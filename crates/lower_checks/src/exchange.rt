@@ -1,0 +1,125 @@
+// Exchanges of what two places hold.
+
+ghost use Rattle.std.specs.Prelude.{◌≡◌, ◌+◌, ◌++◌, ◌≤◌, length};
+ghost use Rattle.cyc_tree.specs.View.{expression_tree};
+ghost use Rattle.source_meaning.specs.Programs.{world_of};
+ghost use Rattle.source_lowering.specs.Lowered.{expression_values, place_code, static_shape};
+ghost use Rattle.source_lowering.specs.Lowerable.{IsExchanged, TakesPlace};
+ghost use Rattle.source_lowering.specs.Programs.{exchange_code, union_exchange, value_exchange, words_read, words_written};
+ghost use Rattle.lower_checks.specs.Scoped.{names_in, world_in};
+ghost use Rattle.lower_checks.specs.Unions.{cell_words};
+ghost use Rattle.lower_checks.specs.Views.{shape_tree};
+ghost use Rattle.lower_checks.specs.Writing.{Emits, IsSound, Writes, next_of};
+
+use crate::body::Body;
+use crate::member::Reached;
+use crate::place::lower_place;
+use crate::scope::Scope;
+use crate::shape::Shape;
+use crate::table::Table;
+use crate::words::{held_part, lower_loads, lower_stores};
+use cyc_core::{Cell, Operation, Temporary};
+use cyc_tree::Expression;
+
+/// Appends what exchanges two words or two fat pointers to which a temporary and the next one lead, by way of those behind.
+fn lower_value_exchange(shape: &Shape<'_>, body: &mut Body<'_>, left: Temporary)
+    ensures { Emits body.old body.new (value_exchange (shape_tree shape.now) left.0) }
+{
+    let right = body.further(left, 1);
+    let first = body.further(left, 2);
+    let second = body.further(first, shape.words());
+    let reached = Reached::at_once(*shape);
+    body.operation(Operation::Move(first, left));
+    lower_loads(body, &reached, first);
+    body.operation(Operation::Move(second, right));
+    lower_loads(body, &reached, second);
+    lower_stores(body, &reached, left, second);
+    lower_stores(body, &reached, right, first);
+}
+
+/// Appends what reads so many words of the union to which a pointer leads into a temporary and those behind it.
+fn lower_words_read(body: &mut Body<'_>, words: u32, to: Temporary, pointer: Temporary)
+    requires few { words ≤ 4 }
+    ensures { Emits body.old body.new (words_read words 0 to.0 pointer.0) }
+{
+    'each: for word in 0..words {
+        let at = body.further(to, word);
+        body.operation(Operation::Load(at, pointer, held_part(word, word * 4)));
+    }
+}
+
+/// Appends what writes so many words of the union to which a pointer leads, from a temporary and those behind it.
+fn lower_words_written(body: &mut Body<'_>, words: u32, pointer: Temporary, from: Temporary)
+    requires few { words ≤ 4 }
+    ensures { Emits body.old body.new (words_written words 0 pointer.0 from.0) }
+{
+    'each: for word in 0..words {
+        let at = body.further(from, word);
+        body.operation(Operation::Store(pointer, held_part(word, word * 4), at));
+    }
+}
+
+/// Appends what exchanges two unions of so many words to which a temporary and the next one lead, by way of those behind.
+fn lower_union_exchange(words: u32, body: &mut Body<'_>, left: Temporary)
+    requires few { words ≤ 4 }
+    ensures { Emits body.old body.new (union_exchange words left.0) }
+{
+    let right = body.further(left, 1);
+    let first = body.further(left, 2);
+    let second = body.further(first, words);
+    lower_words_read(body, words, first, left);
+    lower_words_read(body, words, second, right);
+    lower_words_written(body, words, left, second);
+    lower_words_written(body, words, right, first);
+}
+
+/// How many words the cell of a union has.
+fn union_words(cell: Cell) -> u32
+    ensures words { result ≡ cell_words cell }
+    ensures few { result ≤ 4 }
+{
+    match cell {
+        Cell::TaggedFat => 4,
+        _ => 2,
+    }
+}
+
+/// Appends what exchanges what two places of a shape hold, to which a temporary and the next one lead.
+fn lower_held_exchange(program: &Table<'_>, shape: &Shape<'_>, body: &mut Body<'_>, left: Temporary)
+    requires taken { IsSound body.old → IsExchanged (world_of program.now).unions (shape_tree shape.now) }
+    ensures { Emits body.old body.new (exchange_code (world_of program.now) (shape_tree shape.now) left.0) }
+{
+    match program.union_at(*shape) {
+        Some(known) => lower_union_exchange(union_words(known.cell), body, left),
+        None => lower_value_exchange(shape, body, left),
+    }
+}
+
+/// Appends what exchanges what two places hold, pointers to which come into a temporary and the next one; appends the shapes of the
+/// unnamed values.
+pub fn lower_exchange<'p>(
+    scope: &Scope<'_, 'p>,
+    left: &'p Expression,
+    right: &'p Expression,
+    body: &mut Body<'p>,
+    to: Temporary,
+)
+    requires taken { let w = world_in scope.now in
+        let names = names_in scope.now in
+        let e = expression_tree left.now in
+        IsSound body.old → TakesPlace w names e × (TakesPlace w names (expression_tree right.now) × IsExchanged w.unions (static_shape w names e)) }
+    ensures writes { let w = world_in scope.now in
+        let names = names_in scope.now in
+        let a = expression_tree left.entry.now in
+        let b = expression_tree right.entry.now in
+        let number = next_of body.old in
+        Writes body.old body.new
+        (place_code w names a to.0 number ++
+        (place_code w names b (to.0 + 1) (number + length (expression_values w names a)) ++ exchange_code w (static_shape w names a) to.0))
+        (expression_values w names a ++ expression_values w names b) }
+{
+    let shape = lower_place(scope, left, body, to);
+    let next = body.further(to, 1);
+    lower_place(scope, right, body, next);
+    lower_held_exchange(scope.program, &shape, body, to);
+}

@@ -23,8 +23,8 @@ use Rattle.source_typing.specs.Written.{regions_of_tag, spot, type_built, writte
 use Rattle.accepted_proof.proofs.good.Locals.{FilledAlone, IsSettled, alone_filled, alone_settled}
 use Rattle.accepted_proof.proofs.good.Pointers.{IsPointed, PointedIfSome}
 use Rattle.accepted_proof.proofs.good.Types.{KnowsTags, MeansKnown}
-use Rattle.accepted_proof.proofs.Owners.{Writes, WritesAlone, WritesChar, WritesFat, WritesFresh, WritesHandle, WritesInt, WritesOpen, WritesShared, WritesStruct}
-use Rattle.accepted_proof.proofs.Owners.{WritesUnion, WritesUnsigned, settled_alone_is}
+use Rattle.accepted_proof.proofs.Owners.{Writes, WritesAlone, WritesChar, WritesFat, WritesFresh, WritesHandle, WritesInt, WritesOpen, WritesShared}
+use Rattle.accepted_proof.proofs.Owners.{WritesStruct, WritesUnion, WritesUnsigned, settled_alone_is}
 
 -- ---- entries of one kind
 
@@ -180,7 +180,8 @@ filled_fits at n union s p h k =
     let shape : shapes.settled s ≡ shape_of f.type = sym (settled_alone_is s) ∙ t.shape in
     subst (λ (o : Option StaticType). faults_of (after (as_type at o) (head_fitting union at)) ≡ []) (sym f.is)
     (ap (λ (b : Bool). faults_of (if_fits b at f.type))
-    (object_fits union f.type t.object (λ e. written_no_key true s p h.writes (shape ∙ e)) (λ e. subst (λ z. IsCopiedPointer z) shape (pointer_settled s (k e)))))
+    (object_fits union f.type t.object (λ e. written_no_key true s p h.writes (shape ∙ e))
+    (λ e. subst (λ z. IsCopiedPointer z) shape (pointer_settled s (k e)))))
 
 pub pointed_fits : (at n : ℕ) (union : Bool) (why : Type 0) (s : shapes.Shape) (bad : List Fault) (o : Option PartialType) → (why → ⊥) → bad ≡ []
     → PointedIfSome why true n s o → CanBe union s

@@ -1,5 +1,4 @@
--- Shapes of the values of a program of integers, pointers, structs, unions and handles: each struct and union in them, behind pointers too, is one of the
--- program's.
+-- Shapes of the values of a program: each struct and union in them, behind pointers too, is one of the program's.
 use Rattle.std.proofs.Common.{◌≡◌, true, refl}
 use Rattle.source_lowering.specs.Lowerable.{IsOperandShape, IsObject, IsTarget}
 use Rattle.source_meaning.specs.Shapes.{
@@ -40,7 +39,7 @@ use Rattle.source_typing.specs.Types.{
 
 -- ---- shapes
 
--- an integer, a struct or a union of the program, a handle, or a pointer to these
+-- an integer, a struct or a union of the program, a handle, a key, or a pointer to these
 abbrev pub IsKnown : World → Shape → Type 0
 IsKnown w IntShape = Unit {0}
 IsKnown w UnsignedShape = Unit {0}
@@ -49,7 +48,7 @@ IsKnown w VoidShape = ⊥
 IsKnown w (ThinShape may_be_null owner to) = IsKnown w to
 IsKnown w (FatShape to) = IsKnown w to
 IsKnown w HandleShape = Unit {0}
-IsKnown w KeyShape = ⊥
+IsKnown w KeyShape = Unit {0}
 IsKnown w (StructShape tag) = (has_tag w.structs tag ≡ true)
 IsKnown w (UnionShape tag) = (has_tag w.unions tag ≡ true)
 IsKnown w (ArrayShape count of) = ⊥
@@ -61,6 +60,7 @@ known_target w CharShape h = tt
 known_target w (ThinShape may_be_null owner to) h = known_target w to h
 known_target w (FatShape to) h = known_target w to h
 known_target w HandleShape h = tt
+known_target w KeyShape h = tt
 known_target w (StructShape tag) h = tt
 known_target w (UnionShape tag) h = tt
 known_target w _ h = absurd h
@@ -72,6 +72,7 @@ known_object w CharShape h = tt
 known_object w (ThinShape may_be_null owner to) h = known_target w to h
 known_object w (FatShape to) h = known_target w to h
 known_object w HandleShape h = tt
+known_object w KeyShape h = tt
 known_object w (StructShape tag) h = h
 known_object w (UnionShape tag) h = h
 known_object w _ h = absurd h

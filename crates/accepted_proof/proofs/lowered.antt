@@ -11,6 +11,7 @@ pub mod Scopes
 pub mod Switches
 pub mod Several
 pub mod Expressions
+pub mod Keys
 pub mod Declarations
 pub mod Uniques
 pub mod Bodies

@@ -15,6 +15,7 @@ use Rattle.source_meaning.specs.Shapes.{
   ThinShape,
   FatShape,
   HandleShape,
+  KeyShape,
   StructShape,
   UnionShape,
   ArrayShape,
@@ -124,7 +125,7 @@ fat_wide w to zero (suc (suc zero)) s has = sym (ap (λ (x : PartShape). x.width
 fat_wide w to zero (suc (suc (suc part))) s has = absurd (none-some s has.is)
 fat_wide w to (suc cell) part s has = absurd (none-some s has.is)
 
--- no global is a handle
+-- no global is a handle or a key
 no_handle : (i : Initial) → TakesGlobal HandleShape i → ⊥
 no_handle Initial.Unset h = h
 no_handle (Initial.Elements count) h = h.1
@@ -133,6 +134,15 @@ no_handle (Initial.Given (tree.Negative at value suffix)) h = h
 no_handle (Initial.Given (tree.Character at byte)) h = h
 no_handle (Initial.Given (tree.Text at bytes)) h = h
 no_handle (Initial.Given (tree.Null at)) h = h
+
+no_key : (i : Initial) → TakesGlobal KeyShape i → ⊥
+no_key Initial.Unset h = h
+no_key (Initial.Elements count) h = h.1
+no_key (Initial.Given (tree.Number at value suffix)) h = h
+no_key (Initial.Given (tree.Negative at value suffix)) h = h
+no_key (Initial.Given (tree.Character at byte)) h = h
+no_key (Initial.Given (tree.Text at bytes)) h = h
+no_key (Initial.Given (tree.Null at)) h = h
 
 -- and none is a union
 no_union : (tag : List ℕ) (i : Initial) → TakesGlobal (UnionShape tag) i → ⊥
@@ -201,6 +211,7 @@ module _ (os : List ℕ) (near : AreNear os) (w : World) (lie : TextsLie (length
   object_plain i (StructShape tag) h t = begun_plain os w (StructShape tag) plain h
   object_plain i (FatShape to) h t = fat_plain i to h
   object_plain i HandleShape h t = absurd (no_handle i t)
+  object_plain i KeyShape h t = absurd (no_key i t)
   object_plain i (UnionShape tag) h t = absurd (no_union tag i t)
   object_plain i _ h t = absurd h
 

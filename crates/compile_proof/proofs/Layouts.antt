@@ -1,7 +1,7 @@
 -- How lowering lays objects out can be selected: parts tile the object's bytes, words lie at multiples of 4, and bytes of 0 show what parts begin with.
 use Rattle.std.proofs.Common.{◌≡◌, ⊎_elim, ℕ, zero, suc, ◌+◌, ◌-◌, ◌%◌, ◌⊎◌, inl, inr, Bool, true, false, List, [], ◌∷◌, map, refl, sym, ap, ◌∙◌, subst, arith}
 use Rattle.source_meaning.specs.Shapes as source
-use Rattle.source_meaning.specs.Shapes.{Shape, IntShape, UnsignedShape, CharShape, ThinShape, FatShape, HandleShape, UnionShape, ArrayShape, parts_of}
+use Rattle.source_meaning.specs.Shapes.{Shape, IntShape, UnsignedShape, CharShape, ThinShape, FatShape, HandleShape, KeyShape, UnionShape, ArrayShape, parts_of}
 use Rattle.source_meaning.specs.Placing.{Placed}
 use Rattle.source_meaning.specs.Steps.{World}
 use Rattle.core_meaning.specs.Memory.{PartShape, Layout}
@@ -40,6 +40,7 @@ cell_size w IntShape us h = refl
 cell_size w UnsignedShape us h = refl
 cell_size w CharShape us h = refl
 cell_size w HandleShape us h = refl
+cell_size w KeyShape us h = refl
 cell_size w (UnionShape tag) us h = union_size w.unions tag us h
 cell_size w _ us h = absurd h
 
@@ -56,6 +57,7 @@ pieces_tile unions p IntShape h = (omega arith, omega arith)
 pieces_tile unions p UnsignedShape h = (omega arith, omega arith)
 pieces_tile unions p CharShape h = (omega arith, omega arith)
 pieces_tile unions p HandleShape h = (omega arith, omega arith)
+pieces_tile unions p KeyShape h = (omega arith, omega arith)
 pieces_tile unions p (UnionShape tag) h = union_tiles p (has_fat (parts_of unions tag))
 pieces_tile unions p _ h = absurd h
 
@@ -70,6 +72,7 @@ pieces_wide unions p IntShape h = (inr refl, tt)
 pieces_wide unions p UnsignedShape h = (inr refl, tt)
 pieces_wide unions p CharShape h = (inl refl, tt)
 pieces_wide unions p HandleShape h = (inr refl, tt)
+pieces_wide unions p KeyShape h = (inr refl, tt)
 pieces_wide unions p (UnionShape tag) h = union_wide p (has_fat (parts_of unions tag))
 pieces_wide unions p _ h = absurd h
 
@@ -88,6 +91,7 @@ pieces_nothing unions p IntShape h = (refl, tt)
 pieces_nothing unions p UnsignedShape h = (refl, tt)
 pieces_nothing unions p CharShape h = (refl, tt)
 pieces_nothing unions p HandleShape h = (tt, tt)
+pieces_nothing unions p KeyShape h = (tt, tt)
 pieces_nothing unions p (UnionShape tag) h = union_nothing p (has_fat (parts_of unions tag))
 pieces_nothing unions p _ h = absurd h
 
@@ -125,6 +129,7 @@ pieces_even unions bytes align p s h even lies = by s h lies
     by IntShape h lies = let (at, whole) = at_four bytes align p.offset IntShape refl even lies in (inr (refl, omega (arith, at), whole), tt)
     by UnsignedShape h lies = let (at, whole) = at_four bytes align p.offset UnsignedShape refl even lies in (inr (refl, omega (arith, at), whole), tt)
     by HandleShape h lies = let (at, whole) = at_four bytes align p.offset HandleShape refl even lies in (inr (refl, omega (arith, at), whole), tt)
+    by KeyShape h lies = let (at, whole) = at_four bytes align p.offset KeyShape refl even lies in (inr (refl, omega (arith, at), whole), tt)
     by (UnionShape tag) h lies = union_even bytes p (has_fat (parts_of unions tag)) (at_four bytes align p.offset (UnionShape tag) refl even lies)
     by _ h lies = absurd h
 

@@ -1,5 +1,5 @@
 -- The code of statements names what there is: locals of the blocks around it, globals, strings and unnamed values of its function.
-use Rattle.std.proofs.Common.{◌≡◌, ℕ, zero, suc, ◌+◌, ◌<◌, ◌≤◌, List, [], ◌∷◌, ◌++◌, length, Some, None, refl, ap, arith}
+use Rattle.std.proofs.Common.{◌≡◌, ℕ, zero, suc, ◌+◌, ◌<◌, ◌≤◌, List, [], ◌∷◌, ◌++◌, length, Bool, true, false, Some, None, refl, ap, arith}
 use Rattle.std.proofs.Common.{length-append}
 use Rattle.cyc_tree.specs.Tree as tree
 use Rattle.cyc_tree.specs.Tree.{Expression, Initializer, Declaration, Statement, BlockItems, NoItems, Declare, Execute}
@@ -178,20 +178,26 @@ declaration_names k blocks own n w names plain a (tree.Alias at region of alias 
     let none = aliased_none w names pointer (settled_by (written of) s) takes.1.1 in
     value_names k blocks own n w names (settled_by (written of) s) e d index next plain a (object_by w.unions w.structs of takes.0 s)
     (aliased_value w names e (settled_by (written of) s) takes.1.1 (aliased_operand s takes.1.0)) h (omega (arith, f, none))
-declaration_names k blocks own n w names plain a _ d index next takes h f = absurd takes
+declaration_names k blocks own n w names plain a (tree.Open at region handle key) d index next takes h f =
+    both_name (k ∷ blocks) own n _ _
+    (get_names (k ∷ blocks) own n d (local_named names key.text) (bound_to w.globals key.text) (local_lies (k ∷ blocks) names key.text a.locals)
+    (global_lies n w.globals key.text a.globals)) (tt, (h, tt))
+declaration_names k blocks own n w names plain a (tree.NewKey at region key) d index next takes h f = (tt, (h, tt))
 
--- regions are freed
+-- regions are freed, or closed
 ending_names : (blocks : List ℕ) (own n : ℕ) (declared : Declaration) (d : ℕ) → CodeNames blocks own n (ending_code declared d)
 ending_names blocks own n (tree.Local of name initializer) d = tt
 ending_names blocks own n (tree.Region at region handle) d = (tt, tt)
-ending_names blocks own n (tree.Open at region handle key) d = tt
+ending_names blocks own n (tree.Open at region handle key) d = (tt, tt)
 ending_names blocks own n (tree.Alias at region of alias pointer) d = tt
 ending_names blocks own n (tree.NewKey at region key) d = tt
 
-leaving_names : (blocks : List ℕ) (own n all count : ℕ) → CodeNames blocks own n (leaving_code all count)
-leaving_names blocks own n all zero = tt
-leaving_names blocks own n zero (suc count) = tt
-leaving_names blocks own n (suc all) (suc count) = (tt, leaving_names blocks own n all count)
+leaving_names : (blocks : List ℕ) (own n : ℕ) (opened : List Bool) (all count : ℕ) → CodeNames blocks own n (leaving_code opened all count)
+leaving_names blocks own n opened all zero = tt
+leaving_names blocks own n [] all (suc count) = tt
+leaving_names blocks own n (o ∷ os) zero (suc count) = tt
+leaving_names blocks own n (true ∷ os) (suc all) (suc count) = (tt, leaving_names blocks own n os all count)
+leaving_names blocks own n (false ∷ os) (suc all) (suc count) = (tt, leaving_names blocks own n os all count)
 
 -- ---- statements
 
@@ -262,21 +268,24 @@ mutual
         tt,
       )
   statement_names blocks own n w result names plain a t r (Statement.Break at) next h f =
-      both_name blocks own n _ _ (leaving_names blocks own n r.all r.broken) (tt, tt)
+      both_name blocks own n _ _ (leaving_names blocks own n r.opened r.all r.broken) (tt, tt)
   statement_names blocks own n w result names plain a t r (Statement.Continue at) next h f =
-      both_name blocks own n _ _ (leaving_names blocks own n r.all r.continued) (tt, tt)
+      both_name blocks own n _ _ (leaving_names blocks own n r.opened r.all r.continued) (tt, tt)
   statement_names blocks own n w result names plain a t r (Statement.Return at None) next h f =
-      both_name blocks own n _ _ (leaving_names blocks own n r.all r.all) (omega arith, tt)
+      both_name blocks own n _ _ (leaving_names blocks own n r.opened r.all r.all) (omega arith, tt)
   statement_names blocks own n w result names plain a t r (Statement.Return at (Some e)) next h f =
       let few = results_many result r.all in
       both_name blocks own n _ _ (expression_names blocks own n w plain names a e r.all next h f)
       (both_name blocks own n _ _ (conversion_names blocks own n w plain result (static_shape w names e) r.all t)
-      (both_name blocks own n _ _ (leaving_names blocks own n r.all r.all) (omega (arith, few), tt)))
+      (both_name blocks own n _ _ (leaving_names blocks own n r.opened r.all r.all) (omega (arith, few), tt)))
   statement_names blocks own n w result names plain a t r (Statement.FreeUnique at pointer) next h f =
       both_name blocks own n _ _
       (get_names blocks own n r.all (local_named names pointer.text) (bound_to w.globals pointer.text) (local_lies blocks names pointer.text a.locals)
       (global_lies n w.globals pointer.text a.globals)) (((tt, tt), tt), tt)
-  statement_names blocks own n w result names plain a t r _ next h f = absurd h
+  statement_names blocks own n w result names plain a t r (Statement.FreeKey at key) next h f =
+      both_name blocks own n _ _
+      (get_names blocks own n r.all (local_named names key.text) (bound_to w.globals key.text) (local_lies blocks names key.text a.locals)
+      (global_lies n w.globals key.text a.globals)) (tt, tt)
 
   -- the locals that the items declare are the block's next ones
   pub items_names : (k : ℕ) (blocks : List ℕ) (own n : ℕ) (w : World) (result : Shape) (names : List Named) → IsPlainWorld w

@@ -15,6 +15,7 @@ use Rattle.source_meaning.specs.Shapes.{
   ThinShape,
   FatShape,
   HandleShape,
+  KeyShape,
   StructShape,
   UnionShape,
   ArrayShape,
@@ -59,6 +60,7 @@ target_small w UnsignedShape plain h = omega arith
 target_small w CharShape plain h = omega arith
 target_small w VoidShape plain h = omega arith
 target_small w HandleShape plain h = omega arith
+target_small w KeyShape plain h = omega arith
 target_small w (UnionShape tag) plain h = by (has_tag w.unions tag) refl
   where
     by : (b : Bool) → has_tag w.unions tag ≡ b → (union_extent w.unions tag).size < 2 ^ 32

@@ -19,6 +19,6 @@ pub fn supported() -> Taken
         filled: true,
         unions: true,
         unique: true,
-        keys: false,
+        keys: true,
     }
 }

@@ -145,7 +145,7 @@ end_same w fs n number own f m0 c0 s k m c first numbered routine goes a l = by 
         rw e (main_alone (is_main f.name) (ThinShape may_be_null owner to) refl e (all_of (end_code (ThinShape may_be_null owner to))) (λ z. refl))
     by (FatShape to) e taken = rw e (main_alone (is_main f.name) (FatShape to) refl e (all_of (end_code (FatShape to))) (λ z. refl))
     by HandleShape e taken = rw e (main_alone (is_main f.name) HandleShape refl e (all_of (end_code HandleShape)) (λ z. refl))
-    by KeyShape e taken = absurd taken
+    by KeyShape e taken = rw e (main_alone (is_main f.name) KeyShape refl e (all_of (end_code KeyShape)) (λ z. refl))
     by (StructShape tag) e taken = absurd taken
     by (UnionShape tag) e taken = absurd taken
     by (ArrayShape count of) e taken = absurd taken

@@ -187,7 +187,7 @@ status_same w fs n shape m c vs xs taken r =
     by (FatShape to) h v o =
         ⊎_elim (λ (z : AFatNull v xs). subst goal (sym z.value) stuck) (λ (z : AFat w m c to (size_of w to) v xs). subst goal (sym z.value) stuck) o
     by HandleShape h v o = subst goal (sym o.value) stuck
-    by KeyShape h v o = absurd h
+    by KeyShape h v o = subst goal (sym o.value) stuck
     by (StructShape tag) h v o = absurd h
     by (UnionShape tag) h v o = absurd h
     by (ArrayShape count from) h v o = absurd h

@@ -60,7 +60,7 @@ still unions earlier l VoidShape new h = absurd h
 still unions earlier l (ThinShape may_be_null owner to) new h = record { cells = refl; placed = refl; extent = refl }
 still unions earlier l (FatShape to) new h = record { cells = refl; placed = refl; extent = refl }
 still unions earlier l HandleShape new h = record { cells = refl; placed = refl; extent = refl }
-still unions earlier l KeyShape new h = absurd h
+still unions earlier l KeyShape new h = record { cells = refl; placed = refl; extent = refl }
 still unions earlier l (UnionShape tag) new h = record { cells = refl; placed = refl; extent = refl }
 still unions earlier l (ArrayShape count of) new h = absurd h
 
@@ -201,7 +201,7 @@ object_small unions structs VoidShape all h o = absurd o
 object_small unions structs (ThinShape may_be_null owner to) all h o = omega arith
 object_small unions structs (FatShape to) all h o = omega arith
 object_small unions structs HandleShape all h o = omega arith
-object_small unions structs KeyShape all h o = absurd o
+object_small unions structs KeyShape all h o = omega arith
 object_small unions structs (UnionShape tag) all h o = let small = union_small unions tag all o in omega (arith, small)
 object_small unions structs (ArrayShape count of) all h o = absurd o
 

@@ -76,7 +76,7 @@ value_small VoidShape h = absurd h
 value_small (ThinShape b owner to) h = word_small (ThinShape b owner to) refl (omega arith) (omega arith)
 value_small (FatShape to) h = record { some = omega arith; few = omega arith; word = λ e. absurd (true≢false e); fat = λ e. omega arith }
 value_small HandleShape h = word_small HandleShape refl (omega arith) (omega arith)
-value_small KeyShape h = absurd h
+value_small KeyShape h = word_small KeyShape refl (omega arith) (omega arith)
 value_small (StructShape tag) h = absurd h
 value_small (UnionShape tag) h = absurd h
 value_small (ArrayShape count of) h = absurd h

@@ -3,6 +3,7 @@ mod WholeSamples
 mod RegionSamples
 mod UniqueSamples
 mod AliasSamples
+mod KeySamples
 mod TextSamples
 mod MadeSamples
 mod SwitchSamples

@@ -5,7 +5,9 @@ pub mod WholeStatements
 pub mod Blocks
 pub mod LexicalRegions
 pub mod Aliasing
+pub mod Opening
 pub mod Freeing
+pub mod FreeingKeys
 pub mod Exchanging
 pub mod ExchangingUnions
 pub mod Exchanges

@@ -311,8 +311,9 @@ initializer_tokens (Initializer.Value e) = tokens_of e
 
 abbrev pub declaration_tokens : Declaration → ℕ
 declaration_tokens (tree.Local of name initializer) = initializer_tokens initializer
--- the name of its pointer
+-- the name of its pointer, or of its key
 declaration_tokens (tree.Alias at region of alias pointer) = 1
+declaration_tokens (tree.Open at region handle key) = 1
 declaration_tokens _ = 0
 
 -- the tokens of a statement: those of its expressions, and one of its own; a declaration has its name and type

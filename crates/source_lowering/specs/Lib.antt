@@ -5,6 +5,7 @@ pub mod Operators
 pub mod Pieces
 pub mod Lowered
 pub mod Temporaries
+pub mod Leaving
 pub mod Exchanges
 pub mod Data
 pub mod Programs

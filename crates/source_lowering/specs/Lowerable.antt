@@ -1,5 +1,5 @@
--- Which programs lowering takes: functions, globals and locals of integers, of structs, of tagged unions, of handles, of pointers to these and of arrays of them,
--- with the heap, lexical regions and arrays that are made there, by the forms of the tree and by shapes.
+-- Which programs lowering takes: functions, globals and locals of integers, of structs, of tagged unions, of handles, of keys, of pointers to these and of
+-- arrays of them, with the heap, lexical and dynamic regions and arrays that are made there, by the forms of the tree and by shapes.
 use Rattle.std.specs.Prelude.{◌≡◌, ◌<◌, ◌^◌, ℕ, suc, ◌+◌, Bool, true, false, Some, None, List, [], ◌∷◌, length}
 use Rattle.cyc_tree.specs.declared.expression.Prefix.{Prefix}
 use Rattle.cyc_tree.specs.declared.expression.Prefix.TheVariants as prefix
@@ -49,6 +49,7 @@ use Rattle.source_lowering.specs.Programs.{object_shape, named_here, names_behin
 use Rattle.source_lowering.specs.Whole.{makes_struct}
 use Rattle.source_lowering.specs.Taken.{IsVoidType, IsIntType, TakesConstant}
 pub use Rattle.source_lowering.specs.Objects.{
+  IsKeyShape,
   IsTarget,
   IsWordShape,
   IsValueShape,
@@ -251,7 +252,9 @@ TakesDeclaration w names (tree.Region at region handle) = Unit {0}
 TakesDeclaration w names (tree.Alias at region of alias pointer) =
     let s = static_shape w names (Expression.Variable pointer) in
     IsObjectType w.unions w.structs of × (IsThinShape s × IsWordShape (settled_by (written of) s))
-TakesDeclaration w names _ = ⊥
+-- a region that a key opens, and a new key
+TakesDeclaration w names (tree.Open at region handle key) = IsKeyShape (static_shape w names (Expression.Variable key))
+TakesDeclaration w names (tree.NewKey at region key) = Unit {0}
 
 -- a `return` without a value stands in a function that gives none
 abbrev mutual
@@ -273,7 +276,7 @@ abbrev mutual
   TakesStatement w result names (Statement.Return at None) = (result ≡ VoidShape)
   TakesStatement w result names (Statement.Return at (Some e)) = Takes w names e
   TakesStatement w result names (Statement.FreeUnique at pointer) = IsThinShape (static_shape w names (Expression.Variable pointer))
-  TakesStatement w result names _ = ⊥
+  TakesStatement w result names (Statement.FreeKey at key) = IsKeyShape (static_shape w names (Expression.Variable key))
 
   -- the next local of the block has this number
   pub TakesItems : World → Shape → List Named → ℕ → BlockItems → Type 0

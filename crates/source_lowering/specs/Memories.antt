@@ -1,5 +1,5 @@
 -- The relation between a source's memory and Core's, and how both grow.
-use Rattle.std.proofs.Common.{◌≡◌, ℕ, suc, ◌+◌, ◌*◌, ◌^◌, ◌<◌, ◌≤◌, ◌⊎◌, List, [], ◌∷◌, length, Bool, true, false, Option, Some, None}
+use Rattle.std.proofs.Common.{◌≡◌, ℕ, suc, ◌+◌, ◌*◌, ◌^◌, ◌<◌, ◌≤◌, ◌⊎◌, List, [], ◌∷◌, length, Bool, true, Option, Some, None}
 use Rattle.std.specs.Prelude.{slice_get}
 use Rattle.source_meaning.specs.Shapes.{
   Owner,
@@ -244,7 +244,7 @@ pub record SameMemory (w : World) (m : source.Memory) (c : core.Memory) : Type 0
   pub heap : 0 < m.births
   pub closed : (r : source.Region) → state_is_closed (m.state r) ≡ core.is_closed (c.standing (region_at r))
   pub blocks : (d : ℕ) → m.objects (source.Born d) ≡ c.objects (core.Born d)
-  pub unborn : (d : ℕ) → m.births ≤ d → (m.objects (source.Born d) ≡ 0) × (state_is_live (m.state (source.Born d)) ≡ false)
+  pub unborn : (d : ℕ) → m.births ≤ d → (m.objects (source.Born d) ≡ 0) × (m.state (source.Born d) ≡ source.Dead)
   pub ungranted : (d : ℕ) (t : core.Spot) (j : ℕ) → t.region ≡ core.Born d → c.objects (core.Born d) ≤ t.object → c.parts t j ≡ None
 
 -- What stays as it was: how many locals the blocks before one have, how the functions' own regions before one stand, and what the own regions before one hold,

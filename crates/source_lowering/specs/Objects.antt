@@ -10,7 +10,7 @@ use Rattle.source_lowering.specs.Taken.{HasFirst}
 
 -- ---- shapes
 
--- what a pointer leads to, beside nothing: an integer, a pointer, a handle, a struct, a tagged union
+-- what a pointer leads to, beside nothing: an integer, a pointer, a handle, a key, a struct, a tagged union
 abbrev pub IsTarget : Shape → Type 0
 IsTarget IntShape = Unit {0}
 IsTarget UnsignedShape = Unit {0}
@@ -19,12 +19,12 @@ IsTarget VoidShape = Unit {0}
 IsTarget (ThinShape may_be_null owner to) = IsTarget to
 IsTarget (FatShape to) = IsTarget to
 IsTarget HandleShape = Unit {0}
-IsTarget KeyShape = ⊥
+IsTarget KeyShape = Unit {0}
 IsTarget (StructShape tag) = Unit {0}
 IsTarget (UnionShape tag) = Unit {0}
 IsTarget (ArrayShape count of) = ⊥
 
--- a word: an integer, a thin pointer, or a handle
+-- a word: an integer, a thin pointer, a handle, or a key
 abbrev pub IsWordShape : Shape → Type 0
 IsWordShape IntShape = Unit {0}
 IsWordShape UnsignedShape = Unit {0}
@@ -33,7 +33,7 @@ IsWordShape VoidShape = ⊥
 IsWordShape (ThinShape may_be_null owner to) = IsTarget to
 IsWordShape (FatShape to) = ⊥
 IsWordShape HandleShape = Unit {0}
-IsWordShape KeyShape = ⊥
+IsWordShape KeyShape = Unit {0}
 IsWordShape (StructShape tag) = ⊥
 IsWordShape (UnionShape tag) = ⊥
 IsWordShape (ArrayShape count of) = ⊥
@@ -86,6 +86,11 @@ IsExchanged unions s = IsValueShape s
 abbrev pub IsThinShape : Shape → Type 0
 IsThinShape (ThinShape may_be_null owner to) = Unit {0}
 IsThinShape s = ⊥
+
+-- a key
+abbrev pub IsKeyShape : Shape → Type 0
+IsKeyShape KeyShape = Unit {0}
+IsKeyShape s = ⊥
 
 -- what is no struct and no union: an operand, and what is passed and returned
 abbrev pub IsOperandShape : Shape → Type 0
@@ -140,6 +145,7 @@ IsObjectBase tree.Char = Unit {0}
 IsObjectBase (tree.Struct tag arguments) = Unit {0}
 IsObjectBase (tree.Union tag arguments) = Unit {0}
 IsObjectBase (tree.Handle region) = Unit {0}
+IsObjectBase (tree.Key region) = Unit {0}
 IsObjectBase _ = ⊥
 
 -- a struct or a union that is among these, or neither
@@ -148,12 +154,12 @@ IsKnownIn unions structs (StructShape tag) = (has_tag structs tag ≡ true)
 IsKnownIn unions structs (UnionShape tag) = (has_tag unions tag ≡ true)
 IsKnownIn unions structs s = Unit {0}
 
--- an integer, a struct, a union, a handle, or a thin or fat pointer to these, or to such a pointer
+-- an integer, a struct, a union, a handle, a key, or a thin or fat pointer to these, or to such a pointer
 pub record IsObjectType (unions structs : List Layout) (t : TypeName) : Type 0 where
   pub base : IsObjectBase t.base
   pub known : IsKnownIn unions structs (settled (written t))
 
--- an integer, a handle, or such a pointer
+-- an integer, a handle, a key, or such a pointer
 pub record IsWordType (t : TypeName) : Type 0 where
   pub base : IsObjectBase t.base
   pub word : IsOperandShape (settled (written t))

@@ -1,9 +1,9 @@
 -- What statements, functions and programs are lowered to.
-use Rattle.std.specs.Prelude.{ℕ, zero, suc, ◌+◌, Bool, true, false, if◌then◌else◌, Some, None, List, [], ◌∷◌, ◌++◌, map, length, max, codes}
+use Rattle.std.specs.Prelude.{ℕ, suc, ◌+◌, Bool, true, false, if◌then◌else◌, Some, None, List, [], ◌∷◌, ◌++◌, map, length, max, codes}
 use Rattle.cyc_tree.specs.Tree as tree
 use Rattle.cyc_tree.specs.Tree.{Expression, Initializer, Declaration, Statement, BlockItems, NoItems, Declare, Execute, Clauses, NoClauses, MoreClauses, Case}
 use Rattle.cyc_tree.specs.Tree.{Default, Program}
-use Rattle.source_meaning.specs.Shapes.{Shape, VoidShape, ThinShape, FatShape, HandleShape, StructShape, UnionShape, ArrayShape, Part, part_shape}
+use Rattle.source_meaning.specs.Shapes.{Shape, VoidShape, ThinShape, FatShape, HandleShape, KeyShape, StructShape, UnionShape, ArrayShape, Part, part_shape}
 use Rattle.source_meaning.specs.Shapes.{part_shapes, written, settled, settled_by}
 use Rattle.source_meaning.specs.Steps.{Routine, World}
 use Rattle.source_meaning.specs.Programs.{world_of}
@@ -34,6 +34,10 @@ use Rattle.core_meaning.specs.Core.{
   RegionNew,
   RegionFree,
   UniqueFree,
+  KeyNew,
+  KeyOpen,
+  KeyClose,
+  KeyFree,
 }
 use Rattle.source_lowering.specs.Layouts.{layout_of, local_of}
 use Rattle.source_lowering.specs.Members.{words_in, all_words}
@@ -56,6 +60,7 @@ use Rattle.source_lowering.specs.Lowered.{
 }
 use Rattle.source_lowering.specs.Lowered.{expression_code, union_parts, member_number, tag_load, held_loads}
 pub use Rattle.source_lowering.specs.Temporaries.{last_of, operation_temporaries, statement_temporaries, temporaries_of, statement_passes, passed_by}
+pub use Rattle.source_lowering.specs.Leaving.{RegionsAround, in_loop, in_switch, leaving_code, left_by, no_regions, opened_behind, regions_behind, regions_with}
 pub use Rattle.source_lowering.specs.Exchanges.{value_exchange, words_read, words_written, union_exchange, exchange_code}
 pub use Rattle.source_lowering.specs.Data.{
   word_in,
@@ -86,9 +91,9 @@ abbrev pub local_shape : World → List Named → Declaration → Shape
 local_shape w names (tree.Local of name (Initializer.Elements count)) = ArrayShape count (settled (written of))
 local_shape w names (tree.Local of name initializer) = object_shape w names (written of) initializer
 local_shape w names (tree.Region at region handle) = HandleShape
-local_shape w names (tree.Open at region handle key) = VoidShape
+local_shape w names (tree.Open at region handle key) = HandleShape
 local_shape w names (tree.Alias at region of alias pointer) = settled_by (written of) (static_shape w names (Expression.Variable pointer))
-local_shape w names (tree.NewKey at region key) = VoidShape
+local_shape w names (tree.NewKey at region key) = KeyShape
 
 -- a local of this block
 abbrev pub named_here : List ℕ → Shape → ℕ → Named
@@ -155,8 +160,8 @@ initial_values w names (StructShape tag) e = (if is_made w e then whole_values w
 initial_values w names (UnionShape tag) e = (if is_made w e then whole_values w names e else expression_values w names e)
 initial_values w names s e = expression_values w names e
 
--- A region is born; its handle stays in the first free temporary while the region is in scope, and goes to its local. An alias begins as a local that is
--- initialized with its pointer's name.
+-- A region is born; its handle stays in the first free temporary while the region is in scope, and goes to its local. A key opens its region, and stays in a
+-- temporary likewise. A new key goes to its local. An alias begins as a local that is initialized with its pointer's name.
 abbrev pub declaration_code : World → List Named → Declaration → (d index own : ℕ) → List core.Statement
 declaration_code w names (tree.Local of name Initializer.Unset) d index own = unset_code w (settled (written of)) d index
 declaration_code w names (tree.Local of name (Initializer.Elements count)) d index own =
@@ -164,32 +169,18 @@ declaration_code w names (tree.Local of name (Initializer.Elements count)) d ind
 declaration_code w names (tree.Local of name (Initializer.Value e)) d index own =
     value_code w names (settled_by (written of) (static_shape w names e)) e d index own
 declaration_code w names (tree.Region at region handle) d index own = Do (RegionNew d) ∷ Do (Put 0 index 4 d) ∷ []
-declaration_code w names (tree.Open at region handle key) d index own = []
+declaration_code w names (tree.Open at region handle key) d index own = get_code w names key.text d ++ (Do (KeyOpen d) ∷ Do (Put 0 index 4 d) ∷ [])
 declaration_code w names (tree.Alias at region of alias pointer) d index own =
     let pointer = Expression.Variable pointer in value_code w names (settled_by (written of) (static_shape w names pointer)) pointer d index own
-declaration_code w names (tree.NewKey at region key) d index own = []
+declaration_code w names (tree.NewKey at region key) d index own = Do (KeyNew d) ∷ Do (Put 0 index 4 d) ∷ []
 
--- the region of a declaration is freed at the end of its block
+-- the region of a declaration is freed at the end of its block, or closed where a key opened it
 abbrev pub ending_code : Declaration → ℕ → List core.Statement
 ending_code (tree.Local of name initializer) d = []
 ending_code (tree.Region at region handle) d = Do (RegionFree d) ∷ []
-ending_code (tree.Open at region handle key) d = []
+ending_code (tree.Open at region handle key) d = Do (KeyClose d) ∷ []
 ending_code (tree.Alias at region of alias pointer) d = []
 ending_code (tree.NewKey at region key) d = []
-
--- how many regions are in scope behind a declaration, by how many were before
-abbrev pub regions_behind : Declaration → ℕ → ℕ
-regions_behind (tree.Local of name initializer) n = n
-regions_behind (tree.Region at region handle) n = suc n
-regions_behind (tree.Open at region handle key) n = n
-regions_behind (tree.Alias at region of alias pointer) n = n
-regions_behind (tree.NewKey at region key) n = n
-
--- Of so many regions in scope the innermost are freed, each before those around it: their handles are in the temporaries from 0 on, the outermost first.
-abbrev pub leaving_code : (all count : ℕ) → List core.Statement
-leaving_code all zero = []
-leaving_code zero (suc count) = []
-leaving_code (suc all) (suc count) = Do (RegionFree all) ∷ leaving_code all count
 
 -- a unique pointer is freed, if it isn't NULL
 abbrev pub unique_free : ℕ → List core.Statement
@@ -236,33 +227,9 @@ abbrev mutual
 
 -- ---- statements
 
--- What the code of a statement needs of the regions around it: how many of its function are in scope, whose handles are in the first temporaries, how many of
--- these were opened within what a `break` leaves, the innermost loop or `switch`, and how many within the innermost loop, whose turn a `continue` ends. Its own
--- values come into the temporaries behind.
-pub record RegionsAround : Type 0 where
-  pub all : ℕ
-  pub broken : ℕ
-  pub continued : ℕ
-
--- no region is in scope
-abbrev pub no_regions : RegionsAround
-no_regions = record { all = 0; broken = 0; continued = 0 }
-
--- within a loop
-abbrev pub in_loop : RegionsAround → RegionsAround
-in_loop h = record { all = h.all; broken = 0; continued = 0 }
-
--- within a `switch`
-abbrev pub in_switch : RegionsAround → RegionsAround
-in_switch h = record h { broken = 0 }
-
--- behind a declaration
-abbrev pub regions_with : Declaration → RegionsAround → RegionsAround
-regions_with d h = record { all = regions_behind d h.all; broken = regions_behind d h.broken; continued = regions_behind d h.continued }
-
 abbrev mutual
-  -- The first of its unnamed values has this number. `break` and `continue` free the regions that were opened within what they leave, and `return` those of the
-  -- function, when the result is there.
+  -- The first of its unnamed values has this number. `break` and `continue` leave the regions in scope within what they leave, and `return` those of the function,
+  -- when the result is there.
   pub statement_code : World → Shape → List Named → RegionsAround → (own : ℕ) → Statement → List core.Statement
   statement_code w result names h own (Statement.Empty at) = []
   statement_code w result names h own (Statement.Block at items) =
@@ -290,14 +257,14 @@ abbrev mutual
       Leave (all_of (place_code w names place h.all own ++ (tag_load (h.all + 1) h.all ++
       (cases_code w result names (in_switch h) parts first clauses ++
       default_code w result names (in_switch h) (first + length (case_values w names parts clauses)) clauses)))) ∷ []
-  statement_code w result names h own (Statement.Break at) = leaving_code h.all h.broken ++ (Break ∷ [])
-  statement_code w result names h own (Statement.Continue at) = leaving_code h.all h.continued ++ (Continue ∷ [])
-  statement_code w result names h own (Statement.Return at None) = leaving_code h.all h.all ++ (Return [] ∷ [])
+  statement_code w result names h own (Statement.Break at) = leaving_code h.opened h.all h.broken ++ (Break ∷ [])
+  statement_code w result names h own (Statement.Continue at) = leaving_code h.opened h.all h.continued ++ (Continue ∷ [])
+  statement_code w result names h own (Statement.Return at None) = leaving_code h.opened h.all h.all ++ (Return [] ∷ [])
   statement_code w result names h own (Statement.Return at (Some e)) =
       expression_code w names e h.all own ++
-      (conversion_code w result (static_shape w names e) h.all ++ (leaving_code h.all h.all ++ (Return (results_in result h.all) ∷ [])))
+      (conversion_code w result (static_shape w names e) h.all ++ (leaving_code h.opened h.all h.all ++ (Return (results_in result h.all) ∷ [])))
+  statement_code w result names h own (Statement.FreeKey at key) = get_code w names key.text h.all ++ (Do (KeyFree h.all) ∷ [])
   statement_code w result names h own (Statement.FreeUnique at pointer) = get_code w names pointer.text h.all ++ unique_free h.all
-  statement_code w result names h own _ = []
 
   -- the items of a block; the next local has the first number, and the next unnamed value the second
   pub items_code : World → Shape → List Named → RegionsAround → (index own : ℕ) → BlockItems → List core.Statement

@@ -17,3 +17,4 @@ pub mod FilledSample
 pub mod SwitchSample
 pub mod UniqueSample
 pub mod UniqueMemberSample
+pub mod KeySample

@@ -28,7 +28,8 @@ use Rattle.accepted_proof.specs.Good.{IsGood, IsValueType, Surely}
 use Rattle.accepted_proof.proofs.Sure.{surely_after, surely_also}
 use Rattle.accepted_proof.proofs.good.Operators.{object_value}
 use Rattle.accepted_proof.proofs.FoundRegions.{FoundBelow}
-use Rattle.accepted_proof.proofs.good.Pointers.{IsPartialObject, IsWritten, RegionBelow, RegionsBelow, WritesKey, WritesNothing, WritesObject, WrittenKey, WrittenObject}
+use Rattle.accepted_proof.proofs.good.Pointers.{IsPartialObject, IsWritten, RegionBelow, RegionsBelow, WritesKey, WritesNothing, WritesObject}
+use Rattle.accepted_proof.proofs.good.Pointers.{WrittenKey, WrittenObject}
 use Rattle.accepted_proof.proofs.good.Types.{good_tags, scope_written}
 use Rattle.accepted_proof.proofs.Owners.{IsSaid, ShapedIfSome, Writes, filled_shaped, said_alone, settled_alone_is, settled_from}
 

@@ -27,6 +27,7 @@ use Rattle.accepted_proof.proofs.lowered.Forms.{IsGiven, IsKnownScope, IsTaken, 
 use Rattle.accepted_proof.proofs.lowered.Scopes.{scope_block, scope_loop, scope_switch}
 use Rattle.accepted_proof.proofs.lowered.Switches.{ClauseTaken, UnionPlace, clause_taken, place_shape, union_place}
 use Rattle.accepted_proof.proofs.lowered.Declarations.{DeclarationTaken, declaration_takes}
+use Rattle.accepted_proof.proofs.lowered.Keys.{key_takes}
 use Rattle.accepted_proof.proofs.lowered.Uniques.{exchange_takes, free_takes}
 
 -- an object that a function gives is a word
@@ -116,7 +117,8 @@ module _ (w : World) where
           let i : taken supported e ≡ e = cc in return_takes names g e f scope i j
       statement_takes (Statement.FreeUnique at x) names g c f scope t j p =
           free_takes w names x j.value j.nullable j.to j.is (taken_is w names g scope (Expression.Variable x) j.value refl j.judged)
-      statement_takes (Statement.FreeKey at x) names g c f scope t j p = absurd cc
+      statement_takes (Statement.FreeKey at x) names g c f scope t j p =
+          key_takes w names x j.value j.region j.is (taken_is w names g scope (Expression.Variable x) j.value refl j.judged)
 
       -- the items of a block without fault
       pub items_takes : (x : BlockItems) (names : List Named) (index : ℕ) (g : Env) (c : Bool) → g.result ≡ Some r → IsKnownScope w names g

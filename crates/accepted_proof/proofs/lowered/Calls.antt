@@ -194,7 +194,7 @@ module _ (w : World) (names : List Named) where
   given_known f (Fat r t) h = subst (λ s. IsKnown w s) (sym (shape_renamed f t)) h.1
   given_known f (Unique n t) h = subst (λ s. IsKnown w s) (sym (shape_renamed f t)) h.1
   given_known f (Handle r) h = tt
-  given_known f (Key r) h = absurd h.1
+  given_known f (Key r) h = tt
   given_known f (Union tag rs) h = absurd h.0
 
   given_word : (f : Region → Region) (t : StaticType) (e : Expression) → Takes w names e → static_shape w names e ≡ shape_of t
@@ -214,7 +214,7 @@ module _ (w : World) (names : List Named) where
   given_value f (Fat r t) e h k s = given_word f (Fat r t) e k s
   given_value f (Unique n t) e h k s = given_word f (Unique n t) e k s
   given_value f (Handle r) e h k s = given_word f (Handle r) e k s
-  given_value f (Key r) e h k s = absurd h.1
+  given_value f (Key r) e h k s = given_word f (Key r) e k s
   given_value f (Union tag rs) e h k s = absurd h.0
 
   word_call : (f : Region → Region) (x : Name) (es : Expressions) (v : Value) (t : StaticType) → has_tag w.structs x.text ≡ false → TakesAll w names es

@@ -12,17 +12,17 @@ use Rattle.source_lowering.specs.Programs.{named_here, names_behind}
 use Rattle.source_meaning.specs.Shapes as shapes
 use Rattle.source_meaning.specs.Shapes.{ArrayShape, Shape, settled, settled_by, written}
 use Rattle.source_meaning.specs.Steps.{World}
-use Rattle.type_proof.specs.Judged.{AliasOpened, DeclarationJudged, LocalArray, LocalSet, LocalUnset, RegionOpened}
+use Rattle.type_proof.specs.Judged.{AliasOpened, DeclarationJudged, KeyDeclared, KeyOpened, LocalArray, LocalSet, LocalUnset, RegionOpened}
 use Rattle.accepted_programs.specs.Supported.{supported}
 use Rattle.source_typing.specs.Converts.{Converts}
 use Rattle.source_typing.specs.Declarations.{converted_to, declare, local_type, misses_region, set_faults, set_type, taken_from, unset_type, with_region}
 use Rattle.source_typing.specs.Expressions.{judge}
 use Rattle.source_typing.specs.Extents.{size_of}
-use Rattle.source_typing.specs.Regions.{with_name, with_scope}
+use Rattle.source_typing.specs.Regions.{Region, Regions, opened, with_name, with_scope}
 use Rattle.source_typing.specs.Scope.{Env, Value, in_scope, next_region, second}
 use Rattle.source_typing.specs.Taken.{declaration_taken, declared_if, initializer_taken, taken}
 use Rattle.source_typing.specs.Taken.{takes_initializer, takes_type}
-use Rattle.source_typing.specs.Types.{Handle, StaticType, Struct, Thin, Union, Unique, shape_of}
+use Rattle.source_typing.specs.Types.{Handle, Key, StaticType, Struct, Thin, Union, Unique, shape_of}
 use Rattle.source_typing.specs.Verdicts.{after, faults_of}
 use Rattle.source_typing.specs.Written.{all_found, spots_of}
 use Rattle.source_typing.proofs.Inversion.{none_of_both}
@@ -33,7 +33,8 @@ use Rattle.accepted_proof.proofs.lowered.Expressions.{taken_is}
 use Rattle.accepted_proof.proofs.lowered.Forms.{IsKnownScope, IsTaken, TakenAs, TakenWord, word_is}
 use Rattle.accepted_proof.proofs.lowered.Stands.{Exactly, StandsAs, operand_stands, known_stands, settled_stands, stands_exactly, stands_same, stands_to}
 use Rattle.accepted_proof.proofs.lowered.Stands.{thin_stands, thin_word}
-use Rattle.accepted_proof.proofs.lowered.Scopes.{scope_array, scope_local, scope_region, scope_sound, scope_tags}
+use Rattle.accepted_proof.proofs.lowered.Keys.{key_takes}
+use Rattle.accepted_proof.proofs.lowered.Scopes.{scope_array, scope_local, scope_opened, scope_region, scope_sound, scope_tags}
 use Rattle.accepted_proof.proofs.lowered.Types.{BaseThere, base_there, begins_first, object_type, once_keeps, settled_known, settled_type, written_known}
 use Rattle.accepted_proof.proofs.lowered.ObjectSizes.{count_few, local_few}
 
@@ -163,6 +164,12 @@ module _ (w : World) where
         result = ap (λ (s : Env). s.result) j.scope;
       }
 
+  -- where a region begins the function gives what it gave
+  result_kept : (r : tree.RegionName) (f : Regions → Regions) (g : Env) → (with_region r f g).result ≡ g.result
+  result_kept (tree.Named n) f g = refl
+  result_kept (tree.Heap at) f g = refl
+  result_kept (tree.Unique at) f g = refl
+
   -- a lexical region, with its handle
   region_takes : (names : List Named) (index : ℕ) (g : Env) (at : ℕ) (r : tree.RegionName) (x : tree.Name) → IsKnownScope w names g → RegionOpened g at r x
       → DeclarationTaken names index g (tree.Region at r x)
@@ -171,13 +178,32 @@ module _ (w : World) where
     scope = subst (λ (s : Env). IsKnownScope w (named_here x.text shapes.HandleShape index ∷ names) s) (sym j)
         (scope_local w names (with_region r with_scope g) x (Handle (next_region g)) shapes.HandleShape index Exactly tt
         (scope_region w names r with_scope g scope));
-    result = ap (λ (s : Env). s.result) j ∙ by r;
+    result = ap (λ (s : Env). s.result) j ∙ result_kept r with_scope g;
   }
-    where
-      by : (r : tree.RegionName) → (with_region r with_scope g).result ≡ g.result
-      by (tree.Named n) = refl
-      by (tree.Heap at) = refl
-      by (tree.Unique at) = refl
+
+  -- a dynamic region, with its key
+  new_key_takes : (names : List Named) (index : ℕ) (g : Env) (at : ℕ) (r : tree.RegionName) (x : tree.Name) → IsKnownScope w names g → KeyDeclared g at r x
+      → DeclarationTaken names index g (tree.NewKey at r x)
+  new_key_takes names index g at r x scope j = record {
+    takes = tt;
+    scope = subst (λ (s : Env). IsKnownScope w (named_here x.text shapes.KeyShape index ∷ names) s) (sym j)
+        (scope_local w names (with_region r (with_name false) g) x (Key (next_region g)) shapes.KeyShape index Exactly tt
+        (scope_region w names r (with_name false) g scope));
+    result = ap (λ (s : Env). s.result) j ∙ result_kept r (with_name false) g;
+  }
+
+  -- the handle of a region that a key opens
+  open_takes : (names : List Named) (index : ℕ) (g : Env) (at : ℕ) (r : tree.RegionName) (x y : tree.Name) → IsKnownScope w names g
+      → (j : KeyOpened g at r x y) → IsTaken w names (Expression.Variable y) j.operand.value → DeclarationTaken names index g (tree.Open at r x y)
+  open_takes names index g at r x y scope j k =
+      let q : Region = j.operand.region in
+      record {
+        takes = key_takes w names y j.operand.value q j.operand.is k;
+        scope = subst (λ (s : Env). IsKnownScope w (named_here x.text shapes.HandleShape index ∷ names) s) (sym j.scope)
+            (scope_local w names (record g { regions = opened q g.regions }) x (Handle q) shapes.HandleShape index Exactly tt
+            (scope_opened w names q g scope));
+        result = ap (λ (s : Env). s.result) j.scope;
+      }
 
   -- an alias of a unique pointer
   alias_takes : (names : List Named) (index : ℕ) (g : Env) (at : ℕ) (r : tree.RegionName) (u : TypeName) (x y : tree.Name) → IsKnownScope w names g
@@ -204,22 +230,19 @@ module _ (w : World) where
         );
         scope = subst (λ (s : Env). IsKnownScope w (named_here x.text own index ∷ names) s) (sym j.scope)
             (scope_local w names (with_region r (with_name true) g) x t own index shape known (scope_region w names r (with_name true) g scope));
-        result = ap (λ (s : Env). s.result) j.scope ∙ by r;
+        result = ap (λ (s : Env). s.result) j.scope ∙ result_kept r (with_name true) g;
       }
-    where
-      by : (r : tree.RegionName) → (with_region r (with_name true) g).result ≡ g.result
-      by (tree.Named n) = refl
-      by (tree.Heap at) = refl
-      by (tree.Unique at) = refl
 
   pub declaration_takes : (d : tree.Declaration) (names : List Named) (index : ℕ) (g : Env) → IsKnownScope w names g → declaration_taken supported d ≡ d
       → DeclarationJudged g d → (declare g d).faults ≡ [] → DeclarationTaken names index g d
   declaration_takes (tree.Region at r x) names index g scope t j p = region_takes names index g at r x scope j
-  declaration_takes (tree.Open at r x y) names index g scope t j p = absurd cc
+  declaration_takes (tree.Open at r x y) names index g scope t j p =
+      open_takes names index g at r x y scope j
+      (taken_is w names g scope (Expression.Variable y) j.operand.value refl j.operand.judged)
   declaration_takes (tree.Alias at r u x y) names index g scope t j p =
       alias_takes names index g at r u x y scope j
       (taken_is w names g scope (Expression.Variable y) j.operand.value refl j.operand.judged)
-  declaration_takes (tree.NewKey at r x) names index g scope t j p = absurd cc
+  declaration_takes (tree.NewKey at r x) names index g scope t j p = new_key_takes names index g at r x scope j
   declaration_takes (tree.Local u x i) names index g scope t j p =
       let k = supported in
       let b = local_taken (takes_type k u && takes_initializer k i) g u.at (tree.Local u x (initializer_taken k i)) (tree.Local u x i) t p in

@@ -271,7 +271,7 @@ module _ (w : World) (names : List Named) where
   place_value (Fat r t) e p word whole = place_word (Fat r t) e tt p word
   place_value (Unique n t) e p word whole = place_word (Unique n t) e tt p word
   place_value (Handle r) e p word whole = place_word (Handle r) e tt p word
-  place_value (Key r) e p word whole = absurd p.known
+  place_value (Key r) e p word whole = place_word (Key r) e tt p word
 
   place_dropped : (t : StaticType) (e : Expression) → TakenPlace e t → (IsOperandShape (static_shape w names e) → Takes w names e)
       → (TakesPlace w names e × IsWholeShape w.unions w.structs (static_shape w names e) → TakesWhole w names e)

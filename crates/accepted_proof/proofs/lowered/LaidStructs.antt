@@ -91,7 +91,7 @@ member_object w ds ls (Unique b t) k h r = reached_target w (shape_of t) r
 member_object w ds ls (Struct tag rs) k h r = k tag ∙ h
 member_object w ds ls (Union tag rs) k h r = r
 member_object w ds ls (Handle q) k h r = tt
-member_object w ds ls (Key q) k h r = absurd r
+member_object w ds ls (Key q) k h r = tt
 member_object w ds ls _ k h r = absurd h
 
 members_objects : (w : World) (ds : List Declared) (ls : List Layout) (ps : List Part) (qs : List shapes.Part) (ts : List StaticType)

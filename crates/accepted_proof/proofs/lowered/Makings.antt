@@ -76,7 +76,7 @@ module _ (w : World) (names : List Named) where
   value_made e (Fat r t) m k h = word_made e (Fat r t) tt k h
   value_made e (Unique n t) m k h = word_made e (Unique n t) tt k h
   value_made e (Handle r) m k h = word_made e (Handle r) tt k h
-  value_made e (Key r) m k h = absurd k
+  value_made e (Key r) m k h = absurd cc
   value_made e (Struct tag rs) m k h = struct_made e tag rs k h
   value_made e (Union tag rs) m k h = union_made e tag rs k h
 

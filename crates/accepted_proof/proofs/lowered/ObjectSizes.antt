@@ -39,6 +39,7 @@ value_positive f g shapes.CharShape h = omega arith
 value_positive f g (shapes.ThinShape b o t) h = omega arith
 value_positive f g (shapes.FatShape t) h = omega arith
 value_positive f g shapes.HandleShape h = omega arith
+value_positive f g shapes.KeyShape h = omega arith
 value_positive f g _ h = absurd h
 
 -- a union has those of the number of its member
@@ -56,6 +57,7 @@ shape_positive unions structs shapes.CharShape each h = omega arith
 shape_positive unions structs (shapes.ThinShape b o t) each h = omega arith
 shape_positive unions structs (shapes.FatShape t) each h = omega arith
 shape_positive unions structs shapes.HandleShape each h = omega arith
+shape_positive unions structs shapes.KeyShape each h = omega arith
 shape_positive unions structs (shapes.UnionShape tag) each h = union_positive (largest (extent_by no_extent no_extent) 0 (parts_of unions tag))
 shape_positive unions structs _ each h = absurd h
 

@@ -299,14 +299,13 @@ module _ (w : World) (names : List Named) where
         place = λ z. absurd (no_place v s z);
       }
 
-  -- a unique pointer is assigned: the assignment has no value
-  unique_assigned : (g : Env) (to from : Expression) (n : Bool) (u : StaticType) (c v : Value) → IsTaken w names from c
-      → TakenPlace w names to (Unique n u) → Converts g.regions c.type (Unique n u) → v.seat ≡ Nowhere → v.type ≡ Void
-      → IsTaken w names (Expression.Assign to from) v
-  unique_assigned g to from n u c v h p q s t = record {
+  -- a unique pointer or a key is assigned: the assignment has no value
+  moved_assigned : (g : Env) (to from : Expression) (u : StaticType) (c v : Value) → IsTaken w names from c → TakenPlace w names to u
+      → Converts g.regions c.type u → v.seat ≡ Nowhere → IsWord u → v.type ≡ Void → IsTaken w names (Expression.Assign to from) v
+  moved_assigned g to from u c v h p q s i t = record {
     known = subst (λ z. IsKnownValue w z) (sym t) tt;
     value = subst (λ z. TakenAs w names z (Expression.Assign to from)) (sym t) tt;
-    run = (word_run g to from (Unique n u) c h p q tt).1;
+    run = (word_run g to from u c h p q i).1;
     place = λ z. absurd (no_place v s z);
   }
 
@@ -357,7 +356,7 @@ module _ (w : World) (names : List Named) where
       by Char p q t = word_assigned g to from Char c v k p q seat tt tt t
       by (Thin n r u) p q t = word_assigned g to from (Thin n r u) c v k p q seat tt refl t
       by (Fat r u) p q t = word_assigned g to from (Fat r u) c v k p q seat tt tt t
-      by (Unique n u) p q t = unique_assigned g to from n u c v k p q seat t
+      by (Unique n u) p q t = moved_assigned g to from (Unique n u) c v k p q seat tt t
       by (Handle r) p q t = word_assigned g to from (Handle r) c v k p q seat tt tt t
-      by (Key r) p q t = absurd p.known
+      by (Key r) p q t = moved_assigned g to from (Key r) c v k p q seat tt t
       by (Union tag rs) p q t = union_assigned g to from a c v tag rs k p q seat t

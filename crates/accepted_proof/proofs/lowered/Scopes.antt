@@ -12,7 +12,7 @@ use Rattle.type_proof.specs.Judged.{arrayed, extended, named}
 use Rattle.type_proof.specs.Programs.{name_alone, with_all}
 use Rattle.source_typing.specs.Declarations.{with_region}
 use Rattle.source_typing.specs.Making.{Goal, inside, with_counter}
-use Rattle.source_typing.specs.Regions.{Regions}
+use Rattle.source_typing.specs.Regions.{Region, Regions, opened}
 use Rattle.source_typing.specs.Scope.{Env, block_entered, in_scope, meant}
 use Rattle.source_typing.specs.Statements.{in_a_loop, in_a_switch}
 use Rattle.source_typing.specs.Tables.{Arrayed, Counter, Entry, OfBuiltin, OfFunction, OfOther, OfTag, OfValue, Stored, Tag, Unknown, What}
@@ -125,12 +125,15 @@ module _ (w : World) where
   pub scope_loop : (names : List Named) (g : Env) → IsKnownScope w names g → IsKnownScope w names (in_a_loop g)
   scope_loop names g scope = record { entries = scope.entries; members = scope.members; choices = scope.choices; sizes = scope.sizes }
 
-  -- where a region begins, and within an operand of `rnew`
+  -- where a region begins, where a key opens one, and within an operand of `rnew`
   pub scope_region : (names : List Named) (r : tree.RegionName) (f : Regions → Regions) (g : Env) → IsKnownScope w names g
       → IsKnownScope w names (with_region r f g)
   scope_region names (tree.Named n) f g scope = record { entries = scope.entries; members = scope.members; choices = scope.choices; sizes = scope.sizes }
   scope_region names (tree.Heap at) f g scope = record { entries = scope.entries; members = scope.members; choices = scope.choices; sizes = scope.sizes }
   scope_region names (tree.Unique at) f g scope = record { entries = scope.entries; members = scope.members; choices = scope.choices; sizes = scope.sizes }
+
+  pub scope_opened : (names : List Named) (r : Region) (g : Env) → IsKnownScope w names g → IsKnownScope w names (record g { regions = opened r g.regions })
+  scope_opened names r g scope = record { entries = scope.entries; members = scope.members; choices = scope.choices; sizes = scope.sizes }
 
   pub scope_inside : (names : List Named) (goal : Verdict Goal) (g : Env) → IsKnownScope w names g → IsKnownScope w names (inside goal g)
   scope_inside names goal g scope = record { entries = scope.entries; members = scope.members; choices = scope.choices; sizes = scope.sizes }

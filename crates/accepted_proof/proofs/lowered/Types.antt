@@ -115,7 +115,7 @@ base_there w g t (fs, bad) rest tags known keeps p = by t.base p
 
 -- ---- shapes
 
--- an integer, a struct or a union of the program, a handle, nothing, or a pointer to these
+-- an integer, a struct or a union of the program, a handle, a key, nothing, or a pointer to these
 abbrev pub IsReached : World → Shape → Type 0
 IsReached w IntShape = Unit {0}
 IsReached w UnsignedShape = Unit {0}
@@ -124,7 +124,7 @@ IsReached w VoidShape = Unit {0}
 IsReached w (ThinShape may_be_null owner to) = IsReached w to
 IsReached w (FatShape to) = IsReached w to
 IsReached w HandleShape = Unit {0}
-IsReached w KeyShape = ⊥
+IsReached w KeyShape = Unit {0}
 IsReached w (StructShape tag) = (has_tag w.structs tag ≡ true)
 IsReached w (UnionShape tag) = (has_tag w.unions tag ≡ true)
 IsReached w (ArrayShape count of) = ⊥
@@ -137,6 +137,7 @@ reached_target w VoidShape h = tt
 reached_target w (ThinShape may_be_null owner to) h = reached_target w to h
 reached_target w (FatShape to) h = reached_target w to h
 reached_target w HandleShape h = tt
+reached_target w KeyShape h = tt
 reached_target w (StructShape tag) h = tt
 reached_target w (UnionShape tag) h = tt
 reached_target w _ h = absurd h
@@ -152,7 +153,7 @@ reached_known w (Unique b t) o h = reached_known w t o h
 reached_known w (Struct tag rs) o h = h
 reached_known w (Union tag rs) o h = h
 reached_known w (Handle r) o h = tt
-reached_known w (Key r) o h = absurd h
+reached_known w (Key r) o h = tt
 reached_known w _ o h = absurd o
 
 module _ (w : World) where
@@ -179,7 +180,7 @@ module _ (w : World) where
       by (tree.Struct tag rs) q h = h
       by (tree.Union tag rs) q h = h
       by (tree.Handle r) q h = tt
-      by (tree.Key r) q h = absurd cc
+      by (tree.Key r) q h = tt
 
   -- and of an object's
   pub written_known : (t : TypeName) (u : StaticType) → takes_type supported t ≡ true → BaseThere w t.base → IsObjectType u
@@ -229,7 +230,7 @@ module _ (w : World) where
   object_base (tree.Struct tag rs) h = tt
   object_base (tree.Union tag rs) h = tt
   object_base (tree.Handle r) h = tt
-  object_base (tree.Key r) h = absurd h
+  object_base (tree.Key r) h = tt
 
   known_in : (s : Shape) → IsKnown w s → IsKnownIn w.unions w.structs s
   known_in (StructShape tag) h = h

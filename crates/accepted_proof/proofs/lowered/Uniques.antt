@@ -34,6 +34,7 @@ module _ (w : World) where
   one_cell (shapes.ThinShape n o t) k h = known_target w t k
   one_cell (shapes.FatShape t) k h = known_target w t k
   one_cell shapes.HandleShape k h = tt
+  one_cell shapes.KeyShape k h = tt
   one_cell (shapes.StructShape tag) k h = absurd (h tt)
   one_cell (shapes.UnionShape tag) k h = k
   one_cell _ k h = absurd k

@@ -1,18 +1,20 @@
 -- What the code of declarations takes, and of the ends and ways out of regions.
-use Rattle.std.proofs.Common.{ℕ, zero, suc, ◌+◌, ◌*◌, ◌≤◌, List, [], ◌∷◌, ◌++◌, arith, max}
+use Rattle.std.proofs.Common.{ℕ, zero, suc, ◌+◌, ◌*◌, ◌≤◌, List, [], ◌∷◌, ◌++◌, Bool, true, false, arith, max}
 use Rattle.cyc_tree.specs.Tree as tree
 use Rattle.cyc_tree.specs.Tree.{Expression, Initializer, Declaration}
 use Rattle.source_meaning.specs.Shapes.{Shape, ThinShape, FatShape, ArrayShape, HandleShape, StructShape, UnionShape, written, settled, settled_by}
 use Rattle.source_meaning.specs.Steps.{World}
 use Rattle.core_meaning.specs.Core as core
-use Rattle.core_meaning.specs.Core.{Do, Clear, Copy, LocalAddress, Put, RegionFree, RegionNew}
+use Rattle.core_meaning.specs.Core.{Do, Clear, Copy, KeyClose, KeyNew, KeyOpen, LocalAddress, Put, RegionFree, RegionNew}
 use Rattle.source_lowering.specs.Layouts.{layout_of, local_of}
-use Rattle.source_lowering.specs.Lowered.{Named, width_of, put_local, static_shape, conversion_code, expression_code}
+use Rattle.source_lowering.specs.Lowered.{Named, width_of, put_local, static_shape, conversion_code, expression_code, get_code, local_named}
 use Rattle.source_lowering.specs.Programs.{local_shape, first_code, begun_code, unset_code, value_code, declaration_code, ending_code, regions_behind}
-use Rattle.source_lowering.specs.Programs.{leaving_code, source_code}
+use Rattle.source_lowering.specs.Programs.{leaving_code, left_by, source_code}
 use Rattle.source_lowering.specs.Whole.{is_made}
 use Rattle.source_lowering.specs.Lowerable.{Takes, TakesValue, TakesWhole, TakesDeclaration}
 use Rattle.source_lowering.specs.Bounds.{tokens_of, declaration_tokens, shape_words}
+use Rattle.source_meaning.specs.Places.{bound_to}
+use Rattle.source_lowering.proofs.values.Integers.{key_moved}
 use Rattle.source_lowering.proofs.bounds.Nodes.{expression_count, declaration_count}
 use Rattle.source_lowering.proofs.bounds.LocalWords.{word_words}
 use Rattle.source_lowering.proofs.bounds.Costs.{Costs, no_costs, both_cost, at_most, does_one, does_then}
@@ -21,8 +23,8 @@ use Rattle.source_lowering.proofs.bounds.PartCosts.{conversion_costs}
 use Rattle.source_lowering.proofs.bounds.Counted.{one_node}
 use Rattle.source_lowering.proofs.bounds.ExpressionCosts.{expression_costs}
 use Rattle.source_lowering.proofs.bounds.WholeCosts.{source_costs}
-use Rattle.source_lowering.proofs.bounds.Taken.{taken_by}
-use Rattle.source_lowering.proofs.bounds.NameCosts.{alias_costs}
+use Rattle.source_lowering.proofs.bounds.Taken.{found_less, taken_by}
+use Rattle.source_lowering.proofs.bounds.NameCosts.{alias_costs, moved_costs}
 
 -- ---- declarations
 
@@ -106,7 +108,21 @@ declaration_bounded w names (tree.Alias at region of alias pointer) d index own 
       (omega (arith, f));
   less = omega arith;
 }
-declaration_bounded w names _ d index own t p h f g = absurd h
+declaration_bounded w names (tree.Open at region handle key) d index own t p h f g =
+    let found = found_less names key.text in
+    record {
+      operations = 2 + (1 + 1);
+      costs = both_cost t p 0 2 0 (1 + 1) (get_code w names key.text d) _
+          (moved_costs t p d (local_named names key.text) (bound_to w.globals key.text) (key_moved (static_shape w names (Expression.Variable key)) h)
+          (omega (arith, f)) (omega (arith, f, found)))
+          (both_cost t p 0 1 0 1 (Do (KeyOpen d) ∷ []) _ (does_one t p _ (omega (arith, f))) (does_one t p _ (omega (arith, f))));
+      less = omega arith;
+    }
+declaration_bounded w names (tree.NewKey at region key) d index own t p h f g = record {
+  operations = 1 + 1;
+  costs = both_cost t p 0 1 0 1 (Do (KeyNew d) ∷ []) _ (does_one t p _ (omega (arith, f))) (does_one t p _ (omega (arith, f)));
+  less = omega arith;
+}
 
 -- ---- regions
 
@@ -114,7 +130,7 @@ declaration_bounded w names _ d index own t p h f g = absurd h
 pub ending_costs : (declared : Declaration) (d t p : ℕ) → suc d ≤ t → Costs t p 0 1 (ending_code declared d)
 ending_costs (tree.Region at region handle) d t p h = does_one t p (RegionFree d) h
 ending_costs (tree.Local of name initializer) d t p h = at_most t p 0 1 [] (omega arith) (no_costs t p)
-ending_costs (tree.Open at region handle key) d t p h = at_most t p 0 1 [] (omega arith) (no_costs t p)
+ending_costs (tree.Open at region handle key) d t p h = does_one t p (KeyClose d) h
 ending_costs (tree.Alias at region of alias pointer) d t p h = at_most t p 0 1 [] (omega arith) (no_costs t p)
 ending_costs (tree.NewKey at region key) d t p h = at_most t p 0 1 [] (omega arith) (no_costs t p)
 
@@ -123,15 +139,20 @@ pub regions_paid : (w : World) (names : List Named) (declared : Declaration) (n 
     → regions_behind declared n ≤ n + shape_words w (local_shape w names declared)
 regions_paid w names (tree.Region at region handle) n = let one = word_words w HandleShape tt in omega (arith, one)
 regions_paid w names (tree.Local of name initializer) n = omega arith
-regions_paid w names (tree.Open at region handle key) n = omega arith
+regions_paid w names (tree.Open at region handle key) n = let one = word_words w HandleShape tt in omega (arith, one)
 regions_paid w names (tree.Alias at region of alias pointer) n = omega arith
 regions_paid w names (tree.NewKey at region key) n = omega arith
 
 -- regions are left, an operation each
-pub leaving_costs : (all count t p : ℕ) → all ≤ t → Costs t p 0 count (leaving_code all count)
-leaving_costs all zero t p h = no_costs t p
-leaving_costs zero (suc count) t p h = at_most t p 0 (suc count) [] (omega arith) (no_costs t p)
-leaving_costs (suc all) (suc count) t p h =
+left_costs : (opened : Bool) (d t p : ℕ) → suc d ≤ t → Costs t p 0 1 (Do (left_by opened d) ∷ [])
+left_costs true d t p h = does_one t p (KeyClose d) h
+left_costs false d t p h = does_one t p (RegionFree d) h
+
+pub leaving_costs : (opened : List Bool) (all count t p : ℕ) → all ≤ t → Costs t p 0 count (leaving_code opened all count)
+leaving_costs opened all zero t p h = no_costs t p
+leaving_costs [] all (suc count) t p h = at_most t p 0 (suc count) [] (omega arith) (no_costs t p)
+leaving_costs (o ∷ os) zero (suc count) t p h = at_most t p 0 (suc count) [] (omega arith) (no_costs t p)
+leaving_costs (o ∷ os) (suc all) (suc count) t p h =
     at_most t p (1 + count) (suc count) _ (omega arith)
-    (both_cost t p 0 1 0 count (Do (RegionFree all) ∷ []) (leaving_code all count) (does_one t p (RegionFree all) h)
-    (leaving_costs all count t p (omega (arith, h))))
+    (both_cost t p 0 1 0 count (Do (left_by o all) ∷ []) (leaving_code os all count) (left_costs o all t p h)
+    (leaving_costs os all count t p (omega (arith, h))))

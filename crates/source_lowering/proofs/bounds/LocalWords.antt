@@ -53,6 +53,7 @@ words_same w CharShape h = refl
 words_same w (ThinShape b owner to) h = refl
 words_same w (FatShape to) h = refl
 words_same w HandleShape h = refl
+words_same w KeyShape h = refl
 words_same w _ h = absurd h
 
 -- a word takes one
@@ -64,7 +65,7 @@ word_words w VoidShape h = absurd h
 word_words w (ThinShape b owner to) h = refl
 word_words w (FatShape to) h = absurd h
 word_words w HandleShape h = refl
-word_words w KeyShape h = absurd h
+word_words w KeyShape h = refl
 word_words w (StructShape tag) h = absurd h
 word_words w (UnionShape tag) h = absurd h
 word_words w (ArrayShape count of) h = absurd h

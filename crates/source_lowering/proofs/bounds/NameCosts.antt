@@ -1,4 +1,4 @@
--- What the code takes that reads a thin pointer by its name, and an alias of it.
+-- What the code takes that reads a thin pointer or a key by its name, and an alias of a pointer.
 use Rattle.std.proofs.Common.{ℕ, suc, ◌≤◌, List, ◌++◌, true, false, Option, Some, None, arith, max}
 use Rattle.cyc_tree.specs.Tree.{Expression, Name}
 use Rattle.source_meaning.specs.Places.{bound_to}
@@ -24,48 +24,50 @@ use Rattle.source_lowering.specs.Lowered.{Home, InBlock, InTemporary, Named, con
 use Rattle.source_lowering.specs.Lowered.{get_code, shape_by, static_shape}
 use Rattle.source_lowering.specs.Programs.{value_code}
 use Rattle.source_lowering.specs.Lowerable.{IsThinShape, IsWordShape}
+use Rattle.source_lowering.proofs.values.Integers.{IsMovedShape, thin_moved}
 use Rattle.source_lowering.proofs.bounds.Costs.{Costs, both_cost, does_few, does_one, does_then, nothing}
 use Rattle.source_lowering.proofs.bounds.ValueCosts.{check_costs}
 use Rattle.source_lowering.proofs.bounds.Taken.{found_less, taken_at, taken_by, taken_found}
 
--- a thin pointer is read into the next temporary
-thin_get_costs : (t p d out index : ℕ) (s : Shape) → IsThinShape (valued s) → suc d ≤ t → Costs t p 0 2 (get_local s d out index)
-thin_get_costs t p d out index (ThinShape b o to) h below = does_few t p 2 (core.Get d out index 4) below (omega arith)
-thin_get_costs t p d out index IntShape h below = absurd h
-thin_get_costs t p d out index UnsignedShape h below = absurd h
-thin_get_costs t p d out index CharShape h below = absurd h
-thin_get_costs t p d out index VoidShape h below = absurd h
-thin_get_costs t p d out index (FatShape to) h below = absurd h
-thin_get_costs t p d out index HandleShape h below = absurd h
-thin_get_costs t p d out index KeyShape h below = absurd h
-thin_get_costs t p d out index (StructShape tag) h below = absurd h
-thin_get_costs t p d out index (UnionShape tag) h below = absurd h
-thin_get_costs t p d out index (ArrayShape count of) h below = absurd h
+-- a thin pointer or a key is read into the next temporary
+moved_get_costs : (t p d out index : ℕ) (s : Shape) → IsMovedShape (valued s) → suc d ≤ t → Costs t p 0 2 (get_local s d out index)
+moved_get_costs t p d out index (ThinShape b o to) h below = does_few t p 2 (core.Get d out index 4) below (omega arith)
+moved_get_costs t p d out index IntShape h below = absurd h
+moved_get_costs t p d out index UnsignedShape h below = absurd h
+moved_get_costs t p d out index CharShape h below = absurd h
+moved_get_costs t p d out index VoidShape h below = absurd h
+moved_get_costs t p d out index (FatShape to) h below = absurd h
+moved_get_costs t p d out index HandleShape h below = absurd h
+moved_get_costs t p d out index KeyShape h below = does_few t p 2 (core.Get d out index 4) below (omega arith)
+moved_get_costs t p d out index (StructShape tag) h below = absurd h
+moved_get_costs t p d out index (UnionShape tag) h below = absurd h
+moved_get_costs t p d out index (ArrayShape count of) h below = absurd h
 
-thin_load_costs : (t p d object : ℕ) (s : Shape) → IsThinShape (valued s) → suc d ≤ t → Costs t p 0 2 (load_global s d object)
-thin_load_costs t p d object (ThinShape b o to) h below =
+moved_load_costs : (t p d object : ℕ) (s : Shape) → IsMovedShape (valued s) → suc d ≤ t → Costs t p 0 2 (load_global s d object)
+moved_load_costs t p d object (ThinShape b o to) h below =
     does_then t p 1 (core.DataAddress d object) _ below (does_one t p (core.Load d d (distance 0 0 4)) (omega (arith, below)))
-thin_load_costs t p d object IntShape h below = absurd h
-thin_load_costs t p d object UnsignedShape h below = absurd h
-thin_load_costs t p d object CharShape h below = absurd h
-thin_load_costs t p d object VoidShape h below = absurd h
-thin_load_costs t p d object (FatShape to) h below = absurd h
-thin_load_costs t p d object HandleShape h below = absurd h
-thin_load_costs t p d object KeyShape h below = absurd h
-thin_load_costs t p d object (StructShape tag) h below = absurd h
-thin_load_costs t p d object (UnionShape tag) h below = absurd h
-thin_load_costs t p d object (ArrayShape count of) h below = absurd h
+moved_load_costs t p d object IntShape h below = absurd h
+moved_load_costs t p d object UnsignedShape h below = absurd h
+moved_load_costs t p d object CharShape h below = absurd h
+moved_load_costs t p d object VoidShape h below = absurd h
+moved_load_costs t p d object (FatShape to) h below = absurd h
+moved_load_costs t p d object HandleShape h below = absurd h
+moved_load_costs t p d object KeyShape h below =
+    does_then t p 1 (core.DataAddress d object) _ below (does_one t p (core.Load d d (distance 0 0 4)) (omega (arith, below)))
+moved_load_costs t p d object (StructShape tag) h below = absurd h
+moved_load_costs t p d object (UnionShape tag) h below = absurd h
+moved_load_costs t p d object (ArrayShape count of) h below = absurd h
 
-pub thin_costs : (t p d : ℕ) (l : Option Named) (e : Option Entity) → IsThinShape (valued (shape_by l e)) → suc d ≤ t → taken_found l ≤ t
+pub moved_costs : (t p d : ℕ) (l : Option Named) (e : Option Entity) → IsMovedShape (valued (shape_by l e)) → suc d ≤ t → taken_found l ≤ t
     → Costs t p 0 2 (get_by l e d)
-thin_costs t p d (Some l) e h below k = by l.home k
+moved_costs t p d (Some l) e h below k = by l.home k
   where
     by : (home : Home) → taken_at home ≤ t → Costs t p 0 2 (get_home l.shape home d)
-    by (InBlock out index) less = thin_get_costs t p d out index l.shape h below
+    by (InBlock out index) less = moved_get_costs t p d out index l.shape h below
     by (InTemporary from) less = does_few t p 2 (core.Move d from) (omega (arith, below, less)) (omega arith)
-thin_costs t p d None (Some (Variable s from)) h below k = thin_load_costs t p d from.object s h below
-thin_costs t p d None (Some (Fixed s v)) h below k = nothing t p 2
-thin_costs t p d None None h below k = nothing t p 2
+moved_costs t p d None (Some (Variable s from)) h below k = moved_load_costs t p d from.object s h below
+moved_costs t p d None (Some (Fixed s v)) h below k = nothing t p 2
+moved_costs t p d None None h below k = nothing t p 2
 
 -- it is converted to a word, and that is stored
 thin_converted : (w : World) (t p d : ℕ) (to from : Shape) → IsWordShape to → IsThinShape from → suc d ≤ t → Costs t p 0 4 (conversion_code w to from d)
@@ -77,7 +79,7 @@ thin_converted w t p d UnsignedShape (ThinShape a o s) h g less = nothing t p 4
 thin_converted w t p d HandleShape (ThinShape a o s) h g less = nothing t p 4
 thin_converted w t p d (FatShape of) from h g less = absurd h
 thin_converted w t p d VoidShape from h g less = absurd h
-thin_converted w t p d KeyShape from h g less = absurd h
+thin_converted w t p d KeyShape (ThinShape a o s) h g less = nothing t p 4
 thin_converted w t p d (StructShape tag) from h g less = absurd h
 thin_converted w t p d (UnionShape tag) from h g less = absurd h
 thin_converted w t p d (ArrayShape count of) from h g less = absurd h
@@ -97,7 +99,8 @@ alias_costs w names name s d index own t p thin is_word h = by s is_word
     word of g =
         let found = found_less names name.text in
         both_cost t p 0 2 0 5 (get_code w names name.text d) _
-        (thin_costs t p d (local_named names name.text) (bound_to w.globals name.text) thin (omega (arith, h)) (omega (arith, h, found)))
+        (moved_costs t p d (local_named names name.text) (bound_to w.globals name.text)
+        (thin_moved (static_shape w names (Expression.Variable name)) thin) (omega (arith, h)) (omega (arith, h, found)))
         (both_cost t p 0 4 0 1 (conversion_code w of (static_shape w names (Expression.Variable name)) d) (put_local of d 0 index)
         (thin_converted w t p d of (static_shape w names (Expression.Variable name)) g thin (omega (arith, h))) (word_put t p d index of g (omega (arith, h))))
 

@@ -1,10 +1,10 @@
 -- What the code of statements takes: locals by those that are declared, operations by the size of the text.
-use Rattle.std.proofs.Common.{ℕ, suc, ◌+◌, ◌*◌, ◌≤◌, List, [], ◌∷◌, ◌++◌, length, Some, None, arith, max}
+use Rattle.std.proofs.Common.{ℕ, suc, ◌+◌, ◌*◌, ◌≤◌, List, [], ◌∷◌, ◌++◌, length, Bool, Some, None, arith, max}
 use Rattle.cyc_tree.specs.Tree.{Statement, BlockItems, NoItems, Declare, Execute, Clauses, NoClauses, MoreClauses, Case, Default}
 use Rattle.source_meaning.specs.Shapes.{Shape, Part, part_shape}
 use Rattle.source_meaning.specs.Steps.{World}
 use Rattle.core_meaning.specs.Core as core
-use Rattle.core_meaning.specs.Core.{Do, If, Block, Return, Constant, Apply, Equal, NoStatements, UniqueFree}
+use Rattle.core_meaning.specs.Core.{Do, If, Block, Return, Constant, Apply, Equal, NoStatements, KeyFree, UniqueFree}
 use Rattle.source_lowering.specs.Lowered.{Named, all_of, results_in, static_shape, expression_values, union_parts, member_number, put_local, held_loads}
 use Rattle.source_lowering.specs.Lowered.{tag_load}
 use Rattle.source_lowering.specs.Programs.{block_shapes, locals_of, outward, named_here, leaving_code, declaration_values, statement_values}
@@ -35,7 +35,9 @@ use Rattle.source_lowering.proofs.bounds.WholeCosts.{run_costs}
 use Rattle.source_lowering.proofs.bounds.DeclarationCosts.{declaration_bounded, ending_costs, regions_paid, leaving_costs}
 use Rattle.source_lowering.proofs.bounds.Taken.{taken_by, taken_outward, found_less}
 use Rattle.source_lowering.proofs.bounds.ExchangeCosts.{exchange_costs}
-use Rattle.source_lowering.proofs.bounds.NameCosts.{thin_costs}
+use Rattle.source_lowering.proofs.bounds.NameCosts.{moved_costs}
+use Rattle.source_lowering.proofs.values.Integers.{key_moved, thin_moved}
+use Rattle.cyc_tree.specs.Tree.{Expression}
 use Rattle.source_lowering.specs.Lowered.{get_code, local_named}
 use Rattle.source_meaning.specs.Places.{bound_to}
 
@@ -52,10 +54,10 @@ pub record IsBounded (t p l n : ℕ) (code : List core.Statement) : Type 0 where
   pub less : operations ≤ 8 * n
 
 -- the way out, behind the regions that are left
-leaves : (t p all count o : ℕ) (s : core.Statement) → all ≤ t → o ≤ 8 → Costs t p 0 o (s ∷ [])
-    → IsBounded t p 0 (1 + count) (leaving_code all count ++ (s ∷ []))
-leaves t p all count o s h less c =
-    record { operations = count + o; costs = both_cost t p 0 count 0 o _ _ (leaving_costs all count t p h) c; less = omega (arith, less) }
+leaves : (t p : ℕ) (opened : List Bool) (all count o : ℕ) (s : core.Statement) → all ≤ t → o ≤ 8 → Costs t p 0 o (s ∷ [])
+    → IsBounded t p 0 (1 + count) (leaving_code opened all count ++ (s ∷ []))
+leaves t p opened all count o s h less c =
+    record { operations = count + o; costs = both_cost t p 0 count 0 o _ _ (leaving_costs opened all count t p h) c; less = omega (arith, less) }
 
 -- a block's items declare its own locals, and those of inner blocks come beside them
 pub record ItemsBounded (w : World) (names : List Named) (index t p l n : ℕ) (items : BlockItems) (code : List core.Statement) : Type 0 where
@@ -128,7 +130,8 @@ mutual
       record {
         operations = 2 + 2;
         costs = both_cost t p 0 2 0 2 (get_code w names pointer.text r.all) _
-            (thin_costs t p r.all (local_named names pointer.text) (bound_to w.globals pointer.text) h (omega (arith, f)) (omega (arith, f, found)))
+            (moved_costs t p r.all (local_named names pointer.text) (bound_to w.globals pointer.text)
+            (thin_moved (static_shape w names (Expression.Variable pointer)) h) (omega (arith, f)) (omega (arith, f, found)))
             (if_costs t p r.all 0 0 1 0 (Do (UniqueFree r.all) ∷ []) [] (omega (arith, f)) (does_one t p (UniqueFree r.all) (omega (arith, f))) (no_costs t p));
         less = omega arith;
       }
@@ -204,19 +207,19 @@ mutual
         less = omega (arith, j, k);
       }
   statement_bounded w result names r own (Statement.Break at) t p h f g =
-      leaves t p r.all r.broken 1 core.Break (omega (arith, f)) (omega arith)
+      leaves t p r.opened r.all r.broken 1 core.Break (omega (arith, f)) (omega arith)
       (one_costs t p 0 1 core.Break (omega arith) (omega arith) (omega arith) (omega arith))
   statement_bounded w result names r own (Statement.Continue at) t p h f g =
-      leaves t p r.all r.continued 1 core.Continue (omega (arith, f)) (omega arith)
+      leaves t p r.opened r.all r.continued 1 core.Continue (omega (arith, f)) (omega arith)
       (one_costs t p 0 1 core.Continue (omega arith) (omega arith) (omega arith) (omega arith))
   statement_bounded w result names r own (Statement.Return at None) t p h f g =
-      leaves t p r.all r.all 1 (Return []) (omega (arith, f)) (omega arith)
+      leaves t p r.opened r.all r.all 1 (Return []) (omega (arith, f)) (omega arith)
       (one_costs t p 0 1 (Return []) (omega arith) (omega arith) (omega arith) (omega arith))
   statement_bounded w result names r own (Statement.Return at (Some e)) t p h f g =
       let n = one_node e in
       let a = expression_costs w names e t p r.all own h (omega (arith, f)) (omega (arith, g)) in
       let few = results_few result in let last = results_last result r.all in let many = results_many result r.all in
-      let b = leaves t p r.all r.all 4 (Return (results_in result r.all)) (omega (arith, f)) (omega arith)
+      let b = leaves t p r.opened r.all r.all 4 (Return (results_in result r.all)) (omega (arith, f)) (omega arith)
       (one_costs t p 0 4 (Return (results_in result r.all)) (omega (arith, last, few, f, n)) (omega arith) (omega arith) (omega (arith, many))) in
       let l = a.less in let k = b.less in
       record {
@@ -225,7 +228,16 @@ mutual
             (both_cost t p 0 4 0 b.operations _ _ (conversion_costs w t p r.all result (static_shape w names e) (omega (arith, f, n))) b.costs);
         less = omega (arith, l, k);
       }
-  statement_bounded w result names r own _ t p h f g = absurd h
+  statement_bounded w result names r own (Statement.FreeKey at key) t p h f g =
+      let found = found_less names key.text in
+      record {
+        operations = 2 + 1;
+        costs = both_cost t p 0 2 0 1 (get_code w names key.text r.all) _
+            (moved_costs t p r.all (local_named names key.text) (bound_to w.globals key.text) (key_moved (static_shape w names (Expression.Variable key)) h)
+            (omega (arith, f)) (omega (arith, f, found)))
+            (does_one t p (KeyFree r.all) (omega (arith, f)));
+        less = omega arith;
+      }
 
   pub items_bounded : (w : World) (result : Shape) (names : List Named) (r : RegionsAround) (index own : ℕ) (items : BlockItems) (t p : ℕ)
       → TakesItems w result names index items

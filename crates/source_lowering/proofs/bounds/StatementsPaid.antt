@@ -143,7 +143,8 @@ declaration_paid w names (tree.Local of name Initializer.Unset) h = nothing_pays
 declaration_paid w names (tree.Local of name (Initializer.Elements count)) h = nothing_pays w 0
 declaration_paid w names (tree.Region at region handle) h = nothing_pays w 0
 declaration_paid w names (tree.Alias at region of alias pointer) h = nothing_pays w 0
-declaration_paid w names _ h = absurd h
+declaration_paid w names (tree.Open at region handle key) h = nothing_pays w 0
+declaration_paid w names (tree.NewKey at region key) h = nothing_pays w 0
 
 -- ---- statements
 

@@ -157,7 +157,7 @@ shown_many w m c (ThinShape b owner to) v cs h o = ⊎_elim (λ (z : ANull b v c
 shown_many w m c (FatShape to) v cs h o =
     ⊎_elim (λ (z : AFatNull v cs). ap length z.shown) (λ (z : AFat w m c to (size_of w to) v cs). ap length z.shown) o
 shown_many w m c HandleShape v cs h o = ap length o.shown
-shown_many w m c KeyShape v cs h o = absurd h
+shown_many w m c KeyShape v cs h o = ap length o.shown
 shown_many w m c (StructShape tag) v cs h o = absurd h
 shown_many w m c (UnionShape tag) v cs h o = absurd h
 shown_many w m c (ArrayShape count of) v cs h o = absurd h
@@ -225,7 +225,7 @@ results_same p n d m0 c0 m c shape vs xs s k taken result fits later kept goes =
     by (ThinShape may_be_null owner to) h go r = some (ThinShape may_be_null owner to) h go r
     by (FatShape to) h go r = fat to h go r
     by HandleShape h go r = some HandleShape tt go r
-    by KeyShape h go r = absurd h
+    by KeyShape h go r = some KeyShape tt go r
     by (StructShape tag) h go r = absurd h
     by (UnionShape tag) h go r = absurd h
     by (ArrayShape count of) h go r = absurd h

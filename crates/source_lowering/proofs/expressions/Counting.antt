@@ -50,6 +50,7 @@ not_counted p n d shape look code taken apart gives = record {
             thin_same p.world p.program n shape m1 c1.memory v (c1.temps d) counts _ o
             (λ x b. stuck_same p.world p.program n _) (λ t byte x full leads. stuck_same p.world p.program n _))
             (λ birth x shape_is. stuck_same p.world p.program n _)
+            (λ birth is. stuck_same p.world p.program n _)
             (λ v o. absurd (apart o.to o.shape_is));
       }));
 }
@@ -63,7 +64,7 @@ counted_gives p n d CharShape look code h gives = not_counted p n d CharShape lo
 counted_gives p n d VoidShape look code h gives = not_counted p n d VoidShape look code h (λ to e. cc e) gives
 counted_gives p n d (ThinShape b owner from) look code h gives = not_counted p n d (ThinShape b owner from) look code h (λ to e. cc e) gives
 counted_gives p n d HandleShape look code h gives = not_counted p n d HandleShape look code h (λ to e. cc e) gives
-counted_gives p n d KeyShape look code h gives = absurd h
+counted_gives p n d KeyShape look code h gives = not_counted p n d KeyShape look code h (λ to e. cc e) gives
 counted_gives p n d (StructShape tag) look code h gives = absurd h
 counted_gives p n d (UnionShape tag) look code h gives = absurd h
 counted_gives p n d (ArrayShape count of) look code h gives = absurd h

@@ -323,6 +323,7 @@ array_agrees p n name d to count element_at count_shape shape code count_code ea
                       thin_same p.world p.program n count_shape m2 c2.memory v (c2.temps (d + 1)) (λ u. integer u (make shape r s)) _ o
                       (λ x b. stuck_same p.world p.program n _) (λ t byte x lies leads. stuck_same p.world p.program n _))
                       (λ birth x is. stuck_same p.world p.program n _)
+                      (λ birth is. stuck_same p.world p.program n _)
                       (λ v o.
                       fat_same p.world p.program n count_shape m2 c2.memory v (c2.temps (d + 1)) (c2.temps (d + 1 + 1)) (c2.temps (d + 1 + 2))
                       (λ u. integer u (make shape r s)) _ o (λ x. stuck_same p.world p.program n _) (λ span byte x. stuck_same p.world p.program n _));
@@ -382,7 +383,7 @@ made_array p n name d first to count element_at count_shape shape whole_values w
     by HandleShape o t nums as_struct as_word = value HandleShape tt (as_word t nums)
     by VoidShape o t nums as_struct as_word = absurd o
     by (FatShape q) o t nums as_struct as_word = value (FatShape q) o (as_word t nums)
-    by KeyShape o t nums as_struct as_word = absurd o
+    by KeyShape o t nums as_struct as_word = value KeyShape tt (as_word t nums)
     by (UnionShape tag) o t nums as_struct as_word =
         let one = as_struct t nums in
         array_agrees p n name d to count element_at count_shape (UnionShape tag) code count_code

@@ -5,7 +5,7 @@ use Rattle.cyc_tree.specs.declared.expression.Operator.{Operator}
 use Rattle.cyc_tree.specs.declared.expression.Operator.TheVariants as operator
 use Rattle.source_meaning.specs.Shapes.{Shape, ThinShape, FatShape}
 use Rattle.source_meaning.specs.Memory as source
-use Rattle.source_meaning.specs.Memory.{IntegerType, AsInt, AsUnsigned, AsChar, Scalar, Integer, Thin, Wide, HandleOf, Span}
+use Rattle.source_meaning.specs.Memory.{IntegerType, AsInt, AsUnsigned, AsChar, Scalar, Integer, Thin, Wide, HandleOf, KeyOf, Span}
 use Rattle.source_meaning.specs.Steps as steps
 use Rattle.source_meaning.specs.Steps.{need}
 use Rattle.source_meaning.specs.Operators as operators
@@ -23,7 +23,7 @@ use Rattle.source_lowering.specs.Lowered.{put, type_of, applied_to, operator_cod
 use Rattle.source_lowering.specs.Members.{words_in}
 use Rattle.source_lowering.specs.Simulation.{at, AFatNull, AFat, Shown, Point, SameState, SameAt, Next, AreKept, GrownAt, Given, GoesOn, contents_in}
 use Rattle.source_lowering.proofs.Runs.{stuck_same}
-use Rattle.source_lowering.proofs.values.Integers.{IsTaken, IsWord, IsThin, IsHandle, limit, word_given, small_word, integer_one}
+use Rattle.source_lowering.proofs.values.Integers.{IsTaken, IsWord, IsThin, IsHandle, handle_cases, limit, word_given, small_word, integer_one}
 use Rattle.source_lowering.proofs.values.AnyValues.{IsFat, IsOneOf, shown_some, thin_same, fat_same, three_in}
 use Rattle.source_lowering.proofs.values.Operators.{modulo_small, operated}
 use Rattle.source_lowering.proofs.values.Values.{put_value}
@@ -219,7 +219,8 @@ operands_same p n d o sa sb u v m0 c0 m c s rest next taken1 taken2 shown1 shown
         fits later kept goes))
         (⊎_elim (no_thin (Integer a.type a.word) (λ q. refl))
         (λ (b : IsHandle sb v (c.temps e)).
-        subst (λ z. SameAt p n (result (Integer a.type a.word) z m) step) (sym b.value) (stuck_same p.world p.program n step))))
+        handle_cases (λ z. SameAt p n (result (Integer a.type a.word) z m) step) sb v (c.temps e) b (λ i. stuck_same p.world p.program n step)
+        (λ i. stuck_same p.world p.program n step))))
         (λ (b : IsFat p.world m c.memory sb v (three_in e c.temps)).
         let of = wide_is p m c sb v (three_in e c.temps) b in
         subst (λ z. SameAt p n (result (Integer a.type a.word) z m) step) (sym of.is) (stuck_same p.world p.program n step))
@@ -240,7 +241,7 @@ operands_same p n d o sa sb u v m0 c0 m c s rest next taken1 taken2 shown1 shown
         pointers_operated p n d o sa sb u v m0 c0 m c s rest next a (subst (λ z. IsThin p.world m c.memory sb v (c.temps z)) (next_to one) b) fits later kept
         goes)
         (λ (b : IsHandle sb v (c.temps e)).
-        subst (λ z. SameAt p n (result u z m) step) (sym b.value) (no_left (HandleOf b.birth) (λ q. refl)))))
+        handle_cases (λ z. SameAt p n (result u z m) step) sb v (c.temps e) b (λ i. no_left (HandleOf i) (λ q. refl)) (λ i. no_left (KeyOf i) (λ q. refl)))))
         with_fat right
       where
         one : words_in sa ≡ 1
@@ -267,7 +268,8 @@ operands_same p n d o sa sb u v m0 c0 m c s rest next taken1 taken2 shown1 shown
 
     handle_first : IsHandle sa u (c.temps d) → goal
     handle_first a =
-        subst (λ z. SameAt p n (result z v m) step) (sym a.value) (stuck_same p.world p.program n step)
+        handle_cases (λ z. SameAt p n (result z v m) step) sa u (c.temps d) a (λ i. stuck_same p.world p.program n step)
+        (λ i. stuck_same p.world p.program n step)
 
     fat_first : IsFat p.world m c.memory sa u (three_in d c.temps) → goal
     fat_first a =
@@ -289,7 +291,8 @@ operands_same p n d o sa sb u v m0 c0 m c s rest next taken1 taken2 shown1 shown
         (λ t byte z lies leads. subst (λ y. SameAt p n (result y (Thin (Some t)) m) code) (sym of.is) (stuck_same p.world p.program n code)))
         (λ (b : IsHandle sb v (c.temps e)).
         subst (λ z. SameAt p n (result z v m) code) (sym of.is)
-        (subst (λ z. SameAt p n (result (Wide of.of) z m) code) (sym b.value) (stuck_same p.world p.program n code)))))
+        (handle_cases (λ z. SameAt p n (result (Wide of.of) z m) code) sb v (c.temps e) b (λ i. stuck_same p.world p.program n code)
+        (λ i. stuck_same p.world p.program n code)))))
         (λ (b : IsFat p.world m c.memory sb v (three_in e c.temps)).
         let other = wide_is p m c sb v (three_in e c.temps) b in
         subst (λ z. SameAt p n (result z v m) code) (sym of.is)

@@ -240,6 +240,7 @@ contents_reached p n d e shape code agrees = record {
             ((subst (λ z. PlaceGoesOn p n d m c (pointee z) s (meaning.statements rest next)) o.shape_is goes).go m1 c1 t byte fits1 later1 kept1 x
             full leads))))
             (λ birth x shape_is. stuck_same p.world p.program n _)
+            (λ birth is. stuck_same p.world p.program n _)
             (λ v o.
             subst (λ z. SameAt p n (accessed (length (cells_of p.world (pointee z))) v s m1) (meaning.statements (put (reach_code p.world z d) rest) next c1))
             (sym o.shape_is)

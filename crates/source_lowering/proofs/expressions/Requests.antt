@@ -78,6 +78,7 @@ handle_gives p n d e shape code agrees = record {
             thin_same p.world p.program n shape m1 c1.memory v (c1.temps d) (λ u. maker_of u s) _ o
             (λ x b. stuck_same p.world p.program n _) (λ t byte x lies leads. stuck_same p.world p.program n _))
             (λ birth x shape_is. goes.go m1 c1 birth fits1 later1 kept1 x)
+            (λ birth is. stuck_same p.world p.program n _)
             (λ v o.
             fat_same p.world p.program n shape m1 c1.memory v (c1.temps d) (c1.temps (d + 1)) (c1.temps (d + 2)) (λ u. maker_of u s) _ o
             (λ x. stuck_same p.world p.program n _) (λ span byte x. stuck_same p.world p.program n _));
@@ -165,7 +166,8 @@ made_agrees p n d own unique to e shape whole_values word_values code whole word
     by VoidShape o t nums as_struct as_word = absurd o
     by (FatShape q) o t nums as_struct as_word =
         let one = as_word t nums in after (FatShape q) o one.shape_is (value_makes p n d unique (FatShape q) e word unions structs o one)
-    by KeyShape o t nums as_struct as_word = absurd o
+    by KeyShape o t nums as_struct as_word =
+        let one = as_word t nums in after KeyShape o one.shape_is (value_makes p n d unique KeyShape e word unions structs tt one)
     by (UnionShape tag) o t nums as_struct as_word =
         let one = as_struct t nums in after (UnionShape tag) o one.shape_is (whole_makes p n d own unique (UnionShape tag) e whole unions structs o less one)
     by (ArrayShape count of) o t nums as_struct as_word = absurd o

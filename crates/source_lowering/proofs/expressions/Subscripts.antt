@@ -82,6 +82,7 @@ indexed_placed p n d a b sa sb ca cb x y = record {
                   thin_same p.world p.program n sa m2 c2.memory v (c2.temps (d + 1)) (spans word) (meaning.statements (put end rest) next c2) o
                   (λ null b. stuck_same p.world p.program n _) (λ t byte pointer full leads. stuck_same p.world p.program n _))
                   (λ birth shown shape_is. stuck_same p.world p.program n _)
+                  (λ birth is. stuck_same p.world p.program n _)
                   (λ v o.
                   both_there p n d word m c m2 c2 sa v s rest next fits2 (later_on (within p) m m1 m2 c.memory c1.memory c2.memory later1 later2)
                   (λ k less. kept2 k (omega (arith, less)) ∙ kept1 k less) (kept2 d (omega arith) ∙ temp) o goes);
@@ -90,6 +91,7 @@ indexed_placed p n d a b sa sb ca cb x y = record {
             thin_same p.world p.program n sb m1 c1.memory v (c1.temps d) indices (meaning.statements (put ca (put end rest)) next c1) o
             (λ null b. stuck_same p.world p.program n _) (λ t byte pointer full leads. stuck_same p.world p.program n _))
             (λ birth shown shape_is. stuck_same p.world p.program n _)
+            (λ birth is. stuck_same p.world p.program n _)
             (λ v o.
             fat_same p.world p.program n sb m1 c1.memory v (c1.temps d) (c1.temps (d + 1)) (c1.temps (d + 2)) indices
             (meaning.statements (put ca (put end rest)) next c1) o (λ null. stuck_same p.world p.program n _)

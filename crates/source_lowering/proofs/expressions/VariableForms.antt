@@ -70,7 +70,7 @@ local_read p n d out index frame (FatShape to) b h lies block led =
     (placed_reached p n d (FatShape to) (give (local_spot frame index)) (Do (LocalAddress d out index) ∷ [])
     (local_placed p n d out index frame (FatShape to) lies block led))
 local_read p n d out index frame HandleShape b h lies block led = variables.get_local p n d out index frame HandleShape b tt block led
-local_read p n d out index frame KeyShape b h lies block led = absurd h
+local_read p n d out index frame KeyShape b h lies block led = variables.get_local p n d out index frame KeyShape b tt block led
 local_read p n d out index frame (StructShape tag) b h lies block led = absurd h
 local_read p n d out index frame (UnionShape tag) b h lies block led = absurd h
 local_read p n d out index frame (ArrayShape count of) b h lies block led = absurd h
@@ -88,7 +88,7 @@ local_stored p n d out index frame (FatShape to) h lies block led =
     (placed_reached p n (d + 3) (FatShape to) (give (local_spot frame index)) (Do (LocalAddress (d + 3) out index) ∷ [])
     (local_placed p n (d + 3) out index frame (FatShape to) lies block led))
 local_stored p n d out index frame HandleShape h lies block led = variables.put_local p n d out index frame HandleShape tt block led
-local_stored p n d out index frame KeyShape h lies block led = absurd h
+local_stored p n d out index frame KeyShape h lies block led = variables.put_local p n d out index frame KeyShape tt block led
 local_stored p n d out index frame (StructShape tag) h lies block led = absurd h
 local_stored p n d out index frame (UnionShape tag) h lies block led = absurd h
 local_stored p n d out index frame (ArrayShape count of) h lies block led = absurd h
@@ -113,7 +113,7 @@ global_read p n d number VoidShape b h lies led = absurd h
 global_read p n d number (ThinShape q owner to) b h lies led = global_parts p n d number (ThinShape q owner to) b h lies led
 global_read p n d number (FatShape to) b h lies led = global_parts p n d number (FatShape to) b h lies led
 global_read p n d number HandleShape b h lies led = global_parts p n d number HandleShape b h lies led
-global_read p n d number KeyShape b h lies led = absurd h
+global_read p n d number KeyShape b h lies led = global_parts p n d number KeyShape b h lies led
 global_read p n d number (StructShape tag) b h lies led = absurd h
 global_read p n d number (UnionShape tag) b h lies led = absurd h
 global_read p n d number (ArrayShape count of) b h lies led = absurd h

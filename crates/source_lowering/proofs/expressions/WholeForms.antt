@@ -69,7 +69,7 @@ member_same p n d value cells byte own s e from wholes words whole word takes_wh
     by HandleShape o t nums = value_member p n d value cells byte HandleShape e from word tt (words_as t nums)
     by VoidShape o t nums = absurd o
     by (FatShape to) o t nums = value_member p n d value cells byte (FatShape to) e from word o (words_as t nums)
-    by KeyShape o t nums = absurd o
+    by KeyShape o t nums = value_member p n d value cells byte KeyShape e from word tt (words_as t nums)
     by (UnionShape tag) o t nums = whole_member p n d value cells byte own (UnionShape tag) e whole structs o less (structs_as t nums)
     by (ArrayShape count of) o t nums = absurd o
 

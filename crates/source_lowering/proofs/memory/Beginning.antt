@@ -310,6 +310,6 @@ declared_same p n scope name VoidShape shapes then_act next m c rest after world
 declared_same p n scope name (FatShape to) shapes then_act next m c rest after world frame structs object begins pending fits goes =
     object_begins p n scope name (FatShape to) shapes then_act next m c rest after world frame structs object pending fits goes
 declared_same p n scope name HandleShape shapes then_act next m c rest after world frame structs object begins pending fits goes = absurd begins
-declared_same p n scope name KeyShape shapes then_act next m c rest after world frame structs object begins pending fits goes = absurd object
+declared_same p n scope name KeyShape shapes then_act next m c rest after world frame structs object begins pending fits goes = absurd begins
 declared_same p n scope name (UnionShape tag) shapes then_act next m c rest after world frame structs object begins pending fits goes = absurd begins
 declared_same p n scope name (ArrayShape count of) shapes then_act next m c rest after world frame structs object begins pending fits goes = absurd object

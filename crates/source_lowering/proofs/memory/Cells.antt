@@ -129,7 +129,11 @@ plain_of w HandleShape h = record {
   layout = refl;
   one = λ m c v cs o. record { word = Birth o.birth; is = o.shown; fits = refl };
 }
-plain_of w KeyShape h = absurd h
+plain_of w KeyShape h = record {
+  cells = refl;
+  layout = refl;
+  one = λ m c v cs o. record { word = Birth o.birth; is = o.shown; fits = refl };
+}
 plain_of w (StructShape tag) h = absurd h
 plain_of w (UnionShape tag) h = absurd h
 plain_of w (ArrayShape count of) h = absurd h
@@ -144,7 +148,7 @@ object_local w VoidShape h = absurd h
 object_local w (ThinShape may_be_null owner to) h = refl
 object_local w (FatShape to) h = refl
 object_local w HandleShape h = refl
-object_local w KeyShape h = absurd h
+object_local w KeyShape h = refl
 object_local w (UnionShape tag) h = refl
 object_local w (ArrayShape count of) h = absurd h
 

@@ -65,7 +65,7 @@ first_shown w m c s v h e = by s h e
     by VoidShape h e = absurd h
     by (FatShape to) h e = inl (record { word = 0; value = sym (held (Wide None) e); shown = refl; small = omega arith })
     by HandleShape h e = absurd (none source.Blank refl e)
-    by KeyShape h e = absurd h
+    by KeyShape h e = absurd (none source.Blank refl e)
     by (StructShape tag) h e = absurd h
     by (UnionShape tag) h e = absurd h
     by (ArrayShape count of) h e = absurd h
@@ -79,7 +79,7 @@ holds_value unions VoidShape v h e = h
 holds_value unions (ThinShape b owner to) v h e = h
 holds_value unions (FatShape to) v h e = h
 holds_value unions HandleShape v h e = tt
-holds_value unions KeyShape v h e = h
+holds_value unions KeyShape v h e = tt
 holds_value unions (StructShape tag) v h e = h
 holds_value unions (UnionShape tag) v h e = absurd (none source.Blank refl e)
   where

@@ -249,7 +249,7 @@ closed_by : (q r : source.Region) (b : Bool) (x : source.State) (y : core.Standi
 closed_by q r true x y e h = rw (region_as q r, e) refl
 closed_by q r false x y e h = rw (region_as q r, e) h
 
-dead_still : (b : Bool) (x : source.State) → state_is_live x ≡ false → state_is_live (if b then Dead else x) ≡ false
+dead_still : (b : Bool) (x : source.State) → x ≡ Dead → (if b then Dead else x) ≡ Dead
 dead_still true x h = refl
 dead_still false x h = h
 

@@ -196,7 +196,8 @@ local_later b w m m' c c' r index (FatShape to) l h =
     made_later b m m' c c' (record { region = r; object = index; cell = 0 }) 0 (layout_of w (FatShape to)).cells l h
 local_later b w m m' c c' r index HandleShape l h =
     made_later b m m' c c' (record { region = r; object = index; cell = 0 }) 0 (layout_of w HandleShape).cells l h
-local_later b w m m' c c' r index KeyShape l h = made_later b m m' c c' (record { region = r; object = index; cell = 0 }) 0 (layout_of w KeyShape).cells l h
+local_later b w m m' c c' r index KeyShape l h =
+    made_later b m m' c c' (record { region = r; object = index; cell = 0 }) 0 (layout_of w KeyShape).cells l h
 local_later b w m m' c c' r index (StructShape tag) l h =
     made_later b m m' c c' (record { region = r; object = index; cell = 0 }) 0 (layout_of w (StructShape tag)).cells l h
 local_later b w m m' c c' r index (UnionShape tag) l h =

@@ -91,7 +91,7 @@ contents_are (FatShape to) h d (x ∷ y ∷ []) c fit = absurd fit.1.1
 contents_are (FatShape to) h d (x ∷ y ∷ z ∷ []) c fit = three_in d x y z c
 contents_are (FatShape to) h d (x ∷ y ∷ z ∷ u ∷ us) c fit = absurd fit.1.1.1
 contents_are HandleShape h d xs c fit = word_in HandleShape (first_part HandleShape) d xs c fit
-contents_are KeyShape h d xs c fit = absurd h
+contents_are KeyShape h d xs c fit = word_in KeyShape (first_part KeyShape) d xs c fit
 contents_are (StructShape tag) h d xs c fit = absurd h
 contents_are (UnionShape tag) h d xs c fit = absurd h
 contents_are (ArrayShape count of) h d xs c fit = absurd h
@@ -160,7 +160,8 @@ loads_does (FatShape to) h c d cells bytes byte spot (x ∷ y ∷ z ∷ []) rest
 loads_does (FatShape to) h c d cells bytes byte spot (x ∷ y ∷ z ∷ u ∷ us) rest next temp live parts = absurd parts.1.1.1
 loads_does HandleShape h c d cells bytes byte spot xs rest next temp live parts =
     word_loads HandleShape (first_part HandleShape) c d cells bytes byte spot xs (meaning.statements rest next) temp live parts
-loads_does KeyShape h c d cells bytes byte spot xs rest next temp live parts = absurd h
+loads_does KeyShape h c d cells bytes byte spot xs rest next temp live parts =
+    word_loads KeyShape (first_part KeyShape) c d cells bytes byte spot xs (meaning.statements rest next) temp live parts
 loads_does (StructShape tag) h c d cells bytes byte spot xs rest next temp live parts = absurd h
 loads_does (UnionShape tag) h c d cells bytes byte spot xs rest next temp live parts = absurd h
 loads_does (ArrayShape count of) h c d cells bytes byte spot xs rest next temp live parts = absurd h
@@ -252,7 +253,8 @@ stores_does (FatShape to) h c p d cells bytes byte spot (x ∷ y ∷ z ∷ []) r
 stores_does (FatShape to) h c p d cells bytes byte spot (x ∷ y ∷ z ∷ u ∷ us) rest next temp live parts fit = absurd parts.1.1.1
 stores_does HandleShape h c p d cells bytes byte spot olds rest next temp live parts fit =
     word_stores HandleShape (first_part HandleShape) c p d cells bytes byte spot olds (meaning.statements rest next) temp live parts fit.0
-stores_does KeyShape h c p d cells bytes byte spot olds rest next temp live parts fit = absurd h
+stores_does KeyShape h c p d cells bytes byte spot olds rest next temp live parts fit =
+    word_stores KeyShape (first_part KeyShape) c p d cells bytes byte spot olds (meaning.statements rest next) temp live parts fit.0
 stores_does (StructShape tag) h c p d cells bytes byte spot olds rest next temp live parts fit = absurd h
 stores_does (UnionShape tag) h c p d cells bytes byte spot olds rest next temp live parts fit = absurd h
 stores_does (ArrayShape count of) h c p d cells bytes byte spot olds rest next temp live parts fit = absurd h

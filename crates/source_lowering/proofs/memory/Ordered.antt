@@ -175,7 +175,7 @@ object_by unions structs (FatShape to) us all o = record {
   even = (inr (refl, refl), tt);
 }
 object_by unions structs HandleShape us all o = word_ordered unions structs HandleShape refl refl refl refl
-object_by unions structs KeyShape us all o = absurd o
+object_by unions structs KeyShape us all o = word_ordered unions structs KeyShape refl refl refl refl
 object_by unions structs (UnionShape tag) us all o =
     let size = union_size unions tag us o in
     record {

@@ -277,7 +277,7 @@ overwritten w m c t from l xs vs count a cells free shown = record {
     closed = λ r. ap source.state_is_closed (same.state r) ∙ a.closed r;
     unborn = λ d h.
         let two = a.unborn d (subst (λ z. z ≤ d) same.births h) in
-        (same.objects (source.Born d) ∙ two.0, ap source.state_is_live (same.state (source.Born d)) ∙ two.1);
+        (same.objects (source.Born d) ∙ two.0, same.state (source.Born d) ∙ two.1);
     blocks = λ d. same.objects (source.Born d) ∙ a.blocks d;
     ungranted = λ d u j r h. copied_none l (at t) from c u j (a.ungranted d u j r h);
   };

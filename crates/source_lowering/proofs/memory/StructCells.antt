@@ -38,7 +38,7 @@ value_cell unions VoidShape h = h
 value_cell unions (ThinShape may_be_null owner to) h = h
 value_cell unions (FatShape to) h = h
 value_cell unions HandleShape h = tt
-value_cell unions KeyShape h = h
+value_cell unions KeyShape h = tt
 value_cell unions (StructShape tag) h = h
 value_cell unions (UnionShape tag) h = absurd h
 value_cell unions (ArrayShape count of) h = h
@@ -128,7 +128,7 @@ object_by unions structs VoidShape all o = absurd o
 object_by unions structs (ThinShape may_be_null owner to) all o = value_cells unions structs (ThinShape may_be_null owner to) (o, tt) refl refl
 object_by unions structs (FatShape to) all o = value_cells unions structs (FatShape to) (o, tt) refl refl
 object_by unions structs HandleShape all o = value_cells unions structs HandleShape (tt, tt) refl refl
-object_by unions structs KeyShape all o = absurd o
+object_by unions structs KeyShape all o = value_cells unions structs KeyShape (tt, tt) refl refl
 object_by unions structs (UnionShape tag) all o = value_cells unions structs (UnionShape tag) (o, tt) refl refl
 object_by unions structs (ArrayShape count of) all o = absurd o
 

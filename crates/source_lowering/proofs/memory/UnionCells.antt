@@ -138,7 +138,7 @@ shown_fits w m c s v cs h o = by s h o
     by (ThinShape b owner to) g u = value (ThinShape b owner to) g u
     by (FatShape to) g u = value (FatShape to) g u
     by HandleShape g u = value HandleShape tt u
-    by KeyShape g u = absurd g
+    by KeyShape g u = value KeyShape tt u
     by (StructShape tag) g u = absurd g
     by (ArrayShape count of) g u = absurd g
 

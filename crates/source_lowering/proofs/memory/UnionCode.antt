@@ -111,7 +111,8 @@ held_does (FatShape to) h c d byte spot fat tag (x ∷ y ∷ z ∷ []) rest next
 held_does (FatShape to) h c d byte spot fat tag (x ∷ y ∷ z ∷ u ∷ us) rest next temp live parts fit = absurd fit.1.1.1
 held_does HandleShape h c d byte spot fat tag xs rest next temp live parts fit =
     word_held c d byte spot fat (piece 0 4 core.Blank) xs (meaning.statements rest next) temp live parts.1 fit
-held_does KeyShape h c d byte spot fat tag xs rest next temp live parts fit = absurd h
+held_does KeyShape h c d byte spot fat tag xs rest next temp live parts fit =
+    word_held c d byte spot fat (piece 0 4 core.Blank) xs (meaning.statements rest next) temp live parts.1 fit
 held_does (StructShape tag) h c d byte spot fat number xs rest next temp live parts fit = absurd h
 held_does (UnionShape tag) h c d byte spot fat number xs rest next temp live parts fit = absurd h
 held_does (ArrayShape count of) h c d byte spot fat tag xs rest next temp live parts fit = absurd h
@@ -196,7 +197,7 @@ held_put (FatShape to) h c p e byte spot true (x ∷ y ∷ []) rest next temp li
 held_put (FatShape to) h c p e byte spot true (x ∷ y ∷ z ∷ []) rest next temp live parts fit = fat_put to c p e byte spot x y z rest next temp live parts
 held_put (FatShape to) h c p e byte spot true (x ∷ y ∷ z ∷ u ∷ us) rest next temp live parts fit = absurd parts.1.1.1
 held_put HandleShape h c p e byte spot fat olds rest next temp live parts fit = word_put c p e byte spot fat olds (meaning.statements rest next) temp live parts
-held_put KeyShape h c p e byte spot fat olds rest next temp live parts fit = absurd h
+held_put KeyShape h c p e byte spot fat olds rest next temp live parts fit = word_put c p e byte spot fat olds (meaning.statements rest next) temp live parts
 held_put (StructShape tag) h c p e byte spot fat olds rest next temp live parts fit = absurd h
 held_put (UnionShape tag) h c p e byte spot fat olds rest next temp live parts fit = absurd h
 held_put (ArrayShape count of) h c p e byte spot fat olds rest next temp live parts fit = absurd h

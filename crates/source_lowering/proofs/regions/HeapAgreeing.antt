@@ -99,7 +99,7 @@ heap_agrees w items ss structs h = record {
     free (source.Born zero) object cell e = ap (cell_in cell) (beyond_end (heap_objects w items ss) object e)
     free (source.Born (suc d)) object cell e = ap (λ b. if b then cell_in cell (slice_get (heap_objects w items ss) object) else None) (not_zero d)
 
-    later : (d : ℕ) → m.births ≤ d → (m.objects (source.Born d) ≡ 0) × (state_is_live (m.state (source.Born d)) ≡ false)
+    later : (d : ℕ) → m.births ≤ d → (m.objects (source.Born d) ≡ 0) × (m.state (source.Born d) ≡ source.Dead)
     later zero less = absurd (omega (arith, less))
     later (suc d) less = (rw (not_zero d) refl, rw (not_zero d) refl)
 

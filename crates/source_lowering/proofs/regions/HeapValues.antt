@@ -70,7 +70,7 @@ datum_is w VoidShape x ds h = absurd h
 datum_is w (ThinShape may_be_null owner to) x ds h = refl
 datum_is w (FatShape to) x ds h = absurd h
 datum_is w HandleShape x ds h = refl
-datum_is w KeyShape x ds h = absurd h
+datum_is w KeyShape x ds h = refl
 datum_is w (StructShape tag) x ds h = absurd h
 datum_is w (UnionShape tag) x ds h = absurd h
 datum_is w (ArrayShape count of) x ds h = absurd h
@@ -226,7 +226,7 @@ unset_value w (ThinShape b owner to) ds cell shape v structs begins object e = w
 unset_value w VoidShape ds cell shape v structs begins object e = absurd object
 unset_value w (FatShape to) ds cell shape v structs begins object e = begun_value w (FatShape to) ds cell shape v structs object e
 unset_value w HandleShape ds cell shape v structs begins object e = word_global w HandleShape ds cell shape v tt e
-unset_value w KeyShape ds cell shape v structs begins object e = absurd object
+unset_value w KeyShape ds cell shape v structs begins object e = word_global w KeyShape ds cell shape v tt e
 unset_value w (UnionShape tag) ds cell shape v structs begins object e = absurd begins
 unset_value w (ArrayShape count of) ds cell shape v structs begins object e = absurd object
 

@@ -81,7 +81,7 @@ region_born_agree w m c a = record {
   heap = omega arith;
   unborn = λ d h.
       let two = a.unborn d (omega (arith, h)) in
-      (two.0, ap (λ b. source.state_is_live (if b then source.Live else m.state (source.Born d))) (later_number d m.births h) ∙ two.1);
+      (two.0, ap (λ b. if b then source.Live else m.state (source.Born d)) (later_number d m.births h) ∙ two.1);
   closed = λ q.
       subst (λ d. source.state_is_closed ((source_born m).state q)
       ≡ core.is_closed (if core.same_region (region_at q) (core.Born d) then core.Live else c.standing (region_at q))) a.births
@@ -148,7 +148,7 @@ live_born w m c a r live = by (nat_lt r m.births) refl
     by : (b : Bool) → nat_lt r m.births ≡ b → r < m.births
     by true e = grind (arith, nat_tests, e)
     by false e =
-        let above : m.births ≤ r = grind (arith, nat_tests, e) in absurd (false≢true (sym (a.unborn r above).1 ∙ live))
+        let above : m.births ≤ r = grind (arith, nat_tests, e) in absurd (false≢true (sym (ap source.state_is_live (a.unborn r above).1) ∙ live))
 
 -- a region of a scope, which may have ended
 pub record IsScoped (c : core.Memory) (r : ℕ) : Type 0 where

@@ -5,7 +5,7 @@ use Rattle.cyc_tree.specs.declared.name.Sign.TheVariants.{Fat}
 use Rattle.cyc_tree.specs.Tree as tree
 use Rattle.cyc_tree.specs.Tree.{Array, Arrow, BlockItems, Case, Default, Expression, Initializer, Member, MoreClauses, MoreExpressions, MoreLinks, NoClauses}
 use Rattle.cyc_tree.specs.Tree.{NoExpressions, NoItems, NoLinks, NoSuffixes, Program, Statement, TypeName}
-use Rattle.source_meaning.specs.Shapes.{Shape, IntShape, UnsignedShape, CharShape, ThinShape, FatShape, HandleShape}
+use Rattle.source_meaning.specs.Shapes.{Shape, IntShape, UnsignedShape, CharShape, ThinShape, FatShape, HandleShape, KeyShape}
 use Rattle.source_meaning.specs.Steps.{World}
 use Rattle.source_meaning.specs.Programs.{routine_of, world_of}
 use Rattle.source_meaning.proofs.Trees.{named, variable, number, pointer, typed, ◌▸◌, ◌▹◌, function}
@@ -21,6 +21,7 @@ value_exact w CharShape h = refl
 value_exact w (ThinShape may_be_null owner to) h = refl
 value_exact w (FatShape to) h = refl
 value_exact w HandleShape h = refl
+value_exact w KeyShape h = refl
 value_exact w _ h = absurd h
 
 -- struct P { int a; int b; }; tagunion U { int i; char c; };

@@ -20,7 +20,7 @@ use Rattle.source_meaning.specs.Shapes.{
 use Rattle.source_meaning.specs.Memory as source
 use Rattle.source_meaning.specs.Memory.{Holds, Lent, Scalar, Spot, Thin, is_live, is_moved, same_spot, with_cell}
 use Rattle.source_meaning.specs.Steps as steps
-use Rattle.source_meaning.specs.Steps.{World, Entity, Variable, Scope, Flow, Act, ◌>>=◌}
+use Rattle.source_meaning.specs.Steps.{World, Variable, Scope, Flow, Act, ◌>>=◌}
 use Rattle.source_meaning.specs.Values.{put_content, read_cell}
 use Rattle.source_meaning.specs.Places.{entity_of, with_binding}
 use Rattle.source_meaning.specs.Conversions.{converted, converted_scalar}
@@ -42,7 +42,7 @@ use Rattle.source_lowering.proofs.memory.Keeping.{unlent_is}
 use Rattle.source_lowering.proofs.memory.CellParts.{agree_keeping, later_shown}
 use Rattle.source_lowering.proofs.Runs.{put_all, stuck_same}
 use Rattle.source_lowering.proofs.values.AnyValues.{value_given}
-use Rattle.source_lowering.proofs.values.Integers.{word_value}
+use Rattle.source_lowering.proofs.values.Integers.{thin_moved, word_value}
 use Rattle.source_lowering.proofs.values.ThinConversions.{word_same}
 use Rattle.source_lowering.proofs.values.Values.{given_later, put_three}
 use Rattle.source_lowering.proofs.expressions.Calls.{NoResult, ResultIs}
@@ -92,7 +92,7 @@ returned_later b m0 m c0 c t from v free is l = record {
     by u s x false e h = ap (λ z. if z then Some (cell from (Holds v)) else m.cells u) e ∙ l.lent u s x h
 
 -- what comes after the block in the source
-abbrev after_block : (Flow → source.Memory → steps.Step) → Spot → Scalar → Flow → source.Memory → steps.Step
+abbrev pub after_block : (Flow → source.Memory → steps.Step) → Spot → Scalar → Flow → source.Memory → steps.Step
 after_block next t v flow = put_content t (Holds v) (λ u. next flow)
 
 back : (w : World) (fs : Program) (n all : ℕ) (b : Bound) (m0 m1 m : source.Memory) (c0 c1 c : Config) (t : Spot) (from : Shape) (v : Scalar)
@@ -133,38 +133,21 @@ ways_back w fs n h b m0 m1 c0 c1 t from v result next falls_on after free there 
 
 -- ---- the pointer is lent while the rest of the block runs
 
-lent_on : (p : Point) (n : ℕ) (scope : Scope) (name : List ℕ) (t : Spot) (from shape : Shape) (shapes : List Shape) (v : Scalar) (us : List Scalar)
-    (result : Shape) (then_act : Scope → Act Flow) (others : List Statement) (m : source.Memory) (c : Config) (next : Flow → source.Memory → steps.Step)
-    (rest : Statements) (after : Next) → scope.world ≡ p.world → scope.frame ≡ p.frame → IsWordShape shape → p.pending ≡ shape ∷ shapes
-    → SameState p m c → m.cells t ≡ Some (cell from (Holds v)) → is_live m t.region ≡ true
-    → Given p.world m c.memory shape us (contents_in p.regions.all shape c.temps)
-    → RunsAs (with_local p name shape shapes) n p.frame result (then_act (with_binding scope name (Variable shape (local_spot p.frame p.made)))) others
+-- The variable's cell is lent from here on, until its block is left; what is done meanwhile does the same as its code.
+pub lent_same : (p : Point) (n : ℕ) (t : Spot) (from : Shape) (v : Scalar) (result : Shape) (inner : Act Flow) (m : source.Memory) (c : Config)
+    (next : Flow → source.Memory → steps.Step) (rest : Statements) (after : Next) (step : core_steps.Step) → SameState p m c
+    → m.cells t ≡ Some (cell from (Holds v)) → is_live m t.region ≡ true
     → WaysOn p.world p.program n p.regions (around p p.frame) m c result next (meaning.statements rest after) after
-    → SameAt p n (lending t v (local_with scope name shape us then_act) next m)
-    (meaning.statements (put (put_local shape p.regions.all 0 p.made) (put others rest)) after c)
-lent_on p n scope name t from shape shapes v us result then_act others m c next rest after world frame word pending fits holds live given more ways =
+    → ((m1 : source.Memory) → ((b : Bound) → Grown b m c.memory m1 c.memory) → SameState p m1 c
+    → WaysOn p.world p.program n p.regions (around p p.frame) m1 c result (after_block next t v) (meaning.statements rest after) after
+    → SameAt p n (inner (after_block next t v) m1) step)
+    → SameAt p n (lending t v inner next m) step
+lent_same p n t from v result inner m c next rest after step fits holds live ways go =
     rw (live, holds)
-    (local_with_same p n (d + words_in shape) d scope name shape shapes us then_act (after_block next t v) m1 c (put others rest) after world frame
-    (word_value shape word) (omega arith) pending fits1
-    (value_given p.world m1 c.memory shape us (contents_in d shape c.temps) (word_value shape word)
-    (given_later (within p) p.world m m1 c.memory c.memory shape us (contents_in d shape c.temps) (later1 (within p)) given))
-    (record {
-      above = omega arith;
-      go = λ m2 c2 fits2 later2 kept2 active2.
-          more.same m2 c2 (after_block next t v) rest after fits2
-          (ways_back p.world p.program n p.regions (around p p.frame) m m2 c c2 t from v result next (meaning.statements rest after) after free
-          (later2.lent t from v here)
-          (record {
-            agree = fits2.agree;
-            later = later_on (around p p.frame) m m1 m2 c.memory c.memory c2.memory (later1 (around p p.frame)) later2;
-            active = active2;
-            kept = λ i less. kept2 i (omega (arith, less));
-          }) ways);
-    }))
+    (go m1 later1 fits1
+    (ways_back p.world p.program n p.regions (around p p.frame) m m1 c c t from v result next (meaning.statements rest after) after free here
+    (record { agree = fits1.agree; later = later1 (around p p.frame); active = refl; kept = λ i less. refl }) ways))
   where
-    d : ℕ
-    d = p.regions.all
-
     m1 : source.Memory
     m1 = with_cell m t (cell from (Lent v))
 
@@ -183,6 +166,35 @@ lent_on p n scope name t from shape shapes v us result then_act others m c next 
         fits_later p m m1 c c fits
         (agree_keeping p.world m c.memory t from (Holds v) (Lent v) v one.contents refl fits.agree holds one.held one.shown) (later1 (within p)) refl
         (λ k less. refl)
+
+-- an alias is made meanwhile
+lent_on : (p : Point) (n : ℕ) (scope : Scope) (name : List ℕ) (t : Spot) (from shape : Shape) (shapes : List Shape) (v : Scalar) (us : List Scalar)
+    (result : Shape) (then_act : Scope → Act Flow) (others : List Statement) (m : source.Memory) (c : Config) (next : Flow → source.Memory → steps.Step)
+    (rest : Statements) (after : Next) → scope.world ≡ p.world → scope.frame ≡ p.frame → IsWordShape shape → p.pending ≡ shape ∷ shapes
+    → SameState p m c → m.cells t ≡ Some (cell from (Holds v)) → is_live m t.region ≡ true
+    → Given p.world m c.memory shape us (contents_in p.regions.all shape c.temps)
+    → RunsAs (with_local p name shape shapes) n p.frame result (then_act (with_binding scope name (Variable shape (local_spot p.frame p.made)))) others
+    → WaysOn p.world p.program n p.regions (around p p.frame) m c result next (meaning.statements rest after) after
+    → SameAt p n (lending t v (local_with scope name shape us then_act) next m)
+    (meaning.statements (put (put_local shape p.regions.all 0 p.made) (put others rest)) after c)
+lent_on p n scope name t from shape shapes v us result then_act others m c next rest after world frame word pending fits holds live given more ways =
+    lent_same p n t from v result (local_with scope name shape us then_act) m c next rest after
+    (meaning.statements (put (put_local shape d 0 p.made) (put others rest)) after c) fits holds live ways
+    (λ m1 later1 fits1 ways1.
+    local_with_same p n (d + words_in shape) d scope name shape shapes us then_act (after_block next t v) m1 c (put others rest) after world frame
+    (word_value shape word) (omega arith) pending fits1
+    (value_given p.world m1 c.memory shape us (contents_in d shape c.temps) (word_value shape word)
+    (given_later (within p) p.world m m1 c.memory c.memory shape us (contents_in d shape c.temps) (later1 (within p)) given))
+    (record {
+      above = omega arith;
+      go = λ m2 c2 fits2 later2 kept2 active2.
+          more.same m2 c2 (after_block next t v) rest after fits2
+          (ways_later p.world p.program n p.regions (around p p.frame) (around p p.frame) m1 m2 c c2 result (after_block next t v)
+          (meaning.statements rest after) after (less_self (around p p.frame)) later2 active2 (λ i less. kept2 i (omega (arith, less))) ways1);
+    }))
+  where
+    d : ℕ
+    d = p.regions.all
 
 -- ---- both do the same
 
@@ -284,7 +296,7 @@ alias_same n scope k result s name pointer value shapes then_act others thin wor
         (conversion_code scope.world shape from k.regions.all ++ put_local shape k.regions.all 0 k.made)) ++ others)
     copied shape is h first on =
         alias_declared p n scope s name pointer.text from shape (get_code scope.world k.names pointer.text k.regions.all) shapes result then_act others refl
-        refl (pointer_named p n k.regions.all pointer.text known.locals known.words known.world.globals thin) thin is h first on
+        refl (pointer_named p n k.regions.all pointer.text known.locals known.words known.world.globals (thin_moved from thin)) thin is h first on
 
     by : (shape : Shape) → settled_by s from ≡ shape → IsWordShape shape → k.pending ≡ shape ∷ shapes → Declared shape → Goal shape
     by (ThinShape b o to) is h first on = copied (ThinShape b o to) is h first on
@@ -294,7 +306,7 @@ alias_same n scope k result s name pointer value shapes then_act others thin wor
     by HandleShape is h first on = copied HandleShape is h first on
     by VoidShape is h first on = absurd h
     by (FatShape to) is h first on = absurd h
-    by KeyShape is h first on = absurd h
+    by KeyShape is h first on = copied KeyShape is h first on
     by (StructShape tag) is h first on = absurd h
     by (UnionShape tag) is h first on = absurd h
     by (ArrayShape count of) is h first on = absurd h

@@ -1,5 +1,5 @@
 -- A block is entered with its locals to come, and left whichever way.
-use Rattle.std.proofs.Common.{◌≡◌, ℕ, zero, suc, ◌<◌, ◌≤◌, true, nat_eq, inl, inr, ⊎_elim, List, [], ◌∷◌, refl, sym, ap, ◌∙◌, subst, arith}
+use Rattle.std.proofs.Common.{◌≡◌, ℕ, zero, suc, ◌<◌, ◌≤◌, Bool, true, false, nat_eq, inl, inr, ⊎_elim, List, [], ◌∷◌, refl, sym, ap, ◌∙◌, subst, arith}
 use Rattle.std.specs.Prelude.{not, ◌&&◌}
 use Rattle.cyc_words.specs.Events as events
 use Rattle.source_meaning.specs.Shapes.{Shape, Layout}
@@ -9,7 +9,7 @@ use Rattle.source_meaning.specs.Steps as steps
 use Rattle.source_meaning.specs.Steps.{World, Binding, Entity, Flow, Act}
 use Rattle.source_meaning.specs.Regions.{in_block}
 use Rattle.core_meaning.specs.Memory as core
-use Rattle.core_meaning.specs.Memory.{Content, is_lexical, with_standing}
+use Rattle.core_meaning.specs.Memory.{Content, is_lexical, is_opened, with_standing}
 use Rattle.core_meaning.specs.Operations.{says}
 use Rattle.core_meaning.specs.Core.{Program, Statement, Block, Statements, NoStatements}
 use Rattle.core_meaning.specs.Steps as core_steps
@@ -25,7 +25,7 @@ use Rattle.source_lowering.proofs.expressions.Names.{AreObjectNames}
 use Rattle.source_lowering.proofs.memory.Entering.{made_standing, source_in, core_opened, core_in, agree_entered, entered_later, pending_entered}
 use Rattle.source_lowering.proofs.values.Values.{value_later}
 use Rattle.source_lowering.proofs.expressions.Calls.{NoResult, ResultIs}
-use Rattle.source_lowering.proofs.statements.Ways.{freed, Onward, WaysOn, RunsAs, free_by, each_birth}
+use Rattle.source_lowering.proofs.statements.Ways.{freed, Onward, WaysOn, RunsAs, each_left, free_by, free_next, memory_left, standing_left}
 
 -- ---- names, a block further in
 
@@ -123,29 +123,41 @@ after_out after c exit left = after exit (meaning.out_of_block c.memory.activati
 abbrev pub inside_of : Bound → source.Memory → Bound
 inside_of b m = record { frames = m.activations; standing = b.standing; own = b.own; values = b.values }
 
--- that a region ends and that a block does, one way round and the other
-dead_both : (j d : ℕ) (m : core.Memory) (q : core.Region)
-    → (with_standing (with_standing m (core.Born d) core.Dead) (core.Frame j) core.Dead).standing q
-    ≡ (with_standing (with_standing m (core.Frame j) core.Dead) (core.Born d) core.Dead).standing q
-dead_both j d m (core.Frame i) = refl
-dead_both j d m (core.Own i) = refl
-dead_both j d m (core.Born i) = refl
+-- that a region is left and that a block ends, one way round and the other
+left_both : (j d : ℕ) (now : core.Standing) (m : core.Memory) (q : core.Region)
+    → (with_standing (with_standing m (core.Born d) now) (core.Frame j) core.Dead).standing q
+    ≡ (with_standing (with_standing m (core.Frame j) core.Dead) (core.Born d) now).standing q
+left_both j d now m (core.Frame i) = refl
+left_both j d now m (core.Own i) = refl
+left_both j d now m (core.Born i) = refl
 
-out_freed : (j d : ℕ) (outer : List ℕ) (c : Config)
-    → meaning.out_of_block j outer (with_memory (with_standing c.memory (core.Born d) core.Dead) c)
-    ≡ with_memory (with_standing (meaning.out_of_block j outer c).memory (core.Born d) core.Dead) (meaning.out_of_block j outer c)
-out_freed j d outer c = λ i. record c { blocks = outer; memory = record c.memory { standing = λ q. dead_both j d c.memory q i } }
+out_left : (opened : Bool) (j d : ℕ) (outer : List ℕ) (c : Config)
+    → meaning.out_of_block j outer (with_memory (memory_left opened d c.memory) c)
+    ≡ with_memory (memory_left opened d (meaning.out_of_block j outer c).memory) (meaning.out_of_block j outer c)
+out_left opened j d outer c =
+    λ i. record c { blocks = outer; memory = record c.memory { standing = λ q. left_both j d (standing_left opened) c.memory q i } }
 
--- regions are freed within a block that is left then, or behind it
-freed_out : (all count : ℕ) (next : Config → core_steps.Step) (j : ℕ) (outer : List ℕ) (c : Config)
-    → freed all count (λ c'. next (meaning.out_of_block j outer c')) c ≡ freed all count next (meaning.out_of_block j outer c)
-freed_out all zero next j outer c = refl
-freed_out zero (suc count) next j outer c = refl
-freed_out (suc all) (suc count) next j outer c =
-    each_birth (c.temps all) (free_by (freed all count (λ c'. next (meaning.out_of_block j outer c'))) c)
-    (free_by (freed all count next) (meaning.out_of_block j outer c))
-    (λ d. ap (λ z. checked (not (nat_eq d 0) && is_lexical (c.memory.standing (core.Born d))) (says (events.RegionFree d) z))
-    (freed_out all count next j outer (with_memory (with_standing c.memory (core.Born d) core.Dead) c) ∙ ap (freed all count next) (out_freed j d outer c)))
+-- one region is left within a block that ends then, or behind it
+left_out : (opened : Bool) (next : Config → core_steps.Step) (j : ℕ) (outer : List ℕ) (c : Config) (d : ℕ)
+    → free_by opened (λ c'. next (meaning.out_of_block j outer c')) c d ≡ free_by opened next (meaning.out_of_block j outer c) d
+left_out true next j outer c d =
+    ap (λ z. checked (is_opened (c.memory.standing (core.Born d))) (says (events.KeyClose d) (next z))) (out_left true j d outer c)
+left_out false next j outer c d =
+    ap (λ z. checked (not (nat_eq d 0) && is_lexical (c.memory.standing (core.Born d))) (says (events.RegionFree d) (next z))) (out_left false j d outer c)
+
+-- regions are left within a block that ends then, or behind it
+freed_out : (opened : List Bool) (all count : ℕ) (next : Config → core_steps.Step) (j : ℕ) (outer : List ℕ) (c : Config)
+    → freed opened all count (λ c'. next (meaning.out_of_block j outer c')) c ≡ freed opened all count next (meaning.out_of_block j outer c)
+freed_out opened all zero next j outer c = refl
+freed_out [] all (suc count) next j outer c = refl
+freed_out (o ∷ os) zero (suc count) next j outer c = refl
+freed_out (o ∷ os) (suc all) (suc count) next j outer c =
+    each_left o all inner (freed os all count next) c (meaning.out_of_block j outer c) refl
+    (λ d. free_next o inner (λ c'. freed os all count next (meaning.out_of_block j outer c')) c d
+    (freed_out os all count next j outer (with_memory (memory_left o d c.memory) c)) ∙ left_out o (freed os all count next) j outer c d)
+  where
+    inner : Config → core_steps.Step
+    inner = freed os all count (λ c'. next (meaning.out_of_block j outer c'))
 
 pub ways_out : (w : World) (fs : Program) (n : ℕ) (h : RegionsAround) (b : Bound) (shapes : List Shape) (m : source.Memory) (c : Config) (result : Shape)
     (next : Flow → source.Memory → steps.Step) (after : Next) → SameMemory w m c.memory → b.frames ≤ m.activations
@@ -155,14 +167,16 @@ pub ways_out : (w : World) (fs : Program) (n : ℕ) (h : RegionsAround) (b : Bou
 ways_out w fs n h b shapes m c result next after agree less ways = record {
   falls = λ m' c' o. ways.falls (gone m') (out c') (on m' c' o);
   breaks = λ m' c' o.
-      subst (λ z. Same w fs n (next steps.Breaks (gone m')) z) (sym (freed_out h.all h.broken (after core_steps.Breaks) c.memory.activations c.blocks c'))
+      subst (λ z. Same w fs n (next steps.Breaks (gone m')) z)
+      (sym (freed_out h.opened h.all h.broken (after core_steps.Breaks) c.memory.activations c.blocks c'))
       (ways.breaks (gone m') (out c') (on m' c' o));
   continues = λ m' c' o.
       subst (λ z. Same w fs n (next steps.Continues (gone m')) z)
-      (sym (freed_out h.all h.continued (after core_steps.Continues) c.memory.activations c.blocks c')) (ways.continues (gone m') (out c') (on m' c' o));
+      (sym (freed_out h.opened h.all h.continued (after core_steps.Continues) c.memory.activations c.blocks c'))
+      (ways.continues (gone m') (out c') (on m' c' o));
   returns = λ m' c' vs xs o r.
       subst (λ z. Same w fs n (next (steps.Returns vs) (gone m')) z)
-      (sym (freed_out h.all h.all (after (core_steps.Returns xs)) c.memory.activations c.blocks c'))
+      (sym (freed_out h.opened h.all h.all (after (core_steps.Returns xs)) c.memory.activations c.blocks c'))
       (ways.returns (gone m') (out c') vs xs (on m' c' o)
       (result_later nothing w m' (gone m') c'.memory (out c').memory result vs xs
       (later_gone nothing m' c'.memory m.activations c.memory.activations agree.activations) r));

@@ -271,7 +271,8 @@ local_put (FatShape to) h c address d index frame outer olds rest next below blo
     fat_put to h c address d index frame outer olds rest next below block live parts fit
 local_put HandleShape h c address d index frame outer olds rest next below block live parts fit =
     word_put HandleShape (first_part HandleShape) c address d index frame outer olds (meaning.statements rest next) block live parts fit.0
-local_put KeyShape h c address d index frame outer olds rest next below block live parts fit = absurd h
+local_put KeyShape h c address d index frame outer olds rest next below block live parts fit =
+    word_put KeyShape (first_part KeyShape) c address d index frame outer olds (meaning.statements rest next) block live parts fit.0
 local_put (StructShape tag) h c address d index frame outer olds rest next below block live parts fit = absurd h
 local_put (UnionShape tag) h c address d index frame outer olds rest next below block live parts fit = absurd h
 local_put (ArrayShape count of) h c address d index frame outer olds rest next below block live parts fit = absurd h

@@ -1,5 +1,5 @@
 -- Each declaration that is taken does the same as its code.
-use Rattle.std.proofs.Common.{◌≡◌, ℕ, suc, ◌+◌, ◌≤◌, List, ◌∷◌, ◌++◌, refl, sym, ap, ◌∙◌, subst, arith}
+use Rattle.std.proofs.Common.{◌≡◌, ℕ, suc, ◌+◌, ◌≤◌, List, [], ◌∷◌, ◌++◌, refl, sym, ap, ◌∙◌, subst, arith}
 use Rattle.std.proofs.lemmas.List.{append-nil}
 use Rattle.cyc_tree.specs.Tree as tree
 use Rattle.cyc_tree.specs.Tree.{Expression, TypeName, Initializer, Declaration}
@@ -23,7 +23,7 @@ use Rattle.source_meaning.specs.Shapes.{
 use Rattle.source_meaning.specs.Steps.{World, Variable, Scope, Flow, Act}
 use Rattle.source_meaning.specs.Places.{Sense, with_binding}
 use Rattle.source_meaning.specs.Expressions.{sense}
-use Rattle.source_meaning.specs.Regions.{declared, local_with, initialised, aliased}
+use Rattle.source_meaning.specs.Regions.{declared, local_with, initialised, aliased, new_key}
 use Rattle.source_meaning.specs.Statements as meaning_of
 use Rattle.core_meaning.specs.Core as core
 use Rattle.core_meaning.specs.Meaning as meaning
@@ -61,6 +61,9 @@ use Rattle.source_lowering.proofs.expressions.Numbered.{AreNumbered}
 use Rattle.source_lowering.proofs.bounds.WholeObjects.{unmade_place, unmade_struct}
 use Rattle.source_lowering.proofs.statements.WholeStatements.{whole_begins}
 use Rattle.source_lowering.proofs.statements.Aliasing.{alias_same}
+use Rattle.source_lowering.proofs.statements.Opening.{key_declared, open_declared}
+use Rattle.source_lowering.proofs.expressions.PointerReads.{key_named}
+use Rattle.source_lowering.specs.Lowered.{get_code}
 
 -- ---- declarations
 
@@ -319,7 +322,8 @@ initialised_same n scope k result name of e value shapes then_act others type h 
         value_initialised n scope k result name of (FatShape to) e value shapes then_act others is object takes numbers less known calls first on
     by HandleShape is object takes numbers first on =
         value_initialised n scope k result name of HandleShape e value shapes then_act others is tt takes numbers less known calls first on
-    by KeyShape is object takes numbers first on = absurd object
+    by KeyShape is object takes numbers first on =
+        value_initialised n scope k result name of KeyShape e value shapes then_act others is tt takes numbers less known calls first on
     by (ArrayShape count from) is object takes numbers first on = absurd object
 
 -- the place behind a declaration, as lowering knows it
@@ -360,13 +364,18 @@ declaration_same n (tree.Local of name (Initializer.Value e)) value scope k resu
     (initialised_same n scope k result name.text of e value shapes then_act others h.0 h.1 numbered less known calls pending more)
 declaration_same n (tree.Region at region handle) value scope k result shapes then_act others h numbered less known calls pending more =
     region_declared (place_in scope k) n scope handle.text shapes result then_act others refl refl pending more
-declaration_same n (tree.Open at region handle key) value scope k result shapes then_act others h numbered less known calls pending more = absurd h
+declaration_same n (tree.Open at region handle key) value scope k result shapes then_act others h numbered less known calls pending more =
+    open_declared (place_in scope k) n scope handle.text key.text (get_code scope.world k.names key.text k.regions.all) shapes result then_act others refl refl
+    (key_named (place_in scope k) n k.regions.all key.text known.locals known.words known.world.globals h) pending more
 declaration_same n (tree.Alias at region of alias pointer) value scope k result shapes then_act others h numbered less known calls pending more =
     subst (λ z. RunsAs (place_in scope k) n scope.frame result (aliased scope (written of) alias.text pointer.text then_act)
     (value_code scope.world k.names (settled_by (written of) (static_shape scope.world k.names (Expression.Variable pointer))) (Expression.Variable pointer)
     k.regions.all k.made value ++ z)) (sym (append-nil others))
     (alias_same n scope k result (written of) alias.text pointer value shapes then_act others h.1.0 h.1.1 known pending more)
-declaration_same n (tree.NewKey at region key) value scope k result shapes then_act others h numbered less known calls pending more = absurd h
+declaration_same n (tree.NewKey at region key) value scope k result shapes then_act others h numbered less known calls pending more =
+    subst (λ z. RunsAs (place_in scope k) n scope.frame result (new_key scope key.text then_act)
+    ((core.Do (core.KeyNew k.regions.all) ∷ core.Do (core.Put 0 k.made 4 k.regions.all) ∷ []) ++ z)) (sym (append-nil others))
+    (key_declared (place_in scope k) n scope key.text shapes result then_act others refl refl pending more)
 
 -- a local is an object, or an array
 pub shape_object : (w : World) (names : List Named) (d : Declaration) → TakesDeclaration w names d → IsVariable w.unions w.structs (local_shape w names d)
@@ -376,8 +385,8 @@ shape_object w names (tree.Local of name (Initializer.Elements count)) h = (h.1.
 shape_object w names (tree.Local of name (Initializer.Value e)) h =
     object_named w.unions w.structs (settled_by (written of) (static_shape w names e)) (object_by w.unions w.structs of h.0 (static_shape w names e))
 shape_object w names (tree.Region at region handle) h = tt
-shape_object w names (tree.Open at region handle key) h = absurd h
+shape_object w names (tree.Open at region handle key) h = tt
 shape_object w names (tree.Alias at region of alias pointer) h =
     let s = static_shape w names (Expression.Variable pointer) in
     object_named w.unions w.structs (settled_by (written of) s) (object_by w.unions w.structs of h.0 s)
-shape_object w names (tree.NewKey at region key) h = absurd h
+shape_object w names (tree.NewKey at region key) h = tt

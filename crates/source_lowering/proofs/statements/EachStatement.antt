@@ -79,6 +79,7 @@ use Rattle.source_lowering.proofs.statements.EachRun.{run_statement}
 use Rattle.source_lowering.proofs.statements.Clauses.{CasesAs, chosen, held_of, test_code, no_cases, case_more, none_chosen}
 use Rattle.source_lowering.proofs.statements.Switching.{switch_same}
 use Rattle.source_lowering.proofs.statements.Freeing.{name_freed}
+use Rattle.source_lowering.proofs.statements.FreeingKeys.{key_freed_by}
 use Rattle.source_lowering.proofs.statements.Exchanges.{exchange_same}
 use Rattle.source_lowering.proofs.expressions.VariableForms.{variable_agrees}
 use Rattle.source_lowering.specs.Naming.{local_named}
@@ -246,7 +247,9 @@ mutual
   statement_same (Statement.FreeUnique at pointer) own scope k h numbered less known result n calls =
       name_freed (place_in scope k) n scope.result pointer.text (local_named k.names pointer.text) (bound_to scope.world.globals pointer.text) h
       (λ single. variable_agrees (place_in scope k) n k.regions.all pointer.text known.locals known.words known.world.globals known.world.structs single)
-  statement_same (Statement.FreeKey at key) own scope k h numbered less known result n calls = absurd h
+  statement_same (Statement.FreeKey at key) own scope k h numbered less known result n calls =
+      key_freed_by (place_in scope k) n scope.result key.text (local_named k.names key.text) (bound_to scope.world.globals key.text) h
+      (λ single. variable_agrees (place_in scope k) n k.regions.all key.text known.locals known.words known.world.globals known.world.structs single)
 
   pub items_same : (items : BlockItems) (own : ℕ) (scope : Scope) (k : Known) → TakesItems scope.world scope.result k.names k.made items
       → AreNumbered k.owned own (item_values scope.world k.names k.made items) → k.kept ≤ own → IsKnown scope k → IsTaken scope.result → (n : ℕ)

@@ -46,7 +46,7 @@ cells_exchange p n VoidShape h = absurd h
 cells_exchange p n (ThinShape b owner to) h = values_exchange p n (ThinShape b owner to) h
 cells_exchange p n (FatShape to) h = values_exchange p n (FatShape to) h
 cells_exchange p n HandleShape h = values_exchange p n HandleShape h
-cells_exchange p n KeyShape h = absurd h
+cells_exchange p n KeyShape h = values_exchange p n KeyShape h
 cells_exchange p n (StructShape tag) h = absurd h
 cells_exchange p n (ArrayShape count of) h = absurd h
 

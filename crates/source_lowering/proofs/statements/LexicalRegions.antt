@@ -1,5 +1,5 @@
 -- A lexical region does the same as its code: it is born, its handle goes to its local and stays in a temporary, and it is freed on each way out of its block.
-use Rattle.std.proofs.Common.{◌≡◌, ℕ, suc, ◌+◌, ◌<◌, List, [], ◌∷◌, ◌++◌, refl, sym, ap, ◌∙◌, subst, arith}
+use Rattle.std.proofs.Common.{◌≡◌, ℕ, suc, ◌+◌, ◌<◌, List, [], ◌∷◌, ◌++◌, Bool, false, refl, sym, ap, ◌∙◌, subst, arith}
 use Rattle.source_meaning.specs.Shapes.{Shape, HandleShape}
 use Rattle.source_meaning.specs.Memory as source
 use Rattle.source_meaning.specs.Memory.{HandleOf}
@@ -27,17 +27,17 @@ use Rattle.source_lowering.proofs.regions.Regions.{region_freed_same, source_bor
 use Rattle.source_lowering.proofs.statements.Ways.{Onward, RunsAs, WaysOn, freed}
 use Rattle.source_lowering.proofs.statements.Blocks.{result_later}
 
--- one region more
-abbrev pub one_more : RegionsAround → RegionsAround
-one_more h = record { all = suc h.all; broken = suc h.broken; continued = suc h.continued }
+-- one region more, which a key opened or not
+abbrev pub one_more : (opened : Bool) → RegionsAround → RegionsAround
+one_more opened h = record { all = suc h.all; broken = suc h.broken; continued = suc h.continued; opened = opened ∷ h.opened }
 
 -- the place in a region's scope
-abbrev pub in_scope_of : Point → List ℕ → List Shape → Point
-in_scope_of p name shapes = record (with_local p name HandleShape shapes) { regions = one_more p.regions }
+abbrev pub in_scope_of : (opened : Bool) → Point → List ℕ → List Shape → Point
+in_scope_of opened p name shapes = record (with_local p name HandleShape shapes) { regions = one_more opened p.regions }
 
-fits_in_scope : (p : Point) (name : List ℕ) (shapes : List Shape) (m : source.Memory) (c : Config) → SameState (with_local p name HandleShape shapes) m c
-    → SameState (in_scope_of p name shapes) m c
-fits_in_scope p name shapes m c f = let q = with_local p name HandleShape shapes in record {
+pub fits_in_scope : (opened : Bool) (p : Point) (name : List ℕ) (shapes : List Shape) (m : source.Memory) (c : Config)
+    → SameState (with_local p name HandleShape shapes) m c → SameState (in_scope_of opened p name shapes) m c
+fits_in_scope opened p name shapes m c f = let q = with_local p name HandleShape shapes in record {
   agree = f.agree;
   blocks = f.blocks;
   locals = f.locals;
@@ -64,7 +64,7 @@ after_scope next r flow = region_freed r (λ u. next flow)
 ways_freed : (p : Point) (n r : ℕ) (result : Shape) (m0 m : source.Memory) (c0 c : Config) (next : Flow → source.Memory → steps.Step) (rest : Statements)
     (after : Next) → 0 < r → IsScoped c.memory r → c.temps p.regions.all ≡ Birth r → Onward p.world p.regions.all (around p p.frame) m0 c0 m c
     → WaysOn p.world p.program n p.regions (around p p.frame) m0 c0 result next (meaning.statements rest after) after
-    → WaysOn p.world p.program n (one_more p.regions) (around p p.frame) m c result (after_scope next r)
+    → WaysOn p.world p.program n (one_more false p.regions) (around p p.frame) m c result (after_scope next r)
     (meaning.statements (put (free_code p.regions.all) rest) after) after
 ways_freed p n r result m0 m c0 c next rest after positive scope temp onward ways = record {
   falls = λ m' c' o.
@@ -72,14 +72,14 @@ ways_freed p n r result m0 m c0 c next rest after positive scope temp onward way
       (scoped m' c' o.later) (held c' o.kept)
       (ways.falls (source_freed m' r) (out c') (on m' c' o));
   breaks = λ m' c' o.
-      region_freed_same p.world p.program n d r m' c' (λ u. next steps.Breaks) (freed d p.regions.broken (after core_steps.Breaks)) o.agree positive
-      (scoped m' c' o.later) (held c' o.kept) (ways.breaks (source_freed m' r) (out c') (on m' c' o));
+      region_freed_same p.world p.program n d r m' c' (λ u. next steps.Breaks) (freed p.regions.opened d p.regions.broken (after core_steps.Breaks)) o.agree
+      positive (scoped m' c' o.later) (held c' o.kept) (ways.breaks (source_freed m' r) (out c') (on m' c' o));
   continues = λ m' c' o.
-      region_freed_same p.world p.program n d r m' c' (λ u. next steps.Continues) (freed d p.regions.continued (after core_steps.Continues)) o.agree positive
-      (scoped m' c' o.later) (held c' o.kept) (ways.continues (source_freed m' r) (out c') (on m' c' o));
+      region_freed_same p.world p.program n d r m' c' (λ u. next steps.Continues) (freed p.regions.opened d p.regions.continued (after core_steps.Continues))
+      o.agree positive (scoped m' c' o.later) (held c' o.kept) (ways.continues (source_freed m' r) (out c') (on m' c' o));
   returns = λ m' c' vs xs o given.
-      region_freed_same p.world p.program n d r m' c' (λ u. next (steps.Returns vs)) (freed d d (after (core_steps.Returns xs))) o.agree positive
-      (scoped m' c' o.later) (held c' o.kept)
+      region_freed_same p.world p.program n d r m' c' (λ u. next (steps.Returns vs)) (freed p.regions.opened d d (after (core_steps.Returns xs))) o.agree
+      positive (scoped m' c' o.later) (held c' o.kept)
       (ways.returns (source_freed m' r) (out c') vs xs (on m' c' o)
       (result_later nothing p.world m' (source_freed m' r) c'.memory (out c').memory result vs xs (region_freed_later nothing m' c'.memory r) given));
 }
@@ -110,7 +110,7 @@ ways_freed p n r result m0 m c0 c next rest after positive scope temp onward way
 
 pub region_declared : (p : Point) (n : ℕ) (scope : Scope) (name : List ℕ) (shapes : List Shape) (result : Shape) (then_act : Scope → Act Flow)
     (others : List Statement) → scope.world ≡ p.world → scope.frame ≡ p.frame → p.pending ≡ HandleShape ∷ shapes
-    → RunsAs (in_scope_of p name shapes) n p.frame result (then_act (with_binding scope name (Variable HandleShape (local_spot p.frame p.made)))) others
+    → RunsAs (in_scope_of false p name shapes) n p.frame result (then_act (with_binding scope name (Variable HandleShape (local_spot p.frame p.made)))) others
     → RunsAs p n p.frame result (lexical_region scope name then_act)
     ((Do (RegionNew p.regions.all) ∷ Do (Put 0 p.made 4 p.regions.all) ∷ []) ++ (others ++ free_code p.regions.all))
 region_declared p n scope name shapes result then_act others world frame pending more = record {
@@ -136,7 +136,7 @@ region_declared p n scope name shapes result then_act others world frame pending
         go = λ m2 c2 fits2 later2 temps2 active2.
             subst (λ z. SameAt p n (then_act (with_binding scope name (Variable HandleShape (local_spot p.frame p.made))) (after_scope next r) m2)
             (meaning.statements z after c2)) (sym (put_all others (free_code d) rest))
-            (more.same m2 c2 (after_scope next r) (put (free_code d) rest) after (fits_in_scope p name shapes m2 c2 fits2)
+            (more.same m2 c2 (after_scope next r) (put (free_code d) rest) after (fits_in_scope false p name shapes m2 c2 fits2)
             (ways_freed p n r result m m2 c c2 next rest after fits.agree.heap
             (scoped_later (around p p.frame) m1 m2 c1.memory c2.memory r (born_scoped c.memory r fits.agree.births) later2)
             (temps2 d (omega arith) ∙ put_temp d (Birth r) (with_memory (core_born c.memory) c))

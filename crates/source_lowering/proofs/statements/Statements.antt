@@ -45,7 +45,7 @@ use Rattle.source_lowering.proofs.values.Conversions.{converted_gives}
 use Rattle.source_lowering.proofs.values.Tests.{Decides, truth_decided}
 use Rattle.source_lowering.proofs.expressions.Calls.{ResultIs}
 pub use Rattle.source_lowering.proofs.statements.Ways.{freed, Onward, WaysOn, RunsAs, onward_self, onward_behind, onward_on, ways_less, ways_later, ways_inside}
-pub use Rattle.source_lowering.proofs.statements.Ways.{leaving_runs, free_by, each_birth, freed_keeps}
+pub use Rattle.source_lowering.proofs.statements.Ways.{leaving_runs, freed_keeps}
 
 -- ---- simple statements
 
@@ -53,22 +53,22 @@ pub falls_same : (p : Point) (n b : ℕ) (result : Shape) → RunsAs p n b resul
 falls_same p n b result = record { same = λ m c next rest after fits ways. ways.falls m c (onward_self p p.regions.all b m c fits) }
 
 pub breaks_same : (p : Point) (n b : ℕ) (result : Shape)
-    → RunsAs p n b result (give steps.Breaks) (leaving_code p.regions.all p.regions.broken ++ (Break ∷ []))
+    → RunsAs p n b result (give steps.Breaks) (leaving_code p.regions.opened p.regions.all p.regions.broken ++ (Break ∷ []))
 breaks_same p n b result = record {
   same = λ m c next rest after fits ways.
       subst (λ z. SameAt p n (next steps.Breaks m) z)
-      (sym (ap (λ z. meaning.statements z after c) (put_all (leaving_code p.regions.all p.regions.broken) (Break ∷ []) rest)
-      ∙ leaving_runs p.regions.all p.regions.broken (MoreStatements Break rest) after c))
+      (sym (ap (λ z. meaning.statements z after c) (put_all (leaving_code p.regions.opened p.regions.all p.regions.broken) (Break ∷ []) rest)
+      ∙ leaving_runs p.regions.opened p.regions.all p.regions.broken (MoreStatements Break rest) after c))
       (ways.breaks m c (onward_self p p.regions.all b m c fits));
 }
 
 pub continues_same : (p : Point) (n b : ℕ) (result : Shape)
-    → RunsAs p n b result (give steps.Continues) (leaving_code p.regions.all p.regions.continued ++ (Continue ∷ []))
+    → RunsAs p n b result (give steps.Continues) (leaving_code p.regions.opened p.regions.all p.regions.continued ++ (Continue ∷ []))
 continues_same p n b result = record {
   same = λ m c next rest after fits ways.
       subst (λ z. SameAt p n (next steps.Continues m) z)
-      (sym (ap (λ z. meaning.statements z after c) (put_all (leaving_code p.regions.all p.regions.continued) (Continue ∷ []) rest)
-      ∙ leaving_runs p.regions.all p.regions.continued (MoreStatements Continue rest) after c))
+      (sym (ap (λ z. meaning.statements z after c) (put_all (leaving_code p.regions.opened p.regions.all p.regions.continued) (Continue ∷ []) rest)
+      ∙ leaving_runs p.regions.opened p.regions.all p.regions.continued (MoreStatements Continue rest) after c))
       (ways.continues m c (onward_self p p.regions.all b m c fits));
 }
 
@@ -104,7 +104,7 @@ result_here w d m c shape vs taken given = by shape taken given
     by (ThinShape may_be_null owner to) h g = some (ThinShape may_be_null owner to) h g
     by (FatShape to) h g = some (FatShape to) h g
     by HandleShape h g = some HandleShape tt g
-    by KeyShape h g = absurd h
+    by KeyShape h g = some KeyShape tt g
     by (StructShape tag) h g = absurd h
     by (UnionShape tag) h g = absurd h
     by (ArrayShape count of) h g = absurd h
@@ -113,7 +113,7 @@ pub return_same : (p : Point) (n : ℕ) (result : Shape) (e : Sense) (from : Sha
     → Agrees p n p.regions.all e from code
     → RunsAs p n (suc p.frame) result (e.value >>= converted p.world result e.shape >>= λ vs. give (steps.Returns vs))
     (code ++ (conversion_code p.world result from p.regions.all ++
-    (leaving_code p.regions.all p.regions.all ++ (Return (results_in result p.regions.all) ∷ []))))
+    (leaving_code p.regions.opened p.regions.all p.regions.all ++ (Return (results_in result p.regions.all) ∷ []))))
 return_same p n result e from code taken one = record {
   same = λ m c next rest after fits ways.
       subst (λ z. SameAt p n (e.value (λ vs. converted p.world result e.shape vs (λ us. next (steps.Returns us))) m) (meaning.statements z after c))
@@ -132,23 +132,23 @@ return_same p n result e from code taken one = record {
     d = p.regions.all
 
     leaves : List Statement
-    leaves = leaving_code d d ++ (Return (results_in result d) ∷ [])
+    leaves = leaving_code p.regions.opened d d ++ (Return (results_in result d) ∷ [])
 
     leaves_run : (rest : Statements) (after : Next) (c : Config)
-        → meaning.statements (put leaves rest) after c ≡ freed d d (after (core_steps.Returns (values_of c.temps (results_in result d)))) c
+        → meaning.statements (put leaves rest) after c ≡ freed p.regions.opened d d (after (core_steps.Returns (values_of c.temps (results_in result d)))) c
     leaves_run rest after c =
-        ap (λ z. meaning.statements z after c) (put_all (leaving_code d d) (Return (results_in result d) ∷ []) rest)
-        ∙ leaving_runs d d (MoreStatements (Return (results_in result d)) rest) after c
-        ∙ freed_keeps d d (λ xs. after (core_steps.Returns xs)) (results_in result d) c
+        ap (λ z. meaning.statements z after c) (put_all (leaving_code p.regions.opened d d) (Return (results_in result d) ∷ []) rest)
+        ∙ leaving_runs p.regions.opened d d (MoreStatements (Return (results_in result d)) rest) after c
+        ∙ freed_keeps p.regions.opened d d (λ xs. after (core_steps.Returns xs)) (results_in result d) c
 
 -- `return;` in a function that gives nothing; elsewhere the source goes on with no value
 pub leave_same : (p : Point) (n b : ℕ) (result : Shape) → result ≡ VoidShape
-    → RunsAs p n b result (give (steps.Returns [])) (leaving_code p.regions.all p.regions.all ++ (Return [] ∷ []))
+    → RunsAs p n b result (give (steps.Returns [])) (leaving_code p.regions.opened p.regions.all p.regions.all ++ (Return [] ∷ []))
 leave_same p n b result void = record {
   same = λ m c next rest after fits ways.
       subst (λ z. SameAt p n (next (steps.Returns []) m) z)
-      (sym (ap (λ z. meaning.statements z after c) (put_all (leaving_code p.regions.all p.regions.all) (Return [] ∷ []) rest)
-      ∙ leaving_runs p.regions.all p.regions.all (MoreStatements (Return []) rest) after c))
+      (sym (ap (λ z. meaning.statements z after c) (put_all (leaving_code p.regions.opened p.regions.all p.regions.all) (Return [] ∷ []) rest)
+      ∙ leaving_runs p.regions.opened p.regions.all p.regions.all (MoreStatements (Return []) rest) after c))
       (ways.returns m c [] [] (onward_self p p.regions.all b m c fits)
       (inr (record { nothing = refl; value = record { void = void; none = refl } })));
 }

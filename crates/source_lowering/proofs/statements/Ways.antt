@@ -1,5 +1,5 @@
--- What comes after a statement for each way out of it, and the regions that are freed on it.
-use Rattle.std.proofs.Common.{◌≡◌, ℕ, zero, suc, ◌≤◌, List, nat_eq, refl, ap, ◌∙◌}
+-- What comes after a statement for each way out of it, and the regions that are left on it.
+use Rattle.std.proofs.Common.{◌≡◌, ℕ, zero, suc, ◌≤◌, List, [], ◌∷◌, Bool, true, false, nat_eq, refl, sym, ap, ◌∙◌}
 use Rattle.std.specs.Prelude.{not, ◌&&◌}
 use Rattle.cyc_words.specs.Events as events
 use Rattle.source_meaning.specs.Shapes.{Shape}
@@ -7,25 +7,27 @@ use Rattle.source_meaning.specs.Memory as source
 use Rattle.source_meaning.specs.Memory.{Scalar}
 use Rattle.source_meaning.specs.Steps as steps
 use Rattle.source_meaning.specs.Steps.{World, Flow, Act}
-use Rattle.core_meaning.specs.Memory.{Content, Blank, Word, Null, Pointer, Birth, Born, Dead, is_lexical, with_standing}
-use Rattle.core_meaning.specs.Core.{Program, Statement, RegionFree, Statements, NoStatements}
+use Rattle.core_meaning.specs.Memory as core
+use Rattle.core_meaning.specs.Memory.{Content, Blank, Word, Null, Pointer, Birth, Born, is_lexical, is_opened, with_standing}
+use Rattle.core_meaning.specs.Core.{Program, Statement, Statements, NoStatements}
 use Rattle.core_meaning.specs.Operations.{does, says}
 use Rattle.core_meaning.specs.Steps as core_steps
 use Rattle.core_meaning.specs.Steps.{Config, birth_of, checked, with_memory}
 use Rattle.core_meaning.specs.Meaning as meaning
 use Rattle.core_meaning.specs.Meaning.{values_of}
 use Rattle.source_lowering.specs.Lowered.{put}
-use Rattle.source_lowering.specs.Programs.{RegionsAround, leaving_code}
+use Rattle.source_lowering.specs.Programs.{RegionsAround, leaving_code, left_by}
 use Rattle.source_lowering.specs.Simulation.{SameMemory, Bound, Grown, Point, SameState, SameAt, Same, Next, AreKept, GrownAt, activation, around}
 use Rattle.source_lowering.proofs.memory.Keeping.{IsLess, later_self, later_on, later_less, later_around, blocks_of}
 use Rattle.source_lowering.proofs.Runs.{less_fuel}
 use Rattle.source_lowering.proofs.expressions.Calls.{ResultIs}
 
--- of so many regions in scope the innermost are freed, one after the other
-abbrev pub freed : (all count : ℕ) → (Config → core_steps.Step) → Config → core_steps.Step
-freed all zero next c = next c
-freed zero (suc count) next c = next c
-freed (suc all) (suc count) next c = does (RegionFree all) (freed all count next) c
+-- of so many regions in scope the innermost are left, one after the other: freed, or closed where a key opened them
+abbrev pub freed : (opened : List Bool) → (all count : ℕ) → (Config → core_steps.Step) → Config → core_steps.Step
+freed opened all zero next c = next c
+freed [] all (suc count) next c = next c
+freed (o ∷ os) zero (suc count) next c = next c
+freed (o ∷ os) (suc all) (suc count) next c = does (left_by o all) (freed os all count next) c
 
 -- a later point in the same activations, where the first temporaries are as they were
 pub record Onward (w : World) (all : ℕ) (b : Bound) (m0 : source.Memory) (c0 : Config) (m : source.Memory) (c : Config) : Type 0 where
@@ -35,16 +37,16 @@ pub record Onward (w : World) (all : ℕ) (b : Bound) (m0 : source.Memory) (c0 :
   pub kept : AreKept all c0 c
 
 -- What comes after a statement for each way out of it, within so many regions: with memories that agree, in which the blocks before one have no more locals,
--- both go on alike, where Core frees the regions that this way leaves.
+-- both go on alike, where Core frees or closes the regions that this way leaves.
 pub record WaysOn (w : World) (fs : Program) (n : ℕ) (h : RegionsAround) (b : Bound) (m0 : source.Memory) (c0 : Config) (result : Shape)
     (next : Flow → source.Memory → steps.Step) (falls_on : Config → core_steps.Step) (after : Next) : Type 0 where
   pub falls : (m : source.Memory) (c : Config) → Onward w h.all b m0 c0 m c → Same w fs n (next steps.Falls m) (falls_on c)
   pub breaks : (m : source.Memory) (c : Config) → Onward w h.all b m0 c0 m c
-      → Same w fs n (next steps.Breaks m) (freed h.all h.broken (after core_steps.Breaks) c)
+      → Same w fs n (next steps.Breaks m) (freed h.opened h.all h.broken (after core_steps.Breaks) c)
   pub continues : (m : source.Memory) (c : Config) → Onward w h.all b m0 c0 m c
-      → Same w fs n (next steps.Continues m) (freed h.all h.continued (after core_steps.Continues) c)
+      → Same w fs n (next steps.Continues m) (freed h.opened h.all h.continued (after core_steps.Continues) c)
   pub returns : (m : source.Memory) (c : Config) (vs : List Scalar) (xs : List Content) → Onward w h.all b m0 c0 m c → ResultIs w m c.memory result vs xs
-      → Same w fs n (next (steps.Returns vs) m) (freed h.all h.all (after (core_steps.Returns xs)) c)
+      → Same w fs n (next (steps.Returns vs) m) (freed h.opened h.all h.all (after (core_steps.Returns xs)) c)
 
 -- an act does the same as the code of a statement, or of a block's items; the blocks before one have no more locals then
 pub record RunsAs (p : Point) (n b : ℕ) (result : Shape) (act : Act Flow) (code : List Statement) : Type 0 where
@@ -109,34 +111,60 @@ pub ways_inside : (w : World) (fs : Program) (n : ℕ) (h : RegionsAround) (b : 
 ways_inside w fs n h b m0 c0 result next rest after ways =
     record { falls = ways.falls; breaks = ways.breaks; continues = ways.continues; returns = ways.returns }
 
--- ---- ways out: the regions are freed
+-- ---- ways out: regions are freed, or closed
 
--- so many regions are freed by code
-pub leaving_runs : (all count : ℕ) (rest : Statements) (after : Next) (c : Config)
-    → meaning.statements (put (leaving_code all count) rest) after c ≡ freed all count (meaning.statements rest after) c
-leaving_runs all zero rest after c = refl
-leaving_runs zero (suc count) rest after c = refl
-leaving_runs (suc all) (suc count) rest after c = λ i. does (RegionFree all) (λ c'. leaving_runs all count rest after c' i) c
+-- so many regions are left by code
+pub leaving_runs : (opened : List Bool) (all count : ℕ) (rest : Statements) (after : Next) (c : Config)
+    → meaning.statements (put (leaving_code opened all count) rest) after c ≡ freed opened all count (meaning.statements rest after) c
+leaving_runs opened all zero rest after c = refl
+leaving_runs [] all (suc count) rest after c = refl
+leaving_runs (o ∷ os) zero (suc count) rest after c = refl
+leaving_runs (o ∷ os) (suc all) (suc count) rest after c = λ i. does (left_by o all) (λ c'. leaving_runs os all count rest after c' i) c
 
--- what follows where a temporary holds a handle
-abbrev pub free_by : (Config → core_steps.Step) → Config → ℕ → core_steps.Step
-free_by next c d = checked (not (nat_eq d 0) && is_lexical (c.memory.standing (Born d)))
-    (says (events.RegionFree d) (next (with_memory (with_standing c.memory (Born d) Dead) c)))
+-- what a region is once it is left
+abbrev pub standing_left : (opened : Bool) → core.Standing
+standing_left true = core.Closed
+standing_left false = core.Dead
+
+abbrev pub memory_left : (opened : Bool) → ℕ → core.Memory → core.Memory
+memory_left opened d m = with_standing m (Born d) (standing_left opened)
+
+-- what follows where a temporary holds a handle, or a key
+abbrev pub free_by : (opened : Bool) → (Config → core_steps.Step) → Config → ℕ → core_steps.Step
+free_by true next c d = checked (is_opened (c.memory.standing (Born d))) (says (events.KeyClose d) (next (with_memory (memory_left true d c.memory) c)))
+free_by false next c d = checked (not (nat_eq d 0) && is_lexical (c.memory.standing (Born d)))
+    (says (events.RegionFree d) (next (with_memory (memory_left false d c.memory) c)))
 
 -- two steps are the same where they are for each handle
-pub each_birth : (x : Content) (f g : ℕ → core_steps.Step) → ((d : ℕ) → f d ≡ g d) → birth_of x f ≡ birth_of x g
+each_birth : (x : Content) (f g : ℕ → core_steps.Step) → ((d : ℕ) → f d ≡ g d) → birth_of x f ≡ birth_of x g
 each_birth (Birth d) f g h = h d
 each_birth Blank f g h = refl
 each_birth (Word n) f g h = refl
 each_birth Null f g h = refl
 each_birth (Pointer s b) f g h = refl
 
--- freeing changes no temporary
-pub freed_keeps : (all count : ℕ) (next : List Content → Config → core_steps.Step) (ts : List ℕ) (c : Config)
-    → freed all count (λ c'. next (values_of c'.temps ts) c') c ≡ freed all count (next (values_of c.temps ts)) c
-freed_keeps all zero next ts c = refl
-freed_keeps zero (suc count) next ts c = refl
-freed_keeps (suc all) (suc count) next ts c =
-    each_birth (c.temps all) (free_by (freed all count (λ c'. next (values_of c'.temps ts) c')) c) (free_by (freed all count (next (values_of c.temps ts))) c)
-    (λ d. ap (λ z. checked (not (nat_eq d 0) && is_lexical (c.memory.standing (Born d))) (says (events.RegionFree d) z))
-    (freed_keeps all count next ts (with_memory (with_standing c.memory (Born d) Dead) c)))
+-- one region is left in two ways, which are the same behind it
+pub each_left : (opened : Bool) (all : ℕ) (next other : Config → core_steps.Step) (c c' : Config) → c'.temps all ≡ c.temps all
+    → ((d : ℕ) → free_by opened next c d ≡ free_by opened other c' d) → does (left_by opened all) next c ≡ does (left_by opened all) other c'
+each_left true all next other c c' temp h =
+    each_birth (c.temps all) (free_by true next c) (free_by true other c') h ∙ ap (λ z. birth_of z (free_by true other c')) (sym temp)
+each_left false all next other c c' temp h =
+    each_birth (c.temps all) (free_by false next c) (free_by false other c') h ∙ ap (λ z. birth_of z (free_by false other c')) (sym temp)
+
+-- where what comes next is
+pub free_next : (opened : Bool) (next other : Config → core_steps.Step) (c : Config) (d : ℕ)
+    → next (with_memory (memory_left opened d c.memory) c) ≡ other (with_memory (memory_left opened d c.memory) c)
+    → free_by opened next c d ≡ free_by opened other c d
+free_next true next other c d h = ap (λ z. checked (is_opened (c.memory.standing (Born d))) (says (events.KeyClose d) z)) h
+free_next false next other c d h = ap (λ z. checked (not (nat_eq d 0) && is_lexical (c.memory.standing (Born d))) (says (events.RegionFree d) z)) h
+
+-- leaving changes no temporary
+pub freed_keeps : (opened : List Bool) (all count : ℕ) (next : List Content → Config → core_steps.Step) (ts : List ℕ) (c : Config)
+    → freed opened all count (λ c'. next (values_of c'.temps ts) c') c ≡ freed opened all count (next (values_of c.temps ts)) c
+freed_keeps opened all zero next ts c = refl
+freed_keeps [] all (suc count) next ts c = refl
+freed_keeps (o ∷ os) zero (suc count) next ts c = refl
+freed_keeps (o ∷ os) (suc all) (suc count) next ts c =
+    each_left o all (freed os all count (λ c'. next (values_of c'.temps ts) c')) (freed os all count (next (values_of c.temps ts))) c c refl
+    (λ d. free_next o (freed os all count (λ c'. next (values_of c'.temps ts) c')) (freed os all count (next (values_of c.temps ts))) c d
+    (freed_keeps os all count next ts (with_memory (memory_left o d c.memory) c)))

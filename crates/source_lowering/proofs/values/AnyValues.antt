@@ -1,9 +1,9 @@
 -- Values of any shape, in one temporary or in three: by what each is.
-use Rattle.std.proofs.Common.{◌≡◌, ℕ, ◌+◌, true, Some, None, ◌<◌, ◌⊎◌, inl, inr, ⊎_elim, List, [], ◌∷◌, refl, sym, ap, subst}
+use Rattle.std.proofs.Common.{◌≡◌, ℕ, ◌+◌, Bool, true, false, Some, None, ◌<◌, ◌⊎◌, inl, inr, ⊎_elim, List, [], ◌∷◌, refl, sym, ap, subst}
 use Rattle.source_meaning.specs.Shapes.{Shape, IntShape, UnsignedShape, CharShape, VoidShape, ThinShape, FatShape, HandleShape, KeyShape, StructShape}
 use Rattle.source_meaning.specs.Shapes.{UnionShape, ArrayShape}
 use Rattle.source_meaning.specs.Memory as source
-use Rattle.source_meaning.specs.Memory.{IntegerType, Scalar, Integer, Thin, Wide, HandleOf, Spot, Span}
+use Rattle.source_meaning.specs.Memory.{IntegerType, Scalar, Integer, Thin, Wide, HandleOf, KeyOf, Spot, Span}
 use Rattle.source_meaning.specs.Steps as steps
 use Rattle.source_meaning.specs.Steps.{World}
 use Rattle.source_meaning.specs.Conversions.{one, size_of}
@@ -17,7 +17,7 @@ use Rattle.source_lowering.specs.Lowerable.{IsTarget, IsValueShape}
 use Rattle.source_lowering.specs.Simulation.{at, IsTakenObject, Leads, contents_in, Shown, ANull, APointer, AFatNull, AFat, AValue, ANothing, Given, Same}
 use Rattle.source_lowering.specs.Simulation.{first_in}
 use Rattle.source_lowering.proofs.Runs.{stuck_same}
-use Rattle.source_lowering.proofs.values.Integers.{IsHandle, IsTaken, IsThin, IsWord, limit, null_is, pointer_is, shown_one}
+use Rattle.source_lowering.proofs.values.Integers.{IsHandle, IsTaken, IsThin, IsWord, birth_shape, birth_value, limit, null_is, pointer_is, shown_one}
 
 -- the contents of three temporaries
 abbrev pub three_in : ℕ → (ℕ → Content) → List Content
@@ -43,7 +43,7 @@ shown_some w m c VoidShape v d temps h o = absurd o
 shown_some w m c (ThinShape may_be_null owner to) v d temps h o = inl (shown_one w m c (ThinShape may_be_null owner to) v (temps d) h o)
 shown_some w m c (FatShape to) v d temps h o = inr (record { to = to; taken = h; shape_is = refl; shown = o })
 shown_some w m c HandleShape v d temps h o = inl (shown_one w m c HandleShape v (temps d) tt o)
-shown_some w m c KeyShape v d temps h o = absurd h
+shown_some w m c KeyShape v d temps h o = inl (shown_one w m c KeyShape v (temps d) tt o)
 shown_some w m c (StructShape tag) v d temps h o = absurd h
 shown_some w m c (UnionShape tag) v d temps h o = absurd h
 shown_some w m c (ArrayShape count of) v d temps h o = absurd h
@@ -73,17 +73,22 @@ pub one_same : (w : World) (fs : Program) (n : ℕ) (shape : Shape) (m : source.
     → ((t : IntegerType) (word : ℕ) → temps d ≡ Word word → shape ≡ integer_shape t → type_of shape ≡ t → word < limit t → Same w fs n (s (Integer t word) m) k)
     → ((v : Scalar) → IsThin w m c shape v (temps d) → Same w fs n (s v m) k)
     → ((birth : ℕ) → temps d ≡ Birth birth → shape ≡ HandleShape → Same w fs n (s (HandleOf birth) m) k)
+    → ((birth : ℕ) → shape ≡ KeyShape → Same w fs n (s (KeyOf birth) m) k)
     → ((v : Scalar) → IsFat w m c shape v (three_in d temps) → Same w fs n (s v m) k) → Same w fs n (one vs s m) k
-one_same w fs n shape m c vs d temps s k taken given go_word go_thin go_handle go_fat =
+one_same w fs n shape m c vs d temps s k taken given go_word go_thin go_handle go_key go_fat =
     value_same w fs n shape m c vs (contents_in d shape temps) s k given
     (λ v shown.
     ⊎_elim
     (⊎_elim
     (λ (o : IsWord shape v (temps d)). subst (λ z. Same w fs n (s z m) k) (sym o.value) (go_word o.type o.word o.shown o.shape_is o.type_is o.small))
     (⊎_elim (λ (o : IsThin w m c shape v (temps d)). go_thin v o)
-    (λ (o : IsHandle shape v (temps d)). subst (λ z. Same w fs n (s z m) k) (sym o.value) (go_handle o.birth o.shown o.shape_is))))
+    (λ (o : IsHandle shape v (temps d)). subst (λ z. Same w fs n (s z m) k) (sym o.value) (birth_same o.key o.birth o.shown o.shape_is))))
     (λ (o : IsFat w m c shape v (three_in d temps)). go_fat v o)
     (shown_some w m c shape v d temps taken shown))
+  where
+    birth_same : (key : Bool) (birth : ℕ) → temps d ≡ Birth birth → shape ≡ birth_shape key → Same w fs n (s (birth_value key birth) m) k
+    birth_same true birth temp is = go_key birth is
+    birth_same false birth temp is = go_handle birth temp is
 
 -- NULL, or a pointer to a place
 pub thin_same : (w : World) (fs : Program) (n : ℕ) (shape : Shape) (m : source.Memory) (c : core.Memory) (v : Scalar) (x : Content)

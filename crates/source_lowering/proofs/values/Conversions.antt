@@ -13,7 +13,7 @@ use Rattle.source_lowering.specs.Simulation.{Point, SameAt, GivesAs}
 use Rattle.source_lowering.proofs.Runs.{stuck_same, put_all}
 use Rattle.source_lowering.proofs.values.Integers.{IsTaken}
 use Rattle.source_lowering.proofs.expressions.Variables.{Agrees}
-use Rattle.source_lowering.proofs.values.ThinConversions.{stuck_thin, thin_converts, stuck_handle, handle_converts}
+use Rattle.source_lowering.proofs.values.ThinConversions.{stuck_thin, thin_converts, stuck_handle, stuck_key, handle_converts, key_converts}
 use Rattle.source_lowering.proofs.values.FatConversions.{stuck_fat, never_null, maybe_null, fat_stays}
 use Rattle.source_lowering.proofs.values.Widening.{widened}
 use Rattle.source_lowering.proofs.values.NumberConversions.{ConvertsAs, stuck_converts, kept_converts, low_converts, char_converts, void_converts}
@@ -123,7 +123,31 @@ conversion_same p n d VoidShape HandleShape f g =
     stuck_handle p n d VoidShape (conversion_code p.world VoidShape HandleShape d) (λ b s m k. stuck_same p.world p.program n k)
 conversion_same p n d (ThinShape a o to) HandleShape f g =
     stuck_handle p n d (ThinShape a o to) (conversion_code p.world (ThinShape a o to) HandleShape d) (λ b s m k. stuck_same p.world p.program n k)
-conversion_same p n d KeyShape from f g = absurd f
+conversion_same p n d KeyShape (FatShape from) f g =
+    stuck_fat p n d KeyShape from (conversion_code p.world KeyShape (FatShape from) d) (λ q s m k. stuck_same p.world p.program n k)
+conversion_same p n d (FatShape to) KeyShape f g = stuck_key p n d (FatShape to) [] (λ b s m k. stuck_same p.world p.program n k)
+conversion_same p n d KeyShape IntShape f g =
+    stuck_converts p n d KeyShape IntShape [] g (λ t word s m k e. stuck_same p.world p.program n k) (λ s m k e. stuck_same p.world p.program n k)
+conversion_same p n d KeyShape UnsignedShape f g =
+    stuck_converts p n d KeyShape UnsignedShape [] g (λ t word s m k e. stuck_same p.world p.program n k) (λ s m k e. stuck_same p.world p.program n k)
+conversion_same p n d KeyShape CharShape f g =
+    stuck_converts p n d KeyShape CharShape [] g (λ t word s m k e. stuck_same p.world p.program n k) (λ s m k e. stuck_same p.world p.program n k)
+conversion_same p n d KeyShape VoidShape f g =
+    stuck_converts p n d KeyShape VoidShape [] g (λ t word s m k e. stuck_same p.world p.program n k) (λ s m k e. stuck_same p.world p.program n k)
+conversion_same p n d KeyShape (ThinShape b o from) f g = stuck_thin p n d KeyShape b o from [] (λ q s m k. stuck_same p.world p.program n k)
+conversion_same p n d KeyShape KeyShape f g = key_converts p n d
+conversion_same p n d KeyShape HandleShape f g = stuck_handle p n d KeyShape [] (λ b s m k. stuck_same p.world p.program n k)
+conversion_same p n d HandleShape KeyShape f g = stuck_key p n d HandleShape [] (λ b s m k. stuck_same p.world p.program n k)
+conversion_same p n d IntShape KeyShape f g =
+    stuck_key p n d IntShape (conversion_code p.world IntShape KeyShape d) (λ b s m k. stuck_same p.world p.program n k)
+conversion_same p n d UnsignedShape KeyShape f g =
+    stuck_key p n d UnsignedShape (conversion_code p.world UnsignedShape KeyShape d) (λ b s m k. stuck_same p.world p.program n k)
+conversion_same p n d CharShape KeyShape f g =
+    stuck_key p n d CharShape (conversion_code p.world CharShape KeyShape d) (λ b s m k. stuck_same p.world p.program n k)
+conversion_same p n d VoidShape KeyShape f g =
+    stuck_key p n d VoidShape (conversion_code p.world VoidShape KeyShape d) (λ b s m k. stuck_same p.world p.program n k)
+conversion_same p n d (ThinShape a o to) KeyShape f g =
+    stuck_key p n d (ThinShape a o to) (conversion_code p.world (ThinShape a o to) KeyShape d) (λ b s m k. stuck_same p.world p.program n k)
 conversion_same p n d (StructShape tag) from f g = absurd f
 conversion_same p n d (UnionShape tag) from f g = absurd f
 conversion_same p n d (ArrayShape count of) from f g = absurd f

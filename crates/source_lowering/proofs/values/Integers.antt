@@ -1,5 +1,5 @@
 -- The shapes of values, and values of one temporary: integers, thin pointers and handles.
-use Rattle.std.proofs.Common.{◌≡◌, ℕ, Bool, ◌^◌, ◌<◌, ◌⊎◌, inl, inr, ⊎_elim, List, [], ◌∷◌, refl, sym, ap, subst, arith}
+use Rattle.std.proofs.Common.{◌≡◌, ℕ, Bool, true, false, ◌^◌, ◌<◌, ◌⊎◌, inl, inr, ⊎_elim, List, [], ◌∷◌, refl, sym, ap, subst, arith}
 use Rattle.source_meaning.specs.Shapes.{
   Shape,
   Owner,
@@ -17,7 +17,7 @@ use Rattle.source_meaning.specs.Shapes.{
   ArrayShape,
 }
 use Rattle.source_meaning.specs.Memory as source
-use Rattle.source_meaning.specs.Memory.{IntegerType, AsInt, AsUnsigned, AsChar, Scalar, Integer, HandleOf}
+use Rattle.source_meaning.specs.Memory.{IntegerType, AsInt, AsUnsigned, AsChar, Scalar, Integer, HandleOf, KeyOf}
 use Rattle.source_meaning.specs.Steps.{World}
 use Rattle.source_meaning.specs.Conversions.{one}
 use Rattle.source_meaning.specs.Programs.{integer_shape}
@@ -25,7 +25,7 @@ use Rattle.core_meaning.specs.Memory as core
 use Rattle.core_meaning.specs.Memory.{Content, Word, Null, Pointer, Birth}
 use Rattle.source_lowering.specs.Lowered.{type_of}
 use Rattle.source_lowering.specs.Taken.{IsIntegerShape}
-pub use Rattle.source_lowering.specs.Lowerable.{IsTarget, IsWordShape, IsValueShape, IsObject, IsOperandShape}
+pub use Rattle.source_lowering.specs.Lowerable.{IsKeyShape, IsTarget, IsThinShape, IsWordShape, IsValueShape, IsObject, IsOperandShape}
 use Rattle.source_lowering.specs.Simulation.{at, contents_in, Shown, ANull, APointer, Given, first_in}
 use Rattle.source_lowering.specs.Members.{words_in}
 
@@ -38,7 +38,7 @@ IsTaken VoidShape = Unit {0}
 IsTaken (ThinShape may_be_null owner to) = IsTarget to
 IsTaken (FatShape to) = IsTarget to
 IsTaken HandleShape = Unit {0}
-IsTaken KeyShape = ⊥
+IsTaken KeyShape = Unit {0}
 IsTaken (StructShape tag) = ⊥
 IsTaken (UnionShape tag) = ⊥
 IsTaken (ArrayShape count of) = ⊥
@@ -64,7 +64,7 @@ value_taken CharShape h = tt
 value_taken VoidShape h = absurd h
 value_taken (ThinShape may_be_null owner to) h = h
 value_taken HandleShape h = tt
-value_taken KeyShape h = absurd h
+value_taken KeyShape h = tt
 value_taken (StructShape tag) h = absurd h
 value_taken (UnionShape tag) h = absurd h
 value_taken (ArrayShape count of) h = absurd h
@@ -178,7 +178,7 @@ word_value VoidShape h = h
 word_value (ThinShape may_be_null owner to) h = h
 word_value (FatShape to) h = absurd h
 word_value HandleShape h = tt
-word_value KeyShape h = h
+word_value KeyShape h = tt
 word_value (StructShape tag) h = h
 word_value (UnionShape tag) h = h
 word_value (ArrayShape count of) h = h
@@ -195,12 +195,49 @@ pub record IsThin (w : World) (m : source.Memory) (c : core.Memory) (shape : Sha
   pub shape_is : shape ≡ ThinShape may_be_null owner to
   pub shown : ANull may_be_null v (x ∷ []) ⊎ APointer w m c owner to v (x ∷ [])
 
--- a handle's value and what stands for it
+-- a thin pointer or a key: what may be an operand of what frees, lends or opens
+abbrev pub IsMovedShape : Shape → Type 0
+IsMovedShape (ThinShape may_be_null owner to) = Unit {0}
+IsMovedShape KeyShape = Unit {0}
+IsMovedShape s = ⊥
+
+pub thin_moved : (s : Shape) → IsThinShape s → IsMovedShape s
+thin_moved (ThinShape may_be_null owner to) h = tt
+thin_moved _ h = absurd h
+
+pub key_moved : (s : Shape) → IsKeyShape s → IsMovedShape s
+key_moved KeyShape h = tt
+key_moved _ h = absurd h
+
+-- the shape of a handle, or of a key, and its value
+abbrev pub birth_shape : (key : Bool) → Shape
+birth_shape true = KeyShape
+birth_shape false = HandleShape
+
+abbrev pub birth_value : (key : Bool) → ℕ → Scalar
+birth_value true d = KeyOf d
+birth_value false d = HandleOf d
+
+-- a handle's or a key's value and what stands for it
 pub record IsHandle (shape : Shape) (v : Scalar) (x : Content) : Type 0 where
+  pub key : Bool
   pub birth : ℕ
-  pub value : v ≡ HandleOf birth
+  pub value : v ≡ birth_value key birth
   pub shown : x ≡ Birth birth
-  pub shape_is : shape ≡ HandleShape
+  pub shape_is : shape ≡ birth_shape key
+
+-- what holds of each handle and of each key
+pub handle_cases : (holds : Scalar → Type 0) (shape : Shape) (v : Scalar) (x : Content) → IsHandle shape v x → ((d : ℕ) → holds (HandleOf d))
+    → ((d : ℕ) → holds (KeyOf d)) → holds v
+handle_cases holds shape v x o handles keys = subst holds (sym o.value) (by o.key)
+  where
+    by : (key : Bool) → holds (birth_value key o.birth)
+    by true = keys o.birth
+    by false = handles o.birth
+
+no_integer : (key : Bool) → IsIntegerShape (birth_shape key) → ⊥
+no_integer true h = h
+no_integer false h = h
 
 pub null_is : (x : Content) (b : Bool) (v : Scalar) → ANull b v (x ∷ []) → x ≡ Null
 null_is x b v n = ap (first_in x) n.shown
@@ -250,8 +287,9 @@ shown_one w m c (ThinShape may_be_null owner to) v x h o = inr (inl (record {
 }))
 shown_one w m c (FatShape to) v x h o = absurd h
 shown_one w m c HandleShape v x h o =
-    inr (inr (record { birth = o.birth; value = o.value; shown = ap (first_in x) o.shown; shape_is = refl }))
-shown_one w m c KeyShape v x h o = absurd h
+    inr (inr (record { key = false; birth = o.birth; value = o.value; shown = ap (first_in x) o.shown; shape_is = refl }))
+shown_one w m c KeyShape v x h o =
+    inr (inr (record { key = true; birth = o.birth; value = o.value; shown = ap (first_in x) o.shown; shape_is = refl }))
 shown_one w m c (StructShape tag) v x h o = absurd h
 shown_one w m c (UnionShape tag) v x h o = absurd h
 shown_one w m c (ArrayShape count of) v x h o = absurd h
@@ -262,7 +300,7 @@ pub shown_word : (w : World) (m : source.Memory) (c : core.Memory) (s : Shape) (
 shown_word w m c s v x h o =
     ⊎_elim (λ (one : IsWord s v x). one)
     (⊎_elim (λ (thin : IsThin w m c s v x). absurd (subst (λ z. IsIntegerShape z) thin.shape_is h))
-    (λ (handle : IsHandle s v x). absurd (subst (λ z. IsIntegerShape z) handle.shape_is h)))
+    (λ (handle : IsHandle s v x). absurd (no_integer handle.key (subst (λ z. IsIntegerShape z) handle.shape_is h))))
     (shown_one w m c s v x (integer_word s h) o)
 
 -- and a word stands for its value

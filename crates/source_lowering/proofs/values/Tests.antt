@@ -97,6 +97,7 @@ truth_decided p n d e shape code m c s rest next taken gives fits tests =
           (λ t byte x full leads.
           tests.go m1 c1 true fits1 later1 kept1 (record { branches = λ these those. ap (λ z. meaning.branch z these those) x })))
           (λ birth x shape_is. stuck_same p.world p.program n _)
+          (λ birth is. stuck_same p.world p.program n _)
           (λ v o.
           fat_same p.world p.program n shape m1 c1.memory v (c1.temps d) (c1.temps (d + 1)) (c1.temps (d + 2)) (λ u. need (is_true u) s) _ o
           (λ x. tests.go m1 c1 false fits1 later1 kept1 (record { branches = λ these those. ap (λ z. meaning.branch z these those) x }))
@@ -183,6 +184,7 @@ truth_tested p n d e shape code m c s rest next taken gives fits tests =
           (λ t byte x full leads. pointer_tested p n d 0 m c m1 c1 s rest next fits1 later1 kept1
           (spot_is_zero c1 d d byte (at t) (meaning.statements (put (turned_code d) rest) next) x) tests)))
           (λ birth x shape_is. stuck_same p.world p.program n _)
+          (λ birth is. stuck_same p.world p.program n _)
           (λ v o.
           subst (λ z. SameAt p n (need (is_true v) s m1) (meaning.statements (put (word_code z d) rest) next c1)) (sym o.shape_is)
           (fat_same p.world p.program n shape m1 c1.memory v (c1.temps d) (c1.temps (d + 1)) (c1.temps (d + 2)) (λ u. need (is_true u) s)
@@ -241,6 +243,7 @@ not_gives p n d e shape code taken gives = record {
             not_put p n d false m c m2 c2 c2 s _ (meaning.statements rest next) (spot_is_zero c2 d (d + 1) byte (at t) (meaning.statements rest next) x) fits2
             later2 (below c c2 kept2) goes)))
             (λ birth x shape_is. stuck_same p.world p.program n _)
+            (λ birth is. stuck_same p.world p.program n _)
             (λ v o.
             subst (λ z. SameAt p n (need (is_true v) (after s) m2) (meaning.statements (put (not_code z d) rest) next c2)) (sym o.shape_is)
             (fat_same p.world p.program n shape m2 c2.memory v (c2.temps (d + 1)) (c2.temps (d + 1 + 1)) (c2.temps (d + 1 + 2))

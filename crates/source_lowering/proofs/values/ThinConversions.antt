@@ -1,4 +1,4 @@
--- A thin pointer or a handle in a temporary is converted to another shape.
+-- A thin pointer, a handle or a key in a temporary is converted to another shape.
 use Rattle.std.proofs.Common.{◌≡◌, Bool, true, false, Option, Some, None, ℕ, inl, inr, ⊎_elim, List, [], ◌∷◌, refl, sym, ap, subst}
 use Rattle.std.specs.Prelude.{◌&&◌}
 use Rattle.std.proofs.lemmas.Bool.{and_parts, false≢true}
@@ -7,7 +7,7 @@ use Rattle.cyc_words.specs.Events.{SourceEnding}
 use Rattle.source_meaning.specs.Shapes.{Owner, Shared, Alone, Unsaid, same_shape, goes_to, Shape, IntShape, UnsignedShape, CharShape, VoidShape, ThinShape}
 use Rattle.source_meaning.specs.Shapes.{FatShape, HandleShape, KeyShape, StructShape, UnionShape, ArrayShape}
 use Rattle.source_meaning.specs.Memory as source
-use Rattle.source_meaning.specs.Memory.{Scalar, Thin, HandleOf, Spot}
+use Rattle.source_meaning.specs.Memory.{Scalar, Thin, HandleOf, KeyOf, Spot}
 use Rattle.source_meaning.specs.Steps as steps
 use Rattle.source_meaning.specs.Steps.{World}
 use Rattle.source_meaning.specs.Conversions.{converted, thin_to_thin}
@@ -22,7 +22,7 @@ use Rattle.source_lowering.specs.Lowerable.{IsThinShape, IsWordShape}
 use Rattle.source_lowering.specs.Simulation.{at, Leads, ANull, IsOwned, IsTakenObject, APointer, Point, SameAt, Next, AValue, ANothing, Given}
 use Rattle.source_lowering.specs.Simulation.{contents_in}
 use Rattle.source_lowering.proofs.Runs.{stuck_same, stops_same}
-use Rattle.source_lowering.proofs.values.Integers.{null_is, pointer_is}
+use Rattle.source_lowering.proofs.values.Integers.{birth_shape, null_is, pointer_is}
 use Rattle.source_lowering.proofs.memory.SameShapes.{shapes_same}
 use Rattle.source_lowering.proofs.values.NumberConversions.{ConvertsAs}
 
@@ -172,22 +172,24 @@ word_same p n d HandleShape (ThinShape b q from) word thin m c vs s rest next gi
     stuck_pointer p n HandleShape b q from m c.memory vs (c.temps d) s _ (λ t s m k. stuck_same p.world p.program n k) given
 word_same p n d VoidShape (ThinShape b q from) word thin m c vs s rest next given go = absurd word
 word_same p n d (FatShape to) (ThinShape b q from) word thin m c vs s rest next given go = absurd word
-word_same p n d KeyShape (ThinShape b q from) word thin m c vs s rest next given go = absurd word
+word_same p n d KeyShape (ThinShape b q from) word thin m c vs s rest next given go =
+    stuck_pointer p n KeyShape b q from m c.memory vs (c.temps d) s _ (λ t s m k. stuck_same p.world p.program n k) given
 word_same p n d (StructShape tag) (ThinShape b q from) word thin m c vs s rest next given go = absurd word
 word_same p n d (UnionShape tag) (ThinShape b q from) word thin m c vs s rest next given go = absurd word
 word_same p n d (ArrayShape count of) (ThinShape b q from) word thin m c vs s rest next given go = absurd word
 word_same p n d to _ word thin m c vs s rest next given go = absurd thin
 
--- ---- handles
+-- ---- handles and keys
 
--- what is given of a handle's shape is a value
-handle_value : (w : World) (m : source.Memory) (c : core.Memory) (vs : List Scalar) (x : Content) → Given w m c HandleShape vs (x ∷ [])
-    → AValue w m c HandleShape vs (x ∷ [])
-handle_value w m c vs x given =
-    ⊎_elim (λ (v : AValue w m c HandleShape vs (x ∷ [])). v) (λ (v : ANothing HandleShape vs). absurd (handle_void v.void)) given
+-- what is given of a handle's or a key's shape is a value
+pub birth_given : (key : Bool) (w : World) (m : source.Memory) (c : core.Memory) (vs : List Scalar) (x : Content) → Given w m c (birth_shape key) vs (x ∷ [])
+    → AValue w m c (birth_shape key) vs (x ∷ [])
+birth_given key w m c vs x given =
+    ⊎_elim (λ (v : AValue w m c (birth_shape key) vs (x ∷ [])). v) (λ (v : ANothing (birth_shape key) vs). absurd (never_void key v.void)) given
   where
-    handle_void : HandleShape ≡ VoidShape → ⊥
-    handle_void e = cc e
+    never_void : (is_key : Bool) → birth_shape is_key ≡ VoidShape → ⊥
+    never_void true e = cc e
+    never_void false e = cc e
 
 -- the source is stuck at each handle
 pub stuck_handle : (p : Point) (n d : ℕ) (to : Shape) (code : List Statement)
@@ -195,17 +197,38 @@ pub stuck_handle : (p : Point) (n d : ℕ) (to : Shape) (code : List Statement)
     → SameAt p n (converted p.world to HandleShape (HandleOf b ∷ []) s m) k) → ConvertsAs p n d to HandleShape code
 stuck_handle p n d to code stuck = record {
   same = λ m0 c0 m c vs s rest next fits later kept given goes.
-      let v = handle_value p.world m c.memory vs (c.temps d) given in
+      let v = birth_given false p.world m c.memory vs (c.temps d) given in
       let step : core_steps.Step = meaning.statements (put code rest) next c in
       subst (λ z. SameAt p n (converted p.world to HandleShape z s m) step) (sym v.alone)
       (subst (λ u. SameAt p n (converted p.world to HandleShape (u ∷ []) s m) step) (sym v.shown.value) (stuck v.shown.birth s m step));
+}
+
+-- and at each key
+pub stuck_key : (p : Point) (n d : ℕ) (to : Shape) (code : List Statement)
+    → ((b : ℕ) (s : List Scalar → source.Memory → steps.Step) (m : source.Memory) (k : core_steps.Step)
+    → SameAt p n (converted p.world to KeyShape (KeyOf b ∷ []) s m) k) → ConvertsAs p n d to KeyShape code
+stuck_key p n d to code stuck = record {
+  same = λ m0 c0 m c vs s rest next fits later kept given goes.
+      let v = birth_given true p.world m c.memory vs (c.temps d) given in
+      let step : core_steps.Step = meaning.statements (put code rest) next c in
+      subst (λ z. SameAt p n (converted p.world to KeyShape z s m) step) (sym v.alone)
+      (subst (λ u. SameAt p n (converted p.world to KeyShape (u ∷ []) s m) step) (sym v.shown.value) (stuck v.shown.birth s m step));
 }
 
 -- a handle stays as it is
 pub handle_converts : (p : Point) (n d : ℕ) → ConvertsAs p n d HandleShape HandleShape []
 handle_converts p n d = record {
   same = λ m0 c0 m c vs s rest next fits later kept given goes.
-      let v = handle_value p.world m c.memory vs (c.temps d) given in
+      let v = birth_given false p.world m c.memory vs (c.temps d) given in
       subst (λ z. SameAt p n (converted p.world HandleShape HandleShape z s m) (meaning.statements rest next c)) (sym v.alone)
+      (goes.go m c (v.value ∷ []) fits later kept (inl (record { value = v.value; alone = refl; shown = v.shown })));
+}
+
+-- so does a key
+pub key_converts : (p : Point) (n d : ℕ) → ConvertsAs p n d KeyShape KeyShape []
+key_converts p n d = record {
+  same = λ m0 c0 m c vs s rest next fits later kept given goes.
+      let v = birth_given true p.world m c.memory vs (c.temps d) given in
+      subst (λ z. SameAt p n (converted p.world KeyShape KeyShape z s m) (meaning.statements rest next c)) (sym v.alone)
       (goes.go m c (v.value ∷ []) fits later kept (inl (record { value = v.value; alone = refl; shown = v.shown })));
 }

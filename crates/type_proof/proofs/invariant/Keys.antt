@@ -119,7 +119,8 @@ module _ (d : Tables) (k b : ℕ) (w : Ghost) (m : Memory) (at : Spot) (q : Regi
         keyed = g2.keyed q (known_live d _ _ q key_begins.inv key_begins.live) ∙ (ap w.keyed h.region ∙ h.keyed)
 
         alone : Alone w2 m2 q
-        alone = loan_alone d (suc k) b lent_ghost lent_memory q (Pinned k) Live w2 m2 lent_inv (λ z. flying_unsteady k 0 (subst Steady own z)) key_begins.inv i2 g2
+        alone = loan_alone d (suc k) b lent_ghost lent_memory q (Pinned k) Live w2 m2 lent_inv (λ z. flying_unsteady k 0 (subst Steady own z))
+            key_begins.inv i2 g2
 
         turn : Turns w2 m2 q (Flying k 0) Closed
         turn = record {
@@ -247,7 +248,8 @@ pub runs_with_key : (d : Tables) (n k b : ℕ) (w : Ghost) (m : Memory) (at : Sp
 runs_with_key d n k b w m at q v body P R i l scoped ours e holds run finish =
     runs_read n at (shape_of (Key q)) v (λ u. key_of u >>= λ r. lending at u (in_region (key_opened r) key_closed body)) m (λ flow. After d k b w m (R flow))
     (seen m at _ l holds)
-    (subst (λ (u : Scalar). Runs n (key_of u >>= λ r. lending at u (in_region (key_opened r) key_closed body)) m (λ flow. After d k b w m (R flow))) (sym has.is)
+    (subst (λ (u : Scalar). Runs n (key_of u >>= λ r. lending at u (in_region (key_opened r) key_closed body)) m (λ flow. After d k b w m (R flow)))
+    (sym has.is)
     (record { by = λ next g. inner.by next g }))
   where
     x : CellOk d w at (m.cells at) (Private (Key q))

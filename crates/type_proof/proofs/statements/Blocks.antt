@@ -19,7 +19,8 @@ use Rattle.source_typing.specs.Left.{left, declares, turn_of, back_of, left_by, 
 use Rattle.source_typing.specs.States.{States, loop_head}
 use Rattle.source_typing.specs.Statements.{Chosen, chosen, in_a_loop, in_a_switch}
 use Rattle.type_proof.specs.Flat.{Tables}
-use Rattle.type_proof.specs.Judged.{AliasOpened, KeyOpened, extended, arrayed, LocalUnset, LocalArray, LocalSet, StatementJudged, ItemsJudged, ClausesJudged, on_union}
+use Rattle.type_proof.specs.Judged.{AliasOpened, KeyOpened, extended, arrayed, LocalUnset, LocalArray, LocalSet, StatementJudged, ItemsJudged}
+use Rattle.type_proof.specs.Judged.{ClausesJudged, on_union}
 use Rattle.type_proof.proofs.invariant.Invariant.{RunType, Ghost, Inv}
 use Rattle.type_proof.proofs.invariant.Growth.{grows_refl}
 use Rattle.type_proof.proofs.invariant.Names.{NameOf, naming}

@@ -134,7 +134,9 @@ module _ (n : ℕ) (d : Tables) (world : World) (tables : typing.Tables) (invoke
             })
 
         born : Runs n (new_key scope x.text rest) m post
-        born = record { by = λ next q. (runs_show n (KeyNew m.births) (local_with scope x.text KeyShape (KeyOf m.births ∷ []) rest) m1 post declared).by next q }
+        born = record {
+          by = λ next q. (runs_show n (KeyNew m.births) (local_with scope x.text KeyShape (KeyOf m.births ∷ []) rest) m1 post declared).by next q;
+        }
 
     pub leaves_key : Going → Leaves n d gives g scope f b (λ s. entering g inner p s) (new_key scope x.text rest)
     leaves_key go = λ s none k w m i z. born go s none k w m i z

@@ -21,7 +21,7 @@ A source is refused for one fault, written IN:LINE:COLUMN: NAME (status 8):
   Parse     a token with which no program goes on, or the end of the text
   TooDeep   a token that stands in over 256 phrases
   Name      an unknown name, a name declared twice, or no main
-  Type      a phrase of a wrong type or form, or a form that cannot be compiled yet
+  Type      a phrase of a wrong type or form
   Region    a region name out of order, or a region that isn't live
   Outlives  regions of which one doesn't outlive the other
   Effect    a call whose effect isn't live

@@ -6,7 +6,11 @@ use Rattle.std.proofs.Common.{
   ◌-◌,
   ◌<◌,
   ◌≤◌,
+  Bool,
+  true,
+  false,
   ℕ,
+  zero,
   suc,
   refl,
   sym,
@@ -42,9 +46,11 @@ use Rattle.source_lowering.specs.Programs.{
   item_values,
   items_code,
   leaving_code,
+  left_by,
   local_shape,
   named_here,
   names_behind,
+  opened_behind,
   regions_behind,
   regions_with,
   statement_code,
@@ -72,41 +78,63 @@ behind before here rest after rest_after all after_is rest_is is =
 
 -- ---- the regions that the items opened so far
 
--- the innermost region is freed first
-pub freed_one : (all count less fewer : ℕ) → all ≡ suc less → count ≡ suc fewer
-    → leaving_code all count ≡ core.Do (core.RegionFree less) ∷ leaving_code less fewer
-freed_one all count less fewer all_is count_is = ap (λ (n : ℕ). leaving_code n count) all_is ∙ ap (leaving_code (suc less)) count_is
+-- the innermost region is left first
+pub left_one : (o : Bool) (os : List Bool) (all count less fewer : ℕ) → all ≡ suc less → count ≡ suc fewer
+    → leaving_code (o ∷ os) all count ≡ core.Do (left_by o less) ∷ leaving_code os less fewer
+left_one o os all count less fewer all_is count_is =
+    ap (λ (n : ℕ). leaving_code (o ∷ os) n count) all_is ∙ ap (leaving_code (o ∷ os) (suc less)) count_is
 
-ended : (d : Declaration) (all first : ℕ) → first ≤ all
-    → leaving_code (regions_behind d all) (regions_behind d all - first) ≡ ending_code d all ++ leaving_code all (all - first)
-ended (tree.Local of name initializer) all first within = refl
-ended (tree.Region at region handle) all first within =
+-- none of them is left
+pub nothing_left : (opened : List Bool) (all : ℕ) → leaving_code opened all zero ≡ []
+nothing_left [] all = refl
+nothing_left (o ∷ os) zero = refl
+nothing_left (o ∷ os) (suc all) = refl
+
+ended_one : (o : Bool) (opened : List Bool) (all first : ℕ) → first ≤ all
+    → leaving_code (o ∷ opened) (suc all) (suc all - first) ≡ core.Do (left_by o all) ∷ leaving_code opened all (all - first)
+ended_one o opened all first within =
     let more : suc all - first ≡ suc (all - first) = omega (arith, within) in
-    ap (leaving_code (suc all)) more
-ended (tree.Open at region handle key) all first within = refl
-ended (tree.Alias at region of alias pointer) all first within = refl
-ended (tree.NewKey at region key) all first within = refl
+    ap (leaving_code (o ∷ opened) (suc all)) more
+
+ended : (d : Declaration) (opened : List Bool) (all first : ℕ) → first ≤ all
+    → leaving_code (opened_behind d opened) (regions_behind d all) (regions_behind d all - first)
+    ≡ ending_code d all ++ leaving_code opened all (all - first)
+ended (tree.Local of name initializer) opened all first within = refl
+ended (tree.Region at region handle) opened all first within = ended_one false opened all first within
+ended (tree.Open at region handle key) opened all first within = ended_one true opened all first within
+ended (tree.Alias at region of alias pointer) opened all first within = refl
+ended (tree.NewKey at region key) opened all first within = refl
 
 behind_within : (d : Declaration) (all first : ℕ) → first ≤ all → first ≤ regions_behind d all
 behind_within (tree.Local of name initializer) all first within = within
 behind_within (tree.Region at region handle) all first within = omega (arith, within)
-behind_within (tree.Open at region handle key) all first within = within
+behind_within (tree.Open at region handle key) all first within = omega (arith, within)
 behind_within (tree.Alias at region of alias pointer) all first within = within
 behind_within (tree.NewKey at region key) all first within = within
 
 pub declared_within : (d : Declaration) (h inside : RegionsAround) (first : ℕ) → inside ≡ regions_with d h → first ≤ h.all → first ≤ inside.all
 declared_within d h inside first is within = subst (λ (r : RegionsAround). first ≤ r.all) (sym is) (behind_within d h.all first within)
 
--- the code of items, and what frees the regions in scope down to so many
+abbrev regions_of : (all broken continued : ℕ) → List Bool → RegionsAround
+regions_of all broken continued opened = record { all = all; broken = broken; continued = continued; opened = opened }
+
+pub same_regions : (a a2 b b2 c c2 : ℕ) (o o2 : List Bool) → a ≡ a2 → b ≡ b2 → c ≡ c2 → o ≡ o2 → regions_of a b c o ≡ regions_of a2 b2 c2 o2
+same_regions a a2 b b2 c c2 o o2 a_is b_is c_is o_is =
+    ap (λ (x : ℕ). regions_of x b c o) a_is ∙ ap (λ (x : ℕ). regions_of a2 x c o) b_is ∙ ap (λ (x : ℕ). regions_of a2 b2 x o) c_is
+    ∙ ap (λ (x : List Bool). regions_of a2 b2 c2 x) o_is
+
+-- the code of items, and what leaves the regions in scope down to so many
 abbrev pub ending_items : World → Shape → List Named → RegionsAround → (first index own : ℕ) → BlockItems → List core.Statement
-ending_items w result names h first index own items = items_code w result names h index own items ++ leaving_code h.all (h.all - first)
+ending_items w result names h first index own items = items_code w result names h index own items ++ leaving_code h.opened h.all (h.all - first)
 
 -- before the first of them none was opened
 pub none_opened : (w : World) (result : Shape) (names : List Named) (h : RegionsAround) (index own : ℕ) (items : BlockItems)
     → ending_items w result names h h.all index own items ≡ items_code w result names h index own items
 none_opened w result names h index own items =
     let none : h.all - h.all ≡ 0 = omega arith in
-    ap (λ (n : ℕ). items_code w result names h index own items ++ leaving_code h.all n) none ∙ append-nil (items_code w result names h index own items)
+    let code = items_code w result names h index own items in
+    ap (λ (n : ℕ). code ++ leaving_code h.opened h.all n) none ∙ ap (λ (ss : List core.Statement). code ++ ss) (nothing_left h.opened h.all)
+    ∙ append-nil code
 
 module _ (w : World) (result : Shape) (names more : List Named) (h inside : RegionsAround) (first index next : ℕ) where
   moved_code : (own number : ℕ) (others : BlockItems) → more ≡ names → inside ≡ h → next ≡ index → number ≡ own
@@ -134,10 +162,10 @@ declared_items : (w : World) (result : Shape) (names : List Named) (h : RegionsA
 declared_items w result names h first index own d others within =
     let inside = items_code w result (names_behind w names index d) (regions_with d h) (suc index)
     (own + length (declaration_values w names d)) others in
-    append_assoc (declaration_code w names d h.all index own) (inside ++ ending_code d h.all) (leaving_code h.all (h.all - first))
+    append_assoc (declaration_code w names d h.all index own) (inside ++ ending_code d h.all) (leaving_code h.opened h.all (h.all - first))
     ∙ ap (λ (x : List core.Statement). declaration_code w names d h.all index own ++ x)
-    (append_assoc inside (ending_code d h.all) (leaving_code h.all (h.all - first))
-    ∙ ap (λ (x : List core.Statement). inside ++ x) (sym (ended d h.all first within)))
+    (append_assoc inside (ending_code d h.all) (leaving_code h.opened h.all (h.all - first))
+    ∙ ap (λ (x : List core.Statement). inside ++ x) (sym (ended d h.opened h.all first within)))
 
 -- an item after which others are left, among more names and regions, from another number on
 module _ (w : World) (result : Shape) (names more : List Named) (h inside : RegionsAround) (first index next own number : ℕ) (others left : BlockItems) where
@@ -182,7 +210,7 @@ module _ (w : World) (result : Shape) (names more : List Named) (h inside : Regi
         behind before (statement_code w result names h own s) (ending_items w result names h first index further others) after
         (ending_items w result more inside first next number others) all after_is
         (moved_code w result names more h inside first index next further number others names_are regions_are next_is number_is)
-        (ap (λ (x : List core.Statement). before ++ x) (sym (append_assoc (statement_code w result names h own s) rest (leaving_code h.all (h.all - first))))
+        (ap (λ (x : List core.Statement). before ++ x) (sym (append_assoc (statement_code w result names h own s) rest (leaving_code h.opened h.all (h.all - first))))
         ∙ ap (λ (x : BlockItems). before ++ ending_items w result names h first index own x) (sym left_is) ∙ is)
 
     pub values_executed : (before after all : List Shape) → after ≡ before ++ statement_values w names s

@@ -85,7 +85,7 @@ shape_same w at next VoidShape c laid is = absurd cc is
 shape_same w at next (ThinShape n o t) c laid is = let c_is : c ≡ cell.Pointer = cc is in ap (parts_up_to at next) c_is ∙ parts_same at 4 next Null
 shape_same w at next (FatShape t) c laid is = let c_is : c ≡ cell.Fat = cc is in ap (parts_up_to at next) c_is ∙ fat_same at next
 shape_same w at next HandleShape c laid is = let c_is : c ≡ cell.Handle = cc is in ap (parts_up_to at next) c_is ∙ parts_same at 4 next Blank
-shape_same w at next KeyShape c laid is = absurd cc is
+shape_same w at next KeyShape c laid is = let c_is : c ≡ cell.Handle = cc is in ap (parts_up_to at next) c_is ∙ parts_same at 4 next Blank
 shape_same w at next (StructShape tag) c laid is = absurd cc is
 shape_same w at next (UnionShape tag) c laid is = union_up_to w at next tag c (first_union w.unions tag) laid refl is
 shape_same w at next (ArrayShape n s) c laid is = absurd cc is

@@ -149,7 +149,7 @@ module _ (table : Structs) (unions structs : List Layout) (knows : Knows table u
   room_same (ThinShape n o t) laid = refl
   room_same (FatShape t) laid = refl
   room_same HandleShape laid = refl
-  room_same KeyShape laid = absurd cc laid
+  room_same KeyShape laid = refl
   room_same (StructShape tag) laid = found_room unions structs tag (struct_in table tag) (knows.knows tag)
   room_same (UnionShape tag) laid = union_same unions tag knows.unions_are.laid ∙ ap union_room (sym (knows.unions_are.first tag))
   room_same (ArrayShape n s) laid = absurd cc laid
@@ -162,7 +162,7 @@ module _ (table : Structs) (unions structs : List Layout) (knows : Knows table u
   cells_same (ThinShape n o t) laid = refl
   cells_same (FatShape t) laid = refl
   cells_same HandleShape laid = refl
-  cells_same KeyShape laid = absurd cc laid
+  cells_same KeyShape laid = refl
   cells_same (StructShape tag) laid = found_cells unions structs tag (struct_in table tag) (knows.knows tag) laid
   cells_same (UnionShape tag) laid = ap (λ c. record { offset = 0; cell = c } ∷ []) (cell_same (UnionShape tag))
   cells_same (ArrayShape n s) laid = absurd cc laid
@@ -175,7 +175,7 @@ module _ (table : Structs) (unions structs : List Layout) (knows : Knows table u
   count_same (ThinShape n o t) laid = refl
   count_same (FatShape t) laid = refl
   count_same HandleShape laid = refl
-  count_same KeyShape laid = absurd cc laid
+  count_same KeyShape laid = refl
   count_same (StructShape tag) laid = found_count unions structs tag (struct_in table tag) (knows.knows tag)
   count_same (UnionShape tag) laid = refl
   count_same (ArrayShape n s) laid = absurd cc laid
@@ -206,7 +206,7 @@ module _ (table : Structs) (unions structs : List Layout) (knows : Knows table u
   object_laid (ThinShape n o t) h = refl
   object_laid (FatShape t) h = refl
   object_laid HandleShape h = refl
-  object_laid KeyShape h = absurd h
+  object_laid KeyShape h = refl
   object_laid (StructShape tag) h = tag_found unions structs tag (struct_in table tag) (knows.knows tag) h
   object_laid (UnionShape tag) h = some_cell (union_in table.unions tag) (ap is_some (knows.unions_are.first tag) ∙ has_union unions tag ∙ h)
   object_laid (ArrayShape n s) h = absurd h

@@ -38,7 +38,7 @@ cell_small VoidShape h = absurd cc h
 cell_small (ThinShape n o t) h = word_small (ThinShape n o t) refl (omega arith) (omega arith)
 cell_small (FatShape t) h = record { some = omega arith; few = omega arith; word = λ e. absurd (true≢false e); fat = λ e. omega arith }
 cell_small HandleShape h = word_small HandleShape refl (omega arith) (omega arith)
-cell_small KeyShape h = absurd cc h
+cell_small KeyShape h = word_small KeyShape refl (omega arith) (omega arith)
 cell_small (StructShape tag) h = absurd cc h
 cell_small (UnionShape tag) h = absurd cc h
 cell_small (ArrayShape n s) h = absurd cc h

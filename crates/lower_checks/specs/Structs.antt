@@ -57,7 +57,7 @@ all_filled bytes (c ∷ cs) = filled c (next_cell bytes cs) ∷ all_filled bytes
 
 -- ---- what has room
 
--- an integer, a pointer, a handle, or one of these unions and structs
+-- an integer, a pointer, a handle, a key, or one of these unions and structs
 abbrev pub HasRoom : (unions structs : List Layout) → Shape → Type 0
 HasRoom unions structs (StructShape tag) = (has_tag structs tag ≡ true)
 HasRoom unions structs s = (is_some (cell_in unions s) ≡ true)
@@ -130,7 +130,7 @@ abbrev pub cells_in : Structs → Shape → List CellAt
 cells_in table (StructShape tag) = cells_if (struct_in table tag)
 cells_in table s = record { offset = 0; cell = table_cell table s } ∷ []
 
--- an integer, a pointer, a handle, or a union or a struct of the table
+-- an integer, a pointer, a handle, a key, or a union or a struct of the table
 abbrev pub IsLaid : Structs → Shape → Type 0
 IsLaid table (StructShape tag) = (is_some (struct_in table tag) ≡ true)
 IsLaid table s = (is_some (table_cell table s) ≡ true)

@@ -48,7 +48,7 @@ union_by unions s = None
 abbrev pub union_in : Firsts code.Union → List ℕ → Option Union
 union_in unions tag = option_map union_tree (first_in unions tag)
 
--- each member is an integer, a pointer or a handle
+-- each member is an integer, a pointer, a handle or a key
 abbrev pub AreCells : List Part → Type 0
 AreCells [] = Unit {0}
 AreCells (p ∷ ps) = (is_some (cell_for p.shape) ≡ true) × AreCells ps

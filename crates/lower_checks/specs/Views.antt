@@ -1,5 +1,5 @@
 -- What contracts see of the shapes and names that the code has.
-use Rattle.std.specs.Prelude.{false, map}
+use Rattle.std.specs.Prelude.{Bool, List, false, map, reverse}
 use Rattle.cyc_tree.specs.View.{base_tree, pointer_tree}
 use Rattle.source_meaning.specs.Shapes.{
   Shape,
@@ -104,5 +104,6 @@ found_entity g = Variable (stored_tree g.stored) (heap_spot g.object)
 abbrev pub text_value : code_text.Text → Scalar
 text_value t = span_at t.count (heap_spot t.object)
 
-abbrev pub regions_tree : code_regions.RegionsAround → programs.RegionsAround
-regions_tree r = record { all = r.all; broken = r.broken; continued = r.continued }
+-- the regions around a statement, and whether a key opened each of all, the last one last
+abbrev pub regions_tree : code_regions.RegionsAround → List Bool → programs.RegionsAround
+regions_tree r opened = record { all = r.all; broken = r.broken; continued = r.continued; opened = reverse opened }

@@ -6,7 +6,7 @@ ghost use Rattle.cyc_tree.specs.Tree.{Expression as tree};
 ghost use Rattle.cyc_tree.specs.View.{expression_tree, declaration_tree, name_tree, type_tree};
 ghost use Rattle.source_meaning.specs.Programs.{world_of};
 ghost use Rattle.source_meaning.specs.Shapes.{settled_by, written};
-ghost use Rattle.source_lowering.specs.Lowered.{static_shape};
+ghost use Rattle.source_lowering.specs.Lowered.{get_code, static_shape};
 ghost use Rattle.source_lowering.specs.Layouts.{layout_of, local_of};
 ghost use Rattle.source_lowering.specs.Programs.{declaration_code, declaration_values, initial_values, local_shape, source_code, unset_code, value_code};
 ghost use Rattle.source_lowering.specs.Whole.{expression_values, is_made, whole_values};
@@ -78,14 +78,11 @@ pub fn declared<'p>(
         Declaration::Local(of, _, Initializer::Value(value)) => {
             Stored::One(initial_shape(scope, of, value, body))
         }
-        Declaration::Region(_, _, _) => Stored::One(Shape::Handle),
+        Declaration::Region(_, _, _) | Declaration::Open(_, _, _, _) => Stored::One(Shape::Handle),
         Declaration::Alias(_, _, of, _, pointer) => {
             Stored::One(alias_shape(scope, of, pointer, body))
         }
-        _ => {
-            body.never();
-            Stored::One(Shape::Void)
-        }
+        Declaration::NewKey(_, _, _) => Stored::One(Shape::Key),
     }
 }
 
@@ -234,6 +231,27 @@ fn lower_region(body: &mut Body<'_>, to: Temporary, index: u32)
     body.operation(Operation::Put(local, Width::Word, to));
 }
 
+/// Appends what makes a key, which goes to the local of a number by way of a temporary.
+fn lower_new_key(body: &mut Body<'_>, to: Temporary, index: u32)
+    ensures { Emits body.old body.new (core.Do (core.KeyNew to.0) ∷ core.Do (core.Put 0 index 4 to.0) ∷ []) }
+{
+    let local = Variable { out: 0, index };
+    body.operation(Operation::KeyNew(to));
+    body.operation(Operation::Put(local, Width::Word, to));
+}
+
+/// Appends what opens a region with the key of a name, which stays in a temporary and goes to the local of a number.
+fn lower_open(scope: &Scope<'_, '_>, key: &Name, body: &mut Body<'_>, to: Temporary, index: u32)
+    ensures { let names = names_in scope.now in
+        Emits body.old body.new
+        (get_code (world_in scope.now) names (name_tree key.now).text to.0 ++ (core.Do (core.KeyOpen to.0) ∷ core.Do (core.Put 0 index 4 to.0) ∷ [])) }
+{
+    lower_get(scope, body, &key.text, to);
+    let local = Variable { out: 0, index };
+    body.operation(Operation::KeyOpen(to));
+    body.operation(Operation::Put(local, Width::Word, to));
+}
+
 /// Appends what gives the local of a number a copy of the pointer of a name, by way of a temporary.
 fn lower_alias<'p>(
     scope: &Scope<'_, 'p>,
@@ -257,8 +275,8 @@ fn lower_alias<'p>(
     lower_put_local(body, &Stored::One(shape), local, to);
 }
 
-/// Appends what gives the local of a number its first value: that of its shape, its initializer's value, that of an alias's pointer, or a
-/// new region's handle, which comes into a temporary; appends the shapes of the unnamed values.
+/// Appends what gives the local of a number its first value: that of its shape, its initializer's value, that of an alias's pointer, a new
+/// region's handle, a key that opens one or a new key, which comes into a temporary; appends the shapes of the unnamed values.
 pub fn lower_declaration<'p>(
     scope: &Scope<'_, 'p>,
     declaration: &'p Declaration,
@@ -287,6 +305,7 @@ pub fn lower_declaration<'p>(
         Declaration::Alias(_, _, of, _, pointer) => {
             lower_alias(scope, of, pointer, body, to, index)
         }
-        _ => body.never(),
+        Declaration::Open(_, _, _, key) => lower_open(scope, key, body, to, index),
+        Declaration::NewKey(_, _, _) => lower_new_key(body, to, index),
     }
 }

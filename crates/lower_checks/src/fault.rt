@@ -8,7 +8,7 @@ use std::alloc::AllocError;
 /// Why a program has no Core.
 #[derive(Clone, Copy)]
 pub enum LowerFault {
-    /// It has something that isn't taken: a dynamic region's key.
+    /// It has something that isn't taken.
     NotTaken,
     /// No host memory is left, or a number of something is over the greatest u32.
     Memory,

@@ -104,6 +104,7 @@ fn lower_body<'p>(
     let mut body = Body::new(alloc);
     let mut locals = Locals::new(alloc);
     let mut all = Vec::new(alloc);
+    let opened = Vec::new(alloc);
     lower_parameters(
         &mut locals,
         &mut all,
@@ -119,6 +120,7 @@ fn lower_body<'p>(
         &mut all,
         &mut body,
         RegionsAround::none(),
+        &opened,
     );
     let inside = body.end(Vec::new(alloc));
     lower_inside(program, &all, &mut body, inside);

@@ -68,7 +68,7 @@ struct Laying {
     room: Room,
 }
 
-/// What a cell of a shape is made for. Refuses what is no integer, no pointer and no handle.
+/// What a cell of a shape is made for. Refuses what is no integer, no pointer, no handle and no key.
 pub fn cell_of(shape: Shape<'_>) -> Result<Cell, LowerFault>
     ensures cell { IfOk result (λ cell. cell_for (shape_tree shape.entry) ≡ Some cell) }
     ensures taken { is_some (cell_for (shape_tree shape.entry)) ≡ true → NeverRefused result }
@@ -78,7 +78,7 @@ pub fn cell_of(shape: Shape<'_>) -> Result<Cell, LowerFault>
         Shape::Int | Shape::Unsigned => Ok(Cell::Word),
         Shape::Thin(_, _, _) | Shape::Address(_, _, _) => Ok(Cell::Pointer),
         Shape::Fat(_) => Ok(Cell::Fat),
-        Shape::Handle => Ok(Cell::Handle),
+        Shape::Handle | Shape::Key => Ok(Cell::Handle),
         _ => Err(LowerFault::NotTaken),
     }
 }
@@ -223,7 +223,7 @@ impl<'p> Structs<'p> {
         self.unions.of(tag)
     }
 
-    /// What a cell of a shape is made for. Refuses what is no integer, no pointer, no handle and no union that is known.
+    /// What a cell of a shape is made for. Refuses what is no integer, no pointer, no handle, no key and no union that is known.
     fn cell(&self, shape: Shape<'_>) -> Result<Cell, LowerFault>
         ensures cell { IfOk result (λ cell. table_cell self.now (shape_tree shape.entry) ≡ Some cell) }
         ensures taken { is_some (table_cell self.now (shape_tree shape.entry)) ≡ true → NeverRefused result }
@@ -244,7 +244,7 @@ impl<'p> Structs<'p> {
         self.by_tag.get(tag)
     }
 
-    /// The bytes of a shape. Refuses what is no integer, no pointer, no handle and no union or struct that is known.
+    /// The bytes of a shape. Refuses what is no integer, no pointer, no handle, no key and no union or struct that is known.
     fn room(&self, shape: Shape<'_>) -> Result<Room, LowerFault>
         ensures room { IfOk result (λ room. room_tree room ≡ room_in self.now (shape_tree shape.entry)) }
         ensures laid { OnOk result (IsLaid self.now (shape_tree shape.entry)) }
@@ -266,7 +266,7 @@ impl<'p> Structs<'p> {
         })
     }
 
-    /// Appends the cells of a shape, so many bytes on. Refuses what is no integer, no pointer, no handle and no union or struct that is known.
+    /// Appends the cells of a shape, so many bytes on. Refuses what is no integer, no pointer, no handle, no key and no union or struct that is known.
     fn push_shape(
         &self,
         cells: &mut Vec<CellLayout>,
@@ -294,7 +294,7 @@ impl<'p> Structs<'p> {
         )
     }
 
-    /// Lays one more member. Refuses what is no integer, no pointer, no handle and no union or struct that is known.
+    /// Lays one more member. Refuses what is no integer, no pointer, no handle, no key and no union or struct that is known.
     fn lay(&self, laying: &mut Laying, shape: Shape<'_>) -> Result<(), LowerFault>
         ensures size { let room = room_in self.now (shape_tree shape.entry) in
             OnOk result (laying.new.room.size ≡ rounded_up laying.old.room.size room.align + room.size) }
@@ -319,7 +319,7 @@ impl<'p> Structs<'p> {
         Ok(())
     }
 
-    /// Lays members. Refuses what is no integer, no pointer, no handle and no union or struct that is known.
+    /// Lays members. Refuses what is no integer, no pointer, no handle, no key and no union or struct that is known.
     fn lay_all(&self, alloc: Global, members: &[Member]) -> Result<Laying, LowerFault>
         ensures room { let parts = map part_of (map member_tree members.now) in
             IfOk result (λ laying.
@@ -344,7 +344,7 @@ impl<'p> Structs<'p> {
     }
 
     /// Adds a struct behind the others. Refuses one whose tag another one has, and one with a member that is no integer, no
-    /// pointer, no handle, no union and no earlier struct.
+    /// pointer, no handle, no key, no union and no earlier struct.
     #[tactic(auto, using(crate::proofs::Structs::new_tag, crate::proofs::Structs::members_laid))]
     pub fn add(&mut self, alloc: Global, structure: &'p Structure) -> Result<(), LowerFault>
         ensures added { OnOk result

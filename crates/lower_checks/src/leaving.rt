@@ -1,11 +1,11 @@
-// The regions that are in scope, and what frees them.
+// The regions that are in scope, and how they are left.
 
-ghost use Rattle.std.specs.Prelude.{◌≡◌, ◌∷◌, ◌++◌, []};
+ghost use Rattle.std.specs.Prelude.{◌≡◌, ◌<◌, ◌∷◌, ◌++◌, [], Bool, List, false, length, reverse, slice_index_or, suc};
 ghost use Rattle.core_meaning.specs.Core as core;
 ghost use Rattle.cyc_tree.specs.View.{declaration_tree, expression_tree};
-ghost use Rattle.cyc_core.specs.Trees.{statement_tree};
+ghost use Rattle.cyc_core.specs.Trees.{operation_tree, statement_tree};
 ghost use Rattle.source_lowering.specs.Lowered.{conversion_code, expression_code, expression_values, results_in, static_shape};
-ghost use Rattle.source_lowering.specs.Programs.{in_loop, in_switch, leaving_code, no_regions, regions_with};
+ghost use Rattle.source_lowering.specs.Programs.{in_loop, in_switch, leaving_code, left_by, no_regions, regions_with};
 ghost use Rattle.source_lowering.specs.Lowerable.{Takes};
 ghost use Rattle.lower_checks.specs.Scoped.{names_in, world_in};
 ghost use Rattle.lower_checks.specs.Views.{regions_tree, shape_tree};
@@ -20,7 +20,8 @@ use cyc_core::{Operation, Statement, Temporary};
 use cyc_tree::{Declaration, Expression};
 
 /// The regions around a statement: how many of its function are in scope, whose handles are in the first temporaries, how many of these
-/// were opened within what a `break` leaves, the innermost loop or `switch`, and how many within the innermost loop.
+/// were opened within what a `break` leaves, the innermost loop or `switch`, and how many within the innermost loop. Whether a key opened
+/// each of all stands beside this, the innermost one last.
 #[derive(Clone, Copy)]
 pub struct RegionsAround {
     pub all: u32,
@@ -31,7 +32,7 @@ pub struct RegionsAround {
 impl RegionsAround {
     /// No region is in scope.
     pub fn none() -> RegionsAround
-        ensures { regions_tree result ≡ no_regions }
+        ensures { regions_tree result [] ≡ no_regions }
     {
         RegionsAround {
             all: 0,
@@ -42,7 +43,7 @@ impl RegionsAround {
 
     /// Within a loop.
     pub fn in_loop(self) -> RegionsAround
-        ensures { regions_tree result ≡ in_loop (regions_tree self) }
+        ensures { (opened : List Bool) → regions_tree result opened ≡ in_loop (regions_tree self opened) }
     {
         RegionsAround {
             all: self.all,
@@ -53,7 +54,7 @@ impl RegionsAround {
 
     /// Within a `switch`.
     pub fn in_switch(self) -> RegionsAround
-        ensures { regions_tree result ≡ in_switch (regions_tree self) }
+        ensures { (opened : List Bool) → regions_tree result opened ≡ in_switch (regions_tree self opened) }
     {
         RegionsAround {
             all: self.all,
@@ -62,17 +63,41 @@ impl RegionsAround {
         }
     }
 
-    /// Behind a declaration: one more where it declares a region.
-    pub fn with(self, body: &mut Body<'_>, declaration: &Declaration) -> RegionsAround
+    /// One more, which a key opened or not.
+    fn further(self, body: &mut Body<'_>, opened: &mut Vec<bool>, by_key: bool) -> RegionsAround
         ensures stays { Stays body.old body.new }
-        ensures regions { IsSound body.new → regions_tree result ≡ regions_with (declaration_tree declaration.now) (regions_tree self) }
+        ensures regions { IsSound body.new → regions_tree result opened.new.items ≡ record {
+          all = suc self.all;
+          broken = suc self.broken;
+          continued = suc self.continued;
+          opened = by_key ∷ reverse opened.old.items;
+        } }
+    {
+        note_opened(body, opened, by_key);
+        let all = body.sum(self.all, 1);
+        let broken = body.sum(self.broken, 1);
+        let continued = body.sum(self.continued, 1);
+        RegionsAround {
+            all,
+            broken,
+            continued,
+        }
+    }
+
+    /// Behind a declaration: one more where it declares a region.
+    pub fn with(
+        self,
+        body: &mut Body<'_>,
+        opened: &mut Vec<bool>,
+        declaration: &Declaration,
+    ) -> RegionsAround
+        ensures stays { Stays body.old body.new }
+        ensures regions { IsSound body.new →
+            regions_tree result opened.new.items ≡ regions_with (declaration_tree declaration.now) (regions_tree self opened.old.items) }
     {
         match declaration {
-            Declaration::Region(_, _, _) => RegionsAround {
-                all: body.sum(self.all, 1),
-                broken: body.sum(self.broken, 1),
-                continued: body.sum(self.continued, 1),
-            },
+            Declaration::Region(_, _, _) => self.further(body, opened, false),
+            Declaration::Open(_, _, _, _) => self.further(body, opened, true),
             _ => self,
         }
     }
@@ -85,16 +110,60 @@ impl RegionsAround {
     }
 }
 
-/// Appends what frees so many of the regions in scope, the innermost first.
-pub fn lower_leaving(body: &mut Body<'_>, all: u32, count: u32)
-    ensures { Emits body.old body.new (leaving_code all count) }
+/// Adds whether a key opened a further region.
+fn note_opened(body: &mut Body<'_>, opened: &mut Vec<bool>, by_key: bool)
+    ensures stays { Stays body.old body.new }
+    ensures noted { IsSound body.new → opened.new.items ≡ opened.old.items ++ by_key ∷ [] }
 {
+    if let Err(_) = opened.push(by_key) {
+        body.fail();
+    }
+}
+
+/// Whether a key opened each region that is in scope where a block begins, to which those of the block are added.
+pub fn opened_outside(body: &mut Body<'_>, opened: &[bool]) -> Vec<bool>
+    ensures stays { Stays body.old body.new }
+    ensures opened { IsSound body.new → result.items ≡ opened.now }
+{
+    let mut outside = Vec::new(body.alloc);
+    if let Err(_) = outside.extend_from_slice(opened) {
+        body.fail();
+    }
+    outside
+}
+
+/// Whether a key opened the region of this number.
+fn opened_at(opened: &[bool], number: usize) -> bool
+    requires { number < length opened.now }
+    ensures { result ≡ slice_index_or opened.now number false }
+{
+    opened[number]
+}
+
+/// What leaves a region whose handle, or key, is in a temporary: it is closed where a key opened it, and else freed.
+fn left_by(opened: bool, handle: Temporary) -> Operation
+    ensures { operation_tree result ≡ left_by opened handle.0 }
+{
+    if opened {
+        Operation::KeyClose(handle)
+    } else {
+        Operation::RegionFree(handle)
+    }
+}
+
+/// Appends what leaves so many of the regions in scope, the innermost first.
+pub fn lower_leaving(body: &mut Body<'_>, opened: &[bool], all: u32, count: u32)
+    ensures { Emits body.old body.new (leaving_code (reverse opened.now) all count) }
+{
+    let mut at = opened.len();
     let mut regions = all;
     let mut more = count;
-    'each: while regions != 0 && more != 0 {
+    'each: while at != 0 && regions != 0 && more != 0 {
+        at -= 1;
         regions -= 1;
         more -= 1;
-        body.operation(Operation::RegionFree(Temporary(regions)));
+        let by_key = opened_at(opened, at);
+        body.operation(left_by(by_key, Temporary(regions)));
     }
 }
 
@@ -108,7 +177,7 @@ fn lower_result(body: &mut Body<'_>, shape: &Shape<'_>, to: Temporary)
     }
 }
 
-/// Appends a return, with the value of an expression in the shape of the function's result, when all regions of the function are freed;
+/// Appends a return, with the value of an expression in the shape of the function's result, when all regions of the function are left;
 /// appends the shapes of the unnamed values.
 pub fn lower_return<'p>(
     scope: &Scope<'_, 'p>,
@@ -116,6 +185,7 @@ pub fn lower_return<'p>(
     value: &'p Expression,
     body: &mut Body<'p>,
     around: RegionsAround,
+    opened: &[bool],
 )
     requires taken { IsSound body.old → Takes (world_in scope.now) (names_in scope.now) (expression_tree value.now) }
     ensures writes { let w = world_in scope.now in
@@ -125,20 +195,26 @@ pub fn lower_return<'p>(
         let d = around.all in
         Writes body.old body.new
         (expression_code w names e d (next_of body.old) ++
-        (conversion_code w s (static_shape w names e) d ++ (leaving_code d d ++ core.Return (results_in s d) ∷ [])))
+        (conversion_code w s (static_shape w names e) d ++ (leaving_code (reverse opened.now) d d ++ core.Return (results_in s d) ∷ [])))
         (expression_values w names e) }
 {
     let to = around.value();
     let from = lower_expression(scope, value, body, to);
     lower_conversion(scope.program, body, shape, &from, to);
-    lower_leaving(body, around.all, around.all);
+    lower_leaving(body, opened, around.all, around.all);
     lower_result(body, shape, to);
 }
 
-/// Appends a statement that leaves so many regions, when these are freed.
-pub fn lower_left(body: &mut Body<'_>, around: RegionsAround, count: u32, statement: Statement)
-    ensures { Emits body.old body.new (leaving_code around.all count ++ statement_tree statement ∷ []) }
+/// Appends a statement that leaves so many regions, when these are left.
+pub fn lower_left(
+    body: &mut Body<'_>,
+    around: RegionsAround,
+    opened: &[bool],
+    count: u32,
+    statement: Statement,
+)
+    ensures { Emits body.old body.new (leaving_code (reverse opened.now) around.all count ++ statement_tree statement ∷ []) }
 {
-    lower_leaving(body, around.all, count);
+    lower_leaving(body, opened, around.all, count);
     body.emit(statement);
 }

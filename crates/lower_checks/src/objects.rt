@@ -98,7 +98,7 @@ pub fn cell_layout(alloc: Global, cell: Cell) -> Result<Rc<Layout>, LowerFault>
     }
 }
 
-/// The layout of an object of a shape. Refuses what is no integer, no pointer, no handle and no union or struct of the program.
+/// The layout of an object of a shape. Refuses what is no integer, no pointer, no handle, no key and no union or struct of the program.
 pub fn object_layout(
     alloc: Global,
     program: &Table<'_>,
@@ -112,14 +112,14 @@ pub fn object_layout(
         Shape::Int | Shape::Unsigned => cell_layout(alloc, Cell::Word),
         Shape::Thin(_, _, _) | Shape::Address(_, _, _) => cell_layout(alloc, Cell::Pointer),
         Shape::Fat(_) => cell_layout(alloc, Cell::Fat),
-        Shape::Handle => cell_layout(alloc, Cell::Handle),
+        Shape::Handle | Shape::Key => cell_layout(alloc, Cell::Handle),
         Shape::Struct(tag) => struct_layout(program, tag),
         Shape::Union(tag) => cell_layout(alloc, union_cell(program, tag)?),
         _ => Err(LowerFault::NotTaken),
     }
 }
 
-/// An object of a shape as a local. Refuses what is no integer, no pointer, no handle and no union or struct of the program.
+/// An object of a shape as a local. Refuses what is no integer, no pointer, no handle, no key and no union or struct of the program.
 fn value_of(program: &Table<'_>, shape: Shape<'_>) -> Result<Local, LowerFault>
     ensures local { IfOk result (λ local. local_tree local ≡ local_of (world_of program.now) (shape_tree shape.entry)) }
     ensures taken { IsObject (world_of program.now).unions (world_of program.now).structs (shape_tree shape.entry) → NeverRefused result }
@@ -129,14 +129,14 @@ fn value_of(program: &Table<'_>, shape: Shape<'_>) -> Result<Local, LowerFault>
         Shape::Int | Shape::Unsigned => Ok(Local::Scalar(Cell::Word)),
         Shape::Thin(_, _, _) | Shape::Address(_, _, _) => Ok(Local::Scalar(Cell::Pointer)),
         Shape::Fat(_) => Ok(Local::Scalar(Cell::Fat)),
-        Shape::Handle => Ok(Local::Scalar(Cell::Handle)),
+        Shape::Handle | Shape::Key => Ok(Local::Scalar(Cell::Handle)),
         Shape::Struct(tag) => Ok(Local::Whole(struct_layout(program, tag)?, 1)),
         Shape::Union(tag) => Ok(Local::Scalar(union_cell(program, tag)?)),
         _ => Err(LowerFault::NotTaken),
     }
 }
 
-/// The layout of what a name stands for, and of how many elements it is. Refuses what is no integer, no pointer, no handle, no union or
+/// The layout of what a name stands for, and of how many elements it is. Refuses what is no integer, no pointer, no handle, no key, no union or
 /// struct of the program and no array of these.
 pub fn stored_layout(
     alloc: Global,
@@ -153,7 +153,7 @@ pub fn stored_layout(
     }
 }
 
-/// A local. Refuses what is no integer, no pointer, no handle, no union or struct of the program and no array of these.
+/// A local. Refuses what is no integer, no pointer, no handle, no key, no union or struct of the program and no array of these.
 fn local_of(alloc: Global, program: &Table<'_>, stored: Stored<'_>) -> Result<Local, LowerFault>
     ensures local { IfOk result (λ local. local_tree local ≡ local_of (world_of program.now) (stored_tree stored.entry)) }
     ensures taken { IsVariable (world_of program.now).unions (world_of program.now).structs (stored_tree stored.entry) → NeverRefused result }
@@ -167,7 +167,7 @@ fn local_of(alloc: Global, program: &Table<'_>, stored: Stored<'_>) -> Result<Lo
     }
 }
 
-/// Unnamed values of these shapes. Refuses what is no integer, no pointer, no handle and no union or struct of the program.
+/// Unnamed values of these shapes. Refuses what is no integer, no pointer, no handle, no key and no union or struct of the program.
 pub fn values_of(
     alloc: Global,
     program: &Table<'_>,
@@ -186,7 +186,7 @@ pub fn values_of(
     Ok(locals)
 }
 
-/// Locals. Refuses what is no integer, no pointer, no handle, no union or struct of the program and no array of these.
+/// Locals. Refuses what is no integer, no pointer, no handle, no key, no union or struct of the program and no array of these.
 pub fn locals_of(
     alloc: Global,
     program: &Table<'_>,

@@ -19,7 +19,7 @@ use crate::body::Body;
 use crate::declaration::{declared, lower_declaration};
 use crate::exchange::lower_exchange;
 use crate::expression::lower_expression;
-use crate::leaving::{RegionsAround, lower_leaving, lower_left, lower_return};
+use crate::leaving::{RegionsAround, lower_leaving, lower_left, lower_return, opened_outside};
 use crate::locals::Locals;
 use crate::names::number;
 use crate::objects::locals_of;
@@ -42,18 +42,19 @@ fn lower_statement<'p>(
     statement: &'p Source,
     body: &mut Body<'p>,
     around: RegionsAround,
+    opened: &[bool],
 )
     requires taken { IsSound body.old → TakesStatement (world_of program.now) (shape_tree shape.now) (names_of locals.old) (source_tree statement.now) }
     ensures writes { let w = world_of program.now in
         let names = names_of locals.old in
         let s = source_tree statement.entry.now in
-        Writes body.old body.new (statement_code w (shape_tree shape.now) names (regions_tree around) (next_of body.old) s) (statement_values w names s) }
+        Writes body.old body.new (statement_code w (shape_tree shape.now) names (regions_tree around opened.now) (next_of body.old) s) (statement_values w names s) }
     ensures kept { IsSound body.new → locals.new ≡ locals.old }
 {
     let to = around.value();
     match statement {
         Source::Empty(_) => {}
-        Source::Block(_, items) => lower_block(program, shape, locals, items, body, around),
+        Source::Block(_, items) => lower_block(program, shape, locals, items, body, around, opened),
         Source::Run(value) => lower_run(
             &Scope {
                 alloc: body.alloc,
@@ -77,7 +78,7 @@ fn lower_statement<'p>(
                 body,
                 to,
             );
-            let these = lower_part(program, shape, locals, these, body, around);
+            let these = lower_part(program, shape, locals, these, body, around, opened);
             body.branch(to, these, Vec::new(body.alloc));
         }
         Source::IfElse(_, condition, these, those) => {
@@ -92,8 +93,8 @@ fn lower_statement<'p>(
                 body,
                 to,
             );
-            let these = lower_part(program, shape, locals, these, body, around);
-            let those = lower_part(program, shape, locals, those, body, around);
+            let these = lower_part(program, shape, locals, these, body, around, opened);
+            let those = lower_part(program, shape, locals, those, body, around, opened);
             body.branch(to, these, those);
         }
         Source::While(_, condition, turn) => {
@@ -108,15 +109,27 @@ fn lower_statement<'p>(
                 body,
                 to,
             );
-            let turn = lower_part(program, shape, locals, turn, body, around.in_loop());
+            let turn = lower_part(program, shape, locals, turn, body, around.in_loop(), opened);
             body.turns(test, to, turn);
         }
         Source::Switch(_, place, clauses) => {
-            lower_switch(program, shape, locals, clauses, place, body, around)
+            lower_switch(program, shape, locals, clauses, place, body, around, opened)
         }
-        Source::Break(_) => lower_left(body, around, around.broken, Statement::Break),
-        Source::Continue(_) => lower_left(body, around, around.continued, Statement::Continue),
-        Source::Return(_, None) => lower_left(body, around, around.all, Statement::Return(None)),
+        Source::Break(_) => lower_left(body, around, opened, around.broken, Statement::Break),
+        Source::Continue(_) => lower_left(
+            body,
+            around,
+            opened,
+            around.continued,
+            Statement::Continue,
+        ),
+        Source::Return(_, None) => lower_left(
+            body,
+            around,
+            opened,
+            around.all,
+            Statement::Return(None),
+        ),
         Source::Return(_, Some(value)) => {
             lower_return(
                 &Scope {
@@ -129,6 +142,7 @@ fn lower_statement<'p>(
                 value,
                 body,
                 around,
+                opened,
             )
         }
         Source::Exchange(left, right) => lower_exchange(
@@ -154,7 +168,17 @@ fn lower_statement<'p>(
             body,
             to,
         ),
-        Source::FreeKey(_, _) => body.never(),
+        Source::FreeKey(_, key) => lower_free_key(
+            &Scope {
+                alloc: body.alloc,
+                program,
+                locals,
+                numbers: None,
+            },
+            key,
+            body,
+            to,
+        ),
     }
 }
 
@@ -167,6 +191,15 @@ fn lower_free(scope: &Scope<'_, '_>, pointer: &Name, body: &mut Body<'_>, to: Te
     body.operation(Operation::UniqueFree(to));
     let free = body.end(outer);
     body.branch(to, free, Vec::new(body.alloc));
+}
+
+/// Appends what frees the region of the key of a name, which comes into a temporary.
+fn lower_free_key(scope: &Scope<'_, '_>, key: &Name, body: &mut Body<'_>, to: Temporary)
+    ensures { let names = names_in scope.now in
+        Emits body.old body.new (get_code (world_in scope.now) names (name_tree key.now).text to.0 ++ core.Do (core.KeyFree to.0) ∷ []) }
+{
+    lower_get(scope, body, &key.text, to);
+    body.operation(Operation::KeyFree(to));
 }
 
 /// What leaves the value of a loop's condition in a temporary; appends the shapes of the unnamed values.
@@ -195,16 +228,17 @@ fn lower_part<'p>(
     statement: &'p Source,
     body: &mut Body<'p>,
     around: RegionsAround,
+    opened: &[bool],
 ) -> Vec<Statement>
     requires taken { IsSound body.old → TakesStatement (world_of program.now) (shape_tree shape.now) (names_of locals.old) (source_tree statement.now) }
     ensures apart { IsSound body.new → IsApart body.old body.new (statement_values (world_of program.now) (names_of locals.old) (source_tree statement.entry.now)) }
     ensures part { let s = source_tree statement.entry.now in
         IsSound body.new → map statement_tree result.items ≡
-        statement_code (world_of program.now) (shape_tree shape.now) (names_of locals.old) (regions_tree around) (next_of body.old) s }
+        statement_code (world_of program.now) (shape_tree shape.now) (names_of locals.old) (regions_tree around opened.now) (next_of body.old) s }
     ensures kept { IsSound body.new → locals.new ≡ locals.old }
 {
     let outer = body.begin();
-    lower_statement(program, shape, locals, statement, body, around);
+    lower_statement(program, shape, locals, statement, body, around, opened);
     body.end(outer)
 }
 
@@ -244,6 +278,7 @@ pub fn lower_block<'p>(
     items: &'p [BlockItem],
     body: &mut Body<'p>,
     around: RegionsAround,
+    opened: &[bool],
 )
     requires taken { IsSound body.old →
         TakesItems (world_of program.now) (shape_tree shape.now) (outward (names_of locals.old)) 0 (items_of (map item_tree items.now)) }
@@ -252,7 +287,7 @@ pub fn lower_block<'p>(
         let inside = items_of (map item_tree items.entry.now) in
         Writes body.old body.new
         (core.Block (locals_of w (block_shapes w names 0 inside))
-        (all_of (items_code w (shape_tree shape.now) names (regions_tree around) 0 (next_of body.old) inside)) ∷ [])
+        (all_of (items_code w (shape_tree shape.now) names (regions_tree around opened.now) 0 (next_of body.old) inside)) ∷ [])
         (item_values w names 0 inside) }
     ensures kept { IsSound body.new → locals.new ≡ locals.old }
 {
@@ -267,6 +302,7 @@ pub fn lower_block<'p>(
         &mut declared_here,
         body,
         around,
+        opened,
     );
     locals.leave();
     let inside = body.end(outer);
@@ -319,7 +355,7 @@ pub fn declare<'p>(
 }
 
 /// Appends what the items of a block do, the locals that they declare, and the shapes of the unnamed values. The next local's
-/// number is how many there are, and so is the next unnamed value's. The regions that the items declare are freed at the end.
+/// number is how many there are, and so is the next unnamed value's. The regions that the items declare are left at the end.
 #[cycle(statement)]
 pub fn lower_items<'p>(
     program: &Table<'p>,
@@ -329,6 +365,7 @@ pub fn lower_items<'p>(
     declared_here: &mut Vec<Stored<'p>>,
     body: &mut Body<'p>,
     around: RegionsAround,
+    opened: &[bool],
 )
     requires taken { let index = length declared_here.old.items in
         IsSound body.old → TakesItems (world_of program.now) (shape_tree shape.now) (names_of locals.old) index (items_of (map item_tree items.now)) }
@@ -336,7 +373,7 @@ pub fn lower_items<'p>(
         let names = names_of locals.old in
         let index = length declared_here.old.items in
         let inside = items_of (map item_tree items.entry.now) in
-        Writes body.old body.new (items_code w (shape_tree shape.now) names (regions_tree around) index (next_of body.old) inside)
+        Writes body.old body.new (items_code w (shape_tree shape.now) names (regions_tree around opened.now) index (next_of body.old) inside)
         (item_values w names index inside) }
     ensures shapes { IsSound body.new →
         map stored_tree declared_here.new.items ≡ map stored_tree declared_here.old.items ++
@@ -344,6 +381,7 @@ pub fn lower_items<'p>(
     ensures left { IsSound body.new → left locals.new ≡ left locals.old }
 {
     let mut regions = around;
+    let mut all = opened_outside(body, opened);
     'each: for item in items {
         match item {
             BlockItem::Declare(declaration) => {
@@ -367,12 +405,17 @@ pub fn lower_items<'p>(
                     index,
                     body,
                 );
-                regions = regions.with(body, declaration);
+                regions = regions.with(body, &mut all, declaration);
             }
             BlockItem::Execute(statement) => {
-                lower_statement(program, shape, locals, statement, body, regions);
+                lower_statement(program, shape, locals, statement, body, regions, &all);
             }
         }
     }
-    lower_leaving(body, regions.all, regions.all.saturating_sub(around.all));
+    lower_leaving(
+        body,
+        &all,
+        regions.all,
+        regions.all.saturating_sub(around.all),
+    );
 }

@@ -113,6 +113,7 @@ fn lower_clause<'p>(
     items: &'p [BlockItem],
     body: &mut Body<'p>,
     around: RegionsAround,
+    opened: &[bool],
 ) -> Vec<Statement>
     requires taken { IsSound body.old →
         TakesItems (world_of program.now) (shape_tree shape.now) (named_here (name_tree name.now).text (shape_tree of) 0 ∷ outward (names_of locals.old)) 1
@@ -123,7 +124,7 @@ fn lower_clause<'p>(
     ensures part { let w = world_of program.now in
         let s = shape_tree of.entry in
         let inner = named_here (name_tree name.entry.now).text s 0 ∷ outward (names_of locals.old) in
-        let h = regions_tree around in
+        let h = regions_tree around opened.now in
         let inside = items_of (map item_tree items.entry.now) in
         IsSound body.new → map statement_tree result.items ≡
         core.Block (locals_of w (s ∷ block_shapes w inner 1 inside))
@@ -147,6 +148,7 @@ fn lower_clause<'p>(
         &mut declared_here,
         body,
         around,
+        opened,
     );
     locals.leave();
     let inside = body.end(Vec::new(body.alloc));
@@ -166,6 +168,7 @@ fn lower_case<'p>(
     items: &'p [BlockItem],
     body: &mut Body<'p>,
     around: RegionsAround,
+    opened: &[bool],
 )
     requires taken { IsSound body.old →
         TakesItems (world_of program.now) (shape_tree shape.now)
@@ -174,7 +177,7 @@ fn lower_case<'p>(
     ensures writes { let w = world_of program.now in
         let s = shape_tree chosen.entry.shape in
         let inner = named_here (name_tree name.entry.now).text s 0 ∷ outward (names_of locals.old) in
-        let h = regions_tree around in
+        let h = regions_tree around opened.now in
         let inside = items_of (map item_tree items.entry.now) in
         Writes body.old body.new
         (core.Do (core.Constant (h.all + 2) chosen.entry.number) ∷ core.Do (core.Apply core.Equal (h.all + 2) (h.all + 1) (h.all + 2)) ∷
@@ -201,6 +204,7 @@ fn lower_case<'p>(
         items,
         body,
         around,
+        opened,
     );
     body.branch(test, clause, Vec::new(body.alloc));
 }
@@ -215,6 +219,7 @@ fn lower_cases<'p>(
     clauses: &'p [Clause],
     body: &mut Body<'p>,
     around: RegionsAround,
+    opened: &[bool],
 )
     requires taken { IsSound body.old →
         TakesClauses (world_of program.now) (shape_tree shape.now) (names_of locals.old) (map part_of (map member_tree members.now))
@@ -224,7 +229,7 @@ fn lower_cases<'p>(
         let names = names_of locals.old in
         let parts = map part_of (map member_tree members.entry.now) in
         let cs = clauses_of (map clause_tree clauses.entry.now) in
-        Writes body.old body.new (cases_code w (shape_tree shape.now) names (regions_tree around) parts (next_of body.old) cs) (case_values w names parts cs) }
+        Writes body.old body.new (cases_code w (shape_tree shape.now) names (regions_tree around opened.now) parts (next_of body.old) cs) (case_values w names parts cs) }
     ensures kept { IsSound body.new → locals.new ≡ locals.old }
 {
     'each: for clause in clauses {
@@ -241,6 +246,7 @@ fn lower_cases<'p>(
                     &clause.body,
                     body,
                     around,
+                    opened,
                 );
             }
             Pattern::Default => {}
@@ -257,13 +263,14 @@ fn lower_default<'p>(
     clauses: &'p [Clause],
     body: &mut Body<'p>,
     around: RegionsAround,
+    opened: &[bool],
 )
     requires taken { IsSound body.old → (parts : List Part) ×
         TakesClauses (world_of program.now) (shape_tree shape.now) (names_of locals.old) parts (clauses_of (map clause_tree clauses.now)) }
     ensures writes { let w = world_of program.now in
         let names = names_of locals.old in
         let cs = clauses_of (map clause_tree clauses.entry.now) in
-        Writes body.old body.new (default_code w (shape_tree shape.now) names (regions_tree around) (next_of body.old) cs) (default_values w names cs) }
+        Writes body.old body.new (default_code w (shape_tree shape.now) names (regions_tree around opened.now) (next_of body.old) cs) (default_values w names cs) }
     ensures kept { IsSound body.new → locals.new ≡ locals.old }
 {
     'each: for clause in clauses {
@@ -271,7 +278,7 @@ fn lower_default<'p>(
         match pattern {
             Pattern::Case(_, _) => {}
             Pattern::Default => {
-                lower_block(program, shape, locals, &clause.body, body, around);
+                lower_block(program, shape, locals, &clause.body, body, around, opened);
                 return;
             }
         }
@@ -288,6 +295,7 @@ pub fn lower_switch<'p>(
     place: &'p Expression,
     body: &mut Body<'p>,
     around: RegionsAround,
+    opened: &[bool],
 )
     requires taken { let w = world_of program.now in
         let names = names_of locals.old in
@@ -298,7 +306,7 @@ pub fn lower_switch<'p>(
     ensures writes { let w = world_of program.now in
         let names = names_of locals.old in
         let s = tree.Switch 0 (expression_tree place.entry.now) (clauses_of (map clause_tree clauses.entry.now)) in
-        Writes body.old body.new (statement_code w (shape_tree shape.now) names (regions_tree around) (next_of body.old) s) (statement_values w names s) }
+        Writes body.old body.new (statement_code w (shape_tree shape.now) names (regions_tree around opened.now) (next_of body.old) s) (statement_values w names s) }
     ensures kept { IsSound body.new → locals.new ≡ locals.old }
 {
     let outer = body.begin();
@@ -315,10 +323,12 @@ pub fn lower_switch<'p>(
     );
     let inside = around.in_switch();
     match members {
-        Some(members) => lower_cases(program, shape, locals, members, clauses, body, inside),
+        Some(members) => lower_cases(
+            program, shape, locals, members, clauses, body, inside, opened,
+        ),
         None => body.never(),
     }
-    lower_default(program, shape, locals, clauses, body, inside);
+    lower_default(program, shape, locals, clauses, body, inside, opened);
     let all = body.end(outer);
     body.leaves(all);
 }

@@ -158,8 +158,8 @@ fn first_globals<'p>(alloc: Global, items: &'p [Item]) -> Result<Firsts<'p, Foun
     Ok(globals)
 }
 
-/// The unions, and the structs, each behind those that its members are. Refuses unions with other members than integers, pointers and
-/// handles, two structs of one tag, and structs with other members than these, unions and earlier structs.
+/// The unions, and the structs, each behind those that its members are. Refuses unions with other members than integers, pointers,
+/// handles and keys, two structs of one tag, and structs with other members than these, unions and earlier structs.
 fn all_structs<'p>(alloc: Global, items: &'p [Item]) -> Result<Structs<'p>, LowerFault>
     ensures structs { let p = program_tree items.entry.now in IfOk result (λ structs. Knows structs (unions_of p) (structs_from p [])) }
     ensures taken { let w = world_of (program_tree items.entry.now) in AreUnions w.unions → AreStructs w.unions w.structs → NeverRefused result }
@@ -174,7 +174,7 @@ fn all_structs<'p>(alloc: Global, items: &'p [Item]) -> Result<Structs<'p>, Lowe
 }
 
 impl<'p> Table<'p> {
-    /// The tables of a program. Refuses a union with a member that is no integer, no pointer and no handle, two structs of one tag, and a
+    /// The tables of a program. Refuses a union with a member that is no integer, no pointer, no handle and no key, two structs of one tag, and a
     /// struct with a member that is none of these, no union and no earlier struct.
     pub fn new(alloc: Global, items: &'p [Item]) -> Result<Self, LowerFault>
         requires unions { AreUnions (unions_of (program_tree items.now)) }

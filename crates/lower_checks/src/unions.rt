@@ -33,7 +33,7 @@ pub struct Chosen<'p> {
     pub shape: Shape<'p>,
 }
 
-/// What the cell of a union with these members is made for. Refuses no members, and a member that is no integer, no pointer and no handle.
+/// What the cell of a union with these members is made for. Refuses no members, and a member that is no integer, no pointer, no handle and no key.
 fn union_cell(members: &[Member]) -> Result<Cell, LowerFault>
     ensures cell { IfOk result (λ cell. cell ≡ cell_by (has_fat (map part_of (map member_tree members.now)))) }
     ensures laid { IfOk result (λ _. HaveCells (map part_of (map member_tree members.now))) }
@@ -51,7 +51,7 @@ fn union_cell(members: &[Member]) -> Result<Cell, LowerFault>
     Ok(cell)
 }
 
-/// The first union of each tag. Refuses a union with a member that is no integer, no pointer and no handle.
+/// The first union of each tag. Refuses a union with a member that is no integer, no pointer, no handle and no key.
 pub fn first_unions<'p>(
     alloc: Global,
     items: &'p [Item],

@@ -1,6 +1,6 @@
 use Rattle.std.proofs.Common.{rules, ◌≡◌, ◌∙◌, ◌≤◌, ◌+◌, ℕ, suc, IfOk, arith, refl, sym, ap, subst, [], ◌∷◌, ◌++◌, length, map, drop, List, Option, append-nil}
 use Rattle.std.proofs.lemmas.List.{drop_all}
-use Rattle.std.specs.Prelude.{IfSome, is_some, true}
+use Rattle.std.specs.Prelude.{IfSome, is_some, reverse, true}
 use Rattle.cyc_tree.specs.View.{
   OneItem,
   clause_tree,
@@ -16,7 +16,7 @@ use Rattle.cyc_tree.specs.View.{
 }
 use Rattle.cyc_tree.specs.Tree as tree
 use Rattle.cyc_tree.specs.Tree.{Name, BlockItems, NoItems, Declare, Execute, Clauses, NoClauses, MoreClauses, local_of}
-use Rattle.cyc_tree.proofs.StatementForms.{exchange_tree, free_unique_tree, if_tree, if_else_tree, while_tree, switch_tree, declare_tree, execute_tree}
+use Rattle.cyc_tree.proofs.StatementForms.{exchange_tree, free_key_tree, free_unique_tree, if_tree, if_else_tree, while_tree, switch_tree, declare_tree, execute_tree}
 use Rattle.cyc_tree.specs.declared.statement.BlockItem.TheFolds.{the_lemmas}
 use Rattle.core_meaning.specs.Core as core
 use Rattle.cyc_core.specs.Trees.{statement_tree}
@@ -121,7 +121,7 @@ statement::lower_statement-returns-in-If-clause-writes t c sound =
     let w = world_of c.args.program.now in
     let names = names_of c.args.locals.now in
     let result = shape_tree c.args.shape.now in
-    let h = regions_tree c.args.around in
+    let h = regions_tree c.args.around c.args.opened.now in
     let a = c.args.body.now in
     let own = next_of a in
     let b = c.lower_expression.new.body in
@@ -158,7 +158,7 @@ statement::lower_statement-returns-in-IfElse-clause-writes t c sound =
     let w = world_of c.args.program.now in
     let names = names_of c.args.locals.now in
     let result = shape_tree c.args.shape.now in
-    let h = regions_tree c.args.around in
+    let h = regions_tree c.args.around c.args.opened.now in
     let a = c.args.body.now in
     let own = next_of a in
     let b = c.lower_expression-in-IfElse.new.body in
@@ -219,7 +219,7 @@ statement::lower_statement-returns-in-While-clause-writes t c sound =
     let w = world_of c.args.program.now in
     let names = names_of c.args.locals.now in
     let result = shape_tree c.args.shape.now in
-    let h = regions_tree c.args.around in
+    let h = regions_tree c.args.around c.args.opened.now in
     let a = c.args.body.now in
     let own = next_of a in
     let b = c.lower_test-test.new.body in
@@ -244,7 +244,7 @@ statement::lower_statement-returns-in-While-clause-writes t c sound =
     let test_is : test ≡ tested = c.lower_test-test.ensures.part two.sound ∙ ap (λ n. expression_code w names condition n own) to_is in
     let turn_is : turn ≡ body =
     c.lower_part-turn.ensures.part three.sound
-    ∙ ap (λ (r : RegionsAround). statement_code w result names r (next_of b) (source_tree c.deref-in-While.result.now)) c.in_loop.ensures
+    ∙ ap (λ (r : RegionsAround). statement_code w result names r (next_of b) (source_tree c.deref-in-While.result.now)) (c.in_loop.ensures c.args.opened.now)
     ∙ ap (statement_code w result names inside (next_of b)) part_is
     ∙ ap (λ n. statement_code w result names inside n part) (apart_next a b values one) in
     let loop =
@@ -269,7 +269,7 @@ statement::lower_statement-returns-in-Exchange-clause-writes t c sound =
     let w = world_of c.args.program.now in
     let names = names_of c.args.locals.now in
     let result = shape_tree c.args.shape.now in
-    let h = regions_tree c.args.around in
+    let h = regions_tree c.args.around c.args.opened.now in
     let a = c.args.body.now in
     let own = next_of a in
     let z = c.lower_exchange.new.body in
@@ -291,7 +291,7 @@ statement::lower_statement-returns-in-FreeUnique-clause-writes t c sound =
     let w = world_of c.args.program.now in
     let names = names_of c.args.locals.now in
     let result = shape_tree c.args.shape.now in
-    let h = regions_tree c.args.around in
+    let h = regions_tree c.args.around c.args.opened.now in
     let a = c.args.body.now in
     let own = next_of a in
     let z = c.lower_free.new.body in
@@ -306,6 +306,27 @@ statement::lower_statement-returns-in-FreeUnique-clause-writes t c sound =
     subst (λ s. IsWritten a z (statement_code w result names h own s) (statement_values w names s))
     (sym (ap source_tree c.in-FreeUnique.is ∙ free_unique_tree c.in-FreeUnique.field-0 c.in-FreeUnique.pointer)) done
 
+-- a key's region that is freed
+pub statement::lower_statement-returns-in-FreeKey-clause-writes : goal.statement::lower_statement-returns-in-FreeKey-clause-writes
+statement::lower_statement-returns-in-FreeKey-clause-writes t c sound =
+    let w = world_of c.args.program.now in
+    let names = names_of c.args.locals.now in
+    let result = shape_tree c.args.shape.now in
+    let h = regions_tree c.args.around c.args.opened.now in
+    let a = c.args.body.now in
+    let own = next_of a in
+    let z = c.lower_free_key.new.body in
+    let name = (name_tree c.in-FreeKey.key).text in
+    let to_is : c.value-to.result.0 ≡ h.all = c.value-to.ensures in
+    let freed = subst (λ n. IsEmitted a z (get_code w names name n ++ core.Do (core.KeyFree n) ∷ [])) to_is (c.lower_free_key.ensures sound) in
+    let done : IsWritten a z (get_code w names name h.all ++ core.Do (core.KeyFree h.all) ∷ []) [] = record {
+      sound = freed.sound;
+      code = freed.code;
+      values = ap (λ own. map shape_tree own.items) freed.own ∙ sym (append-nil (values_of a));
+    } in
+    subst (λ s. IsWritten a z (statement_code w result names h own s) (statement_values w names s))
+    (sym (ap source_tree c.in-FreeKey.is ∙ free_key_tree c.in-FreeKey.field-0 c.in-FreeKey.key)) done
+
 -- a part
 pub statement::lower_part-returns-clause-apart : goal.statement::lower_part-returns-clause-apart
 statement::lower_part-returns-clause-apart t c sound =
@@ -315,7 +336,7 @@ statement::lower_part-returns-clause-apart t c sound =
     let b = c.begin-outer.new.self in
     let ended = c.end.ensures.ended in
     part_apart c.args.body.now b c.lower_statement.new.body c.end.new.self (map statement_tree c.begin-outer.result.items)
-    (statement_code w (shape_tree c.args.shape.now) names (regions_tree c.args.around) (next_of b) s) (statement_values w names s)
+    (statement_code w (shape_tree c.args.shape.now) names (regions_tree c.args.around c.args.opened.now) (next_of b) s) (statement_values w names s)
     c.begin-outer.ensures.begun c.begin-outer.ensures.aside (c.lower_statement.ensures.writes (sym ended.failed ∙ sound)) ended
 
 pub statement::lower_part-returns-clause-part : goal.statement::lower_part-returns-clause-part
@@ -325,7 +346,7 @@ statement::lower_part-returns-clause-part t c sound =
     let s = source_tree c.args.statement.now in
     let ended = c.end.ensures.ended in
     part_is c.args.body.now c.begin-outer.new.self c.lower_statement.new.body (map statement_tree c.end.result.items)
-    (λ n. statement_code w (shape_tree c.args.shape.now) names (regions_tree c.args.around) n s) (statement_values w names s) c.begin-outer.ensures.begun
+    (λ n. statement_code w (shape_tree c.args.shape.now) names (regions_tree c.args.around c.args.opened.now) n s) (statement_values w names s) c.begin-outer.ensures.begun
     (c.lower_statement.ensures.writes (sym ended.failed ∙ sound)) c.end.ensures.part
 
 -- the locals of a block that is taken are variables
@@ -352,7 +373,7 @@ statement::lower_block-returns-clause-writes t c sound =
     let w = world_of c.args.program.now in
     let names = outward (names_of c.args.locals.now) in
     let result = shape_tree c.args.shape.now in
-    let h = regions_tree c.args.around in
+    let h = regions_tree c.args.around c.args.opened.now in
     let a = c.args.body.now in
     let b = c.begin-outer.new.self in
     let n = c.enter.new.body in
@@ -392,21 +413,25 @@ statement::lower_block-returns-clause-writes t c sound =
 pub statement::lower_items-each-init : goal.statement::lower_items-each-init
 statement::lower_items-each-init t c sound =
     let w = world_of c.args.program.now in
-    let a = c.args.body.now in
+    let a = c.opened_outside-all.new.body in
     let result = shape_tree c.args.shape.now in
     let names = names_of c.args.locals.now in
     let index = length c.args.declared_here.now.items in
     let items = items_of (map item_tree c.args.items.now) in
+    let h = regions_tree c.args.around c.args.opened.now in
+    let code_is =
+    ap (λ os. ending_items w result names (regions_tree c.args.around os) h.all index (next_of a) items) (c.opened_outside-all.ensures.opened sound)
+    ∙ none_opened w result names h index (next_of a) items in
     record {
       within = omega arith;
       code = record {
         sound = sound;
-        written = ap (λ (x : List core.Statement). code_of a ++ x) (none_opened w result names (regions_tree c.args.around) index (next_of a) items);
+        written = ap (λ (x : List core.Statement). code_of a ++ x) code_is;
         values = refl {a = values_of a ++ item_values w names index items};
       };
       shapes = refl {a = map stored_tree c.args.declared_here.now.items ++ block_shapes w names index items};
       left = refl;
-      taken = c.requires.taken sound;
+      taken = c.requires.taken (c.opened_outside-all.ensures.stays sound).sound;
     }
 
 -- an item of a block that is taken is taken
@@ -462,7 +487,7 @@ statement::lower_items-each-preserved t c sound =
     let more = names_of c.match-item.locals in
     let index = length c.each.declared_here.items in
     let next = length c.match-item.declared_here.items in
-    let a = c.args.body.now in
+    let a = c.opened_outside-all.new.body in
     let b = c.each.body in
     let z = c.match-item.body in
     let own = next_of b in
@@ -470,11 +495,11 @@ statement::lower_items-each-preserved t c sound =
     let all = items_of (map item_tree items) in
     let left = items_of (map item_tree (drop n items)) in
     let others = items_of (map item_tree (drop (n + 1) items)) in
-    let h = regions_tree c.each.regions in
-    let inside = regions_tree c.match-item.regions in
+    let h = regions_tree c.each.regions c.each.all.items in
+    let inside = regions_tree c.match-item.regions c.match-item.all.items in
     let first = c.args.around.all in
     let index_0 = length c.args.declared_here.now.items in
-    let code = code_of a ++ items_code w result (names_of c.args.locals.now) (regions_tree c.args.around) index_0 (next_of a) all in
+    let code = code_of a ++ items_code w result (names_of c.args.locals.now) (regions_tree c.args.around c.args.opened.now) index_0 (next_of a) all in
     let values = values_of a ++ item_values w (names_of c.args.locals.now) index_0 all in
     elim c.match-item.branch [
       | statement::lower_items-in-Declare v ↦
@@ -514,7 +539,8 @@ statement::lower_items-each-preserved t c sound =
           let done = subst (λ q. IsWritten b q here_code these) (sym v.body-is)
           (write_same b x last here_code these begun (same_same x y last four five)) in
           let regions_are : inside ≡ regions_with d h =
-          ap regions_tree v.regions-is ∙ v.with-regions.ensures.regions (subst IsSound v.body-is sound) in
+          ap (λ r. regions_tree r c.match-item.all.items) v.regions-is ∙ ap (λ os. regions_tree v.with-regions.result os.items) v.all-is
+          ∙ v.with-regions.ensures.regions (subst IsSound v.body-is sound) in
           record {
             within = declared_within d h inside first regions_are invariant.within;
             code = record {
@@ -548,8 +574,11 @@ statement::lower_items-each-preserved t c sound =
           let next_same : next ≡ index = cc v.declared_here-is in
           let these = statement_values w names s in
           let here_code = statement_code w result names h own s in
-          let done = subst (λ q. IsWritten b q here_code these) (sym v.body-is) one in
-          let regions_are : inside ≡ h = ap regions_tree v.regions-is in
+          let stated = subst (λ os. IsWritten b v.lower_statement.new.body (statement_code w result names (regions_tree c.each.regions os) own s) these)
+          v.deref.ensures.value one in
+          let done = subst (λ q. IsWritten b q here_code these) (sym v.body-is) stated in
+          let regions_are : inside ≡ h =
+          ap (λ r. regions_tree r c.match-item.all.items) v.regions-is ∙ ap (λ os. regions_tree c.each.regions os.items) v.all-is in
           record {
             within = subst (λ (r : RegionsAround). first ≤ r.all) (sym regions_are) invariant.within;
             code = record {
@@ -572,34 +601,39 @@ statement::lower_items-each-preserved t c sound =
           }
     ]
 
--- behind the last item what they opened is freed
+-- behind the last item what they opened is left
 pub statement::lower_items-returns-clause-writes : goal.statement::lower_items-returns-clause-writes
 statement::lower_items-returns-clause-writes t c sound =
     let w = world_of c.args.program.now in
     let result = shape_tree c.args.shape.now in
     let items = c.args.items.now in
     let a = c.args.body.now in
+    let begun = c.opened_outside-all.new.body in
     let b = c.each.body in
     let z = c.lower_leaving.new.body in
     let names = names_of c.each.locals in
     let index = length c.each.declared_here.items in
-    let h = regions_tree c.each.regions in
+    let h = regions_tree c.each.regions c.each.all.items in
     let first = c.args.around.all in
     let index_0 = length c.args.declared_here.now.items in
     let all = items_of (map item_tree items) in
-    let code = items_code w result (names_of c.args.locals.now) (regions_tree c.args.around) index_0 (next_of a) all in
+    let code : ℕ → List core.Statement = λ n.
+    items_code w result (names_of c.args.locals.now) (regions_tree c.args.around c.args.opened.now) index_0 n all in
     let values = item_values w (names_of c.args.locals.now) index_0 all in
     let done = c.lower_leaving.ensures sound in
     let invariant = c.each.invariant done.sound in
     let none : items_of (map item_tree (drop c.each.item-index items)) ≡ NoItems =
     ap (λ xs. items_of (map item_tree xs)) (drop_all c.each.item-index items (omega (arith, c.each-test.false))) in
     let left =
-    subst (λ is. IsLeft a b code (ending_items w result names h first index (next_of b) is) values (item_values w names index is)) none invariant.code in
-    record {
+    subst (λ is. IsLeft begun b (code (next_of begun)) (ending_items w result names h first index (next_of b) is) values (item_values w names index is)) none
+    invariant.code in
+    let written : IsWritten begun z (code (next_of begun)) values = record {
       sound = left.sound;
-      code = done.code ∙ ap (λ n. code_of b ++ leaving_code h.all n) c.saturating_sub.ensures ∙ left.written;
+      code = done.code ∙ ap (λ os. code_of b ++ leaving_code (reverse os) h.all c.saturating_sub.result) c.deref-2.ensures.value
+          ∙ ap (λ n. code_of b ++ leaving_code h.opened h.all n) c.saturating_sub.ensures ∙ left.written;
       values = ap (λ own. map shape_tree own.items) done.own ∙ sym (append-nil (values_of b)) ∙ left.values;
-    }
+    } in
+    moved a begun z code values (c.opened_outside-all.ensures.stays left.sound) written
 
 -- ---- `switch`
 
@@ -671,7 +705,7 @@ pub switch::lower_clause-returns : goal.switch::lower_clause-returns
 switch::lower_clause-returns t c =
     let w = world_of c.args.program.now in
     let result = shape_tree c.args.shape.now in
-    let h = regions_tree c.args.around in
+    let h = regions_tree c.args.around c.args.opened.now in
     let d = h.all in
     let s = shape_tree c.args.of in
     let items = items_of (map item_tree c.args.items.now) in
@@ -761,7 +795,7 @@ pub switch::lower_case-returns-clause-writes : goal.switch::lower_case-returns-c
 switch::lower_case-returns-clause-writes t c sound =
     let w = world_of c.args.program.now in
     let result = shape_tree c.args.shape.now in
-    let h = regions_tree c.args.around in
+    let h = regions_tree c.args.around c.args.opened.now in
     let s = shape_tree c.args.chosen.shape in
     let items = items_of (map item_tree c.args.items.now) in
     let inner = named_here (name_tree c.args.name.now).text s 0 ∷ outward (names_of c.args.locals.now) in
@@ -862,7 +896,7 @@ switch::lower_cases-each-preserved t c sound =
     let w = world_of c.args.program.now in
     let result = shape_tree c.args.shape.now in
     let names = names_of c.args.locals.now in
-    let h = regions_tree c.args.around in
+    let h = regions_tree c.args.around c.args.opened.now in
     let parts = map part_of (map member_tree c.args.members.now) in
     let k = c.each.clause-index in
     let clause = c.clause-item.result in
@@ -948,7 +982,7 @@ switch::lower_cases-returns-clause-writes t c sound =
     let w = world_of c.args.program.now in
     let result = shape_tree c.args.shape.now in
     let names = names_of c.args.locals.now in
-    let h = regions_tree c.args.around in
+    let h = regions_tree c.args.around c.args.opened.now in
     let parts = map part_of (map member_tree c.args.members.now) in
     let a = c.args.body.now in
     let b = c.each.body in
@@ -966,7 +1000,7 @@ switch::lower_default-each-preserved t c =
     let w = world_of c.args.program.now in
     let result = shape_tree c.args.shape.now in
     let names = names_of c.args.locals.now in
-    let h = regions_tree c.args.around in
+    let h = regions_tree c.args.around c.args.opened.now in
     let own = next_of c.args.body.now in
     let k = c.each.clause-index in
     let clause = c.clause-item.result in
@@ -1013,7 +1047,7 @@ switch::lower_default-returns-in-Default-clause-writes t c sound =
     let w = world_of c.args.program.now in
     let result = shape_tree c.args.shape.now in
     let names = names_of c.args.locals.now in
-    let h = regions_tree c.args.around in
+    let h = regions_tree c.args.around c.args.opened.now in
     let a = c.args.body.now in
     let b = c.each.body in
     let z = c.lower_block.new.body in
@@ -1045,7 +1079,7 @@ switch::lower_default-returns-clause-writes t c sound =
     let w = world_of c.args.program.now in
     let result = shape_tree c.args.shape.now in
     let names = names_of c.args.locals.now in
-    let h = regions_tree c.args.around in
+    let h = regions_tree c.args.around c.args.opened.now in
     let a = c.args.body.now in
     let b = c.each.body in
     let own = next_of a in
@@ -1084,7 +1118,7 @@ switch::lower_switch-returns-clause-writes t c sound =
     let w = world_of c.args.program.now in
     let result = shape_tree c.args.shape.now in
     let names = names_of c.args.locals.now in
-    let h = regions_tree c.args.around in
+    let h = regions_tree c.args.around c.args.opened.now in
     let d = h.all in
     let within = in_switch h in
     let e = expression_tree c.args.place.now in
@@ -1103,7 +1137,7 @@ switch::lower_switch-returns-clause-writes t c sound =
     let q = case_values w names parts clauses in
     let r = default_values w names clauses in
     let place = c.lower_union_place-members in
-    let inside_is = c.in_switch-inside.ensures in
+    let inside_is = c.in_switch-inside.ensures c.args.opened.now in
     let to_is : c.value.result.0 ≡ d = c.value.ensures in
     let ended = c.end-all.ensures.ended in
     let begun = c.begin-outer.ensures.begun in
@@ -1116,7 +1150,7 @@ switch::lower_switch-returns-clause-writes t c sound =
           let members_are = subst (λ s. IfSome s (λ ms. map part_of (map member_tree ms.now) ≡ parts)) v.in-Some.is (place.ensures.members done.sound) in
           let last = v.lower_cases.new.body in
           let at_parts =
-          subst (λ (ps : List Part). IsWritten x last (cases_code w result names (regions_tree c.in_switch-inside.result) ps (next_of x) clauses)
+          subst (λ (ps : List Part). IsWritten x last (cases_code w result names (regions_tree c.in_switch-inside.result c.args.opened.now) ps (next_of x) clauses)
           (case_values w names ps clauses)) members_are done in
           let at_regions =
           subst (λ (i : RegionsAround). IsWritten x last (cases_code w result names i parts (next_of x) clauses) q) inside_is at_parts in (
@@ -1130,7 +1164,7 @@ switch::lower_switch-returns-clause-writes t c sound =
     let two = joined.0 in
     let one = subst (λ (n : ℕ). IsWritten b x (place_code w names e n (next_of b) ++ tag_load (n + 1) n) p) to_is (place.ensures.writes two.sound) in
     let at_locals =
-    subst (λ ms. IsWritten y v (default_code w result (names_of ms) (regions_tree c.in_switch-inside.result) (next_of y) clauses)
+    subst (λ ms. IsWritten y v (default_code w result (names_of ms) (regions_tree c.in_switch-inside.result c.args.opened.now) (next_of y) clauses)
     (default_values w (names_of ms) clauses)) joined.1 three in
     let last = subst (λ (i : RegionsAround). IsWritten y v (default_code w result names i (next_of y) clauses) r) inside_is at_locals in
     let whole : ℕ → List core.Statement = λ n.

@@ -10,7 +10,7 @@ use Rattle.lower_checks.specs.Writing.{IsLeft, IsSound, next_of}
 use Rattle.lower_checks.proofs.Items.{ending_items}
 use Rattle.lower_checks.proofs.+statement.Given as goal
 
--- What is written, the code of the items that are left among the locals and regions so far, and what frees the regions that were opened, is the code of
+-- What is written, the code of the items that are left among the locals and regions so far, and what leaves the regions that were opened, is the code of
 -- all; and so for the shapes.
 abbrev pub invariant-statement::lower_items-each : goal.invariant-statement::lower_items-each
 invariant-statement::lower_items-each l =
@@ -22,8 +22,8 @@ invariant-statement::lower_items-each l =
     let index = length l.declared_here.items in
     IsSound l.body → record {
       within : l.around.all ≤ l.regions.all;
-      code : IsLeft l.initial.body l.body (items_code w result (names_of l.initial.locals) (regions_tree l.around) first (next_of l.initial.body) all)
-          (ending_items w result (names_of l.locals) (regions_tree l.regions) l.around.all index (next_of l.body) others)
+      code : IsLeft l.initial.body l.body (items_code w result (names_of l.initial.locals) (regions_tree l.around l.opened) first (next_of l.initial.body) all)
+          (ending_items w result (names_of l.locals) (regions_tree l.regions l.all.items) l.around.all index (next_of l.body) others)
           (item_values w (names_of l.initial.locals) first all) (item_values w (names_of l.locals) index others);
       shapes : map stored_tree l.declared_here.items ++ block_shapes w (names_of l.locals) index others
           ≡ map stored_tree l.initial.declared_here.items ++ block_shapes w (names_of l.initial.locals) first all;
@@ -37,7 +37,7 @@ invariant-switch::lower_cases-each l =
     let w = world_of l.program in
     let result = shape_tree l.shape in
     let names = names_of l.initial.locals in
-    let h = regions_tree l.around in
+    let h = regions_tree l.around l.opened in
     let parts = map part_of (map member_tree l.members) in
     let all = clauses_of (map clause_tree l.clauses) in
     let others = clauses_of (map clause_tree (drop l.clause-index l.clauses)) in
@@ -54,7 +54,7 @@ invariant-switch::lower_default-each l =
     let w = world_of l.program in
     let result = shape_tree l.shape in
     let names = names_of l.initial.locals in
-    let h = regions_tree l.around in
+    let h = regions_tree l.around l.opened in
     let own = next_of l.initial.body in
     let all = clauses_of (map clause_tree l.clauses) in
     let others = clauses_of (map clause_tree (drop l.clause-index l.clauses)) in

@@ -74,8 +74,8 @@ lower_inside-requires c = record {
       block_variables w r.result (parameter_names r.parameters 0 []) (length r.parameters) r.body c.requires.taken.body in
       let all : AreVariables w.unions w.structs (part_shapes r.parameters ++ own) =
       parameter_variables w.unions w.structs f.parameters own c.requires.taken.parameters declared in
-      let same : map stored_tree c.deref-3.result.now ≡ part_shapes r.parameters ++ own =
-      ap (map stored_tree) c.deref-3.ensures.value ∙ shapes_are ∙ ap (λ ss. ss ++ own) taken_is in
+      let same : map stored_tree c.deref-4.result.now ≡ part_shapes r.parameters ++ own =
+      ap (map stored_tree) c.deref-4.ensures.value ∙ shapes_are ∙ ap (λ ss. ss ++ own) taken_is in
       subst (AreVariables w.unions w.structs) (sym same) all;
 }
 
@@ -103,7 +103,7 @@ returns-clause-code c sound =
     let names = names_of c.lower_parameters.new.locals in
     let first = code_of p in
     let inside = map statement_tree c.end-inside.result.items in
-    let locals = locals_of w (map stored_tree c.deref-3.result.now) in
+    let locals = locals_of w (map stored_tree c.deref-4.result.now) in
     let result_is : result ≡ f.result = c.of-shape.ensures in
     let taken_is : taken ≡ part_shapes f.parameters =
     c.lower_parameters.ensures.stored three.sound
@@ -117,19 +117,21 @@ returns-clause-code c sound =
     two.code ∙ ap (λ ms. code_of n ++ parameters_code (map part_of (map member_tree ms)) 0 0 free) c.deref.ensures.value
     ∙ ap (λ ss. map statement_tree ss ++ parameters_code f.parameters 0 0 free) c.new-body.ensures.code
     ∙ ap (λ (k : ℕ). parameters_code f.parameters 0 0 k) c.requires.words in
-    let regions = regions_tree c.none.result in
+    let regions = regions_tree c.none.result c.deref-3.result.now in
+    let regions_are : regions ≡ no_regions =
+    ap (λ os. regions_tree c.none.result os) (c.deref-3.ensures.value ∙ c.new-opened.ensures.items) ∙ c.none.ensures in
     let none_owned : next_of p ≡ 0 = ap (λ own. length own.items) two.own ∙ ap length c.new-body.ensures.own in
     let inside_is : inside ≡ first ++ items_code w f.result names no_regions (length taken) 0 f.body =
     c.end-inside.ensures.part ∙ three.code
     ∙ ap (λ bs. first ++ items_code w result names regions count (next_of p) (items_of (map item_tree bs))) c.deref-2.ensures.value
     ∙ ap (λ (k : ℕ). first ++ items_code w result names regions count k f.body) none_owned
     ∙ ap (λ (s : Shape). first ++ items_code w s names regions count 0 f.body) result_is
-    ∙ ap (λ (h : RegionsAround). first ++ items_code w f.result names h count 0 f.body) c.none.ensures
+    ∙ ap (λ (h : RegionsAround). first ++ items_code w f.result names h count 0 f.body) regions_are
     ∙ ap (λ (k : ℕ). first ++ items_code w f.result names no_regions k 0 f.body) (sym (length-map c.lower_parameters.new.all.items stored_tree)) in
     let shapes_are : shapes ≡ taken ++ block_shapes w names (length taken) f.body =
     c.lower_items.ensures.shapes filled ∙ ap (λ bs. taken ++ block_shapes w names count (items_of (map item_tree bs))) c.deref-2.ensures.value
     ∙ ap (λ (n : ℕ). taken ++ block_shapes w names n f.body) (sym (length-map c.lower_parameters.new.all.items stored_tree)) in
-    let locals_are : locals ≡ locals_of w shapes = ap (λ ss. locals_of w (map stored_tree ss)) c.deref-3.ensures.value in
+    let locals_are : locals ≡ locals_of w shapes = ap (λ ss. locals_of w (map stored_tree ss)) c.deref-4.ensures.value in
     let none_is : code_of outer ≡ [] = ended.code ∙ ap (map statement_tree) c.new.ensures.items in
     let body_is : code_of z ≡ code_of b ++ end_code f.result = five.code ∙ ap (λ (s : Shape). code_of b ++ end_code s) result_is in
     let within = inside_of w f taken shapes names first inside locals taken_is names_are first_is inside_is shapes_are locals_are in

@@ -1,0 +1,26 @@
+use Rattle.std.proofs.Common.{refl, subst, List, [], ◌∷◌, ◌++◌}
+use Rattle.core_meaning.specs.Core as core
+use Rattle.cyc_tree.specs.View.{name_tree}
+use Rattle.source_lowering.specs.Lowered.{get_code}
+use Rattle.lower_checks.specs.Scoped.{names_in, world_in}
+use Rattle.lower_checks.specs.Writing.{IsEmitted}
+use Rattle.lower_checks.proofs.Writing.{emit_emit}
+use Rattle.lower_checks.proofs.declaration.lower_open.Goals as goal
+
+-- what is read, and then two operations
+pub returns : goal.returns
+returns c sound =
+    let w = world_in c.args.scope.now in
+    let names = names_in c.args.scope.now in
+    let to = c.args.to.0 in
+    let a = c.args.body.now in
+    let b = c.lower_get.new.body in
+    let x = c.operation.new.self in
+    let z = c.operation-2.new.self in
+    let code = get_code w names (name_tree c.args.key.now).text to in
+    let opening = core.Do (core.KeyOpen to) ∷ [] in
+    let put = core.Do (core.Put 0 c.args.index 4 to) ∷ [] in
+    let three = c.operation-2.ensures sound in
+    let two = c.operation.ensures three.sound in
+    let one = subst (λ name. IsEmitted a b (get_code w names name to)) c.deref.ensures.value (c.lower_get.ensures.code two.sound) in
+    emit_emit a b z code (opening ++ put) (code ++ (opening ++ put)) one (emit_emit b x z opening put (opening ++ put) two three refl) refl

@@ -1,2 +1,1 @@
-pub mod Supported
 pub mod Accepted

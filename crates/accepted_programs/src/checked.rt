@@ -6,8 +6,7 @@ ghost use Rattle.accepted_programs.specs.Accepted.{IsAccepted};
 use cyc_tree::Program;
 use std::marker::Model;
 
-/// An accepted program: no rule of names, types, regions, effects, sizes and flow finds a fault in it, and each form that it has is
-/// taken today. A contract sees it as the program.
+/// An accepted program: no rule of names, types, regions, effects, sizes and flow finds a fault in it. A contract sees it as the program.
 #[derive(Drop)]
 pub struct Checked {
     program: Program,

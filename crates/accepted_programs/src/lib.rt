@@ -1,4 +1,4 @@
-//! The programs that are accepted (`Checked`), and which forms of the language are taken today (`supported`).
+//! The programs that are accepted (`Checked`).
 //!
 //! Stands on the rules of `source_typing`.
 #![tactic(auto)]

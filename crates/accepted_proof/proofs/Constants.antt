@@ -16,8 +16,6 @@ use Rattle.source_typing.specs.Converts.{Converts, FatToThin, Fats, Integers, Is
 use Rattle.source_typing.specs.Operators.{string_sized}
 use Rattle.source_typing.specs.Regions.{Region, Regions, TheHeap}
 use Rattle.source_typing.specs.Scope.{Env}
-use Rattle.source_typing.specs.Taken.{constant_form, initial_form, takes_initial}
-use Rattle.accepted_programs.specs.Supported.{supported}
 use Rattle.source_typing.specs.Types.{Fat, Handle, Char, Int, Key, Null, StaticType, Struct, Thin, Union, Unique, Unsigned, integer_type, is_integer, shape_of}
 use Rattle.source_typing.specs.Verdicts.{Of, faults_of}
 use Rattle.source_typing.proofs.Converting.{conversion_is}
@@ -106,30 +104,29 @@ text_good g at bytes u false w e = absurd cc
 
 -- ---- all of them
 
-constant_good : (g : Env) (c : Constant) (u : StaticType) → IsObjectType u → constant_form supported c ≡ []
-    → faults_of (constant c) ++ converted_to g (constant c) (Of u) ≡ []
+constant_good : (g : Env) (c : Constant) (u : StaticType) → IsObjectType u → faults_of (constant c) ++ converted_to g (constant c) (Of u) ≡ []
     → ConstantGood u c
-constant_good g (Constant.Number at n suffix) u w f e =
+constant_good g (Constant.Number at n suffix) u w e =
     let i : IsInteger u = from_integer g.regions (number_type n suffix) at u e in
     record {
       first = number_first u (Constant.Number at n suffix) i (record { of = number_type n suffix; word = n % 2 ^ 32; gives = λ strings. refl });
       taken = λ b. integer_shape u i;
     }
-constant_good g (Constant.Negative at n suffix) u w f e =
+constant_good g (Constant.Negative at n suffix) u w e =
     let i : IsInteger u = from_integer g.regions (number_type n suffix) at u e in
     record {
       first = number_first u (Constant.Negative at n suffix) i
           (record { of = number_type n suffix; word = difference_of 0 (n % 2 ^ 32); gives = λ strings. refl });
       taken = λ b. integer_shape u i;
     }
-constant_good g (Constant.Character at byte) u w f e =
+constant_good g (Constant.Character at byte) u w e =
     let i : IsInteger u = from_integer g.regions AsChar at u e in
     record {
       first = number_first u (Constant.Character at byte) i (record { of = AsChar; word = byte % 256; gives = λ strings. refl });
       taken = λ b. integer_shape u i;
     }
-constant_good g (Constant.Text at bytes) u w f e = text_good g at bytes u (nat_lt (length bytes) 4096) w e
-constant_good g (Constant.Null at) u w f e = null_good g.regions at at u w e
+constant_good g (Constant.Text at bytes) u w e = text_good g at bytes u (nat_lt (length bytes) 4096) w e
+constant_good g (Constant.Null at) u w e = null_good g.regions at at u w e
 
 -- ---- initializers
 
@@ -143,10 +140,9 @@ pub record InitialGood (u : StaticType) (i : Initial) : Type 0 where
   pub first : InitialJudged u i
   pub taken : HasBeginning (shape_of u) → IsFew i → TakesGlobal (shape_of u) i
 
-pub initial_good : (g : Env) (i : Initial) (u : StaticType) → IsObjectType u → takes_initial supported i ≡ true
-    → initial_form supported i ≡ [] → initial_faults g i (Of u) ≡ []
+pub initial_good : (g : Env) (i : Initial) (u : StaticType) → IsObjectType u → initial_faults g i (Of u) ≡ []
     → InitialGood u i
-initial_good g Initial.Unset u w t f e = record { first = tt; taken = λ h few. h }
-initial_good g (Initial.Elements n) u w t f e = record { first = tt; taken = λ h few. (few, h) }
-initial_good g (Initial.Given c) u w t f e =
-    let k : ConstantGood u c = constant_good g c u w f e in record { first = k.first; taken = λ h few. k.taken h }
+initial_good g Initial.Unset u w e = record { first = tt; taken = λ h few. h }
+initial_good g (Initial.Elements n) u w e = record { first = tt; taken = λ h few. (few, h) }
+initial_good g (Initial.Given c) u w e =
+    let k : ConstantGood u c = constant_good g c u w e in record { first = k.first; taken = λ h few. k.taken h }

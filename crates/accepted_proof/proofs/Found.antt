@@ -18,8 +18,6 @@ use Rattle.source_typing.specs.Programs.{Judged, entries_with, items_from, named
 use Rattle.source_typing.specs.Regions.{TheHeap}
 use Rattle.source_typing.specs.Scope.{at_item}
 use Rattle.source_typing.specs.Tables.{Named, OfBuiltin, OfFunction, OfOther, OfTag, OfValue, Signature, Tables, What, find}
-use Rattle.source_typing.specs.Taken.{function_taken, only_taken}
-use Rattle.accepted_programs.specs.Supported.{supported}
 use Rattle.source_typing.specs.Types.{StaticType, shape_of}
 use Rattle.source_typing.specs.Verdicts.{Of}
 use Rattle.source_typing.proofs.Inversion.{none_of_both}
@@ -53,27 +51,23 @@ AllKnown g h i (j ∷ js) [] = ⊥
 
 module _ (bodies : BodiesJudged) where
   pub all_known : (g h : Tables) (i : ℕ) (js : List Judged) (is : List Item) → AllGood 0 g → KindsKnown g → AreAligned g h → AreHeaded h i js is
-      → only_taken supported is ≡ is
       → HasOperands is → items_from false g i is ≡ [] → flow_from g i is ≡ []
       → AllKnown g h i js is
-  all_known g h i [] [] a n s k t o p flow = tt
-  all_known g h i [] (x ∷ is) a n s k t o p flow = absurd k
-  all_known g h i (j ∷ js) [] a n s k t o p flow = absurd k
-  all_known g h i (j ∷ js) (tree.StructItem x ∷ is) a n s k t o p flow =
-      let b : only_taken supported is ≡ is = cc in (k.0, all_known g h (suc i) js is a n s k.1 b o.1 p flow)
-  all_known g h i (j ∷ js) (tree.UnionItem x ∷ is) a n s k t o p flow =
-      let b : only_taken supported is ≡ is = cc in (k.0, all_known g h (suc i) js is a n s k.1 b o.1 p flow)
-  all_known g h i (j ∷ js) (tree.GlobalItem x ∷ is) a n s k t o p flow =
-      let b : only_taken supported is ≡ is = cc in
+  all_known g h i [] [] a n s k o p flow = tt
+  all_known g h i [] (x ∷ is) a n s k o p flow = absurd k
+  all_known g h i (j ∷ js) [] a n s k o p flow = absurd k
+  all_known g h i (j ∷ js) (tree.StructItem x ∷ is) a n s k o p flow =
+      (k.0, all_known g h (suc i) js is a n s k.1 o.1 p flow)
+  all_known g h i (j ∷ js) (tree.UnionItem x ∷ is) a n s k o p flow =
+      (k.0, all_known g h (suc i) js is a n s k.1 o.1 p flow)
+  all_known g h i (j ∷ js) (tree.GlobalItem x ∷ is) a n s k o p flow =
       let d = none_of_both (global_faults (at_item false g i) x) (items_from false g (suc i) is) p in
-      (k.0, all_known g h (suc i) js is a n s k.1 b o.1 d.1 flow)
-  all_known g h i (j ∷ js) (tree.FunctionItem f ∷ is) a n s k t o p flow =
-      let c : function_taken supported f ≡ f = cc in
-      let b : only_taken supported is ≡ is = cc in
+      (k.0, all_known g h (suc i) js is a n s k.1 o.1 d.1 flow)
+  all_known g h i (j ∷ js) (tree.FunctionItem f ∷ is) a n s k o p flow =
       let d = none_of_both (function_faults false g i f) (items_from false g (suc i) is) p in
       let l = none_of_both (body_flow (body_scope false g i f (head_of false g f)) f) (flow_from g (suc i) is) flow in (
-        record { is = k.0.0; same = head_same false g h f (same_tags g h s); good = function_good bodies g i f a n c o.0 d.0 l.0 },
-        all_known g h (suc i) js is a n s k.1 b o.1 d.1 l.1,
+        record { is = k.0.0; same = head_same false g h f (same_tags g h s); good = function_good bodies g i f a n o.0 d.0 l.0 },
+        all_known g h (suc i) js is a n s k.1 o.1 d.1 l.1,
       )
 
 -- ---- globals in their order

@@ -1,7 +1,6 @@
 -- A global without fault: an object that has a beginning, or an array of such, whose type names no region but the heap.
-use Rattle.std.proofs.Common.{◌≡◌, ℕ, Bool, true, false, Option, Some, None, List, [], ◌∷◌, refl, sym, subst, ap, ◌∙◌}
+use Rattle.std.proofs.Common.{◌≡◌, ℕ, Bool, true, false, Option, Some, None, List, [], ◌∷◌, sym, subst, ap, ◌∙◌}
 use Rattle.std.specs.Prelude.{◌&&◌, not}
-use Rattle.std.proofs.lemmas.Bool.{and_parts}
 use Rattle.cyc_tree.specs.Tree as tree
 use Rattle.cyc_tree.specs.Tree.{Initial, TypeName}
 use Rattle.source_meaning.specs.Programs.{global_shape}
@@ -25,8 +24,6 @@ use Rattle.source_typing.specs.Regions.{TheHeap}
 use Rattle.source_typing.specs.Scope.{Env, at_item}
 use Rattle.source_typing.specs.Tables.{Arrayed, OfValue, Stored, Tables, has_beginning}
 use Rattle.source_typing.specs.Tags.{settled_alone}
-use Rattle.source_typing.specs.Taken.{Taken, form_if, global_if, initial_form, initial_taken, item_forms, item_taken, takes_initial, takes_type}
-use Rattle.accepted_programs.specs.Supported.{supported}
 use Rattle.source_typing.specs.Types.{StaticType, Void, is_key, shape_of}
 use Rattle.source_typing.specs.Verdicts.{Faulty, Of, Unjudged, Verdict, after, faults_of}
 use Rattle.source_typing.specs.Written.{RegionNamed, Spot, spots_of, written}
@@ -38,32 +35,6 @@ use Rattle.accepted_proof.proofs.good.Pointers.{IsWritten}
 use Rattle.accepted_proof.proofs.good.Types.{KnowsTags, scope_written}
 use Rattle.accepted_proof.proofs.HeadTypes.{GivesNothing, GivesObject, ObjectGood, PlainGood, alone_good}
 use Rattle.accepted_proof.proofs.Sure.{surely_after, surely_also, surely_is}
-
--- ---- what isn't taken is at fault
-
-pub record GlobalTaken (k : Taken) (x : tree.Global) : Type 0 where
-  pub type : takes_type k x.of ≡ true
-  pub initial : takes_initial k x.initial ≡ true
-  pub form : initial_form k x.initial ≡ []
-
-if_taken : (b : Bool) (g : Env) (x : tree.Global) (i : Initial) → global_if b x i ≡ x → global_faults g x ≡ [] → b ≡ true
-if_taken true g x i e p = refl
-if_taken false g x i e p = absurd (by (subst (λ z. global_faults g z ≡ []) (sym e) p))
-  where
-    by : global_faults g (global_if false x i) ≡ [] → ⊥
-    by h = cc
-
-pub global_taken : (k : Taken) (g : Env) (x : tree.Global) → item_taken k (tree.GlobalItem x) ≡ tree.GlobalItem x
-    → item_forms k (tree.GlobalItem x) ≡ []
-    → global_faults g x ≡ []
-    → GlobalTaken k x
-global_taken k g x t f p =
-    let e : global_if (takes_type k x.of && takes_initial k x.initial) x (initial_taken k x.of x.initial) ≡ x = cc in
-    let b : takes_type k x.of && takes_initial k x.initial ≡ true =
-    if_taken (takes_type k x.of && takes_initial k x.initial) g x (initial_taken k x.of x.initial) e p in
-    let c : (takes_type k x.of ≡ true) × (takes_initial k x.initial ≡ true) =
-    and_parts (takes_type k x.of) (takes_initial k x.initial) b in
-    record { type = c.0; initial = c.1; form = subst (λ z. form_if z (initial_form k x.initial) ≡ []) b f }
 
 -- ---- types
 
@@ -104,19 +75,18 @@ variable_fits g at t count native u k =
         no e = cc
 
 -- what is written, where region names don't matter
-plain_good : (g : Tables) (x : tree.Global) → KnowsTags g → takes_type supported x.of ≡ true
+plain_good : (g : Tables) (x : tree.Global) → KnowsTags g
     → Surely (λ u. PlainGood 0 x.of u) (after (written g (foreign_names (spots_of g x.of)) x.of) (settled_alone x.of.at))
-plain_good g x tags e =
+plain_good g x tags =
     let names : List RegionNamed = foreign_names (spots_of g x.of) in
     surely_after (λ p. IsWritten true 0 x.of p) (λ u. PlainGood 0 x.of u) (written g names x.of) (settled_alone x.of.at)
     (scope_written 0 g names x.of tags (heap_names (spots_of g x.of))) (λ p w. alone_good true 0 x.of.at x.of p w)
 
-type_good : (g : Env) (x : tree.Global) → KnowsTags g.tables → takes_type supported x.of ≡ true
-    → Surely (λ u. VariableGood g.tables x.of u) (global_type g x)
-type_good g x tags e =
+type_good : (g : Env) (x : tree.Global) → KnowsTags g.tables → Surely (λ u. VariableGood g.tables x.of u) (global_type g x)
+type_good g x tags =
     let names : List RegionNamed = foreign_names (spots_of g.tables x.of) in
     surely_after (λ u. PlainGood 0 x.of u) (λ u. VariableGood g.tables x.of u) (after (written g.tables names x.of) (settled_alone x.of.at))
-    (fitting_global g x.of.at (count_of x.initial) (has_none names)) (plain_good g.tables x tags e)
+    (fitting_global g x.of.at (count_of x.initial) (has_none names)) (plain_good g.tables x tags)
     (λ u k. variable_fits g x.of.at x.of (count_of x.initial) (has_none names) u k)
 
 -- ---- all of it
@@ -129,23 +99,20 @@ pub record GlobalGood (g : Tables) (i : ℕ) (x : tree.Global) : Type 0 where
   pub initial : InitialGood type x.initial
   pub entry : global_entry (at_item false g i) x ≡ OfValue (what_of TheHeap (count_of x.initial) (Of type))
 
-pub global_good : (g : Tables) (i : ℕ) (x : tree.Global) → KnowsTags g → item_taken supported (tree.GlobalItem x) ≡ tree.GlobalItem x
-    → item_forms supported (tree.GlobalItem x) ≡ []
-    → global_faults (at_item false g i) x ≡ []
+pub global_good : (g : Tables) (i : ℕ) (x : tree.Global) → KnowsTags g → global_faults (at_item false g i) x ≡ []
     → GlobalGood g i x
-global_good g i x tags t f p =
+global_good g i x tags p =
     let s : Env = at_item false g i in
-    let k : GlobalTaken supported x = global_taken supported s x t f p in
     let q : (faults_of (global_type s x) ≡ []) × (initial_faults s x.initial (global_type s x) ≡ []) =
     none_of_both (faults_of (global_type s x)) (initial_faults s x.initial (global_type s x)) p in
     let u : (t : StaticType) × (global_type s x ≡ Of t) × VariableGood g x.of t =
-    surely_is (λ t. VariableGood g x.of t) (global_type s x) (type_good s x tags k.type) q.0 in
+    surely_is (λ t. VariableGood g x.of t) (global_type s x) (type_good s x tags) q.0 in
     let c : initial_faults s x.initial (Of u.0) ≡ [] = subst (λ v. initial_faults s x.initial v ≡ []) u.1 q.1 in
     record {
       type = u.0;
       good = u.2.good;
       begins = u.2.begins;
-      initial = initial_good s x.initial u.0 u.2.good.object k.initial k.form c;
+      initial = initial_good s x.initial u.0 u.2.good.object c;
       entry = ap (λ (fs : List Fault). OfValue (what_after fs (what_of TheHeap (count_of x.initial) (global_type s x)))) p
           ∙ ap (λ (v : Verdict StaticType). OfValue (what_of TheHeap (count_of x.initial) v)) u.1;
     }

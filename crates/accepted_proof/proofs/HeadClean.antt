@@ -1,7 +1,6 @@
 -- A struct or a union that has no fault once it is judged has none of those that hang on no tag.
 use Rattle.std.proofs.Common.{◌≡◌, ℕ, Bool, true, false, Option, Some, None, List, [], ◌∷◌, refl, sym, subst, ap, ◌∙◌, inl, inr}
 use Rattle.std.specs.Prelude.{length, map}
-use Rattle.std.proofs.lemmas.Bool.{and_parts}
 use Rattle.cyc_tree.specs.Tree as tree
 use Rattle.cyc_tree.specs.Tree.{Pointer, TypeName}
 use Rattle.source_meaning.specs.Shapes as shapes
@@ -9,8 +8,6 @@ use Rattle.source_typing.specs.Faults.{Fault}
 use Rattle.source_typing.specs.Scope.{Env}
 use Rattle.source_typing.specs.Tables.{Entry, OfBuiltin, OfOther, OfTag, Tables, Tag, as_tag, find, tag_in}
 use Rattle.source_typing.specs.Tags.{head_faults, head_fitting, head_type, member_faults, member_fitting, member_type, settled_alone}
-use Rattle.source_typing.specs.Taken.{takes_base, takes_pointers, takes_type}
-use Rattle.accepted_programs.specs.Supported.{supported}
 use Rattle.source_typing.specs.Types.{PartialType, StaticType, Struct, Union, same_bool}
 use Rattle.source_typing.specs.Verdicts.{Of, Unjudged, Verdict, after, faults_of, unless_faulty}
 use Rattle.source_typing.specs.Written.{Found, RegionNamed, all_found, argument_spots, built, count_fits, counted_type, regions_of_tag}
@@ -23,17 +20,14 @@ use Rattle.accepted_proof.proofs.good.Pointers.{HasUniqueFat, PointedIfSome, str
 use Rattle.accepted_proof.proofs.good.Types.{count_is, union_count_is}
 use Rattle.accepted_proof.proofs.HeadTags.{IsTagged, IsUnjudged, MeansFirst, MemberCan, after_head, asks_fit, member_can, no_bad, pointed_fits, same_fault}
 use Rattle.accepted_proof.proofs.HeadTags.{tagged_pointers, union_asks_fit}
-use Rattle.accepted_proof.proofs.MemberTypes.{AreMembersTaken}
 
 -- ---- members
 
 module _ (n : ℕ) (union : Bool) (g h : Env) (tags : (x : List ℕ) → MeansFirst (find g.tables x) (find h.tables x)) (names : g.names ≡ h.names)
     (below : NamesBelow n h.names)
   where
-    pub head_clean : (t : TypeName) → takes_type supported t ≡ true → faults_of (member_type g union t) ≡ [] → faults_of (head_type h union t) ≡ []
-    head_clean t e p =
-        let a = and_parts (takes_base supported t.base) (takes_pointers supported t.pointers) e in
-        by t.base a.0 p
+    pub head_clean : (t : TypeName) → faults_of (member_type g union t) ≡ [] → faults_of (head_type h union t) ≡ []
+    head_clean t p = by t.base p
       where
         with_base : tree.Base → TypeName
         with_base b = record { at = t.at; base = b; pointers = t.pointers }
@@ -218,32 +212,32 @@ module _ (n : ℕ) (union : Bool) (g h : Env) (tags : (x : List ℕ) → MeansFi
         of_union x rs (Some o) None there (inr m) bad p = absurd m.0
         of_union x rs (Some o) (Some d) there (inr m) bad p = absurd m.0
 
-        by : (b : tree.Base) → takes_base supported b ≡ true → faults_of (member_type g union (with_base b)) ≡ []
+        by : (b : tree.Base) → faults_of (member_type g union (with_base b)) ≡ []
             → faults_of (head_type h union (with_base b)) ≡ []
-        by tree.Int q p = plain tree.Int refl p
-        by tree.Unsigned q p = plain tree.Unsigned refl p
-        by tree.Char q p = plain tree.Char refl p
-        by tree.Void q p = plain tree.Void refl p
-        by (tree.Struct x rs) q p =
+        by tree.Int p = plain tree.Int refl p
+        by tree.Unsigned p = plain tree.Unsigned refl p
+        by tree.Char p = plain tree.Char refl p
+        by tree.Void p = plain tree.Void refl p
+        by (tree.Struct x rs) p =
             let bad : (found h.tables h.names (tree.Struct x rs)).1 ≡ [] =
             same_fault h.tables g.tables h.names x rs (map (λ (p : Pointer). spot true p.region) t.pointers)
             ∙ (ap (λ (ns : List RegionNamed). (found g.tables ns (tree.Struct x rs)).1) (sym names)
             ∙ no_bad g union (with_base (tree.Struct x rs)) (found g.tables g.names (tree.Struct x rs)).0 (found g.tables g.names (tree.Struct x rs)).1
             (tag_of (find g.tables x.text) false x.at) p) in
             struct x rs (find g.tables x.text) (find h.tables x.text) refl (tags x.text) bad p
-        by (tree.Union x rs) q p =
+        by (tree.Union x rs) p =
             let bad : (found h.tables h.names (tree.Union x rs)).1 ≡ [] =
             same_fault h.tables g.tables h.names x rs (map (λ (p : Pointer). spot true p.region) t.pointers)
             ∙ (ap (λ (ns : List RegionNamed). (found g.tables ns (tree.Union x rs)).1) (sym names)
             ∙ no_bad g union (with_base (tree.Union x rs)) (found g.tables g.names (tree.Union x rs)).0 (found g.tables g.names (tree.Union x rs)).1
             (tag_of (find g.tables x.text) true x.at) p) in
             of_union x rs (find g.tables x.text) (find h.tables x.text) refl (tags x.text) bad p
-        by (tree.Handle r) q p = plain (tree.Handle r) refl p
-        by (tree.Key r) q p = plain (tree.Key r) refl p
+        by (tree.Handle r) p = plain (tree.Handle r) refl p
+        by (tree.Key r) p = plain (tree.Key r) refl p
 
-    pub heads_clean : (ms : List tree.Member) → AreMembersTaken supported ms → member_faults g union ms ≡ [] → head_faults h union ms ≡ []
-    heads_clean [] e p = refl
-    heads_clean (m ∷ ms) e p =
+    pub heads_clean : (ms : List tree.Member) → member_faults g union ms ≡ [] → head_faults h union ms ≡ []
+    heads_clean [] p = refl
+    heads_clean (m ∷ ms) p =
         let z : (faults_of (member_type g union m.of) ≡ []) × (member_faults g union ms ≡ []) =
         none_of_both (faults_of (member_type g union m.of)) (member_faults g union ms) p in
-        both_none (faults_of (head_type h union m.of)) (head_faults h union ms) (head_clean m.of e.0 z.0) (heads_clean ms e.1 z.1)
+        both_none (faults_of (head_type h union m.of)) (head_faults h union ms) (head_clean m.of z.0) (heads_clean ms z.1)

@@ -1,4 +1,4 @@
--- The types of a function's parameters and of its result, where they are taken: objects whose regions are the heap, a region variable that was there
+-- The types of a function's parameters and of its result: objects whose regions are the heap, a region variable that was there
 -- before, or a fresh one.
 use Rattle.std.proofs.Common.{◌≡◌, ℕ, suc, ◌<◌, ◌≤◌, Bool, true, false, Option, Some, None, List, [], ◌∷◌, refl, sym, ap, subst, ◌∙◌, arith}
 use Rattle.std.specs.Prelude.{bytes_eq, if◌then◌else◌, length, map, ◌||◌, ◌++◌}
@@ -15,8 +15,6 @@ use Rattle.source_typing.specs.Functions.{take_spot, take_spots}
 use Rattle.source_typing.specs.Regions.{Level, Region, TheHeap}
 use Rattle.source_typing.specs.Tables.{Tables}
 use Rattle.source_typing.specs.Tags.{settled_alone}
-use Rattle.source_typing.specs.Taken.{takes_type}
-use Rattle.accepted_programs.specs.Supported.{supported}
 use Rattle.source_typing.specs.Types.{Fat, Handle, Char, Int, Key, PartialType, StaticType, Struct, Thin, Union, Unique, Unsigned, Void, is_void, shape_of}
 use Rattle.source_typing.specs.Verdicts.{after, if_fits}
 use Rattle.source_typing.specs.Written.{Found, Is, IsUnique, Missing, RegionNamed, Spot, base_spots, find_region, spot, spots_of, written, written_with}
@@ -146,7 +144,7 @@ spots_good vs (s ∷ ss) ps a h =
     let d : one.after_it.count ≤ last = others.more in
     record { found = (found_more one.after_it.count last one.found d first.found, others.found); names = others.names; more = omega (arith, c, d) }
 
--- and of a type that is taken
+-- and of a type
 pub type_spots_good : (g : Tables) (vs : Variables) (t : TypeName) → NamesBelow vs.count vs.names
     → SpotsGood vs (length (base_spots g t.base)) t.pointers (take_spots vs (spots_of g t))
 type_spots_good g vs t h = spots_good vs (base_spots g t.base) t.pointers (base_arguments g t.base) h
@@ -186,9 +184,9 @@ parameter_fits n at t u (GivesObject w) = by (fits_parameter u)
     by true = w
     by false = tt
 
-pub parameter_good : (g : Tables) (vs : Variables) (t : TypeName) → KnowsTags g → takes_type supported t ≡ true → NamesBelow vs.count vs.names
+pub parameter_good : (g : Tables) (vs : Variables) (t : TypeName) → KnowsTags g → NamesBelow vs.count vs.names
     → Surely (λ u. ObjectGood (take_spots vs (spots_of g t)).after_all.count t u) (parameter_type g t (take_spots vs (spots_of g t)))
-parameter_good g vs t tags e h =
+parameter_good g vs t tags h =
     let s : AllSpotted = take_spots vs (spots_of g t) in
     let n : ℕ = s.after_all.count in
     surely_after (λ u. PlainGood n t u) (λ u. ObjectGood n t u) (after (written_with g t (s.found, s.faults)) (settled_alone t.at)) (if_parameter t.at)
@@ -206,9 +204,9 @@ result_fits n at t u (GivesObject w) = by (is_void u || fits_parameter u)
     by true = GivesObject w
     by false = tt
 
-pub result_good : (n : ℕ) (g : Tables) (names : List RegionNamed) (t : TypeName) → KnowsTags g → takes_type supported t ≡ true → NamesBelow n names
+pub result_good : (n : ℕ) (g : Tables) (names : List RegionNamed) (t : TypeName) → KnowsTags g → NamesBelow n names
     → Surely (λ u. PlainGood n t u) (result_type g names t)
-result_good n g names t tags e h =
+result_good n g names t tags h =
     surely_after (λ u. PlainGood n t u) (λ u. PlainGood n t u) (after (written g names t) (settled_alone t.at)) (if_result t.at)
     (surely_after (λ p. IsWritten true n t p) (λ u. PlainGood n t u) (written g names t) (settled_alone t.at) (scope_written n g names t tags h)
     (λ p w. alone_good true n t.at t p w))

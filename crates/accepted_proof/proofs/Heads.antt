@@ -32,9 +32,6 @@ use Rattle.source_typing.specs.Regions.{Level, Region, is_among}
 use Rattle.source_typing.specs.Statements.{items_faults}
 use Rattle.source_typing.specs.Tables.{Tables, Tag, find, tag_in}
 use Rattle.source_typing.specs.Tags.{repeated, settled_alone}
-use Rattle.source_typing.specs.Taken.{Taken, bounds_form, bounds_if, effect_form, effect_if, function_taken, member_taken, members_taken, refused_type}
-use Rattle.source_typing.specs.Taken.{takes_type, type_taken}
-use Rattle.accepted_programs.specs.Supported.{supported}
 use Rattle.source_typing.specs.Types.{Int, PartialType, StaticType, shape_of}
 use Rattle.source_typing.specs.Verdicts.{Faulty, Of, Unjudged, Verdict, after, both, faults_of, known}
 use Rattle.source_typing.specs.Written.{Found, RegionNamed, Spot, all_found, argument_spots, base_of, base_spots, find_region, regions_of_tag, spot, spots_of}
@@ -43,67 +40,9 @@ use Rattle.source_typing.proofs.Inversion.{none_of_both, of_is, own_is, test_is}
 use Rattle.accepted_proof.specs.Good.{IsGoodSignature, NamesBelow}
 use Rattle.accepted_proof.proofs.HeadTypes.{PlainGood, ResultGood, SpotsGood, ObjectGood, parameter_good, result_facts, result_good}
 use Rattle.accepted_proof.proofs.HeadTypes.{find_below, type_spots_good, object_more}
-use Rattle.accepted_proof.proofs.MemberTypes.{AreMembersTaken}
 use Rattle.accepted_proof.proofs.good.Pointers.{RegionBelow}
 use Rattle.accepted_proof.proofs.good.Types.{KnowsTags}
 use Rattle.accepted_proof.proofs.Sure.{surely_is}
-
--- ---- what isn't taken is at fault
-
--- a head whose types are taken
-pub record HeadTaken (k : Taken) (f : tree.Function) : Type 0 where
-  pub parameters : AreMembersTaken k f.parameters
-  pub result : takes_type k f.result ≡ true
-
-parameter_taken : (b : Bool) (g : Tables) (vs : Variables) (t : TypeName) → (if b then t else refused_type t.at) ≡ t
-    → faults_of (parameter_type g t (take_spots vs (spots_of g t))) ≡ []
-    → b ≡ true
-parameter_taken true g vs t e p = refl
-parameter_taken false g vs t e p = absurd (by (subst (λ z. faults_of (parameter_type g z (take_spots vs (spots_of g z))) ≡ []) (sym e) p))
-  where
-    by : faults_of (parameter_type g (refused_type t.at) (take_spots vs (spots_of g (refused_type t.at)))) ≡ [] → ⊥
-    by h = cc
-
-parameters_taken : (k : Taken) (g : Tables) (vs : Variables) (ms : List tree.Member) → members_taken k ms ++ [] ≡ ms
-    → all_faults (read_parameters g vs ms).types ≡ []
-    → AreMembersTaken k ms
-parameters_taken k g vs [] e p = tt
-parameters_taken k g vs (m ∷ ms) e p =
-    let f : member_taken k m ≡ m = cc in
-    let i : type_taken k m.of ≡ m.of = ap (λ (z : tree.Member). z.of) f in
-    let j : members_taken k ms ++ [] ≡ ms = cc in
-    let ws : Variables = (take_spots vs (spots_of g m.of)).after_all in
-    let z : (faults_of (parameter_type g m.of (take_spots vs (spots_of g m.of))) ≡ []) × (all_faults (read_parameters g ws ms).types ≡ []) =
-    none_of_both (faults_of (parameter_type g m.of (take_spots vs (spots_of g m.of)))) (all_faults (read_parameters g ws ms).types) p in
-    (parameter_taken (takes_type k m.of) g vs m.of i z.0, parameters_taken k g ws ms j z.1)
-
-result_taken : (b : Bool) (g : Tables) (names : List RegionNamed) (t : TypeName) → (if b then t else refused_type t.at) ≡ t
-    → faults_of (result_type g names t) ≡ []
-    → b ≡ true
-result_taken true g names t e p = refl
-result_taken false g names t e p = absurd (by (subst (λ z. faults_of (result_type g names z) ≡ []) (sym e) p))
-  where
-    by : faults_of (result_type g names (refused_type t.at)) ≡ [] → ⊥
-    by h = cc
-
--- nothing stands for an effect and bounds that are taken
-pub no_effect : (b : Bool) (e : Option (List tree.RegionName)) → effect_if b e ≡ e → effect_form b e ≡ []
-no_effect true None p = refl
-no_effect true (Some []) p = refl
-no_effect true (Some (r ∷ rs)) p = refl
-no_effect false None p = refl
-no_effect false (Some []) p = refl
-no_effect false (Some (r ∷ rs)) p = absurd cc
-
-pub no_bounds : (b : Bool) (bs : List tree.Bound) → bounds_if b bs ≡ bs → bounds_form b bs ≡ []
-no_bounds true [] p = refl
-no_bounds true (x ∷ bs) p = refl
-no_bounds false [] p = refl
-no_bounds false (x ∷ bs) p = absurd cc
-
-pub no_forms : (b : Bool) (f : tree.Function) → effect_if b f.effect ≡ f.effect → bounds_if b f.bounds ≡ f.bounds
-    → effect_form b f.effect ++ bounds_form b f.bounds ≡ []
-no_forms b f e q = ap₂ (λ (es bs : List tree.Member). es ++ bs) (no_effect b f.effect e) (no_bounds b f.bounds q)
 
 -- ---- the faults of a head
 
@@ -132,21 +71,6 @@ head_clean g f p =
     let q4 : (all_faults ps.types ≡ []) × (repeated [] f.parameters ≡ []) = none_of_both (all_faults ps.types) (repeated [] f.parameters) q3.0 in
     record { main = o.0; parameters = q4.0; once = q4.1; result = q3.1 }
 
-pub head_taken : (k : Taken) (g : Tables) (f : tree.Function) → function_taken k f ≡ f → (head_of false g f).faults ≡ [] → HeadTaken k f
-head_taken k g f t p =
-    let ps : Parameters = read_parameters g (variables [] 0) f.parameters in
-    let r : Verdict StaticType = result_type g ps.variables_after.names f.result in
-    let c : HeadClean g f ps r = head_clean g f p in
-    let a : type_taken k f.result ≡ f.result = ap (λ (z : tree.Function). z.result) t in
-    let e : effect_if k.regions f.effect ≡ f.effect = ap (λ (z : tree.Function). z.effect) t in
-    let b : bounds_if k.regions f.bounds ≡ f.bounds = ap (λ (z : tree.Function). z.bounds) t in
-    let m : members_taken k f.parameters ++ [] ≡ f.parameters =
-    subst (λ zs. members_taken k f.parameters ++ zs ≡ f.parameters) (no_forms k.regions f e b) (ap (λ (z : tree.Function). z.parameters) t) in
-    record {
-      parameters = parameters_taken k g (variables [] 0) f.parameters m c.parameters;
-      result = result_taken (takes_type k f.result) g ps.variables_after.names f.result a c.result;
-    }
-
 -- ---- parameters
 
 pub record ParametersGood (vs : Variables) (ms : List tree.Member) (ps : Parameters) : Type 0 where
@@ -158,20 +82,20 @@ pub record ParametersGood (vs : Variables) (ms : List tree.Member) (ps : Paramet
   pub names : NamesBelow ps.variables_after.count ps.variables_after.names
   pub more : vs.count ≤ ps.variables_after.count
 
-parameters_good : (g : Tables) (vs : Variables) (ms : List tree.Member) → KnowsTags g → AreMembersTaken supported ms → NamesBelow vs.count vs.names
+parameters_good : (g : Tables) (vs : Variables) (ms : List tree.Member) → KnowsTags g → NamesBelow vs.count vs.names
     → all_faults (read_parameters g vs ms).types ≡ []
     → ParametersGood vs ms (read_parameters g vs ms)
-parameters_good g vs [] tags t h p =
+parameters_good g vs [] tags h p =
     record { types = []; known = refl; objects = tt; below = tt; shapes = refl; names = h; more = omega arith }
-parameters_good g vs (m ∷ ms) tags t h p =
+parameters_good g vs (m ∷ ms) tags h p =
     let s : AllSpotted = take_spots vs (spots_of g m.of) in
     let v : Verdict StaticType = parameter_type g m.of s in
     let z : (faults_of v ≡ []) × (all_faults (read_parameters g s.after_all ms).types ≡ []) =
     none_of_both (faults_of v) (all_faults (read_parameters g s.after_all ms).types) p in
     let k : SpotsGood vs (length (base_spots g m.of.base)) m.of.pointers s = type_spots_good g vs m.of h in
     let first : (u : StaticType) × (v ≡ Of u) × ObjectGood s.after_all.count m.of u =
-    surely_is (λ u. ObjectGood s.after_all.count m.of u) v (parameter_good g vs m.of tags t.0 h) z.0 in
-    let rest : ParametersGood s.after_all ms (read_parameters g s.after_all ms) = parameters_good g s.after_all ms tags t.1 k.names z.1 in
+    surely_is (λ u. ObjectGood s.after_all.count m.of u) v (parameter_good g vs m.of tags h) z.0 in
+    let rest : ParametersGood s.after_all ms (read_parameters g s.after_all ms) = parameters_good g s.after_all ms tags k.names z.1 in
     let n : ℕ = (read_parameters g s.after_all ms).variables_after.count in
     let a : vs.count ≤ s.after_all.count = k.more in
     let b : s.after_all.count ≤ n = rest.more in
@@ -283,16 +207,15 @@ pub record HeadGood (g : Tables) (f : tree.Function) : Type 0 where
   pub bounds : BoundsBelow (head_of false g f).signature.regions (head_of false g f).signature.bounds
   pub names : NamesBelow (head_of false g f).signature.regions (head_of false g f).names
 
-pub head_good : (g : Tables) (f : tree.Function) → KnowsTags g → function_taken supported f ≡ f → (head_of false g f).faults ≡ [] → HeadGood g f
-head_good g f tags t p =
+pub head_good : (g : Tables) (f : tree.Function) → KnowsTags g → (head_of false g f).faults ≡ [] → HeadGood g f
+head_good g f tags p =
     let ps : Parameters = read_parameters g (variables [] 0) f.parameters in
     let n : ℕ = ps.variables_after.count in
     let r : Verdict StaticType = result_type g ps.variables_after.names f.result in
     let c : HeadClean g f ps r = head_clean g f p in
-    let k : HeadTaken supported f = head_taken supported g f t p in
-    let q : ParametersGood (variables [] 0) f.parameters ps = parameters_good g (variables [] 0) f.parameters tags k.parameters tt c.parameters in
+    let q : ParametersGood (variables [] 0) f.parameters ps = parameters_good g (variables [] 0) f.parameters tags tt c.parameters in
     let u : (t : StaticType) × (r ≡ Of t) × PlainGood n f.result t =
-    surely_is (λ u. PlainGood n f.result u) r (result_good n g ps.variables_after.names f.result tags k.result q.names) c.result in
+    surely_is (λ u. PlainGood n f.result u) r (result_good n g ps.variables_after.names f.result tags q.names) c.result in
     let known_result : ResultGood n f.result u.0 = result_facts n f.result u.0 u.2 in
     let main : is_main f ≡ true → (r ≡ Of Int) × (f.parameters ≡ []) =
     main_is (is_main f) r f.parameters (test_is (not (is_main f) || main_form r f.parameters) type_rule f.name.at c.main) in

@@ -1,10 +1,9 @@
 -- The laws, by what is proved of expressions and of bodies.
-use Rattle.std.proofs.Common.{◌≡◌, false, []}
+use Rattle.std.proofs.Common.{false}
 use Rattle.cyc_tree.specs.Tree.{Program}
 use Rattle.source_meaning.specs.Programs.{world_of}
-use Rattle.source_typing.specs.Answers.{program_faults}
+use Rattle.accepted_programs.specs.Accepted.{IsAccepted}
 use Rattle.source_typing.specs.Programs.{tables_of}
-use Rattle.accepted_programs.specs.Supported.{supported}
 use Rattle.accepted_proof.specs.Good.{BodiesJudged}
 use Rattle.accepted_proof.specs.Laws.{AcceptedAreJudged, AcceptedAreLowerable, AcceptedAreNeverStuck, AcceptedHaveMain}
 use Rattle.accepted_proof.proofs.good.Bodies.{bodies_judged}
@@ -22,7 +21,7 @@ judged = programs.programs_judged bodies
 pub lowerable : AcceptedAreLowerable
 lowerable = lowered.programs_lowerable bodies
 
-pub sized : (p : Program) → program_faults supported p ≡ [] → AreSized (world_of p) (tables_of false p) 0 p
+pub sized : (p : Program) → IsAccepted p → AreSized (world_of p) (tables_of false p) 0 p
 sized = lowered.programs_sized bodies
 
 pub never_stuck : AcceptedAreNeverStuck

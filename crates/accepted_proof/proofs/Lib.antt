@@ -1,5 +1,4 @@
 pub mod Sure
-pub mod Wider
 pub mod kinds
 pub mod StructMembers
 pub mod good

@@ -1,6 +1,6 @@
 -- The members of a struct or a union without fault: they are objects, and a struct or a union among them stands earlier.
 use Rattle.std.proofs.Common.{◌≡◌, ℕ, Bool, true, false, Option, Some, None, List, [], ◌∷◌, refl, sym, subst, ap, ◌∙◌}
-use Rattle.std.specs.Prelude.{◌&&◌, ◌||◌, bytes_eq, if◌then◌else◌, map, not}
+use Rattle.std.specs.Prelude.{◌&&◌, ◌||◌, bytes_eq, map, not}
 use Rattle.std.proofs.lemmas.Bool.{and_parts, false≢true, not-true}
 use Rattle.std.proofs.lemmas.Slice.Eq.{bytes_eq-Decides}
 use Rattle.cyc_tree.specs.declared.name.Sign.{Sign}
@@ -19,8 +19,6 @@ use Rattle.source_typing.specs.Faults.{Fault, name_rule, test}
 use Rattle.source_typing.specs.Scope.{Env}
 use Rattle.source_typing.specs.Tables.{Arrayed, Counter, Entry, OfBuiltin, OfFunction, OfOther, OfTag, OfValue, Stored, Tables, Tag, Unknown, find}
 use Rattle.source_typing.specs.Tags.{fits_member, member_faults, member_fitting, member_type, is_named, parts_by, repeated, settled_alone}
-use Rattle.source_typing.specs.Taken.{Taken, members_taken, member_taken, refused_type, takes_base, takes_pointers, takes_type, type_taken}
-use Rattle.accepted_programs.specs.Supported.{supported}
 use Rattle.source_typing.specs.Types.{Char, Fat, Handle, Int, Key, Null, StaticType, Struct, Thin, Union, Unique, Unsigned, Void, same_bool, shape_of}
 use Rattle.source_typing.specs.Verdicts.{Faulty, Of, Verdict, after, faults_of, if_fits, known}
 use Rattle.source_typing.specs.Written.{Found, all_found, if_sound, of_kind, spots_of, tag_of, written, written_on}
@@ -30,31 +28,6 @@ use Rattle.accepted_proof.proofs.good.Pointers.{IsWritten}
 use Rattle.accepted_proof.proofs.good.Types.{KnowsTags, MeansKnown, scope_written}
 use Rattle.accepted_proof.proofs.HeadTypes.{GivesNothing, GivesObject, ObjectGood, PlainGood, alone_good}
 use Rattle.accepted_proof.proofs.Sure.{surely_after, surely_is}
-
--- ---- what isn't taken is at fault
-
-abbrev pub AreMembersTaken : Taken → List tree.Member → Type 0
-AreMembersTaken k [] = Unit {0}
-AreMembersTaken k (m ∷ ms) = (takes_type k m.of ≡ true) × AreMembersTaken k ms
-
-member_is_taken : (b : Bool) (g : Env) (union : Bool) (t : TypeName) → (if b then t else refused_type t.at) ≡ t → faults_of (member_type g union t) ≡ []
-    → b ≡ true
-member_is_taken true g union t e p = refl
-member_is_taken false g union t e p = absurd (by (subst (λ z. faults_of (member_type g union z) ≡ []) (sym e) p))
-  where
-    by : faults_of (member_type g union (refused_type t.at)) ≡ [] → ⊥
-    by h = cc
-
-pub members_are_taken : (k : Taken) (g : Env) (union : Bool) (ms : List tree.Member) → members_taken k ms ≡ ms → member_faults g union ms ≡ []
-    → AreMembersTaken k ms
-members_are_taken k g union [] e p = tt
-members_are_taken k g union (m ∷ ms) e p =
-    let f : member_taken k m ≡ m = cc in
-    let i : type_taken k m.of ≡ m.of = ap (λ (z : tree.Member). z.of) f in
-    let j : members_taken k ms ≡ ms = cc in
-    let z : (faults_of (member_type g union m.of) ≡ []) × (member_faults g union ms ≡ []) =
-    none_of_both (faults_of (member_type g union m.of)) (member_faults g union ms) p in
-    (member_is_taken (takes_type k m.of) g union m.of i z.0, members_are_taken k g union ms j z.1)
 
 -- ---- the type of a member
 
@@ -77,9 +50,9 @@ member_fits n g union at t u (GivesObject w) = by (fits_member union u && stands
         let a = and_parts (fits_member union u) (stands_earlier g u) e in record { good = w; fits = a.0; stands = a.1 }
     by false e = tt
 
-pub member_good : (n : ℕ) (g : Env) (union : Bool) (t : TypeName) → KnowsTags g.tables → NamesBelow n g.names → takes_type supported t ≡ true
+pub member_good : (n : ℕ) (g : Env) (union : Bool) (t : TypeName) → KnowsTags g.tables → NamesBelow n g.names
     → Surely (λ u. MemberGood n g union t u) (member_type g union t)
-member_good n g union t tags h e =
+member_good n g union t tags h =
     surely_after (λ u. PlainGood n t u) (λ u. MemberGood n g union t u) (after (written g.tables g.names t) (settled_alone t.at)) (member_fitting g union t.at)
     (surely_after (λ p. IsWritten true n t p) (λ u. PlainGood n t u) (written g.tables g.names t) (settled_alone t.at)
     (scope_written n g.tables g.names t tags h)
@@ -163,51 +136,49 @@ module _ (g : Env) (union : Bool) (tag : List ℕ) (tags : KnowsTags g.tables) w
       named kind x q (tag_found g.tables kind x.at x.text (member_after g union t (all_found g.names (spots_of g.tables t)))
       (λ f fs r. member_faulty g union t (all_found g.names (spots_of g.tables t)) f fs r) tags p)
 
-  struct_found : (t : TypeName) → takes_type supported t ≡ true → shapes.settled (shapes.written t) ≡ StructShape tag
+  struct_found : (t : TypeName) → shapes.settled (shapes.written t) ≡ StructShape tag
       → faults_of (member_type g union t) ≡ [] → TagFound g.tables false tag
-  struct_found t e s p = by t.base t.pointers (and_parts (takes_base supported t.base) (takes_pointers supported t.pointers) e).0 s p
+  struct_found t s p = by t.base t.pointers s p
     where
       text_is : (x : tree.Name) → StructShape x.text ≡ StructShape tag → x.text ≡ tag
       text_is x q = cc
 
-      by : (b : tree.Base) (ps : List Pointer) → takes_base supported b ≡ true
-          → shapes.settled (shapes.written (record { at = t.at; base = b; pointers = ps })) ≡ StructShape tag
+      by : (b : tree.Base) (ps : List Pointer) → shapes.settled (shapes.written (record { at = t.at; base = b; pointers = ps })) ≡ StructShape tag
           → faults_of (member_type g union (record { at = t.at; base = b; pointers = ps })) ≡ [] → TagFound g.tables false tag
-      by b (q ∷ ps) k s p =
+      by b (q ∷ ps) s p =
           absurd (no_struct (shapes.pointed (q ∷ ps) (shapes.base_shape b)) tag
           (still_pointer ps (shapes.signed_shape q.sign (shapes.owner_of q.region) (shapes.base_shape b))
           (sign_pointer q.sign (shapes.owner_of q.region) (shapes.base_shape b))) s)
-      by (tree.Struct x rs) [] k s p = tagged false x (record { at = t.at; base = tree.Struct x rs; pointers = [] }) (text_is x s) p
-      by (tree.Union x rs) [] k s p = absurd cc
-      by tree.Int [] k s p = absurd cc
-      by tree.Unsigned [] k s p = absurd cc
-      by tree.Char [] k s p = absurd cc
-      by tree.Void [] k s p = absurd cc
-      by (tree.Handle r) [] k s p = absurd cc
-      by (tree.Key r) [] k s p = absurd cc
+      by (tree.Struct x rs) [] s p = tagged false x (record { at = t.at; base = tree.Struct x rs; pointers = [] }) (text_is x s) p
+      by (tree.Union x rs) [] s p = absurd cc
+      by tree.Int [] s p = absurd cc
+      by tree.Unsigned [] s p = absurd cc
+      by tree.Char [] s p = absurd cc
+      by tree.Void [] s p = absurd cc
+      by (tree.Handle r) [] s p = absurd cc
+      by (tree.Key r) [] s p = absurd cc
 
-  union_found : (t : TypeName) → takes_type supported t ≡ true → shapes.settled (shapes.written t) ≡ UnionShape tag
+  union_found : (t : TypeName) → shapes.settled (shapes.written t) ≡ UnionShape tag
       → faults_of (member_type g union t) ≡ [] → TagFound g.tables true tag
-  union_found t e s p = by t.base t.pointers (and_parts (takes_base supported t.base) (takes_pointers supported t.pointers) e).0 s p
+  union_found t s p = by t.base t.pointers s p
     where
       text_is : (x : tree.Name) → UnionShape x.text ≡ UnionShape tag → x.text ≡ tag
       text_is x q = cc
 
-      by : (b : tree.Base) (ps : List Pointer) → takes_base supported b ≡ true
-          → shapes.settled (shapes.written (record { at = t.at; base = b; pointers = ps })) ≡ UnionShape tag
+      by : (b : tree.Base) (ps : List Pointer) → shapes.settled (shapes.written (record { at = t.at; base = b; pointers = ps })) ≡ UnionShape tag
           → faults_of (member_type g union (record { at = t.at; base = b; pointers = ps })) ≡ [] → TagFound g.tables true tag
-      by b (q ∷ ps) k s p =
+      by b (q ∷ ps) s p =
           absurd (no_union (shapes.pointed (q ∷ ps) (shapes.base_shape b)) tag
           (still_pointer ps (shapes.signed_shape q.sign (shapes.owner_of q.region) (shapes.base_shape b))
           (sign_pointer q.sign (shapes.owner_of q.region) (shapes.base_shape b))) s)
-      by (tree.Union x rs) [] k s p = tagged true x (record { at = t.at; base = tree.Union x rs; pointers = [] }) (text_is x s) p
-      by (tree.Struct x rs) [] k s p = absurd cc
-      by tree.Int [] k s p = absurd cc
-      by tree.Unsigned [] k s p = absurd cc
-      by tree.Char [] k s p = absurd cc
-      by tree.Void [] k s p = absurd cc
-      by (tree.Handle r) [] k s p = absurd cc
-      by (tree.Key r) [] k s p = absurd cc
+      by (tree.Union x rs) [] s p = tagged true x (record { at = t.at; base = tree.Union x rs; pointers = [] }) (text_is x s) p
+      by (tree.Struct x rs) [] s p = absurd cc
+      by tree.Int [] s p = absurd cc
+      by tree.Unsigned [] s p = absurd cc
+      by tree.Char [] s p = absurd cc
+      by tree.Void [] s p = absurd cc
+      by (tree.Handle r) [] s p = absurd cc
+      by (tree.Key r) [] s p = absurd cc
 
 -- ---- all members
 
@@ -243,9 +214,9 @@ pub record MembersGood (n : ℕ) (g : Env) (union : Bool) (ds us : List Declared
 module _ (n : ℕ) (g : Env) (union : Bool) (ds us : List Declared) (early : EarlierDeclared g false ds) (unions : EarlierDeclared g true us)
     (tags : KnowsTags g.tables)
   where
-    member_typed : (t : TypeName) (u : StaticType) → takes_type supported t ≡ true → faults_of (member_type g union t) ≡ [] → MemberGood n g union t u
+    member_typed : (t : TypeName) (u : StaticType) → faults_of (member_type g union t) ≡ [] → MemberGood n g union t u
         → IsMemberType ds u
-    member_typed t u e p k = by u k.good.object k.good.shape k.stands
+    member_typed t u p k = by u k.good.object k.good.shape k.stands
       where
         by : (u : StaticType) → IsObjectType u → shapes.settled (shapes.written t) ≡ shape_of u → stands_earlier g u ≡ true → IsMemberType ds u
         by Int o s q = tt
@@ -258,31 +229,31 @@ module _ (n : ℕ) (g : Env) (union : Bool) (ds us : List Declared) (early : Ear
         by (Unique b v) o s q = o
         by (Handle r) o s q = o
         by (Key r) o s q = o
-        by (Struct tag rs) o s q = let z : TagFound g.tables false tag = struct_found g union tag tags t e s p in early tag z.tag z.is z.kind q
+        by (Struct tag rs) o s q = let z : TagFound g.tables false tag = struct_found g union tag tags t s p in early tag z.tag z.is z.kind q
         by (Union tag rs) o s q = o
 
-    member_laid : (t : TypeName) (u : StaticType) → takes_type supported t ≡ true → faults_of (member_type g union t) ≡ [] → MemberGood n g union t u
+    member_laid : (t : TypeName) (u : StaticType) → faults_of (member_type g union t) ≡ [] → MemberGood n g union t u
         → IsLaidType us u
-    member_laid t u e p k = by u k.good.shape k.stands
+    member_laid t u p k = by u k.good.shape k.stands
       where
         by : (u : StaticType) → shapes.settled (shapes.written t) ≡ shape_of u → stands_earlier g u ≡ true → IsLaidType us u
-        by (Union tag rs) s q = let z : TagFound g.tables true tag = union_found g union tag tags t e s p in unions tag z.tag z.is z.kind q
+        by (Union tag rs) s q = let z : TagFound g.tables true tag = union_found g union tag tags t s p in unions tag z.tag z.is z.kind q
         by _ s q = tt
 
-    pub members_good : (ms : List tree.Member) → NamesBelow n g.names → AreMembersTaken supported ms → member_faults g union ms ≡ []
+    pub members_good : (ms : List tree.Member) → NamesBelow n g.names → member_faults g union ms ≡ []
         → MembersGood n g union ds us ms
-    members_good [] h e p = record { types = []; members = tt; typed = tt; laid = tt; objects = tt; fitting = tt; below = tt }
-    members_good (m ∷ ms) h e p =
+    members_good [] h p = record { types = []; members = tt; typed = tt; laid = tt; objects = tt; fitting = tt; below = tt }
+    members_good (m ∷ ms) h p =
         let z : (faults_of (member_type g union m.of) ≡ []) × (member_faults g union ms ≡ []) =
         none_of_both (faults_of (member_type g union m.of)) (member_faults g union ms) p in
         let u : (u : StaticType) × (member_type g union m.of ≡ Of u) × MemberGood n g union m.of u =
-        surely_is (λ u. MemberGood n g union m.of u) (member_type g union m.of) (member_good n g union m.of tags h e.0) z.0 in
-        let r : MembersGood n g union ds us ms = members_good ms h e.1 z.1 in
+        surely_is (λ u. MemberGood n g union m.of u) (member_type g union m.of) (member_good n g union m.of tags h) z.0 in
+        let r : MembersGood n g union ds us ms = members_good ms h z.1 in
         record {
           types = u.0 ∷ r.types;
           members = (refl, ap (λ (v : Verdict StaticType). known v) u.1, u.2.good.shape, r.members);
-          typed = (member_typed m.of u.0 e.0 z.0 u.2, r.typed);
-          laid = (member_laid m.of u.0 e.0 z.0 u.2, r.laid);
+          typed = (member_typed m.of u.0 z.0 u.2, r.typed);
+          laid = (member_laid m.of u.0 z.0 u.2, r.laid);
           objects = (u.2.good.object, r.objects);
           fitting = (u.2.fits, r.fitting);
           below = (u.2.good.below, r.below);

@@ -1,4 +1,4 @@
--- A program of the forms that are taken in which the rules find no fault is in order by the rules' own tables: so it is never stuck, and it has its `main`.
+-- A program that is accepted is in order by the rules' own tables: so it is never stuck, and it has its `main`.
 use Rattle.std.specs.Prelude.{bytes_eq, codes, if◌then◌else◌, length, map}
 use Rattle.std.proofs.Common.{◌≡◌, ◌⊎◌, ℕ, ◌<◌, Bool, true, false, inl, inr, Option, Some, None, List, [], ◌∷◌, refl, sym, subst, ap, ◌∙◌}
 use Rattle.std.proofs.lemmas.List.{length-map}
@@ -12,7 +12,7 @@ use Rattle.source_meaning.specs.Shapes.{ArrayShape, part_of, part_shapes}
 use Rattle.source_meaning.specs.Steps.{Variable, World}
 use Rattle.type_proof.specs.Entries.{Builtin, Function, PlainEntry, Structure, Unioned}
 use Rattle.type_proof.specs.Programs.{ArrayFound, FunctionJudged, GlobalFound, MainFound, ProgramJudged}
-use Rattle.source_typing.specs.Answers.{program_faults}
+use Rattle.accepted_programs.specs.Accepted.{IsAccepted}
 use Rattle.source_typing.specs.Declarations.{what_of}
 use Rattle.source_typing.specs.Functions.{head_of}
 use Rattle.source_typing.specs.Programs.{builtins, entries, entries_with, judged_tags, tables_of}
@@ -34,10 +34,8 @@ use Rattle.source_typing.specs.Tables.{
   What,
   find,
 }
-use Rattle.accepted_programs.specs.Supported.{supported}
 use Rattle.source_typing.specs.Types.{StaticType, shape_of}
 use Rattle.source_typing.specs.Verdicts.{Of}
-use Rattle.source_typing.proofs.TakenOperands.{taken_has_operands}
 use Rattle.type_proof.proofs.Never.{never_stuck}
 use Rattle.type_proof.proofs.Same.{judged_same}
 use Rattle.accepted_proof.specs.Good.{AllGood, BodiesJudged, IsGoodEntry}
@@ -81,7 +79,7 @@ entry_by es x a c = (if a then Some (OfBuiltin 0) else (if c then Some (OfBuilti
 
 -- ---- a program in order, by its own tables
 
-module _ (bodies : BodiesJudged) (p : Program) (e : program_faults supported p ≡ []) where
+module _ (bodies : BodiesJudged) (p : Program) (accepted : IsAccepted p) where
   abbrev tables : Tables
   tables = tables_of false p
 
@@ -94,11 +92,11 @@ module _ (bodies : BodiesJudged) (p : Program) (e : program_faults supported p �
   abbrev world : World
   world = world_of p
 
-  clean : IsClean supported p
-  clean = is_clean_program supported p e
+  clean : IsClean p
+  clean = is_clean_program p accepted
 
   pub found : StructsFound p
-  found = structs_found p clean.taken clean.tags clean.names
+  found = structs_found p accepted.operands clean.tags clean.names
 
   tags : KnowsTags heads
   tags = builtins_known (entries (judged_tags p)) (entries_known (judged_tags p) p found.named)
@@ -107,14 +105,14 @@ module _ (bodies : BodiesJudged) (p : Program) (e : program_faults supported p �
   same = tables_aligned heads (judged_tags p) p found.named
 
   headed : AreHeaded heads 0 (judged_tags p) p
-  headed = all_headed tables heads 0 (judged_tags p) p tags same found.named clean.taken clean.forms clean.items
+  headed = all_headed tables heads 0 (judged_tags p) p tags same found.named clean.items
 
   pub good : AllGood 0 tables
   good = tables_good heads (judged_tags p) p tags headed
 
   pub known : AllKnown tables heads 0 (judged_tags p) p
   known =
-      all_known bodies tables heads 0 (judged_tags p) p good found.kinds same headed clean.taken (taken_has_operands supported p clean.taken) clean.items
+      all_known bodies tables heads 0 (judged_tags p) p good found.kinds same headed accepted.operands clean.items
       clean.flow
 
   -- ---- names
@@ -313,10 +311,10 @@ module _ (bodies : BodiesJudged) (p : Program) (e : program_faults supported p �
 
 module _ (bodies : BodiesJudged) where
   pub programs_judged : AcceptedAreJudged
-  programs_judged p e = judged bodies p e
+  programs_judged p accepted = judged bodies p accepted
 
   pub programs_never_stuck : AcceptedAreNeverStuck
-  programs_never_stuck p e = never_stuck p (tables_of false p) (programs_judged p e)
+  programs_never_stuck p accepted = never_stuck p (tables_of false p) (programs_judged p accepted)
 
   pub programs_have_main : AcceptedHaveMain
-  programs_have_main p e = main_below bodies p e
+  programs_have_main p accepted = main_below bodies p accepted

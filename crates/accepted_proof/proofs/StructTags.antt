@@ -1,6 +1,7 @@
 -- A struct or a union without fault is judged: what is known of it, and of all tags that are judged then.
 use Rattle.std.proofs.Common.{◌≡◌, ◌≤◌, ℕ, suc, Bool, true, false, Option, Some, None, List, [], ◌∷◌, ◌++◌, refl, sym, subst, ap, ◌∙◌, arith}
 use Rattle.std.specs.Prelude.{bytes_eq, codes, if◌then◌else◌, length, map}
+use Rattle.cyc_tree.specs.Operands.{AreSomeMembers}
 use Rattle.cyc_tree.specs.Tree as tree
 use Rattle.cyc_tree.specs.Tree.{Item}
 use Rattle.source_lowering.specs.Lowerable.{AreValues, HasMember}
@@ -19,18 +20,17 @@ use Rattle.source_typing.specs.Programs.{second_names}
 use Rattle.source_typing.specs.Tables.{Entry, Named, OfOther, OfTag, Tables, Tag, as_tag, find, parts_of_tag}
 use Rattle.source_typing.specs.Tags.{tag_entry, tag_faults, tag_parts, tag_scope}
 use Rattle.source_typing.specs.Types.{StaticType, Union}
-use Rattle.accepted_programs.specs.Supported.{supported}
 use Rattle.accepted_proof.proofs.good.Types.{IsKnownEntry, KnowsTags}
 use Rattle.accepted_proof.proofs.HeadTags.{TablesAlike}
 use Rattle.accepted_proof.proofs.lowered.LaidStructs.{PartsReached, StructsLaid, alike_there, has_member, members_reached, members_values, other_laid}
 use Rattle.accepted_proof.proofs.lowered.LaidStructs.{struct_laid, union_laid}
 use Rattle.accepted_proof.proofs.lowered.Types.{TagsThere}
 use Rattle.accepted_proof.proofs.lowered.StructSizes.{AllLaidTypes, AreOnce, same_parts}
-use Rattle.accepted_proof.proofs.MemberTypes.{AreLaidTypes, IsLaidType, MembersGood, members_are_taken, members_good, named_apart, union_members}
+use Rattle.accepted_proof.proofs.MemberTypes.{AreLaidTypes, IsLaidType, MembersGood, members_good, named_apart, union_members}
 use Rattle.accepted_proof.proofs.Named.{TagKnown, builtins_known, either_known, one_known}
 use Rattle.accepted_proof.proofs.TagNames.{AllDeclared, DeclaredSeen, InTables, UnionsLeft, declared_more, earlier_declared, found_one, more_structs}
 use Rattle.accepted_proof.proofs.TagNames.{more_unions, not_declared, of_kind, seen_more, seen_tag}
-use Rattle.accepted_proof.proofs.TagOrder.{StructTaken, TagClean, builtins_alike, parameters_below, tag_clean}
+use Rattle.accepted_proof.proofs.TagOrder.{TagClean, builtins_alike, parameters_below, tag_clean}
 
 -- What is known when the i-th item is judged: these structs and unions were declared, and these structs are laid out.
 pub record State (w : World) (T : Tables) (i : ℕ) (done : List Judged) (ds us : List Declared) (found : List Layout) (seen : List (List ℕ)) : Type 0 where
@@ -121,7 +121,7 @@ own_name d ds y e = ap (λ (c : Bool). if c then true else declares ds y) e
 
 module _ (w : World) (T b h : Tables) (program : TagsThere w (builtins b)) (once : AreOnce (codes "getchar" ∷ codes "putchar" ∷ []) b) (i : ℕ)
     (done : List Judged) (is : List Item) (ds us : List Declared) (found : List Layout) (seen : List (List ℕ)) (s : tree.Structure)
-    (taken : StructTaken supported s) (st : State w T i done ds us found seen)
+    (has_members : AreSomeMembers s.members) (st : State w T i done ds us found seen)
   where
     -- the members of the item, by the tables that there are when it is judged
     module _ (x : Item) (union : Bool) (first : KnowsTags (first_from h i (x ∷ is))) where
@@ -135,13 +135,13 @@ module _ (w : World) (T b h : Tables) (program : TagsThere w (builtins b)) (once
       members_here clean =
           members_good (length s.regions) (tag_scope before i s) union ds us (earlier_declared h i done (x ∷ is) s ds us false st.declared)
           (earlier_declared h i done (x ∷ is) s ds us true st.declared) all_known s.members (parameters_below before i s)
-          (members_are_taken supported (tag_scope before i s) union s.members taken.members clean.members) clean.members
+          clean.members
 
       pub reached_here : TablesAlike (entries done ++ first_from h i (x ∷ is)) b → TagClean before i union s → PartsReached w (map part_of s.members)
       reached_here alike clean =
           members_reached w (tag_scope before i s) union s.members
           (alike_there w before (builtins b) (builtins_alike (entries done ++ first_from h i (x ∷ is)) b alike) program) all_known
-          (members_are_taken supported (tag_scope before i s) union s.members taken.members clean.members) clean.members
+          clean.members
 
     -- ---- a struct
 
@@ -174,7 +174,7 @@ module _ (w : World) (T b h : Tables) (program : TagsThere w (builtins b)) (once
         );
         laid_types = (ms.laid, st.laid_types);
         in_tables = ((known.tag, there), st.in_tables);
-        laid = struct_laid w b h T i done is seen ds us found s program once alike names taken (all_known (tree.StructItem s) false first) st.seen_all
+        laid = struct_laid w b h T i done is seen ds us found s program once alike names has_members (all_known (tree.StructItem s) false first) st.seen_all
             st.unions_seen st.laid_out st.in_order st.laid_types new clean ms st.laid;
         seen_all = seen_tag ds seen d st.seen_all;
         unions_seen = seen_more us seen s.tag.text st.unions_seen;
@@ -228,7 +228,7 @@ module _ (w : World) (T b h : Tables) (program : TagsThere w (builtins b)) (once
       laid = subst (λ (o : Option Entry). AreMembers (parts_of_tag (as_tag o)) (map part_of s.members) ms.types) (sym there) ms.members;
       members = members;
       apart = named_apart [] s.members clean.once;
-      some = has_member s.members taken.some;
+      some = has_member s.members has_members;
       values = members_values w (tag_parts g i true s) (map part_of s.members) ms.types ms.members members reached;
       reached = reached;
       layout = λ ls. ap (λ (ps : List Part). record { tag = s.tag.text; parts = ps } ∷ ls)

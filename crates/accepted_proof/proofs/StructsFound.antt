@@ -3,6 +3,7 @@ use Rattle.std.proofs.Common.{◌≡◌, ◌≤◌, ℕ, suc, Bool, true, false,
 use Rattle.std.specs.Prelude.{◌+◌, ◌++◌, ◌||◌, bytes_eq, codes, if◌then◌else◌, length, map, not}
 use Rattle.std.proofs.lemmas.Bool.{false≢true, not-true}
 use Rattle.std.proofs.lemmas.Slice.Eq.{bytes_eq-Decides}
+use Rattle.cyc_tree.specs.Operands.{HasOperands}
 use Rattle.cyc_tree.specs.Tree as tree
 use Rattle.cyc_tree.specs.Tree.{Item, Program}
 use Rattle.source_lowering.specs.Lowerable.{AreStructs}
@@ -17,14 +18,12 @@ use Rattle.source_typing.specs.Programs.{Judged, all_tag_faults, bare_from, buil
 use Rattle.source_typing.specs.Programs.{second_names, tables_of}
 use Rattle.source_typing.specs.Scope.{at_item}
 use Rattle.source_typing.specs.Tables.{Entry, Named, OfBuiltin, OfFunction, OfTag, Tables, Tag, find}
-use Rattle.source_typing.specs.Taken.{only_taken}
-use Rattle.accepted_programs.specs.Supported.{supported}
 use Rattle.source_typing.proofs.Inversion.{none_of_both, test_is}
 use Rattle.accepted_proof.proofs.AlignedTables.{layouts_same, tables_aligned}
 use Rattle.accepted_proof.proofs.good.Functions.{KindsKnown}
 use Rattle.accepted_proof.proofs.kinds.Programs.{tables_kinds}
 use Rattle.accepted_proof.proofs.Named.{AreNamed, TagKnown, builtins_known}
-use Rattle.accepted_proof.proofs.TagOrder.{AreSorted, all_sorted, bare_known, first_alike}
+use Rattle.accepted_proof.proofs.TagOrder.{bare_known, first_alike}
 use Rattle.accepted_proof.proofs.Tags.{behind_builtins, first_tables, judged_list, tags_are}
 use Rattle.accepted_proof.proofs.lowered.LaidStructs.{AllReached}
 use Rattle.accepted_proof.proofs.lowered.LaidTags.{IsHere, bare_there, here_after, here_behind, here_function, here_global, own_struct, own_union}
@@ -192,7 +191,7 @@ turned (tree.UnionItem s ∷ is) found seen x p h =
     by false q true h e = e
     by false q false h e = e
 
-module _ (p : Program) (t : only_taken supported p ≡ p) (clean : all_tag_faults (judged_tags p) ≡ [])
+module _ (p : Program) (operands : HasOperands p) (clean : all_tag_faults (judged_tags p) ≡ [])
     (names : second_names (codes "getchar" ∷ codes "putchar" ∷ []) p ≡ [])
   where
     abbrev heads_tables : Tables
@@ -201,16 +200,13 @@ module _ (p : Program) (t : only_taken supported p ≡ p) (clean : all_tag_fault
     list_clean : all_tag_faults (judged_list (first_tables p) 0 [] p) ≡ []
     list_clean = subst (λ (js : List Judged). all_tag_faults js ≡ []) (tags_are p) clean
 
-    sorted : AreSorted p
-    sorted = all_sorted (first_tables p) 0 [] p t list_clean
-
     outcome : Outcome (world_of p) (tables_of false p) (judged_list (first_tables p) 0 [] p) p [] (0 + length p)
     outcome =
         all_steps (world_of p) (tables_of false p) (bare_from 0 p) heads_tables
-        (builtins_known (bare_from 0 p) (bare_known 0 p sorted))
+        (builtins_known (bare_from 0 p) (bare_known 0 p))
         (λ x u e. in_world p u.is_union x (bare_there 0 p [] x u (behind_builtins (bare_from 0 p) x u e)))
         (bare_once (codes "getchar" ∷ codes "putchar" ∷ []) 0 p names) 0 [] p [] [] []
-        (codes "getchar" ∷ codes "putchar" ∷ []) sorted (first_alike (first_tables p) 0 p) list_clean names
+        (codes "getchar" ∷ codes "putchar" ∷ []) operands (first_alike (first_tables p) 0 p) list_clean names
         (subst (λ (js : List Judged). Unseen (tables_of false p) (codes "getchar" ∷ codes "putchar" ∷ []) (entries_with false heads_tables 0 js p)) (tags_are p)
         (builtins_unseen (entries_with false heads_tables 0 (judged_tags p) p))) (λ x e. refl) (record {
           known = λ x. tt;

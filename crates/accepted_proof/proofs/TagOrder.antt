@@ -1,8 +1,7 @@
 -- What is known of the tags of a program while they are judged: their kinds, and that those that stand later have no fault of their own.
-use Rattle.std.proofs.Common.{◌≡◌, ◌<◌, ◌≤◌, ◌+◌, ℕ, suc, Bool, true, false, Option, Some, None, List, [], ◌∷◌, ◌++◌, refl, sym, subst, ap, ◌∙◌, arith}
-use Rattle.std.specs.Prelude.{◌&&◌, bytes_eq, length}
+use Rattle.std.proofs.Common.{◌≡◌, ◌<◌, ◌≤◌, ◌+◌, ℕ, suc, Bool, true, false, Option, Some, None, List, [], ◌∷◌, ◌++◌, refl, ap, ◌∙◌, arith}
+use Rattle.std.specs.Prelude.{bytes_eq, length}
 use Rattle.cyc_tree.specs.Tree as tree
-use Rattle.cyc_tree.specs.Operands.{AreSomeMembers}
 use Rattle.cyc_tree.specs.Tree.{Item}
 use Rattle.source_typing.specs.Named.{Below}
 use Rattle.source_typing.specs.Faults.{Fault, is_clean}
@@ -12,9 +11,6 @@ use Rattle.source_typing.specs.Scope.{Env}
 use Rattle.source_typing.specs.Tables.{Entry, Named, OfBuiltin, OfFunction, OfOther, OfTag, OfValue, Tables, find}
 use Rattle.source_typing.specs.Tags.{bare_tag, head_entry, head_faults, head_scope, member_faults, parameter_added, parameters_from, region_parameters}
 use Rattle.source_typing.specs.Tags.{repeated, struct_sized, tag_faults, tag_parts, tag_scope}
-use Rattle.source_typing.specs.Taken.{Taken, are_members, item_taken, members_taken, only_taken, refused_member, refused_structure, structure_if}
-use Rattle.source_typing.specs.Taken.{takes_arguments, takes_structure}
-use Rattle.accepted_programs.specs.Supported.{supported}
 use Rattle.source_typing.specs.Written.{RegionNamed, find_region}
 use Rattle.source_typing.proofs.Entries.{judged_name}
 use Rattle.source_typing.proofs.Inversion.{both_none, none_of_both, own_is}
@@ -22,86 +18,17 @@ use Rattle.accepted_proof.specs.Good.{NamesBelow}
 use Rattle.accepted_proof.proofs.good.Types.{IsKnownEntry, KnowsTags, MeansKnown}
 use Rattle.accepted_proof.proofs.HeadClean.{heads_clean}
 use Rattle.accepted_proof.proofs.HeadTags.{AreAlike, TablesAlike, own_first}
-use Rattle.accepted_proof.proofs.MemberTypes.{AreMembersTaken, members_are_taken}
 use Rattle.accepted_proof.proofs.Named.{named_known, one_known, others_known}
 use Rattle.accepted_proof.proofs.Tags.{judged_list}
 
--- ---- structs that are taken
-
--- a struct that has a member, and all of whose members are taken as they are
-pub record StructTaken (k : Taken) (s : tree.Structure) : Type 0 where
-  pub some : AreSomeMembers s.members
-  pub members : members_taken k s.members ≡ s.members
-
-pub any_arguments : (k : Taken) → k.parameters ≡ true → (rs : List tree.RegionName) → takes_arguments k rs ≡ true
-any_arguments k p [] = refl
-any_arguments k p (r ∷ rs) = p
-
-pub struct_taken : (k : Taken) (b : Bool) (ms : List tree.Member) (s : tree.Structure) → b ≡ true → s.members ≡ ms
-    → structure_if (b && are_members ms) s (members_taken k s.members) ≡ s → StructTaken k s
-struct_taken k true (m ∷ ms) s t h e =
-    record { some = subst AreSomeMembers (sym h) tt; members = ap (λ (z : tree.Structure). z.members) e }
-struct_taken k true [] s t h e =
-    absurd (let a : refused_member s.at [] ∷ [] ≡ s.members = ap (λ (z : tree.Structure). z.members) e in
-    let b : refused_member s.at [] ∷ [] ≡ [] = a ∙ h in cc)
-struct_taken k false ms s t h e = absurd cc
-
--- a struct or union that isn't taken is at fault
-refused_clean : (g : Tables) (i : ℕ) (u : Bool) (s t : tree.Structure) → refused_structure t ≡ s → tag_faults g i u s ≡ [] → ⊥
-refused_clean g i u s t e p = by (subst (λ z. tag_faults g i u z ≡ []) (sym e) p)
-  where
-    by : tag_faults g i u (refused_structure t) ≡ [] → ⊥
-    by p =
-        let r : tree.Structure = refused_structure t in
-        let a : ((region_parameters r).1 ++ member_faults (tag_scope g i r) u r.members) ++ repeated [] r.members ≡ [] =
-        (own_is (struct_sized g u r (tag_parts g i u r)) (((region_parameters r).1 ++ member_faults (tag_scope g i r) u r.members) ++ repeated [] r.members)
-        p).1 in
-        cc
-
--- each struct and union is taken
-abbrev pub IsSorted : Item → Type 0
-IsSorted (tree.StructItem s) = StructTaken supported s
-IsSorted (tree.UnionItem s) = StructTaken supported s
-IsSorted (tree.GlobalItem x) = Unit {0}
-IsSorted (tree.FunctionItem f) = Unit {0}
-
-abbrev pub AreSorted : List Item → Type 0
-AreSorted [] = Unit {0}
-AreSorted (x ∷ is) = IsSorted x × AreSorted is
-
-item_sorted : (g : Tables) (i : ℕ) (x : Item) → item_taken supported x ≡ x → (judged_tag g i x).faults ≡ [] → IsSorted x
-item_sorted g i (tree.StructItem s) e p =
-    let q : structure_if (takes_structure supported true s) s (members_taken supported s.members) ≡ s = cc in
-    struct_taken supported (takes_arguments supported s.regions) s.members s (any_arguments supported refl s.regions) refl q
-item_sorted g i (tree.UnionItem s) e p =
-    let q : structure_if (takes_structure supported supported.unions s) s (members_taken supported s.members) ≡ s = cc in
-    by supported.unions q
-  where
-    by : (b : Bool) → structure_if (takes_structure supported b s) s (members_taken supported s.members) ≡ s → StructTaken supported s
-    by true q = struct_taken supported (takes_arguments supported s.regions) s.members s (any_arguments supported refl s.regions) refl q
-    by false q = absurd (refused_clean g i true s s q p)
-item_sorted g i (tree.GlobalItem x) e p = tt
-item_sorted g i (tree.FunctionItem f) e p = tt
-
-pub all_sorted : (g : Tables) (i : ℕ) (done : List Judged) (is : List Item) → only_taken supported is ≡ is
-    → all_tag_faults (judged_list g i done is) ≡ [] → AreSorted is
-all_sorted g i done [] t p = tt
-all_sorted g i done (x ∷ is) t p =
-    let a : item_taken supported x ≡ x = cc in
-    let b : only_taken supported is ≡ is = cc in
-    let j : Judged = judged_tag (builtins (entries done ++ first_from g i (x ∷ is))) i x in
-    let c : (j.faults ≡ []) × (all_tag_faults (judged_list g (suc i) (done ++ j ∷ []) is) ≡ []) =
-    none_of_both j.faults (all_tag_faults (judged_list g (suc i) (done ++ j ∷ []) is)) p in
-    (item_sorted (builtins (entries done ++ first_from g i (x ∷ is))) i x a c.0, all_sorted g (suc i) (done ++ j ∷ []) is b c.1)
-
 -- ---- tags alone
 
-pub bare_known : (i : ℕ) (is : List Item) → AreSorted is → KnowsTags (bare_from i is)
-bare_known i [] h = λ x. tt
-bare_known i (tree.StructItem s ∷ is) h = named_known _ (bare_from (suc i) is) refl (bare_known (suc i) is h.1)
-bare_known i (tree.UnionItem s ∷ is) h = named_known _ (bare_from (suc i) is) refl (bare_known (suc i) is h.1)
-bare_known i (tree.GlobalItem x ∷ is) h = named_known (named x.name OfOther) (bare_from (suc i) is) tt (bare_known (suc i) is h.1)
-bare_known i (tree.FunctionItem f ∷ is) h = named_known (named f.name OfOther) (bare_from (suc i) is) tt (bare_known (suc i) is h.1)
+pub bare_known : (i : ℕ) (is : List Item) → KnowsTags (bare_from i is)
+bare_known i [] = λ x. tt
+bare_known i (tree.StructItem s ∷ is) = named_known _ (bare_from (suc i) is) refl (bare_known (suc i) is)
+bare_known i (tree.UnionItem s ∷ is) = named_known _ (bare_from (suc i) is) refl (bare_known (suc i) is)
+bare_known i (tree.GlobalItem x ∷ is) = named_known (named x.name OfOther) (bare_from (suc i) is) tt (bare_known (suc i) is)
+bare_known i (tree.FunctionItem f ∷ is) = named_known (named f.name OfOther) (bare_from (suc i) is) tt (bare_known (suc i) is)
 
 pub first_alike : (h : Tables) (i : ℕ) (is : List Item) → TablesAlike (first_from h i is) (bare_from i is)
 first_alike h i [] = tt
@@ -179,15 +106,14 @@ parameters_below g i s = names_from (length s.regions) 0 [] s.regions (omega ari
 
 -- what is first known of a struct or a union is that it has no fault
 first_sound : (g h : Tables) (i : ℕ) (union : Bool) (s : tree.Structure) → KnowsTags h → TablesAlike g h
-    → ((x : List ℕ) → bytes_eq s.tag.text x ≡ false → MeansKnown (find g x)) → StructTaken supported s → tag_faults g i union s ≡ []
+    → ((x : List ℕ) → bytes_eq s.tag.text x ≡ false → MeansKnown (find g x)) → tag_faults g i union s ≡ []
     → IsKnownEntry (head_entry h i union s)
-first_sound g h i union s tags alike known k p =
+first_sound g h i union s tags alike known p =
     let c : TagClean g i union s = tag_clean g i union s p in
-    let taken : AreMembersTaken supported s.members = members_are_taken supported (tag_scope g i s) union s.members k.members c.members in
     let e : Env = head_scope h i union s in
     let clean : head_faults e union s.members ≡ [] =
     heads_clean (length s.regions) union (tag_scope g i s) e (own_first g h (named s.tag (bare_tag i union s false)) refl alike tags known) refl
-    (parameters_below h i s) s.members taken c.members in
+    (parameters_below h i s) s.members c.members in
     ap (λ (fs : List Fault). is_clean fs) (both_none ((region_parameters s).1 ++ head_faults e union s.members) (repeated [] s.members)
     (both_none (region_parameters s).1 (head_faults e union s.members) c.parameters clean) c.once)
 
@@ -204,9 +130,9 @@ builtins_alike g h k = (refl, tt, (refl, tt, k))
 -- what is known of the items that aren't judged yet
 pub first_known : (b : Tables) (i : ℕ) (done : List Judged) (is : List Item) → KnowsTags (builtins b)
     → TablesAlike (entries done ++ first_from (builtins b) i is) b
-    → AreSorted is → all_tag_faults (judged_list (builtins b) i done is) ≡ [] → KnowsTags (entries done) → KnowsTags (first_from (builtins b) i is)
-first_known b i done [] tags alike k p known = λ x. tt
-first_known b i done (x ∷ is) tags alike k p known =
+    → all_tag_faults (judged_list (builtins b) i done is) ≡ [] → KnowsTags (entries done) → KnowsTags (first_from (builtins b) i is)
+first_known b i done [] tags alike p known = λ x. tt
+first_known b i done (x ∷ is) tags alike p known =
     let h : Tables = builtins b in
     let g : Tables = builtins (entries done ++ first_from h i (x ∷ is)) in
     let j : Judged = judged_tag g i x in
@@ -215,18 +141,18 @@ first_known b i done (x ∷ is) tags alike k p known =
     let others : KnowsTags (first_from h (suc i) is) =
     first_known b (suc i) (done ++ j ∷ []) is tags
     (alike_step done j (named (name_of x) (first_entry h i x)) (first_from h (suc i) is) b (judged_name g i x) (λ e q. item_alike g h i x e q) alike)
-    k.1 c.1 (one_known done j known (judged_known g i x c.0)) in
+    c.1 (one_known done j known (judged_known g i x c.0)) in
     named_known (named (name_of x) (first_entry h i x)) (first_from h (suc i) is)
-    (by x k.0 c.0 (builtins_alike (entries done ++ first_from h i (x ∷ is)) b alike)
+    (by x c.0 (builtins_alike (entries done ++ first_from h i (x ∷ is)) b alike)
     (λ y e. others_known done (named (name_of x) (first_entry h i x)) (first_from h (suc i) is) y known others e)) others
   where
-    by : (x : Item) → IsSorted x → (judged_tag (builtins (entries done ++ first_from (builtins b) i (x ∷ is))) i x).faults ≡ []
+    by : (x : Item) → (judged_tag (builtins (entries done ++ first_from (builtins b) i (x ∷ is))) i x).faults ≡ []
         → TablesAlike (builtins (entries done ++ first_from (builtins b) i (x ∷ is))) (builtins b)
         → ((y : List ℕ) → bytes_eq (name_of x).text y ≡ false → MeansKnown (find (builtins (entries done ++ first_from (builtins b) i (x ∷ is))) y))
         → IsKnownEntry (first_entry (builtins b) i x)
-    by (tree.StructItem s) k p a o =
-        first_sound (builtins (entries done ++ first_from (builtins b) i (tree.StructItem s ∷ is))) (builtins b) i false s tags a o k p
-    by (tree.UnionItem s) k p a o =
-        first_sound (builtins (entries done ++ first_from (builtins b) i (tree.UnionItem s ∷ is))) (builtins b) i true s tags a o k p
-    by (tree.GlobalItem y) k p a o = tt
-    by (tree.FunctionItem f) k p a o = tt
+    by (tree.StructItem s) p a o =
+        first_sound (builtins (entries done ++ first_from (builtins b) i (tree.StructItem s ∷ is))) (builtins b) i false s tags a o p
+    by (tree.UnionItem s) p a o =
+        first_sound (builtins (entries done ++ first_from (builtins b) i (tree.UnionItem s ∷ is))) (builtins b) i true s tags a o p
+    by (tree.GlobalItem y) p a o = tt
+    by (tree.FunctionItem f) p a o = tt

@@ -3,6 +3,7 @@
 use Rattle.std.proofs.Common.{◌≡◌, ◌≤◌, ℕ, suc, Bool, true, false, Some, List, [], ◌∷◌, ◌++◌, refl, sym, subst, ap, ◌∙◌, arith}
 use Rattle.std.specs.Prelude.{◌+◌, codes, if◌then◌else◌, length, not}
 use Rattle.std.proofs.lemmas.Bool.{not-true}
+use Rattle.cyc_tree.specs.Operands.{AreSomeMembers, HasOperands, ItemHasOperands}
 use Rattle.cyc_tree.specs.Tree as tree
 use Rattle.cyc_tree.specs.Tree.{Item}
 use Rattle.source_lowering.specs.Lowerable.{AreStructs, AreValues, HasMember}
@@ -20,7 +21,6 @@ use Rattle.source_typing.specs.Programs.{Judged, all_tag_faults, builtins, entri
 use Rattle.source_typing.specs.Programs.{second_names}
 use Rattle.source_typing.specs.Scope.{at_item}
 use Rattle.source_typing.specs.Tables.{OfFunction, Tables, find}
-use Rattle.accepted_programs.specs.Supported.{supported}
 use Rattle.source_typing.proofs.Entries.{judged_name}
 use Rattle.source_typing.proofs.Inversion.{none_of_both, test_is}
 use Rattle.accepted_proof.proofs.good.Types.{KnowsTags}
@@ -31,7 +31,7 @@ use Rattle.accepted_proof.proofs.lowered.Types.{TagsThere}
 use Rattle.accepted_proof.proofs.Named.{AreNamed, IsNamed}
 use Rattle.accepted_proof.proofs.StructTags.{State, StructStep, UnionStep, other_step, struct_step, union_step}
 use Rattle.accepted_proof.proofs.TagNames.{InTables, Unseen, UnionsLeft, left_other, left_union, unseen_step}
-use Rattle.accepted_proof.proofs.TagOrder.{AreSorted, IsSorted, StructTaken, alike_step, first_known, item_alike}
+use Rattle.accepted_proof.proofs.TagOrder.{alike_step, first_known, item_alike}
 use Rattle.accepted_proof.proofs.Tags.{judged_list}
 
 -- ---- what is known once the items are judged
@@ -79,7 +79,7 @@ module _ (w : World) (T b hs : Tables) (tags : KnowsTags (builtins b)) (program 
     abbrev its_entries : ℕ → List Judged → List Item → Tables
     its_entries i done is = entries_with false hs i (judged_list h i done is) is
 
-    pub all_steps : (i : ℕ) (done : List Judged) (is : List Item) (ds us : List Declared) (found : List Layout) (seen : List (List ℕ)) → AreSorted is
+    pub all_steps : (i : ℕ) (done : List Judged) (is : List Item) (ds us : List Declared) (found : List Layout) (seen : List (List ℕ)) → HasOperands is
         → TablesAlike (entries done ++ first_from h i is) b → all_tag_faults (judged_list h i done is) ≡ [] → second_names seen is ≡ []
         → Unseen T seen (its_entries i done is) → UnionsLeft w.unions seen is → State w T i done ds us found seen
         → Outcome w T (judged_list h i done is) is found (i + length is)
@@ -105,7 +105,7 @@ module _ (w : World) (T b hs : Tables) (tags : KnowsTags (builtins b)) (program 
         not-true (is_seen seen (name_of x).text) (test_is (not (is_seen seen (name_of x).text)) name_rule (name_of x).at e.0) in
         let alike2 : TablesAlike (entries (done ++ j ∷ []) ++ first_from h (suc i) is) b =
         alike_step done j (named (name_of x) (first_entry h i x)) (first_from h (suc i) is) b (judged_name g i x) (λ d q. item_alike g h i x d q) alike in
-        by x k.0 c.0 new (first_known b i done (x ∷ is) tags alike k p st.known) alike names unseen left
+        by x k.0 c.0 new (first_known b i done (x ∷ is) tags alike p st.known) alike names unseen left
         (λ types unions layouts later rest s. all_steps (suc i) (done ++ j ∷ []) is types unions layouts ((name_of x).text ∷ seen) k.1 alike2 c.1 e.1
         later rest s)
       where
@@ -152,10 +152,10 @@ module _ (w : World) (T b hs : Tables) (tags : KnowsTags (builtins b)) (program 
           layouts = λ ls. ap (λ (ms : List Layout). layouts_onto true ms (entries js)) (l ls) ∙ (u.layouts ls ∙ sym (m ls));
         }
 
-        union_out : {js : List Judged} (s : tree.Structure) (taken : StructTaken supported s)
-            → UnionStep w T b h program once i done is ds us found seen s taken st (judged (tree.UnionItem s))
+        union_out : {js : List Judged} (s : tree.Structure) (has_members : AreSomeMembers s.members)
+            → UnionStep w T b h program once i done is ds us found seen s has_members st (judged (tree.UnionItem s))
             → UnionsOut w T js is → UnionsOut w T (judged (tree.UnionItem s) ∷ js) (tree.UnionItem s ∷ is)
-        union_out {js = js} s taken r u = record {
+        union_out {js = js} s has_members r u = record {
           types = record { tag = s.tag.text; parts = r.types } ∷ u.types;
           laid_out = (refl, r.laid, u.laid_out);
           members = (r.members, r.apart, u.members);
@@ -164,40 +164,40 @@ module _ (w : World) (T b hs : Tables) (tags : KnowsTags (builtins b)) (program 
           layouts = λ ls. ap (λ (ms : List Layout). layouts_onto true ms (entries js)) (r.layout ls) ∙ u.layouts (layout_of s ∷ ls);
         }
 
-        by : (x : Item) → IsSorted x → (judged x).faults ≡ [] → is_seen seen (name_of x).text ≡ false
+        by : (x : Item) → ItemHasOperands x → (judged x).faults ≡ [] → is_seen seen (name_of x).text ≡ false
             → KnowsTags (first_from h i (x ∷ is))
             → TablesAlike (entries done ++ first_from h i (x ∷ is)) b → second_names seen (x ∷ is) ≡ []
             → Unseen T seen (its_entries i done (x ∷ is)) → UnionsLeft w.unions seen (x ∷ is) → Follows x
             → Outcome w T (judged_list h i done (x ∷ is)) (x ∷ is) found (i + length (x ∷ is))
-        by (tree.StructItem s) taken p new first alike names unseen left go =
+        by (tree.StructItem s) has_members p new first alike names unseen left go =
             let there : find T s.tag.text ≡ Some (judged (tree.StructItem s)).entry.entry =
             unseen s.tag.text new
             ∙ ap (λ (c : Bool). if c then Some (judged (tree.StructItem s)).entry.entry else find (others_with (tree.StructItem s)) s.tag.text)
             (same_text s.tag.text) in
-            let r : StructStep w T b h program once i done is ds us found seen s taken st (judged (tree.StructItem s)) =
-            struct_step w T b h program once i done is ds us found seen s taken st alike names first p new there in
+            let r : StructStep w T b h program once i done is ds us found seen s has_members st (judged (tree.StructItem s)) =
+            struct_step w T b h program once i done is ds us found seen s has_members st alike names first p new there in
             let o = go r.types us (layout_of s ∷ found)
             (unseen_step T (others_with (tree.StructItem s)) seen (named s.tag (judged (tree.StructItem s)).entry.entry) unseen)
             (left_other w.unions seen s.tag.text is left) r.state in
             ending (tree.StructItem s) (layout_of s ∷ found) refl r.layout r.known o
             (still (tree.StructItem s) refl (λ ls. refl) (λ ls. refl) o.unions)
-        by (tree.UnionItem s) taken p new first alike names unseen left go =
+        by (tree.UnionItem s) has_members p new first alike names unseen left go =
             let there : find T s.tag.text ≡ Some (judged (tree.UnionItem s)).entry.entry =
             unseen s.tag.text new
             ∙ ap (λ (c : Bool). if c then Some (judged (tree.UnionItem s)).entry.entry else find (others_with (tree.UnionItem s)) s.tag.text)
             (same_text s.tag.text) in
-            let r : UnionStep w T b h program once i done is ds us found seen s taken st (judged (tree.UnionItem s)) =
-            union_step w T b h program once i done is ds us found seen s taken st alike first p new left there in
+            let r : UnionStep w T b h program once i done is ds us found seen s has_members st (judged (tree.UnionItem s)) =
+            union_step w T b h program once i done is ds us found seen s has_members st alike first p new left there in
             let o = go ds (record { tag = s.tag.text; parts = r.types } ∷ us) found
             (unseen_step T (others_with (tree.UnionItem s)) seen (named s.tag (judged (tree.UnionItem s)).entry.entry) unseen)
             (left_union w.unions seen s is left) r.state in
-            ending (tree.UnionItem s) found refl refl r.known o (union_out s taken r o.unions)
-        by (tree.GlobalItem y) taken p new first alike names unseen left go =
+            ending (tree.UnionItem s) found refl refl r.known o (union_out s has_members r o.unions)
+        by (tree.GlobalItem y) has_members p new first alike names unseen left go =
             let o = go ds us found
             (unseen_step T (others_with (tree.GlobalItem y)) seen (named y.name (global_entry (at_item false hs i) y)) unseen)
             (left_other w.unions seen y.name.text is left) (other_step w T i done ds us found seen y.name (judged (tree.GlobalItem y)) refl st) in
             ending (tree.GlobalItem y) found refl refl refl o (still (tree.GlobalItem y) refl (λ ls. refl) (λ ls. refl) o.unions)
-        by (tree.FunctionItem f) taken p new first alike names unseen left go =
+        by (tree.FunctionItem f) has_members p new first alike names unseen left go =
             let o = go ds us found
             (unseen_step T (others_with (tree.FunctionItem f)) seen (named f.name (OfFunction (head_of false hs f).signature)) unseen)
             (left_other w.unions seen f.name.text is left) (other_step w T i done ds us found seen f.name (judged (tree.FunctionItem f)) refl st) in

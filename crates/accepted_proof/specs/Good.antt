@@ -1,11 +1,10 @@
--- What is known of the names in scope where a phrase of the forms that are taken is judged, and what is then known of the phrase.
+-- What is known of the names in scope where a phrase is judged, and what is then known of the phrase.
 use Rattle.std.specs.Prelude.{◌≡◌, ◌≤◌, ℕ, true, false, Option, Some, None, List, [], ◌∷◌, map}
 use Rattle.cyc_tree.specs.Operands.{ItemsHaveOperands}
 use Rattle.cyc_tree.specs.Tree.{BlockItems, Expression}
 use Rattle.type_proof.specs.Entries.{AreObjects, IsObjectType, IsPlain}
 use Rattle.type_proof.specs.Judged.{ItemsJudged}
 use Rattle.type_proof.specs.Members.{names_union}
-use Rattle.accepted_programs.specs.Supported.{supported}
 use Rattle.source_typing.specs.Named.{Below, TypeBelow, TypesBelow}
 pub use Rattle.source_typing.specs.Named.{NamesBelow}
 use Rattle.source_typing.specs.Expressions.{judge}
@@ -13,7 +12,6 @@ use Rattle.source_typing.specs.Scope.{Enclosing, Env, In, InBlock, InRegion, InU
 use Rattle.source_typing.specs.Statements.{items_faults}
 use Rattle.source_typing.specs.Calls.{part_types}
 use Rattle.source_typing.specs.Tables.{Arrayed, Counter, Entry, OfBuiltin, OfFunction, OfTag, OfValue, Part, Signature, Stored, Tables, Tag, What, find, tag_in}
-use Rattle.source_typing.specs.Taken.{items_taken, taken}
 use Rattle.source_typing.specs.Types.{Fat, Null, StaticType, Struct, Thin, TypeIn, Unique, Void}
 use Rattle.source_typing.specs.Verdicts.{Faulty, Of, Unjudged, Verdict}
 
@@ -154,13 +152,13 @@ pub record IsGoodValue (g : Env) (v : Value) : Type 0 where
   pub seat : SeatBelow g.regions.count v.seat
   pub object : is_place v.seat ≡ true → IsObjectType v.type
 
--- each expression of these forms is at fault, or it is in order
+-- each expression is at fault, or it is in order
 abbrev pub ExpressionsJudged : Type 0
-ExpressionsJudged = (e : Expression) (g : Env) → IsGood g → Surely (λ v. IsGoodValue g v) (judge g (taken supported e))
+ExpressionsJudged = (e : Expression) (g : Env) → IsGood g → Surely (λ v. IsGoodValue g v) (judge g e)
 
 -- ---- the body of a function that gives a type
 
--- a body of these forms in which the rules find no fault is in order
+-- a body in which the rules find no fault is in order
 abbrev pub BodiesJudged : Type 0
 BodiesJudged = (items : BlockItems) (g : Env) (gives : StaticType) → IsGood g → g.result ≡ Some gives → IsPlain gives
-    → items_taken supported items ≡ items → ItemsHaveOperands items → items_faults g true items ≡ [] → ItemsJudged g true items
+    → ItemsHaveOperands items → items_faults g true items ≡ [] → ItemsJudged g true items

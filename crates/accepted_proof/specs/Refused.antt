@@ -5,13 +5,12 @@ use Rattle.cyc_words.specs.Events.{SourceEnding}
 use Rattle.source_meaning.specs.Programs.{source}
 use Rattle.source_typing.specs.Answers.{program_faults}
 use Rattle.source_typing.specs.Faults.{fault, region_rule, outlives_rule, effect_rule, consumed_rule, lent_rule, copy_rule}
-use Rattle.source_typing.specs.Taken.{whole}
 
--- A program that breaks this rule at one place, and no other rule of the whole language. Its run on the empty input gets stuck.
+-- A program that breaks this rule at one place, and no other rule. Its run on the empty input gets stuck.
 pub record IsNeeded (rule : ℕ) : Type 0 where
   pub program : Program
   pub at : ℕ
-  pub refused : program_faults whole program ≡ fault rule at ∷ []
+  pub refused : program_faults program ≡ fault rule at ∷ []
   pub fuel : ℕ
   pub stuck : (source program [] fuel).ending ≡ SourceEnding.Stuck
 

@@ -1,10 +1,9 @@
-// What holds of all programs of the forms that are taken today in which the rules find no fault.
+// What holds of all programs that are accepted.
 
 ghost use Rattle.accepted_proof.specs.Refused.{EachRuleIsNeeded};
 ghost use Rattle.accepted_proof.specs.Laws.{AcceptedAreJudged, AcceptedAreLowerable, AcceptedAreNeverStuck, AcceptedHaveMain};
 
-/// A law, with nothing to run: a program in which the rules find no fault, where integers, pointers thin and fat, structs, tagged unions,
-/// arrays, made ones too, strings, the heap, lexical regions and unique pointers are taken, is in order by the rules' own tables of its names.
+/// A law, with nothing to run: a program that is accepted is in order by the rules' own tables of its names.
 pub fn accepted_are_judged()
     ensures { AcceptedAreJudged }
 {}

@@ -1,5 +1,4 @@
-//! A program of the forms that are taken today in which the rules find no fault is in order: it is never stuck, lowering takes
-//! it and it has its `main`.
+//! A program that is accepted is in order: it is never stuck, lowering takes it and it has its `main`.
 //!
 //! `source_typing` says which faults there are, `type_proof` which programs are never stuck, by a judgement of its own, and
 //! `source_lowering` which programs lowering takes. Here the first gives the two others.

@@ -1,5 +1,4 @@
 pub mod Joining
-pub mod Operands
 pub mod Forms
 pub mod SuffixForms
 pub mod Makings

@@ -5,7 +5,6 @@ use Rattle.source_typing.specs.Expressions.{judge}
 use Rattle.source_typing.specs.Faults.{fault, type_rule}
 use Rattle.source_typing.specs.Making.{Goal, NoHandle, To, ToUnique, array_made, elements, handled, made, with_counter}
 use Rattle.source_typing.specs.Scope.{Enclosing, Env, InRegion, InUnique, NotKnown, Value}
-use Rattle.source_typing.specs.Taken.{Taken, taken}
 use Rattle.check_faults.specs.Verdicts.{Is, NotJudged, Short, Wrong, short_after, short_both, shortened}
 
 -- the `rnew` around what is made
@@ -35,8 +34,8 @@ short_goal true g s = Is ToUnique
 short_goal false g s = short_after s (λ h. shortened (handled g h))
 
 -- what is answered of what is made, by what is answered of where
-abbrev pub short_made : Env → ℕ → Short Goal → Taken → Made → Short Value
-short_made g at s k (One e) = with_short_goal at s (shortened (judge g (taken k e))) (λ a b. shortened (made at a b))
-short_made g at s k (Array x n e) = (if k.filled then
-    with_short_goal at s (short_both (shortened (judge g (taken k n))) (shortened (judge (with_counter x g) (taken k e))) (λ a b. shortened (elements at a b)))
-    (λ a b. shortened (array_made at a b)) else Wrong (fault type_rule at))
+abbrev pub short_made : Env → ℕ → Short Goal → Made → Short Value
+short_made g at s (One e) = with_short_goal at s (shortened (judge g e)) (λ a b. shortened (made at a b))
+short_made g at s (Array x n e) =
+    with_short_goal at s (short_both (shortened (judge g n)) (shortened (judge (with_counter x g) e)) (λ a b. shortened (elements at a b)))
+    (λ a b. shortened (array_made at a b))

@@ -1,5 +1,4 @@
 pub mod Within
-pub mod Forms
 pub mod Goals
 pub mod Joined
 pub mod Suffixes

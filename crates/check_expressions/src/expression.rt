@@ -1,58 +1,36 @@
 // What an expression is.
 
 ghost use Rattle.std.specs.Prelude.{◌≡◌, IfOk, map};
+ghost use Rattle.cyc_tree.specs.Tree.{Call};
 ghost use Rattle.cyc_tree.specs.View.{expression_tree, expressions_of, link_tree, links_of, made_tree, name_tree, suffix_tree};
 ghost use Rattle.source_typing.specs.Expressions.{judge};
 ghost use Rattle.source_typing.specs.Scope.{Env};
-ghost use Rattle.source_typing.specs.Taken.{all_taken, are_linked, are_some, links_taken, taken};
-ghost use Rattle.check_faults.specs.Taken.{taken_of};
 ghost use Rattle.check_faults.specs.Verdicts.{short_of, shortened};
 ghost use Rattle.check_scopes.specs.Knows.{Knows};
 ghost use Rattle.check_operators.specs.Goals.{goal_in};
 ghost use Rattle.check_operators.specs.Values.{value_of};
 ghost use Rattle.check_expressions.specs.Within.{IsIn};
-ghost use Rattle.check_expressions.specs.Forms.{call_of};
 ghost use Rattle.check_expressions.specs.Goals.{short_made};
 ghost use Rattle.check_expressions.specs.Joined.{short_links, short_tests};
 ghost use Rattle.check_expressions.specs.Suffixes.{short_suffixes};
 
 use crate::around::{Around, meaning, with_counter};
-use crate::making::{
-    array_parts, elements_part, goal_part, heap_region_taken, is_unique_region, made_parts,
-    takes_handle,
-};
+use crate::making::{array_parts, elements_part, goal_part, is_unique_region, made_parts};
 use crate::parts::{
     applied_parts, assigned_parts, called_parts, counted_part, given_after, grouped_part,
-    only_joined, prefixed_part, refused, string_taken, tested_parts, union_parts,
+    prefixed_part, refused, tested_parts, union_parts,
 };
-use crate::suffixes::{arrow_part, indexed_parts, member_part, takes_suffixes};
+use crate::suffixes::{arrow_part, indexed_parts, member_part};
 use check_calls::{Enclosing, called_target};
 use check_faults::Verdict;
-use check_operators::{Goal, Value, character, null, number, variable};
+use check_operators::{Goal, Value, character, heap_region, null, number, string, variable};
 use check_scopes::Scope;
 use cyc_tree::{Expression, Link, Made, Name, Suffix};
 use cyc_types::RegionId;
 use std::alloc::{AllocError, Global};
 
-/// Whether there is an operator with its operand.
-#[tactic(auto, using(crate::proofs::Operands::some_links))]
-pub fn are_linked(links: &[Link]) -> bool
-    ensures { result ≡ are_linked (links_of (map link_tree links.now)) }
-{
-    !links.is_empty()
-}
-
-/// Whether there is an expression.
-#[tactic(auto, using(crate::proofs::Operands::some_expressions))]
-pub fn are_some(expressions: &[Expression]) -> bool
-    ensures { result ≡ are_some (expressions_of (map expression_tree expressions.now)) }
-{
-    !expressions.is_empty()
-}
-
-/// What an expression is in a scope, by the forms that are taken there: the earliest fault of it and its parts; that it isn't
-/// judged, since a name in it is declared by a phrase at fault; or its type, and where it is a place. Fails only where no host
-/// memory is left.
+/// What an expression is in a scope: the earliest fault of it and its parts; that it isn't judged, since a name in it is declared by a
+/// phrase at fault; or its type, and where it is a place. Fails only where no host memory is left.
 #[tactic(auto, using(crate::proofs::Within::nothing_around))]
 pub fn judge<'p>(
     scope: &Scope<'_, 'p>,
@@ -60,7 +38,7 @@ pub fn judge<'p>(
     expression: &Expression,
 ) -> Result<Verdict<Value<'p>>, AllocError>
     ensures { (g : Env) → Knows scope.now g
-        → IfOk result (λ v. short_of value_of v ≡ shortened (judge g (taken (taken_of scope.now.taken) (expression_tree expression.now)))) }
+        → IfOk result (λ v. short_of value_of v ≡ shortened (judge g (expression_tree expression.now))) }
 {
     let around = Around {
         enclosing: Enclosing::In(RegionId::Heap),
@@ -78,7 +56,7 @@ pub fn judge_inside<'p>(
     expression: &Expression,
 ) -> Result<Verdict<Value<'p>>, AllocError>
     ensures { (g : Env) → IsIn scope.now around.entry g
-        → IfOk result (λ v. short_of value_of v ≡ shortened (judge g (taken (taken_of scope.now.taken) (expression_tree expression.now)))) }
+        → IfOk result (λ v. short_of value_of v ≡ shortened (judge g (expression_tree expression.now))) }
 {
     match expression {
         Expression::Number(at, value, suffix) => Ok(number(alloc, *at, *value, *suffix)),
@@ -98,18 +76,15 @@ pub fn judge_inside<'p>(
         }
         Expression::Chain(first, links) => {
             let judged = judge_inside(scope, alloc, around, first)?;
-            let judged = judge_links(scope, alloc, around, judged, links)?;
-            Ok(only_joined(are_linked(links), first.place(), judged))
+            judge_links(scope, alloc, around, judged, links)
         }
         Expression::AllOf(first, others) => {
             let judged = judge_inside(scope, alloc, around, first)?;
-            let judged = judge_tests(scope, alloc, around, judged, others)?;
-            Ok(only_joined(are_some(others), first.place(), judged))
+            judge_tests(scope, alloc, around, judged, others)
         }
         Expression::AnyOf(first, others) => {
             let judged = judge_inside(scope, alloc, around, first)?;
-            let judged = judge_tests(scope, alloc, around, judged, others)?;
-            Ok(only_joined(are_some(others), first.place(), judged))
+            judge_tests(scope, alloc, around, judged, others)
         }
         Expression::Assign(to, from) => {
             let to = judge_inside(scope, alloc, around, to)?;
@@ -117,40 +92,25 @@ pub fn judge_inside<'p>(
             assigned_parts(scope, alloc, to, from)
         }
         Expression::Suffixed(primary, suffixes) => {
-            if !takes_suffixes(scope.taken, suffixes) {
-                return Ok(refused(primary.place()));
-            }
             let judged = judge_inside(scope, alloc, around, primary)?;
             judge_suffixes(scope, alloc, around, judged, suffixes)
         }
-        Expression::Text(at, bytes) => string_taken(scope.taken, alloc, *at, bytes),
-        Expression::HeapRegion(at) => Ok(heap_region_taken(scope.taken, alloc, *at)),
+        Expression::Text(at, bytes) => string(alloc, *at, bytes),
+        Expression::HeapRegion(at) => Ok(heap_region(alloc, *at)),
         Expression::UniqueRegion(at) => Ok(refused(*at)),
         Expression::MakeUnion(tag, field, value) => {
-            if !scope.taken.unions {
-                return Ok(refused(tag.at));
-            }
             let value = judge_inside(scope, alloc, around, value)?;
             union_parts(scope, alloc, around, tag, field, value)
         }
         Expression::NumElts(at, operand) => {
-            if !scope.taken.arrays {
-                return Ok(refused(*at));
-            }
             let operand = judge_inside(scope, alloc, around, operand)?;
             Ok(counted_part(alloc, *at, operand))
         }
         Expression::New(at, new) => {
-            if !scope.taken.regions {
-                return Ok(refused(*at));
-            }
             let goal = Verdict::Of(Goal::To(RegionId::Heap));
             judge_made(scope, alloc, around, *at, goal, new)
         }
         Expression::NewIn(at, handle, new) => {
-            if !takes_handle(scope.taken, handle) {
-                return Ok(refused(*at));
-            }
             let is_unique = is_unique_region(handle);
             let handle = judge_inside(scope, alloc, around, handle)?;
             let goal = goal_part(scope, is_unique, handle);
@@ -170,7 +130,7 @@ fn judge_links<'p>(
 ) -> Result<Verdict<Value<'p>>, AllocError>
     ensures { (g : Env) → IsIn scope.now around.entry g → IfOk result
         (λ v. short_of value_of v
-        ≡ short_links g (short_of value_of first.entry) (links_taken (taken_of scope.now.taken) (links_of (map link_tree links.now)))) }
+        ≡ short_links g (short_of value_of first.entry) (links_of (map link_tree links.now))) }
 {
     let mut judged = first;
     'each: for link in links {
@@ -191,7 +151,7 @@ fn judge_tests<'p>(
 ) -> Result<Verdict<Value<'p>>, AllocError>
     ensures { (g : Env) → IsIn scope.now around.entry g → IfOk result
         (λ v. short_of value_of v
-        ≡ short_tests g (short_of value_of first.entry) (all_taken (taken_of scope.now.taken) (expressions_of (map expression_tree others.now)))) }
+        ≡ short_tests g (short_of value_of first.entry) (expressions_of (map expression_tree others.now))) }
 {
     let mut judged = first;
     'each: for expression in others {
@@ -212,7 +172,7 @@ fn judge_call<'p>(
 ) -> Result<Verdict<Value<'p>>, AllocError>
     ensures { (g : Env) → IsIn scope.now around.entry g
         → IfOk result (λ v. short_of value_of v
-        ≡ shortened (judge g (call_of (taken_of scope.now.taken) (name_tree name.now) (expressions_of (map expression_tree arguments.now))))) }
+        ≡ shortened (judge g (Call (name_tree name.now) (expressions_of (map expression_tree arguments.now))))) }
 {
     let mut given = Verdict::Of(Vec::new(alloc));
     'each: for argument in arguments {
@@ -234,7 +194,7 @@ fn judge_suffixes<'p>(
     suffixes: &[Suffix],
 ) -> Result<Verdict<Value<'p>>, AllocError>
     ensures { (g : Env) → IsIn scope.now around.entry g → IfOk result (λ v. short_of value_of v
-        ≡ short_suffixes (taken_of scope.now.taken) g (short_of value_of first.entry) (map suffix_tree suffixes.now)) }
+        ≡ short_suffixes g (short_of value_of first.entry) (map suffix_tree suffixes.now)) }
 {
     let mut judged = first;
     'each: for suffix in suffixes {
@@ -261,7 +221,7 @@ fn judge_made<'p>(
     new: &Made,
 ) -> Result<Verdict<Value<'p>>, AllocError>
     ensures { (g : Env) → IsIn scope.now around.entry g
-        → IfOk result (λ v. short_of value_of v ≡ short_made g at (short_of goal_in goal) (taken_of scope.now.taken) (made_tree new.now)) }
+        → IfOk result (λ v. short_of value_of v ≡ short_made g at (short_of goal_in goal) (made_tree new.now)) }
 {
     match new {
         Made::One(value) => {
@@ -269,9 +229,6 @@ fn judge_made<'p>(
             made_parts(at, goal, value)
         }
         Made::Array(index, count, element) => {
-            if !scope.taken.filled {
-                return Ok(refused(at));
-            }
             let count = judge_inside(scope, alloc, around, count)?;
             let counters = with_counter(alloc, around.counters, &index.text)?;
             let inside = Around {

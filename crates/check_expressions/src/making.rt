@@ -1,40 +1,24 @@
 // Handles of regions, and what is made in them.
 
 ghost use Rattle.std.specs.Prelude.{◌≡◌, IfOk};
-ghost use Rattle.cyc_tree.specs.Tree.{HeapRegion};
 ghost use Rattle.cyc_tree.specs.View.{expression_tree};
 ghost use Rattle.source_meaning.specs.Expressions.{is_unique_region};
-ghost use Rattle.source_typing.specs.Expressions.{judge};
 ghost use Rattle.source_typing.specs.Making.{array_made, elements, handled, made};
 ghost use Rattle.source_typing.specs.Scope.{Env};
-ghost use Rattle.source_typing.specs.Taken.{takes_handle};
-ghost use Rattle.check_faults.specs.Taken.{taken_of};
 ghost use Rattle.check_faults.specs.Verdicts.{short_both, short_of, shortened};
 ghost use Rattle.check_scopes.specs.Knows.{Sees};
 ghost use Rattle.check_operators.specs.Goals.{goal_in};
 ghost use Rattle.check_operators.specs.Values.{value_of};
 ghost use Rattle.check_calls.specs.Enclosings.{enclosing_of};
-ghost use Rattle.source_typing.specs.Taken as rules;
 ghost use Rattle.check_expressions.specs.Goals.{enclosed_short, is_refused_alone, short_goal, with_short_goal};
 
 use crate::parts::refused;
 use check_calls::Enclosing;
-use check_faults::{Taken, Verdict};
-use check_operators::{Goal, Value, array_made, elements, handled, heap_region, made};
+use check_faults::Verdict;
+use check_operators::{Goal, Value, array_made, elements, handled, made};
 use check_scopes::Scope;
 use cyc_tree::Expression;
 use std::alloc::{AllocError, Global};
-
-/// `heap_region`, where regions are taken.
-pub(crate) fn heap_region_taken<'p>(taken: Taken, alloc: Global, at: u32) -> Verdict<Value<'p>>
-    ensures { (g : Env) → short_of value_of result ≡ shortened (judge g (rules.taken (taken_of taken) (HeapRegion at))) }
-{
-    if taken.regions {
-        heap_region(alloc, at)
-    } else {
-        refused(at)
-    }
-}
 
 /// Whether an expression is `unique_region`, also in parentheses.
 pub fn is_unique_region(expression: &Expression) -> bool
@@ -44,17 +28,6 @@ pub fn is_unique_region(expression: &Expression) -> bool
         Expression::UniqueRegion(_) => true,
         Expression::Grouped(_, inner) => is_unique_region(inner),
         _ => false,
-    }
-}
-
-/// Whether an `rnew` with this handle is taken.
-pub fn takes_handle(taken: Taken, handle: &Expression) -> bool
-    ensures { result ≡ takes_handle (taken_of taken) (is_unique_region (expression_tree handle.now)) }
-{
-    if is_unique_region(handle) {
-        taken.unique
-    } else {
-        taken.regions
     }
 }
 

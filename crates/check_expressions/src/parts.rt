@@ -1,16 +1,12 @@
 // What expressions are, by what their parts are.
 
-ghost use Rattle.std.specs.Prelude.{◌≡◌, IfOk, if◌then◌else◌};
-ghost use Rattle.cyc_tree.specs.Tree.{Expression};
+ghost use Rattle.std.specs.Prelude.{◌≡◌, IfOk};
 ghost use Rattle.cyc_tree.specs.View.{name_tree};
-ghost use Rattle.source_typing.specs.Expressions.{judge};
 ghost use Rattle.source_typing.specs.Operators.{applied, counted, prefixed, tested_both};
 ghost use Rattle.source_typing.specs.Places.{assigned, grouped};
 ghost use Rattle.source_typing.specs.Calls.{called, union_made, union_tag};
 ghost use Rattle.source_typing.specs.Scope.{Env, meant};
-ghost use Rattle.source_typing.specs.Taken as rules;
 ghost use Rattle.source_typing.specs.Faults.{fault, type_rule};
-ghost use Rattle.check_faults.specs.Taken.{taken_of};
 ghost use Rattle.check_faults.specs.Verdicts.{Wrong, short_after, short_both, short_of, shortened};
 ghost use Rattle.check_scopes.specs.Knows.{Sees};
 ghost use Rattle.check_operators.specs.Values.{value_of};
@@ -22,13 +18,13 @@ ghost use Rattle.check_expressions.specs.Joined.{one_more, values_of};
 
 use crate::around::{Around, meaning};
 use check_calls::{Enclosing, Target, UnionMember, called, union_made, union_tag};
-use check_faults::{Fault, FaultKind, Taken, Verdict};
-use check_operators::{Value, applied, assigned, counted, grouped, prefixed, string, tested_both};
+use check_faults::{Fault, FaultKind, Verdict};
+use check_operators::{Value, applied, assigned, counted, grouped, prefixed, tested_both};
 use check_scopes::Scope;
 use cyc_tree::{Name, Operator, Prefix};
 use std::alloc::{AllocError, Global};
 
-/// A form that isn't taken.
+/// A form that is at fault wherever it stands.
 pub(crate) fn refused<'p>(at: u32) -> Verdict<Value<'p>>
     ensures { short_of value_of result ≡ Wrong (fault type_rule at) }
 {
@@ -36,17 +32,6 @@ pub(crate) fn refused<'p>(at: u32) -> Verdict<Value<'p>>
         kind: FaultKind::Typing,
         at,
     })
-}
-
-/// What operands are that an operator joins, from this place on. A first one alone isn't taken.
-pub(crate) fn only_joined<'p>(
-    are_joined: bool,
-    at: u32,
-    judged: Verdict<Value<'p>>,
-) -> Verdict<Value<'p>>
-    ensures { short_of value_of result ≡ (if are_joined then short_of value_of judged.entry else Wrong (fault type_rule at)) }
-{
-    if are_joined { judged } else { refused(at) }
 }
 
 /// An operator before an operand.
@@ -170,22 +155,6 @@ pub(crate) fn given_after<'p>(
         }
         Verdict::Wrong(fault) => Ok(Verdict::Wrong(fault)),
         Verdict::NotJudged => Ok(Verdict::NotJudged),
-    }
-}
-
-/// A string of these bytes, where strings are taken.
-pub(crate) fn string_taken<'p>(
-    taken: Taken,
-    alloc: Global,
-    at: u32,
-    bytes: &[u8],
-) -> Result<Verdict<Value<'p>>, AllocError>
-    ensures { (g : Env) → IfOk result (λ v. short_of value_of v ≡ shortened (judge g (rules.taken (taken_of taken) (Expression.Text at bytes.now)))) }
-{
-    if taken.strings {
-        string(alloc, at, bytes)
-    } else {
-        Ok(refused(at))
     }
 }
 

@@ -1,51 +1,20 @@
 // Members of structs and subscripts, by what stands before them.
 
-ghost use Rattle.std.specs.Prelude.{◌≡◌, ◌&&◌, IfOk, map};
-ghost use Rattle.std.specs.List.{list_all};
-ghost use Rattle.cyc_tree.specs.View.{name_tree, suffix_tree, suffixes_of};
+ghost use Rattle.std.specs.Prelude.{◌≡◌, IfOk};
+ghost use Rattle.cyc_tree.specs.View.{name_tree};
 ghost use Rattle.cyc_types.specs.Sameness.{HasTags};
-ghost use Rattle.check_expressions.specs.Suffixes.{suffix_taken};
 ghost use Rattle.check_operators.specs.Values.{value_of};
 ghost use Rattle.check_scopes.specs.Knows.{Sees};
 ghost use Rattle.source_typing.specs.Places.{arrow, indexed, member};
 ghost use Rattle.source_typing.specs.Scope.{Env};
-ghost use Rattle.source_typing.specs.Taken.{are_suffixed, takes_suffixes};
-ghost use Rattle.check_faults.specs.Taken.{taken_of};
 ghost use Rattle.check_faults.specs.Verdicts.{short_after, short_both, short_of, shortened};
 
-use check_faults::{Taken, Verdict};
+use check_faults::Verdict;
 use check_operators::{Value, arrow, indexed, member};
 use check_scopes::Scope;
-use cyc_tree::{Name, Suffix};
+use cyc_tree::Name;
 use cyc_types::Tables;
 use std::alloc::AllocError;
-
-/// Whether a suffix is taken: a member, where structs are, and a subscript, where arrays are.
-#[tactic(auto, using(crate::proofs::SuffixForms::index_taken, crate::proofs::SuffixForms::dot_taken, crate::proofs::SuffixForms::arrow_taken))]
-fn takes_suffix(taken: Taken, suffix: &Suffix) -> bool
-    ensures { result ≡ suffix_taken (taken_of taken) (suffix_tree suffix.now) }
-{
-    match suffix {
-        Suffix::Dot(_) | Suffix::Arrow(_) => taken.structs,
-        Suffix::Index(_) => taken.arrays,
-    }
-}
-
-/// Whether each suffix is taken.
-fn takes_each(taken: Taken, suffixes: &[Suffix]) -> bool
-    ensures { result ≡ list_all (λ s. suffix_taken (taken_of taken) (suffix_tree s)) suffixes.now }
-{
-    suffixes.iter().all(|suffix| takes_suffix(taken, suffix))
-}
-
-/// Whether there are suffixes, and each is taken.
-#[tactic(auto, using(crate::proofs::SuffixForms::all_taken))]
-pub fn takes_suffixes(taken: Taken, suffixes: &[Suffix]) -> bool
-    ensures { result ≡ (are_suffixed (suffixes_of (map suffix_tree suffixes.now))
-        && takes_suffixes (taken_of taken) (suffixes_of (map suffix_tree suffixes.now))) }
-{
-    !suffixes.is_empty() && takes_each(taken, suffixes)
-}
 
 /// A member of what stands before it.
 pub fn member_part<'p>(

@@ -2,9 +2,7 @@
 #![tactic(auto)]
 
 mod fault;
-mod taken;
 mod verdict;
 
 pub use fault::{Fault, FaultKind, sooner};
-pub use taken::Taken;
 pub use verdict::Verdict;

@@ -1,5 +1,5 @@
 -- What a head says, by its parts.
-use Rattle.std.proofs.Common.{◌≡◌, Bool, true, false, Option, Some, None, List, [], ◌∷◌, ◌++◌, append_assoc, map, refl, sym, ap, subst, ◌∙◌}
+use Rattle.std.proofs.Common.{◌≡◌, Bool, Option, List, [], ◌++◌, append_assoc, map, sym, ap, subst, ◌∙◌}
 use Rattle.cyc_types.specs.Regions.{region_of}
 use Rattle.cyc_types.specs.Types.{static_type}
 use Rattle.cyc_types.specs.declared.region.RegionId.{RegionId}
@@ -8,21 +8,18 @@ use Rattle.source_typing.specs.Faults.{earliest, own_after}
 use Rattle.source_typing.specs.Functions.{Variables, all_faults, bounds_of, effect_of, head_of, key_regions, read_parameters, result_type, variables}
 use Rattle.source_typing.specs.Regions.{Region}
 use Rattle.source_typing.specs.Tables.{Tables}
-use Rattle.source_typing.specs.Taken.{bounds_form, effect_form, function_taken}
 use Rattle.source_typing.specs.Tags.{repeated}
 use Rattle.source_typing.specs.Types.{StaticType}
 use Rattle.source_typing.specs.Verdicts.{Verdict}
 use Rattle.check_faults.specs.Faults.{faults_of, sooner_found}
-use Rattle.check_faults.specs.Taken.{taken_of}
 use Rattle.check_faults.specs.Verdicts.{short_of, shortened}
 use Rattle.check_faults.specs.declared.fault.Fault.{Fault}
-use Rattle.check_faults.specs.declared.taken.Taken as code_taken
 use Rattle.check_functions.proofs.Below.{AreBelow, bounds_below, effect_below, parameters_below}
 use Rattle.check_functions.proofs.HeadFaults.{sound_found, two_are}
 use Rattle.check_functions.proofs.ReadParameters.{keys_known, known_same, names_same, types_same}
 use Rattle.check_functions.specs.Bodies.{types_of}
 use Rattle.check_functions.specs.Heads.{IsHead}
-use Rattle.check_functions.specs.Reading.{AreParameters, AreRead, bound_place, effect_place, form_at, main_faults_of, place_unless}
+use Rattle.check_functions.specs.Reading.{AreParameters, AreRead, main_faults_of}
 use Rattle.check_functions.specs.Used.{IsUsed, keys_of}
 use Rattle.check_functions.specs.declared.effect.Used.{Used}
 use Rattle.check_functions.specs.declared.head.Head as code
@@ -30,25 +27,9 @@ use Rattle.cyc_tree.specs.Tree as tree
 use Rattle.source_typing.specs.Faults as rules
 use Rattle.source_typing.specs.Verdicts as rules_of
 
--- ---- forms that aren't taken
-
-pub effect_formed : (takes : Bool) (e : Option (List tree.RegionName)) → form_at (place_unless takes (effect_place e)) [] ≡ effect_form takes e
-effect_formed true e = refl
-effect_formed false None = refl
-effect_formed false (Some []) = refl
-effect_formed false (Some (r ∷ rs)) = refl
-
-pub bounds_formed : (takes : Bool) (bs : List tree.Bound) → form_at (place_unless takes (bound_place bs)) (0 ∷ []) ≡ bounds_form takes bs
-bounds_formed true bs = refl
-bounds_formed false [] = refl
-bounds_formed false (b ∷ bs) = refl
-
 -- ---- the head
 
-module _ (k : code_taken.Taken) (lenient : Bool) (g : Tables) (f : tree.Function) (c : code.Head) where
-  abbrev head : tree.Function
-  head = function_taken (taken_of k) f
-
+module _ (lenient : Bool) (g : Tables) (f : tree.Function) (c : code.Head) where
   -- what is found of its faults, by what its parts are
   abbrev FaultFound : Option Fault → Type 0
   FaultFound used = (v : Verdict StaticType) (ms : List tree.Member) (vs : List (Verdict StaticType)) (us : List rules.Fault)
@@ -56,28 +37,28 @@ module _ (k : code_taken.Taken) (lenient : Bool) (g : Tables) (f : tree.Function
       → faults_of c.fault ≡ earliest (own_after (main_faults_of f.name v ms) (all_faults vs ++ repeated [] ms ++ rules_of.faults_of v ++ us))
 
   module _ (effect : Used RegionId) (bounds : Used (RegionId × RegionId)) where
-    pub head_is : (ks : List Region) → ks ≡ keys_of (types_of c.parameters.items) → AreRead g c.variables c.parameters.items head.parameters
-        → short_of static_type c.result ≡ shortened (result_type g c.variables.names head.result)
-        → IsUsed region_of (effect_of lenient c.variables ks head.effect) effect → c.effect ≡ effect.known
-        → IsUsed pair_of (bounds_of c.variables.names head.bounds) bounds → c.bounds ≡ bounds.known
-        → FaultFound (sooner_found effect.fault bounds.fault) → IsHead c head (head_of lenient g head)
+    pub head_is : (ks : List Region) → ks ≡ keys_of (types_of c.parameters.items) → AreRead g c.variables c.parameters.items f.parameters
+        → short_of static_type c.result ≡ shortened (result_type g c.variables.names f.result)
+        → IsUsed region_of (effect_of lenient c.variables ks f.effect) effect → c.effect ≡ effect.known
+        → IsUsed pair_of (bounds_of c.variables.names f.bounds) bounds → c.bounds ≡ bounds.known
+        → FaultFound (sooner_found effect.fault bounds.fault) → IsHead c f (head_of lenient g f)
     head_is ks key_is read is of_effect effect_is of_bounds bounds_is found =
-        let ps = read_parameters g (variables [] 0) head.parameters in
+        let ps = read_parameters g (variables [] 0) f.parameters in
         let vs = ps.variables_after in
-        let ms = head.parameters in
-        let v : Verdict StaticType = result_type g vs.names head.result in
+        let ms = f.parameters in
+        let v : Verdict StaticType = result_type g vs.names f.result in
         let is_result : short_of static_type c.result ≡ shortened v =
-        is ∙ ap (λ (us : Variables). shortened (result_type g us.names head.result)) read.variables_after in
+        is ∙ ap (λ (us : Variables). shortened (result_type g us.names f.result)) read.variables_after in
         let types = types_same c.parameters.items ms ps.types read.parameters in
         let keys : ks ≡ key_regions ps.types = key_is ∙ ap keys_of types ∙ keys_known ps.types in
-        let es = effect_of lenient vs (key_regions ps.types) head.effect in
-        let bs = bounds_of vs.names head.bounds in
+        let es = effect_of lenient vs (key_regions ps.types) f.effect in
+        let bs = bounds_of vs.names f.bounds in
         let effects : IsUsed region_of es effect =
-        subst (λ qs. IsUsed region_of (effect_of lenient vs qs head.effect) effect) keys
-        (subst (λ (us : Variables). IsUsed region_of (effect_of lenient us ks head.effect) effect) read.variables_after of_effect) in
+        subst (λ qs. IsUsed region_of (effect_of lenient vs qs f.effect) effect) keys
+        (subst (λ (us : Variables). IsUsed region_of (effect_of lenient us ks f.effect) effect) read.variables_after of_effect) in
         let bound : IsUsed pair_of bs bounds =
-        subst (λ (us : Variables). IsUsed pair_of (bounds_of us.names head.bounds) bounds) read.variables_after of_bounds in
-        let fault : faults_of c.fault ≡ earliest (head_of lenient g head).faults =
+        subst (λ (us : Variables). IsUsed pair_of (bounds_of us.names f.bounds) bounds) read.variables_after of_bounds in
+        let fault : faults_of c.fault ≡ earliest (head_of lenient g f).faults =
         found v ms ps.types (all_faults es ++ all_faults bs) is_result read.parameters
         (two_are effect.fault bounds.fault (all_faults es) (all_faults bs) effects.fault bound.fault)
         ∙ ap (λ fs. earliest (own_after (main_faults_of f.name v ms) fs))
@@ -92,8 +73,8 @@ module _ (k : code_taken.Taken) (lenient : Bool) (g : Tables) (f : tree.Function
           effect = ap (λ u. map region_of u.items) effect_is ∙ effects.known;
           bounds = ap (λ u. map pair_of u.items) bounds_is ∙ bound.known;
           names_below = below;
-          effect_below = effect_below lenient vs (key_regions ps.types) head.effect below;
-          bounds_below = bounds_below vs.count vs.names below head.bounds;
+          effect_below = effect_below lenient vs (key_regions ps.types) f.effect below;
+          bounds_below = bounds_below vs.count vs.names below f.bounds;
           fault = fault;
-          sound = sound_found c.fault (head_of lenient g head).faults fault;
+          sound = sound_found c.fault (head_of lenient g f).faults fault;
         }

@@ -7,7 +7,6 @@ use Rattle.cyc_tree.specs.View.{member_tree}
 use Rattle.source_typing.specs.Faults.{earliest, sooner_of}
 use Rattle.source_typing.specs.Functions.{Variables, key_regions, parameter_type, read_parameters, take_spots, variables}
 use Rattle.source_typing.specs.Tables.{Tables}
-use Rattle.source_typing.specs.Taken.{Taken, member_taken, members_taken}
 use Rattle.source_typing.specs.Types.{Key, StaticType}
 use Rattle.source_typing.specs.Verdicts.{Faulty, Of, Unjudged, Verdict, known}
 use Rattle.source_typing.specs.Written.{spots_of}
@@ -123,9 +122,7 @@ module _ (g : Tables) (m : tree.Member) where
       }
 
 -- of the rest of the members one comes next
-pub next_member : (k : Taken) (ms : List tree.Member) (xs : List code_member.Member) (i : ℕ) (x : code_member.Member) → drop i xs ≡ x ∷ drop (i + 1) xs
-    → (ms ++ member_taken k (member_tree x) ∷ []) ++ members_taken k (map member_tree (drop (i + 1) xs))
-    ≡ ms ++ members_taken k (map member_tree (drop i xs))
-next_member k ms xs i x e =
-    append_assoc ms (member_taken k (member_tree x) ∷ []) (members_taken k (map member_tree (drop (i + 1) xs)))
-    ∙ ap (λ ys. ms ++ members_taken k (map member_tree ys)) (sym e)
+pub next_member : (ms : List tree.Member) (xs : List code_member.Member) (i : ℕ) (x : code_member.Member) → drop i xs ≡ x ∷ drop (i + 1) xs
+    → (ms ++ member_tree x ∷ []) ++ map member_tree (drop (i + 1) xs) ≡ ms ++ map member_tree (drop i xs)
+next_member ms xs i x e =
+    append_assoc ms (member_tree x ∷ []) (map member_tree (drop (i + 1) xs)) ∙ ap (λ ys. ms ++ map member_tree ys) (sym e)

@@ -1,13 +1,11 @@
 -- The parameters of a head in code, as far as they are read.
-use Rattle.std.specs.Prelude.{Bool, List, None, Option, Some, bytes_eq, codes, false, not, true, ℕ, ◌≡◌, ◌||◌, [], ◌∷◌, ◌++◌}
+use Rattle.std.specs.Prelude.{Bool, List, None, Option, bytes_eq, codes, false, not, true, ℕ, ◌≡◌, ◌||◌, [], ◌∷◌, ◌++◌}
 use Rattle.std.specs.Borrow.{Bor}
-use Rattle.cyc_tree.specs.Places.{region_place}
 use Rattle.cyc_types.specs.Types.{static_type}
 use Rattle.cyc_types.specs.declared.ctype.CType.{CType}
 use Rattle.source_typing.specs.Faults.{fault, name_rule, test, type_rule}
 use Rattle.source_typing.specs.Functions.{Variables, main_form, read_parameters, variables}
 use Rattle.source_typing.specs.Tables.{Tables}
-use Rattle.source_typing.specs.Taken.{refused_member}
 use Rattle.source_typing.specs.Types.{Int, StaticType}
 use Rattle.source_typing.specs.Verdicts.{Verdict}
 use Rattle.check_faults.specs.Faults.{faults_of, first_of}
@@ -35,27 +33,6 @@ AreParameters ps ms vs = ⊥
 pub record AreRead (g : Tables) (vs : Variables) (ps : List Parameter) (ms : List tree.Member) : Type 0 where
   pub variables_after : vs ≡ (read_parameters g (variables [] 0) ms).variables_after
   pub parameters : AreParameters ps ms (read_parameters g (variables [] 0) ms).types
-
--- ---- forms that aren't taken
-
-abbrev pub effect_place : Option (List tree.RegionName) → Option ℕ
-effect_place None = None
-effect_place (Some []) = None
-effect_place (Some (r ∷ rs)) = Some (region_place r)
-
-abbrev pub bound_place : List tree.Bound → Option ℕ
-bound_place [] = None
-bound_place (b ∷ bs) = Some (region_place b.longer)
-
--- the place of a form, unless it is taken
-abbrev pub place_unless : Bool → Option ℕ → Option ℕ
-place_unless true place = None
-place_unless false place = place
-
--- what stands for one
-abbrev pub form_at : Option ℕ → List ℕ → List tree.Member
-form_at None name = []
-form_at (Some at) name = refused_member at name ∷ []
 
 -- ---- faults
 

@@ -10,9 +10,7 @@ ghost use Rattle.source_typing.specs.Functions as rules;
 ghost use Rattle.source_typing.specs.Scope.{Env, with_local};
 ghost use Rattle.source_typing.specs.Statements.{items_faults};
 ghost use Rattle.source_typing.specs.Tables as known;
-ghost use Rattle.source_typing.specs.Taken.{function_taken};
 ghost use Rattle.source_typing.specs.Written.{RegionNamed};
-ghost use Rattle.check_faults.specs.Taken.{taken_of};
 ghost use Rattle.check_faults.specs.Faults.{faults_of};
 ghost use Rattle.check_scopes.specs.Knows.{Knows};
 ghost use Rattle.check_scopes.specs.Matching.{AreLocals};
@@ -23,7 +21,7 @@ ghost use Rattle.check_functions.specs.Heads.{IsHead, known_static};
 
 use crate::head::{Head, Parameter, is_main, read_head};
 use crate::meaning::known_type;
-use check_faults::{Fault, FaultKind, Taken, Verdict, sooner};
+use check_faults::{Fault, FaultKind, Verdict, sooner};
 use check_regions::RegionScope;
 use check_scopes::{Globals, Locals, Scope, What};
 use check_statements::{Context, items_fall, items_fault};
@@ -39,7 +37,6 @@ pub struct Names<'g, 'p> {
     pub tags: &'g TagNames<'p>,
     /// The structs and unions.
     pub tables: &'g Tables<'p>,
-    pub taken: Taken,
 }
 
 /// What a parameter of a type is as a local of the block with this stack region. Fails only where no host memory is left.
@@ -63,7 +60,6 @@ pub fn declare_parameter<'p>(
     ensures locals { (ns : List RegionNamed) (g : Env) (x : tree.Name) → x.text ≡ parameter.now.name.now → StandsIn context.entry ns 0 scope.old g
         → AreLocals scope.old.locals g.locals
         → OnOk result (AreLocals scope.new.locals (with_local x (what_of_known g.frame (known_static parameter.now.of)) g).locals) }
-    ensures taken { OnOk result (scope.new.taken ≡ scope.old.taken) }
 {
     if scope.locals.is_second(0, parameter.name) {
         return Ok(());
@@ -79,9 +75,8 @@ fn declare_parameters<'p>(
     context: Context<'_, 'p>,
     parameters: &[Parameter<'p>],
 ) -> Result<(), AllocError>
-    ensures stands { (ns : List RegionNamed) (g : Env) (ms : List tree.Member) → code_names parameters.now ≡ names_of ms
+    ensures { (ns : List RegionNamed) (g : Env) (ms : List tree.Member) → code_names parameters.now ≡ names_of ms
         → StandsIn context.entry ns 0 scope.old g → OnOk result (StandsIn context.entry ns 0 scope.new (with_parameters ms (types_of parameters.now) g)) }
-    ensures taken { OnOk result (scope.new.taken ≡ scope.old.taken) }
 {
     'each: for parameter in parameters {
         declare_parameter(scope, context, parameter)?;
@@ -99,7 +94,6 @@ pub fn entered<'g, 'p>(
     ensures known { (g : known.Tables) (i : ℕ) (f : tree.Function) (h : rules.Head) → KnowsNames names.entry g → IsHead head.now f h
         → IfOk result (λ s. Knows s (function_scope lenient g i h)) }
     ensures alone { IfOk result (λ s. s.locals ≡ []) }
-    ensures taken { IfOk result (λ s. s.taken ≡ names.entry.taken) }
 {
     let mut regions = RegionScope::of_function(
         alloc,
@@ -111,7 +105,6 @@ pub fn entered<'g, 'p>(
     Ok(Scope {
         globals: names.globals,
         tables: names.tables,
-        taken: names.taken,
         locals: Locals::new(alloc),
         regions,
         lenient,
@@ -128,7 +121,7 @@ fn body_fault<'p>(
     function: &'p Function,
 ) -> Result<Option<Fault>, AllocError>
     ensures { (g : known.Tables) (h : rules.Head) → KnowsNames names.entry g
-        → let f = function_taken (taken_of names.entry.taken) (function_tree function.entry.now) in IsHead head.entry f h
+        → let f = function_tree function.entry.now in IsHead head.entry f h
         → IfOk result (λ found. faults_of found ≡ earliest (items_faults (body_scope lenient g item f h) true f.body)) }
 {
     let mut scope = entered(alloc, names, lenient, &head)?;
@@ -164,12 +157,12 @@ fn needs_return(of: &Verdict<CType>) -> bool
 }
 
 /// The fault of a function whose end is reached without a result.
-fn end_fault(taken: Taken, head: &Head, function: &Function) -> Option<Fault>
-    ensures { (h : rules.Head) → let f = function_taken (taken_of taken) (function_tree function.now) in IsHead head.now f h
+fn end_fault(head: &Head, function: &Function) -> Option<Fault>
+    ensures { (h : rules.Head) → let f = function_tree function.now in IsHead head.now f h
         → faults_of result ≡ earliest (test (not (end_reached f h)) type_rule f.end) }
 {
     let is_reached = head.fault.is_none()
-        && items_fall(taken, &function.body)
+        && items_fall(&function.body)
         && needs_return(&head.result);
     if is_reached && !is_main(&function.name.text) {
         Some(Fault {
@@ -201,11 +194,10 @@ pub fn function_fault<'p>(
     function: &'p Function,
 ) -> Result<Option<Fault>, AllocError>
     ensures { (g : known.Tables) → KnowsNames names.entry g
-        → IfOk result (λ f. faults_of f
-        ≡ earliest (function_faults lenient g item (function_taken (taken_of names.entry.taken) (function_tree function.entry.now)))) }
+        → IfOk result (λ f. faults_of f ≡ earliest (function_faults lenient g item (function_tree function.entry.now))) }
 {
-    let head = read_head(alloc, names.taken, names.tags, lenient, function)?;
-    let end = end_fault(names.taken, &head, function);
+    let head = read_head(alloc, names.tags, lenient, function)?;
+    let end = end_fault(&head, function);
     let own = head.fault;
     let body = body_fault(alloc, names, lenient, item, head, function)?;
     Ok(sooner(own, first_or(body, end)))

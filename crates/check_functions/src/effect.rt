@@ -7,12 +7,11 @@ ghost use Rattle.cyc_types.specs.Regions.{region_of, regions_of};
 ghost use Rattle.check_regions.specs.Fields.{pair_of};
 ghost use Rattle.source_typing.specs.Functions.{bounds_of, effect_of, effect_region, if_no_key, levels_but, used_named, used_region};
 ghost use Rattle.source_typing.specs.Regions.{is_among, same_id};
-ghost use Rattle.source_typing.specs.Taken.{bounds_if, effect_if};
 ghost use Rattle.check_faults.specs.Faults.{sooner_found};
 ghost use Rattle.check_faults.specs.Verdicts.{fault_found, short_of, shortened};
 ghost use Rattle.check_functions.specs.Used.{IsUsed, bound_by, in_order, level_unless};
 
-use check_faults::{Fault, FaultKind, Taken, Verdict, sooner};
+use check_faults::{Fault, FaultKind, Verdict, sooner};
 use check_regions::RegionNames;
 use check_types::RegionVariables;
 use cyc_tree::{Bound, RegionName, RegionNames as WrittenNames};
@@ -164,38 +163,21 @@ fn levels_but(alloc: Global, keys: &[RegionId], count: u32) -> Result<Vec<Region
     Ok(regions)
 }
 
-/// An effect as it is written, where it is taken. None: it isn't written, or isn't taken.
-fn taken_effect(taken: Taken, effect: &Option<WrittenNames>) -> Option<&[RegionName]>
-    ensures { option_map (λ rs. map region_tree rs.now) result ≡ effect_if taken.regions (effect_tree effect.now) }
-{
-    match effect {
-        Some(regions) => {
-            if taken.regions || regions.is_empty() {
-                Some(regions.as_slice())
-            } else {
-                None
-            }
-        }
-        None => None,
-    }
-}
-
 /// The regions that have to be live where a function with these region variables and keys of these regions is called: those that its
 /// effect names, or else all its region variables but those of the keys. Fails only where no host memory is left.
 pub(crate) fn effect_of(
     alloc: Global,
-    taken: Taken,
     lenient: bool,
     variables: &RegionVariables<'_>,
     keys: &[RegionId],
     effect: &Option<WrittenNames>,
 ) -> Result<Used<RegionId>, AllocError>
-    ensures { IfOk result (IsUsed region_of
-        (effect_of lenient variables.now (regions_of keys.now) (effect_if taken.regions (effect_tree effect.now)))) }
+    ensures { IfOk result (IsUsed region_of (effect_of lenient variables.now (regions_of keys.now) (effect_tree effect.now))) }
 {
-    match taken_effect(taken, effect) {
+    match effect {
         Some(regions) => {
-            let used = effect_regions(alloc, lenient, variables.names(), keys, regions)?;
+            let written = regions.as_slice();
+            let used = effect_regions(alloc, lenient, variables.names(), keys, written)?;
             Ok(used)
         }
         None => {
@@ -213,15 +195,8 @@ fn used_bound(names: &RegionNames<'_>, bound: &Bound) -> Verdict<(RegionId, Regi
     longer.paired(used_region(names, &bound.shorter))
 }
 
-/// The bounds as they are written, where they are taken; else none.
-fn taken_bounds(taken: Taken, bounds: &[Bound]) -> &[Bound]
-    ensures { map bound_tree result.now ≡ bounds_if taken.regions (map bound_tree bounds.now) }
-{
-    if taken.regions { bounds } else { &[] }
-}
-
-/// Bounds, where the region variables have these names. Fails only where no host memory is left.
-fn used_bounds(
+/// The bounds of a function whose region variables have these names. Fails only where no host memory is left.
+pub(crate) fn bounds_of(
     alloc: Global,
     names: &RegionNames<'_>,
     bounds: &[Bound],
@@ -235,18 +210,5 @@ fn used_bounds(
     'each: for bound in bounds {
         used.add(used_bound(names, bound))?;
     }
-    Ok(used)
-}
-
-/// The bounds of a function whose region variables have these names, where they are taken. Fails only where no host memory is left.
-pub(crate) fn bounds_of(
-    alloc: Global,
-    taken: Taken,
-    names: &RegionNames<'_>,
-    bounds: &[Bound],
-) -> Result<Used<(RegionId, RegionId)>, AllocError>
-    ensures { IfOk result (IsUsed pair_of (bounds_of names.now (bounds_if taken.regions (map bound_tree bounds.now)))) }
-{
-    let used = used_bounds(alloc, names, taken_bounds(taken, bounds))?;
     Ok(used)
 }

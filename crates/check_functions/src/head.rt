@@ -4,8 +4,6 @@ ghost use Rattle.std.specs.Prelude.{◌≡◌, IfOk, bytes_eq, codes};
 ghost use Rattle.cyc_tree.specs.View.{function_tree};
 ghost use Rattle.source_typing.specs.Functions.{head_of};
 ghost use Rattle.source_typing.specs.Tables.{Tables};
-ghost use Rattle.source_typing.specs.Taken.{function_taken};
-ghost use Rattle.check_faults.specs.Taken.{taken_of};
 ghost use Rattle.check_types.specs.Naming.{AreTagNames};
 ghost use Rattle.check_functions.specs.Heads.{IsHead};
 
@@ -13,14 +11,13 @@ use crate::effect::{bounds_of, effect_of};
 use crate::found::head_fault;
 use crate::keys::key_regions;
 use crate::reading::Parameters;
-use check_faults::{Fault, Taken, Verdict, sooner};
+use check_faults::{Fault, Verdict, sooner};
 use check_types::{RegionVariables, TagNames, result_type_in, tag_of_type};
 use cyc_tree::Function;
 use cyc_types::{CType, RegionId};
 use std::alloc::{AllocError, Global};
 
-/// What stands as a parameter: its name, and what its type is. A form of a head that isn't taken stands as one at fault, with a name that
-/// no text has.
+/// A parameter: its name, and what its type is.
 #[derive(Drop)]
 pub struct Parameter<'p> {
     pub name: &'p [u8],
@@ -55,28 +52,26 @@ pub fn is_main(name: &[u8]) -> bool
 /// regions and effects. Fails only where no host memory is left.
 pub fn read_head<'p>(
     alloc: Global,
-    taken: Taken,
     tags: &TagNames<'_>,
     lenient: bool,
     function: &'p Function,
 ) -> Result<Head<'p>, AllocError>
     ensures { (g : Tables) → AreTagNames tags.now g
-        → IfOk result (λ h. let f = function_taken (taken_of taken) (function_tree function.entry.now) in IsHead h f (head_of lenient g f)) }
+        → IfOk result (λ h. let f = function_tree function.entry.now in IsHead h f (head_of lenient g f)) }
 {
-    let parameters = Parameters::of(alloc, taken, tags, function)?;
-    let tag = tag_of_type(taken, tags, &function.result);
+    let parameters = Parameters::of(alloc, tags, function)?;
+    let tag = tag_of_type(tags, &function.result);
     let names = parameters.variables.names();
-    let result = result_type_in(alloc, taken, tag, names, &function.result)?;
+    let result = result_type_in(alloc, tag, names, &function.result)?;
     let keys = key_regions(alloc, parameters.items.as_slice())?;
     let effect = effect_of(
         alloc,
-        taken,
         lenient,
         &parameters.variables,
         keys.as_slice(),
         &function.effect,
     )?;
-    let bounds = bounds_of(alloc, taken, names, &function.bounds)?;
+    let bounds = bounds_of(alloc, names, &function.bounds)?;
     let used = sooner(effect.fault, bounds.fault);
     let fault = head_fault(alloc, &function.name, &parameters.items, &result, used)?;
     Ok(Head {

@@ -1,4 +1,4 @@
-//! The heads of functions, and the faults of functions, where each form of the language may be taken or not.
+//! The heads of functions, and the faults of functions.
 //!
 //! What is said of them are the rules of `source_typing`: `read_head` answers what a function's head says, `head_meaning` what its name means
 //! where its head has no fault, and `function_fault` the earliest of a function's faults.

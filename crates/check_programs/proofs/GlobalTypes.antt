@@ -1,4 +1,4 @@
--- The types of globals that are taken.
+-- The types of globals.
 use Rattle.std.proofs.Common.{◌≡◌, ℕ, suc, zero, Bool, true, false, List, [], ◌∷◌, ◌++◌, map, refl, sym, ap, subst, ◌∙◌}
 use Rattle.std.specs.Prelude.{None, Option, Some, bytes_eq, is_some, not, replicate, ◌&&◌, ◌||◌, if◌then◌else◌}
 use Rattle.std.specs.List.{list_all}
@@ -102,7 +102,7 @@ pub no_more : (o : Option Region) → or_region o None ≡ o
 no_more None = refl
 no_more (Some r) = refl
 
--- ---- a type that is taken
+-- ---- the regions of a type
 
 -- a missing region has no name
 missing_unnamed : (n : ℕ) (ss : List Spot) → foreign_names (replicate n (spot false None) ++ ss) ≡ foreign_names ss

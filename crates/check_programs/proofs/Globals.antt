@@ -1,8 +1,8 @@
 -- Globals by what their types are.
 use Rattle.std.proofs.Common.{◌≡◌, ℕ, zero, suc, Bool, true, false, List, [], ◌∷◌, ◌*◌, append-nil, arith, nat_eq, refl, sym, ap, subst, ◌∙◌, true≢false}
-use Rattle.std.specs.Prelude.{None, Option, Some, if◌then◌else◌, is_some, ◌&&◌}
+use Rattle.std.specs.Prelude.{None, Option, Some, if◌then◌else◌, is_some}
 use Rattle.std.proofs.lemmas.Bool.Decides.{nat_tests}
-use Rattle.cyc_tree.specs.Tree.{Initial, TypeName}
+use Rattle.cyc_tree.specs.Tree.{Initial}
 use Rattle.cyc_types.specs.Measures.{extent_in, extent_of, limited, measured}
 use Rattle.cyc_types.specs.Sameness.{HasTags}
 use Rattle.cyc_types.specs.Tables.{tables_of}
@@ -18,19 +18,16 @@ use Rattle.check_scopes.specs.Means.{Array, Means, UnknownValue, Variable}
 use Rattle.check_scopes.specs.declared.meaning.Meaning.TheVariants.{NotKnown as NotKnownName}
 use Rattle.source_meaning.specs.Sizes.{rounded_up}
 use Rattle.source_typing.specs.Declarations.{what_after, what_of}
-use Rattle.source_typing.specs.Faults.{Fault, earliest, fault, type_rule}
+use Rattle.source_typing.specs.Faults.{Fault, earliest}
 use Rattle.source_typing.specs.Extents.{fits_bytes, size_of, variable_size}
-use Rattle.source_typing.specs.Globals.{count_of, global_entry, global_faults, global_size, global_type, if_clean, typed_size}
+use Rattle.source_typing.specs.Globals.{count_of, global_faults, global_size, global_type, if_clean, typed_size}
 use Rattle.source_typing.specs.Regions.{TheHeap}
 use Rattle.source_typing.specs.Scope.{Env}
 use Rattle.source_typing.specs.Tables.{OfValue, Tables}
-use Rattle.source_typing.specs.Taken.{Taken, global_if, initial_taken, takes_initial, takes_type}
-use Rattle.check_faults.specs.Taken.{taken_of}
-use Rattle.check_faults.specs.declared.taken.Taken as code_taken
 use Rattle.source_typing.specs.Types.{StaticType}
 use Rattle.source_typing.specs.Verdicts.{Faulty, Of, Unjudged, Verdict, faults_of}
 use Rattle.check_faults.specs.Verdicts.{Is, NotJudged, Short, Wrong, shortened}
-use Rattle.check_programs.specs.Globals.{IsSized, bytes_by, bytes_of, faults_by, global_taken, meaning_by}
+use Rattle.check_programs.specs.Globals.{IsSized, bytes_by, bytes_of, faults_by, meaning_by}
 use Rattle.cyc_tree.specs.Tree as tree
 use Rattle.check_faults.specs.Faults as found
 use Rattle.check_faults.specs.declared.fault.Fault as code
@@ -38,20 +35,12 @@ use Rattle.check_faults.proofs.Earliest.{sooner_none}
 
 -- ---- what a global begins with
 
--- as many elements as are written
-pub as_many : (k : Taken) (t : TypeName) (i : Initial) → count_of (initial_taken k t i) ≡ count_of i
-as_many k t Initial.Unset = refl
-as_many k t (Initial.Elements n) = refl
-as_many k t (Initial.Given c) = refl
-
 -- without a constant it has no faults but its type's
-pub unset_faults : (k : Taken) (g : Env) (t : TypeName) (i : Initial) (v : Verdict StaticType) → i ≡ Initial.Unset
-    → faults_of v ≡ faults_by g (initial_taken k t i) v
-unset_faults k g t i v e = sym (append-nil (faults_of v)) ∙ ap (λ j. faults_by g (initial_taken k t j) v) (sym e)
+pub unset_faults : (g : Env) (i : Initial) (v : Verdict StaticType) → i ≡ Initial.Unset → faults_of v ≡ faults_by g i v
+unset_faults g i v e = sym (append-nil (faults_of v)) ∙ ap (λ j. faults_by g j v) (sym e)
 
-pub array_faults : (k : Taken) (g : Env) (t : TypeName) (i : Initial) (v : Verdict StaticType) (n : ℕ) → i ≡ Initial.Elements n
-    → faults_of v ≡ faults_by g (initial_taken k t i) v
-array_faults k g t i v n e = sym (append-nil (faults_of v)) ∙ ap (λ j. faults_by g (initial_taken k t j) v) (sym e)
+pub array_faults : (g : Env) (i : Initial) (v : Verdict StaticType) (n : ℕ) → i ≡ Initial.Elements n → faults_of v ≡ faults_by g i v
+array_faults g i v n e = sym (append-nil (faults_of v)) ∙ ap (λ j. faults_by g j v) (sym e)
 
 -- ---- by what the type is
 
@@ -152,29 +141,6 @@ module _ (tables : code_tables.Tables) (g : Tables) (count : Option ℕ) (v : Ve
       by : (count : Option ℕ) → fits_bytes (variable_size g count t) ≡ true → 0 ≡ bytes_by g count (Of t)
       by None fits = absurd (true≢false (sym fits ∙ large))
       by (Some n) fits = sym (ap (λ m. rounded_up m 8) (none_of n (size_of g t) (too_large n (size_of g t) large ∙ fits)))
-
--- ---- a global, by whether its form is taken
-
-module _ (k : code_taken.Taken) (g : Env) (x : tree.Global) where
-  pub refused_means : takes_type (taken_of k) x.of && takes_initial (taken_of k) x.initial ≡ false
-      → Means (Some (global_entry g (global_taken (taken_of k) x))) (Some NotKnownName)
-  refused_means e =
-      subst (λ (b : Bool). Means (Some (global_entry g (global_if b x (initial_taken (taken_of k) x.of x.initial)))) (Some NotKnownName)) (sym e) UnknownValue
-
-  abbrev pub with_start : tree.Global
-  with_start = record x { initial = initial_taken (taken_of k) x.of x.initial }
-
-  pub is_with_start : takes_type (taken_of k) x.of && takes_initial (taken_of k) x.initial ≡ true → with_start ≡ global_taken (taken_of k) x
-  is_with_start e = sym (ap (λ (b : Bool). global_if b x (initial_taken (taken_of k) x.of x.initial)) e)
-
-  pub refused_faults : takes_type (taken_of k) x.of && takes_initial (taken_of k) x.initial ≡ false
-      → Some (fault type_rule x.of.at) ≡ earliest (global_faults g (global_taken (taken_of k) x))
-  refused_faults e = sym (ap (λ (b : Bool). earliest (global_faults g (global_if b x (initial_taken (taken_of k) x.of x.initial)))) e)
-
-  -- it counts as nothing
-  pub refused_bytes : takes_type (taken_of k) x.of && takes_initial (taken_of k) x.initial ≡ false
-      → 0 ≡ rounded_up (global_size g (global_taken (taken_of k) x)) 8
-  refused_bytes e = sym (ap (λ (b : Bool). rounded_up (global_size g (global_if b x (initial_taken (taken_of k) x.of x.initial))) 8) e)
 
 rounded_by : (g : Env) (x : tree.Global) (v : Verdict StaticType) (fs : List Fault)
     → rounded_up (if_clean fs (typed_size g x v)) 8 ≡ if_clean fs (bytes_by g.tables (count_of x.initial) v)

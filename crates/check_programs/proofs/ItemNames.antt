@@ -5,8 +5,6 @@ use Rattle.std.proofs.lemmas.Slice.Eq.{bytes_eq-Decides}
 use Rattle.cyc_tree.specs.Tree.{Item, Program}
 use Rattle.source_typing.specs.Programs.{Judged, builtins, entries, entries_with, entry_with, judged_tags, name_of, tables_of}
 use Rattle.source_typing.specs.Tables.{Entry, Tables, find}
-use Rattle.source_typing.specs.Taken.{item_taken, only_taken}
-use Rattle.check_faults.specs.Taken.{taken_of}
 use Rattle.check_scopes.specs.Globals.{global_meaning}
 use Rattle.check_scopes.specs.Means.{Means, NoName}
 use Rattle.check_scopes.specs.declared.globals.Globals.{Globals}
@@ -14,7 +12,6 @@ use Rattle.check_scopes.specs.declared.meaning.Meaning.{Meaning}
 use Rattle.check_programs.specs.Names.{Since}
 use Rattle.check_programs.specs.Structs.{KnowsStructs, MeansTag}
 use Rattle.check_programs.specs.declared.structs.Structs.{Structs}
-use Rattle.check_programs.proofs.Items.{name_stays}
 use Rattle.check_programs.proofs.TagItems.{item_means}
 use Rattle.check_programs.proofs.TagTables.{AreJudged, all_judged, knows_all}
 
@@ -49,58 +46,51 @@ since_added old new n text e m is_new all others x is_text is_first added means 
 
 -- ---- the names of items
 
--- a program's items as far as they are taken
-abbrev pub all_taken : Structs → Program → Program
-all_taken s p = only_taken (taken_of s.taken) p
-
--- its structs and unions
-abbrev pub tags_taken : Structs → Program → Tables
-tags_taken s p = builtins (entries (judged_tags (all_taken s p)))
+-- a program's structs and unions
+abbrev pub tags_of : Program → Tables
+tags_of p = builtins (entries (judged_tags p))
 
 -- what the tables say of the items from one on
-abbrev pub entries_from : Structs → Bool → Program → ℕ → List Judged → List Item → Tables
-entries_from s l p k js items = entries_with l (tags_taken s p) k js (all_taken s items)
+abbrev pub entries_from : Bool → Program → ℕ → List Judged → List Item → Tables
+entries_from l p k js items = entries_with l (tags_of p) k js items
 
 abbrev pub AreSince : Structs → Bool → Program → ℕ → List Judged → List Item → Globals → Type 0
-AreSince s l p k js items names = KnowsStructs s (tags_taken s p) → (x : List ℕ)
-    → Since (find (tables_of l (all_taken s p)) x) (global_meaning names x) (find (entries_from s l p k js items) x)
+AreSince s l p k js items names =
+    KnowsStructs s (tags_of p) → (x : List ℕ) → Since (find (tables_of l p) x) (global_meaning names x) (find (entries_from l p k js items) x)
 
 -- The names are those of the items before these, and each of these is judged as a tag.
 pub record Reached (s : Structs) (l : Bool) (p : Program) (k : ℕ) (items : List Item) (names : Globals) : Type 0 where
   pub left : List Judged
-  pub judged : AreJudged (only_taken (taken_of s.taken) items) left
+  pub judged : AreJudged items left
   pub since : AreSince s l p k left items names
 
 pub reached_first : (s : Structs) (l : Bool) (p : Program) (names : Globals)
     → ((others : Tables) (x : List ℕ) → Since (find (builtins others) x) (global_meaning names x) (find others x)) → Reached s l p 0 p names
 reached_first s l p names first = record {
-  left = judged_tags (all_taken s p);
-  judged = all_judged (all_taken s p);
-  since = λ known x. first (entries_from s l p 0 (judged_tags (all_taken s p)) p) x;
+  left = judged_tags p;
+  judged = all_judged p;
+  since = λ known x. first (entries_from l p 0 (judged_tags p) p) x;
 }
 
 pub reached_next : (s : Structs) (l : Bool) (p : Program) (k next : ℕ) (i : Item) (items : List Item) (old new : Globals) (n : List ℕ) (m : Meaning)
     (is_new : Bool) → next ≡ k + 1 → n ≡ (name_of i).text → is_new ≡ not (is_some (global_meaning old n)) → IsAdded old new n m is_new
-    → ((g : Tables) (e : Entry) → KnowsStructs s g → MeansTag s i e → Means (Some (entry_with l g k e (item_taken (taken_of s.taken) i))) (Some m))
+    → ((g : Tables) (e : Entry) → KnowsStructs s g → MeansTag s i e → Means (Some (entry_with l g k e i)) (Some m))
     → Reached s l p k (i ∷ items) old → Reached s l p next items new
 reached_next s l p k next i items old new n m is_new is_next is_name is_first added means reached =
     let after : suc k ≡ next = omega (arith, is_next) in subst (λ y. Reached s l p y items new) after (by reached.left reached.judged reached.since)
   where
-    by : (js : List Judged) → AreJudged (item_taken (taken_of s.taken) i ∷ all_taken s items) js → AreSince s l p k js (i ∷ items) old
+    by : (js : List Judged) → AreJudged (i ∷ items) js → AreSince s l p k js (i ∷ items) old
         → Reached s l p (suc k) items new
     by [] judged since = absurd judged
     by (j ∷ js) judged since = record {
       left = js;
       judged = judged.1;
       since = λ known x.
-          let t : Item = item_taken (taken_of s.taken) i in
-          let g : Tables = tags_taken s p in
-          let e : Entry = entry_with l g k j.entry.entry t in
-          let all : Tables = tables_of l (all_taken s p) in
-          let stays : (name_of i).text ≡ (name_of t).text = ap (λ y. y.text) (name_stays (taken_of s.taken) i) in
-          since_added old new n (name_of t).text e m is_new (find all x) (entries_from s l p (suc k) js items) x (is_name ∙ stays) is_first added
-          (λ same first. means g j.entry.entry known
-          (item_means s l all g k i j judged.0 (knows_all s l (all_taken s p) known) (ap (find all) (stays ∙ same) ∙ first)))
+          let g : Tables = tags_of p in
+          let e : Entry = entry_with l g k j.entry.entry i in
+          let all : Tables = tables_of l p in
+          since_added old new n (name_of i).text e m is_new (find all x) (entries_from l p (suc k) js items) x is_name is_first added
+          (λ same first. means g j.entry.entry known (item_means s l all g k i j judged.0 (knows_all s l p known) (ap (find all) same ∙ first)))
           (since known x);
     }
 
@@ -108,10 +98,10 @@ means_since : (all : Option Entry) (m : Option Meaning) → Since all m None →
 means_since all None since = subst (λ o. Means o None) (sym since) NoName
 means_since all (Some w) since = since
 
-pub reached_last : (s : Structs) (l : Bool) (p : Program) (k : ℕ) (names : Globals) → Reached s l p k [] names → KnowsStructs s (tags_taken s p)
-    → (x : List ℕ) → Means (find (tables_of l (all_taken s p)) x) (global_meaning names x)
+pub reached_last : (s : Structs) (l : Bool) (p : Program) (k : ℕ) (names : Globals) → Reached s l p k [] names → KnowsStructs s (tags_of p)
+    → (x : List ℕ) → Means (find (tables_of l p) x) (global_meaning names x)
 reached_last s l p k names reached known x = by reached.left reached.judged reached.since
   where
-    by : (js : List Judged) → AreJudged [] js → AreSince s l p k js [] names → Means (find (tables_of l (all_taken s p)) x) (global_meaning names x)
-    by [] judged since = means_since (find (tables_of l (all_taken s p)) x) (global_meaning names x) (since known x)
+    by : (js : List Judged) → AreJudged [] js → AreSince s l p k js [] names → Means (find (tables_of l p) x) (global_meaning names x)
+    by [] judged since = means_since (find (tables_of l p) x) (global_meaning names x) (since known x)
     by (j ∷ js) judged since = absurd judged

@@ -1,4 +1,4 @@
--- What structs and unions are as tags, as far as they are taken, and what their names mean.
+-- What structs and unions are as tags, and what their names mean.
 use Rattle.std.proofs.Common.{◌≡◌, ℕ, Bool, true, false, Some, List, refl, sym, ap, subst, ◌∙◌}
 use Rattle.std.specs.Prelude.{if◌then◌else◌}
 use Rattle.cyc_tree.specs.Tree.{Item}
@@ -6,10 +6,8 @@ use Rattle.cyc_tree.specs.Tree as tree
 use Rattle.source_typing.specs.Programs.{Judged, entry_with, name_of}
 use Rattle.source_typing.specs.Tables.{Entry, OfTag, Tables, Tag, find}
 use Rattle.source_typing.specs.Tags.{tag_entry}
-use Rattle.source_typing.specs.Taken.{item_taken, members_taken, structure_if, takes_structure}
 use Rattle.check_scopes.specs.Means.{Means}
 use Rattle.check_scopes.specs.Means as means
-use Rattle.check_faults.specs.Taken.{taken_of}
 use Rattle.check_types.specs.Naming.{tag_named}
 use Rattle.check_types.specs.Tagged.{tag_name_of}
 use Rattle.check_types.specs.declared.tagged.TagName.{TagName}
@@ -24,9 +22,8 @@ record IsTag (e : Entry) : Type 0 where
   tag : Tag
   is : e ≡ OfTag tag
 
-tag_as : (takes : Bool) (g : Tables) (i : ℕ) (union : Bool) (s : tree.Structure) (ms : List tree.Member) → IsTag (tag_entry g i union (structure_if takes s ms))
-tag_as true g i union s ms = record { tag = _; is = refl }
-tag_as false g i union s ms = record { tag = _; is = refl }
+tag_as : (g : Tables) (i : ℕ) (union : Bool) (s : tree.Structure) → IsTag (tag_entry g i union s)
+tag_as g i union s = record { tag = _; is = refl }
 
 -- ---- what their names mean
 
@@ -45,15 +42,13 @@ entry_means s g x e tag known first =
     (subst (λ (n : TagName). Means (Some (OfTag tag.tag)) (Some (tag_meaning n))) is_named (tag_means tag.tag tag.tag.sound refl))
 
 -- the name of an item, where the item is the first one of it
-pub item_means : (s : Structs) (l : Bool) (g h : Tables) (k : ℕ) (i : Item) (j : Judged) → IsJudged (item_taken (taken_of s.taken) i) j → KnowsStructs s g
-    → find g (name_of i).text ≡ Some (entry_with l h k j.entry.entry (item_taken (taken_of s.taken) i)) → MeansTag s i j.entry.entry
+pub item_means : (s : Structs) (l : Bool) (g h : Tables) (k : ℕ) (i : Item) (j : Judged) → IsJudged i j → KnowsStructs s g
+    → find g (name_of i).text ≡ Some (entry_with l h k j.entry.entry i) → MeansTag s i j.entry.entry
 item_means s l g h k (tree.StructItem t) j judged known first =
     entry_means s g t.tag.text j.entry.entry
-    (subst (λ (y : Judged). IsTag y.entry.entry) (sym judged.is)
-    (tag_as (takes_structure (taken_of s.taken) s.taken.structs t) judged.tables judged.index false t (members_taken (taken_of s.taken) t.members))) known first
+    (subst (λ (y : Judged). IsTag y.entry.entry) (sym judged.is) (tag_as judged.tables judged.index false t)) known first
 item_means s l g h k (tree.UnionItem t) j judged known first =
     entry_means s g t.tag.text j.entry.entry
-    (subst (λ (y : Judged). IsTag y.entry.entry) (sym judged.is)
-    (tag_as (takes_structure (taken_of s.taken) s.taken.unions t) judged.tables judged.index true t (members_taken (taken_of s.taken) t.members))) known first
+    (subst (λ (y : Judged). IsTag y.entry.entry) (sym judged.is) (tag_as judged.tables judged.index true t)) known first
 item_means s l g h k (tree.GlobalItem x) j judged known first = tt
 item_means s l g h k (tree.FunctionItem f) j judged known first = tt

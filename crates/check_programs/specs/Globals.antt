@@ -1,6 +1,6 @@
--- Globals as far as they are taken.
-use Rattle.std.specs.Prelude.{Bool, List, None, Option, Some, false, map, true, ℕ, ◌≡◌, ◌*◌, ◌&&◌, ◌++◌, [], ◌∷◌}
-use Rattle.cyc_tree.specs.Tree.{Global, Initial, TypeName}
+-- Globals.
+use Rattle.std.specs.Prelude.{Bool, List, None, Option, Some, false, map, true, ℕ, ◌≡◌, ◌*◌, ◌++◌, [], ◌∷◌}
+use Rattle.cyc_tree.specs.Tree.{Initial, TypeName}
 use Rattle.source_typing.specs.Faults.{Fault}
 use Rattle.source_typing.specs.Globals.{count_of, foreign_names, has_none, initial_faults}
 use Rattle.source_typing.specs.Declarations.{what_after, what_of}
@@ -9,7 +9,6 @@ use Rattle.source_typing.specs.Scope.{Env}
 use Rattle.source_meaning.specs.Sizes.{rounded_up}
 use Rattle.source_typing.specs.Extents.{fits_bytes, variable_size}
 use Rattle.source_typing.specs.Tables.{Entry, OfValue, Tables}
-use Rattle.source_typing.specs.Taken.{global_if, initial_taken, takes_initial, takes_type, Taken}
 use Rattle.source_typing.specs.Types.{StaticType}
 use Rattle.source_typing.specs.Verdicts.{Of, Verdict, faults_of}
 use Rattle.source_typing.specs.Written.{Spot, find_region, spot}
@@ -20,9 +19,6 @@ use Rattle.check_scopes.specs.declared.meaning.Meaning.TheVariants.{Array, NotKn
 use Rattle.check_types.specs.Arguments.{named_spots}
 use Rattle.cyc_tree.specs.Tree as tree
 use Rattle.check_faults.specs.declared.fault.Fault as found
-
-abbrev pub global_taken : Taken → Global → Global
-global_taken k x = global_if (takes_type k x.of && takes_initial k x.initial) x (initial_taken k x.of x.initial)
 
 -- ---- types
 

@@ -1,7 +1,7 @@
 // Constants, as globals begin with them.
 
 ghost use Rattle.std.specs.Prelude.{◌≡◌, Bool, IfOk, ℕ};
-ghost use Rattle.cyc_tree.specs.View.{constant_tree, initial_tree, type_tree};
+ghost use Rattle.cyc_tree.specs.View.{constant_tree, initial_tree};
 ghost use Rattle.cyc_types.specs.Bases.{base_type};
 ghost use Rattle.cyc_types.specs.Types.{static_type};
 ghost use Rattle.check_operators.specs.Values.{value_of};
@@ -12,21 +12,18 @@ ghost use Rattle.source_typing.specs.Globals.{constant};
 ghost use Rattle.source_typing.specs.Scope.{at_item, value};
 ghost use Rattle.source_typing.specs.Scope as judged;
 ghost use Rattle.source_typing.specs.Tables as rules_tables;
-ghost use Rattle.source_typing.specs.Taken.{constant_taken, initial_taken, refused_constant};
 ghost use Rattle.source_typing.specs.Types.{StaticType};
 ghost use Rattle.check_faults.specs.Faults.{faults_of};
-ghost use Rattle.check_faults.specs.Taken.{taken_of};
 ghost use Rattle.check_faults.specs.Verdicts.{short_of, shortened};
 ghost use Rattle.check_programs.specs.Globals.{faults_by};
-ghost use Rattle.cyc_tree.specs.Tree as tree;
 ghost use Rattle.source_typing.specs.Verdicts as rules;
 
-use check_faults::{Fault, Taken, Verdict};
+use check_faults::{Fault, Verdict};
 use check_functions::set_fault;
 use check_operators::{Seat, Value, string};
 use check_regions::RegionScope;
 use check_scopes::{Globals, Locals, Scope};
-use cyc_tree::{Constant, Initial, TypeName};
+use cyc_tree::{Constant, Initial};
 use cyc_types::{BaseType, CType, Tables};
 use std::alloc::{AllocError, Global};
 
@@ -41,17 +38,6 @@ fn number_base<'p>(number: u32, suffix: bool) -> BaseType<'p>
     }
 }
 
-/// A type that doesn't convert to this one, which is no pointer where it has none.
-fn unfit_base<'p>(of: &TypeName) -> BaseType<'p>
-    ensures { (at : ℕ) → constant (refused_constant (type_tree of.now).pointers at) ≡ value at (base_type result) }
-{
-    if of.pointers.is_empty() {
-        BaseType::Null
-    } else {
-        BaseType::Int
-    }
-}
-
 /// A value of a type that is no pointer.
 fn plain_value<'p>(alloc: Global, at: u32, base: BaseType<'p>) -> Verdict<Value<'p>>
     ensures { short_of value_of result ≡ shortened (value at (base_type base.entry)) }
@@ -63,34 +49,9 @@ fn plain_value<'p>(alloc: Global, at: u32, base: BaseType<'p>) -> Verdict<Value<
     })
 }
 
-/// The value of a string of a global of this type; where strings aren't taken, one that doesn't convert to the type. Fails only where no
-/// host memory is left.
-fn text_value<'p>(
-    alloc: Global,
-    taken: Taken,
-    of: &TypeName,
-    at: u32,
-    text: &[u8],
-) -> Result<Verdict<Value<'p>>, AllocError>
-    ensures { IfOk result (λ v. short_of value_of v
-        ≡ shortened (constant (constant_taken (taken_of taken) (type_tree of.now) (tree.Constant.Text at text.now)))) }
-{
-    if taken.strings {
-        string(alloc, at, text)
-    } else {
-        Ok(plain_value(alloc, at, unfit_base(of)))
-    }
-}
-
-/// The value of a constant of a global of this type. Fails only where no host memory is left.
-fn constant_value<'p>(
-    alloc: Global,
-    taken: Taken,
-    of: &TypeName,
-    given: &Constant,
-) -> Result<Verdict<Value<'p>>, AllocError>
-    ensures { IfOk result (λ v. short_of value_of v
-        ≡ shortened (constant (constant_taken (taken_of taken) (type_tree of.now) (constant_tree given.now)))) }
+/// The value of a constant. Fails only where no host memory is left.
+fn constant_value<'p>(alloc: Global, given: &Constant) -> Result<Verdict<Value<'p>>, AllocError>
+    ensures { IfOk result (λ v. short_of value_of v ≡ shortened (constant (constant_tree given.now))) }
 {
     match given {
         Constant::Number(at, number, suffix) | Constant::Negative(at, number, suffix) => {
@@ -98,7 +59,7 @@ fn constant_value<'p>(
         }
         Constant::Character(at, _) => Ok(plain_value(alloc, *at, BaseType::Char)),
         Constant::Null(at) => Ok(plain_value(alloc, *at, BaseType::Null)),
-        Constant::Text(at, text) => text_value(alloc, taken, of, *at, text),
+        Constant::Text(at, text) => string(alloc, *at, text),
     }
 }
 
@@ -117,7 +78,6 @@ fn given_fault(
     let scope = Scope {
         globals: &globals,
         tables: &tables,
-        taken: Taken::thin_pointers(),
         locals: Locals::new(alloc),
         regions: RegionScope::of_item(alloc),
         lenient: false,
@@ -128,20 +88,17 @@ fn given_fault(
 /// The earliest fault of a global's type and of what it begins with. Fails only where no host memory is left.
 pub(crate) fn initial_fault(
     alloc: Global,
-    taken: Taken,
-    of: &TypeName,
     initial: &Initial,
     to: &Verdict<CType<'_>>,
 ) -> Result<Option<Fault>, AllocError>
     ensures { (lenient : Bool) (g : rules_tables.Tables) (i : ℕ) (v : rules.Verdict StaticType) → short_of static_type to.now ≡ shortened v
-        → let start = initial_taken (taken_of taken) (type_tree of.now) (initial_tree initial.now) in
-        IfOk result (λ f. faults_of f ≡ earliest (faults_by (at_item lenient g i) start v)) }
+        → IfOk result (λ f. faults_of f ≡ earliest (faults_by (at_item lenient g i) (initial_tree initial.now) v)) }
 {
     match initial {
         Initial::None => Ok(to.fault()),
         Initial::Array(_) => Ok(to.fault()),
         Initial::Constant(constant) => {
-            let value = constant_value(alloc, taken, of, constant)?;
+            let value = constant_value(alloc, constant)?;
             given_fault(alloc, &value, to)
         }
     }

@@ -1,6 +1,6 @@
 // Globals.
 
-ghost use Rattle.std.specs.Prelude.{◌≡◌, ◌&&◌, Bool, IfOk, List, None, Some, if◌then◌else◌, is_some};
+ghost use Rattle.std.specs.Prelude.{◌≡◌, Bool, IfOk, List, None, Some, if◌then◌else◌, is_some};
 ghost use Rattle.cyc_tree.specs.View.{global_tree, initial_tree};
 ghost use Rattle.cyc_types.specs.Types.{static_type};
 ghost use Rattle.source_typing.specs.Faults.{Fault as TheFault, earliest};
@@ -11,13 +11,11 @@ ghost use Rattle.source_typing.specs.Regions.{TheHeap};
 ghost use Rattle.source_typing.specs.Scope.{at_item};
 ghost use Rattle.source_typing.specs.Tables.{OfValue};
 ghost use Rattle.source_typing.specs.Tables as rules_tables;
-ghost use Rattle.source_typing.specs.Taken.{takes_initial, takes_type};
 ghost use Rattle.source_typing.specs.Types.{StaticType};
 ghost use Rattle.check_faults.specs.Faults.{faults_of};
-ghost use Rattle.check_faults.specs.Taken.{taken_of};
 ghost use Rattle.check_faults.specs.Verdicts.{short_of, shortened};
 ghost use Rattle.check_scopes.specs.Means.{Means};
-ghost use Rattle.check_programs.specs.Globals.{bytes_by, global_taken, meaning_by};
+ghost use Rattle.check_programs.specs.Globals.{bytes_by, meaning_by};
 ghost use Rattle.check_programs.specs.Structs.{KnowsStructs};
 ghost use Rattle.check_scopes.specs.declared.meaning.Meaning.TheVariants.{NotKnown};
 ghost use Rattle.source_typing.specs.Verdicts as rules;
@@ -25,9 +23,8 @@ ghost use Rattle.source_typing.specs.Verdicts as rules;
 use crate::constant::initial_fault;
 use crate::global_types::{global_type, type_bytes};
 use crate::structs::Structs;
-use check_faults::{Fault, FaultKind, Taken, Verdict};
+use check_faults::{Fault, Verdict};
 use check_scopes::Meaning;
-use check_types::takes_type_in;
 use cyc_tree::{Global as GlobalItem, Initial};
 use cyc_types::{CType, RegionId};
 use std::alloc::{AllocError, Global};
@@ -115,24 +112,6 @@ fn by_type<'p>(
     }
 }
 
-/// Whether what a global begins with is taken: an array, where arrays are.
-fn takes_initial(taken: Taken, initial: &Initial) -> bool
-    ensures { result ≡ takes_initial (taken_of taken) (initial_tree initial.now) }
-{
-    match initial {
-        Initial::None | Initial::Constant(_) => true,
-        Initial::Array(_) => taken.arrays,
-    }
-}
-
-/// Whether a global's form is taken: its type, and an array where arrays are.
-pub(crate) fn is_taken(taken: Taken, global: &GlobalItem) -> bool
-    ensures { let x = global_tree global.now in
-        result ≡ (takes_type (taken_of taken) x.of && takes_initial (taken_of taken) x.initial) }
-{
-    takes_type_in(taken, &global.of) && takes_initial(taken, &global.initial)
-}
-
 /// What a global after so many items is, by its type and its constant. Fails only where no host memory is left.
 pub(crate) fn judged_global<'p>(
     alloc: Global,
@@ -141,21 +120,15 @@ pub(crate) fn judged_global<'p>(
     global: &'p GlobalItem,
 ) -> Result<JudgedGlobal<'p>, AllocError>
     ensures fault { (lenient : Bool) (g : rules_tables.Tables) → KnowsStructs structs.entry g → IfOk result (λ j. faults_of j.fault
-        ≡ earliest (global_faults (at_item lenient g item) (global_taken (taken_of structs.entry.taken) (global_tree global.entry.now)))) }
+        ≡ earliest (global_faults (at_item lenient g item) (global_tree global.entry.now))) }
     ensures meaning { (lenient : Bool) (g : rules_tables.Tables) → KnowsStructs structs.entry g → IfOk result (λ j.
-        Means (Some (global_entry (at_item lenient g item) (global_taken (taken_of structs.entry.taken) (global_tree global.entry.now)))) (Some j.meaning)) }
+        Means (Some (global_entry (at_item lenient g item) (global_tree global.entry.now))) (Some j.meaning)) }
     ensures bytes { (lenient : Bool) (g : rules_tables.Tables) → KnowsStructs structs.entry g → IfOk result (λ j. j.bytes
-        ≡ rounded_up (global_size (at_item lenient g item) (global_taken (taken_of structs.entry.taken) (global_tree global.entry.now))) 8) }
+        ≡ rounded_up (global_size (at_item lenient g item) (global_tree global.entry.now)) 8) }
 {
-    if !is_taken(structs.taken, global) {
-        return Ok(unknown(Some(Fault {
-            kind: FaultKind::Typing,
-            at: global.of.at,
-        })));
-    }
     let count = count_of(&global.initial);
     let of = global_type(alloc, structs, item, count, &global.of)?;
-    let fault = initial_fault(alloc, structs.taken, &global.of, &global.initial, &of)?;
+    let fault = initial_fault(alloc, &global.initial, &of)?;
     let bytes = type_bytes(structs, count, &of);
     Ok(by_type(count, of, bytes, fault))
 }

@@ -1,15 +1,13 @@
 // The types and sizes of globals.
 
-ghost use Rattle.std.specs.Prelude.{◌≡◌, ◌≤◌, Bool, IfOk, true};
+ghost use Rattle.std.specs.Prelude.{◌≡◌, ◌≤◌, Bool, IfOk};
 ghost use Rattle.cyc_tree.specs.View.{type_tree};
 ghost use Rattle.cyc_types.specs.Types.{static_type};
 ghost use Rattle.source_meaning.specs.Sizes.{rounded_up};
 ghost use Rattle.source_typing.specs.Globals.{count_of, fitting_global, global_type};
 ghost use Rattle.source_typing.specs.Scope.{at_item};
 ghost use Rattle.source_typing.specs.Tables as rules_tables;
-ghost use Rattle.source_typing.specs.Taken.{takes_type};
 ghost use Rattle.source_typing.specs.Types.{StaticType};
-ghost use Rattle.check_faults.specs.Taken.{taken_of};
 ghost use Rattle.check_faults.specs.Verdicts.{short_of, shortened};
 ghost use Rattle.check_programs.specs.Globals.{IsSized, bytes_by, bytes_of};
 ghost use Rattle.check_programs.specs.Structs.{KnowsStructs};
@@ -68,8 +66,8 @@ fn fitting<'p>(
     }
 }
 
-/// The type of a global after so many items, or of the elements of an array of so many, where it is taken: it names no region but the
-/// heap and the unique one. Fails only where no host memory is left.
+/// The type of a global after so many items, or of the elements of an array of so many: it names no region but the heap and the unique
+/// one. Fails only where no host memory is left.
 pub(crate) fn global_type<'p>(
     alloc: Global,
     structs: Structs<'_, 'p>,
@@ -78,12 +76,11 @@ pub(crate) fn global_type<'p>(
     of: &'p TypeName,
 ) -> Result<Verdict<CType<'p>>, AllocError>
     ensures { (lenient : Bool) (g : rules_tables.Tables) (x : tree.Global) → KnowsStructs structs.entry g → x.of ≡ type_tree of.entry.now
-        → takes_type (taken_of structs.entry.taken) x.of ≡ true → count_of x.initial ≡ count
-        → IfOk result (λ v. short_of static_type v ≡ shortened (global_type (at_item lenient g item) x)) }
+        → count_of x.initial ≡ count → IfOk result (λ v. short_of static_type v ≡ shortened (global_type (at_item lenient g item) x)) }
 {
     let names = foreign_names(alloc, of)?;
-    let tag = tag_of_type(structs.taken, structs.tags, of);
-    let found = written_in(alloc, structs.taken, tag, &names, of)?;
+    let tag = tag_of_type(structs.tags, of);
+    let found = written_in(alloc, tag, &names, of)?;
     let settled = settled_alone(found, of.at)?;
     let is_unnamed = names_none(of);
     Ok(fitting(structs, item, count, settled, of.at, is_unnamed))

@@ -1,4 +1,4 @@
-//! The earliest fault of a program, where each form of the language may be taken or not (`Taken`).
+//! The earliest fault of a program.
 //!
 //! What is said of it are the rules of `source_typing` on names, types, regions, effects and sizes: `program_fault` answers the earliest of
 //! the faults that these find, with or without those on live regions and effects.

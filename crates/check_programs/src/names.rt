@@ -5,9 +5,6 @@ ghost use Rattle.cyc_tree.specs.View.{function_tree, name_tree, program_item_tre
 ghost use Rattle.source_typing.specs.Functions.{head_of};
 ghost use Rattle.source_typing.specs.Programs.{builtins, entries, entry_with, is_seen, judged_tags, name_of, tables_of};
 ghost use Rattle.source_typing.specs.Tables.{Entry, OfFunction, Tables, find};
-ghost use Rattle.source_typing.specs.Taken.{function_taken, item_taken, only_taken};
-ghost use Rattle.source_typing.specs.Taken as rules_taken;
-ghost use Rattle.check_faults.specs.Taken.{taken_of};
 ghost use Rattle.check_types.specs.Naming.{tag_named};
 ghost use Rattle.check_scopes.specs.Globals.{global_meaning};
 ghost use Rattle.check_scopes.specs.Means.{Means};
@@ -34,10 +31,8 @@ fn builtin_names<'p>(alloc: Global) -> Result<Globals<'p>, AllocError>
 }
 
 /// An item's name.
-#[tactic(auto, using(crate::proofs::Items::name_stays))]
 pub(crate) fn item_name(item: &Item) -> &Name
-    ensures plain { name_tree result.now ≡ name_of (program_item_tree item.now) }
-    ensures taken { (k : rules_taken.Taken) → name_tree result.now ≡ name_of (item_taken k (program_item_tree item.now)) }
+    ensures { name_tree result.now ≡ name_of (program_item_tree item.now) }
 {
     match item {
         Item::Struct(structure) | Item::Union(structure) => &structure.tag,
@@ -54,14 +49,13 @@ fn function_meaning<'p>(
     function: &'p Function,
 ) -> Result<Meaning<'p>, AllocError>
     ensures { (g : Tables) → KnowsStructs structs.entry g
-        → let f = function_taken (taken_of structs.entry.taken) (function_tree function.entry.now) in
-        IfOk result (λ m. Means (Some (OfFunction (head_of lenient g f).signature)) (Some m)) }
+        → IfOk result (λ m. Means (Some (OfFunction (head_of lenient g (function_tree function.entry.now)).signature)) (Some m)) }
 {
-    let head = read_head(alloc, structs.taken, structs.tags, lenient, function)?;
+    let head = read_head(alloc, structs.tags, lenient, function)?;
     head_meaning(alloc, head)
 }
 
-/// What the name of a struct or union means: one that isn't taken is one of a declaration at fault.
+/// What the name of a struct or union means.
 fn tag_meaning<'p>(structs: Structs<'_, '_>, name: &Name) -> Meaning<'p>
     ensures { result ≡ tag_meaning (tag_named structs.entry.tags.now (name_tree name.now).text) }
 {
@@ -81,7 +75,7 @@ fn item_meaning<'p>(
     item: &'p Item,
 ) -> Result<Meaning<'p>, AllocError>
     ensures { (g : Tables) (e : Entry) → KnowsStructs structs.entry g → MeansTag structs.entry (program_item_tree item.entry.now) e
-        → IfOk result (λ m. Means (Some (entry_with lenient g index e (item_taken (taken_of structs.entry.taken) (program_item_tree item.entry.now)))) (Some m)) }
+        → IfOk result (λ m. Means (Some (entry_with lenient g index e (program_item_tree item.entry.now))) (Some m)) }
 {
     match item {
         Item::Struct(structure) | Item::Union(structure) => {
@@ -108,7 +102,7 @@ pub fn program_names<'p>(
     lenient: bool,
     items: &'p [Item],
 ) -> Result<Globals<'p>, AllocError>
-    ensures { let all = only_taken (taken_of structs.entry.taken) (program_tree items.entry.now) in
+    ensures { let all = program_tree items.entry.now in
         KnowsStructs structs.entry (builtins (entries (judged_tags all)))
         → IfOk result (λ names. (x : List ℕ) → Means (find (tables_of lenient all) x) (global_meaning names x)) }
 {

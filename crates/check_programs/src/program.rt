@@ -1,16 +1,13 @@
 // The faults of programs.
 
-ghost use Rattle.std.specs.Prelude.{◌≡◌, ◌++◌, ◌∷◌, [], IfOk, codes};
-ghost use Rattle.cyc_tree.specs.View.{constant_tree, initial_tree, name_tree, program_item_tree, program_tree};
+ghost use Rattle.std.specs.Prelude.{◌≡◌, ◌∷◌, [], IfOk, codes};
+ghost use Rattle.cyc_tree.specs.View.{name_tree, program_item_tree, program_tree};
 ghost use Rattle.source_typing.specs.Faults.{earliest, fault, name_rule, test, type_rule};
 ghost use Rattle.source_typing.specs.Programs.{builtins, entries, item_faults, items_from, judged_tags, main_found, main_is, name_of, second_names};
 ghost use Rattle.source_typing.specs.Programs.{tables_of, typing_faults};
 ghost use Rattle.source_typing.specs.Tables as rules_tables;
-ghost use Rattle.source_typing.specs.Taken.{constant_form, constant_forms, initial_form, item_forms, item_taken, only_taken};
-ghost use Rattle.source_typing.specs.Taken as rules_taken;
 ghost use Rattle.check_functions.specs.Bodies.{KnowsNames};
 ghost use Rattle.check_faults.specs.Faults.{fault_of, faults_of};
-ghost use Rattle.check_faults.specs.Taken.{taken_of};
 ghost use Rattle.check_programs.specs.Programs.{AreSeen};
 ghost use Rattle.check_programs.specs.Structs.{KnowsStructs};
 
@@ -18,12 +15,11 @@ use crate::global::judged_global;
 use crate::names::{item_name, next_index, program_names, see};
 use crate::sizes::sizes_fault;
 use crate::structs::Structs;
-use check_faults::{Fault, FaultKind, Taken, sooner};
+use check_faults::{Fault, FaultKind, sooner};
 use check_functions::{Names, function_fault, is_main};
 use check_scopes::Globals;
 use check_structs::judged_tags;
-use check_types::takes_type_in;
-use cyc_tree::{Constant, END_OF_TEXT, Initial, Item, Name, Program};
+use cyc_tree::{END_OF_TEXT, Item, Name, Program};
 use std::alloc::{AllocError, Global};
 
 /// A phrase of a wrong type or form.
@@ -46,68 +42,6 @@ fn named(at: u32) -> Fault
     }
 }
 
-/// The fault of a string, unless strings are taken.
-fn text_form(taken: Taken, at: u32) -> Option<Fault>
-    ensures { faults_of result ≡ earliest (test taken.strings type_rule at) }
-{
-    if taken.strings {
-        None
-    } else {
-        Some(mistyped(at))
-    }
-}
-
-/// The fault of a constant that isn't taken.
-fn constant_form(taken: Taken, constant: &Constant) -> Option<Fault>
-    ensures { faults_of result ≡ earliest (constant_form (taken_of taken) (constant_tree constant.now)) }
-{
-    match constant {
-        Constant::Number(_, _, _)
-        | Constant::Negative(_, _, _)
-        | Constant::Character(_, _)
-        | Constant::Null(_) => None,
-        Constant::Text(at, _) => text_form(taken, *at),
-    }
-}
-
-/// The fault of what a global begins with, if it is a constant that isn't taken.
-fn initial_form(taken: Taken, initial: &Initial) -> Option<Fault>
-    ensures { faults_of result ≡ earliest (initial_form (taken_of taken) (initial_tree initial.now)) }
-{
-    match initial {
-        Initial::None | Initial::Array(_) => None,
-        Initial::Constant(constant) => constant_form(taken, constant),
-    }
-}
-
-/// The fault of a global's constant that isn't taken, where its type is.
-#[tactic(auto, using(crate::proofs::Items::form_of_global))]
-fn item_form(taken: Taken, item: &Item) -> Option<Fault>
-    ensures { faults_of result ≡ earliest (item_forms (taken_of taken) (program_item_tree item.now)) }
-{
-    match item {
-        Item::Struct(_) | Item::Union(_) | Item::Function(_) => None,
-        Item::Global(global) => {
-            if takes_type_in(taken, &global.of) {
-                initial_form(taken, &global.initial)
-            } else {
-                None
-            }
-        }
-    }
-}
-
-/// The earliest fault of constants that aren't taken.
-fn forms_fault(taken: Taken, items: &[Item]) -> Option<Fault>
-    ensures { faults_of result ≡ earliest (constant_forms (taken_of taken) (program_tree items.now)) }
-{
-    let mut found = None;
-    'each: for item in items {
-        found = sooner(found, item_form(taken, item));
-    }
-    found
-}
-
 /// The earliest fault of a global or a function after so many items. Fails only where no host memory is left.
 fn item_fault<'p>(
     alloc: Global,
@@ -117,7 +51,7 @@ fn item_fault<'p>(
     item: &'p Item,
 ) -> Result<Option<Fault>, AllocError>
     ensures { (g : rules_tables.Tables) → KnowsNames names.entry g → IfOk result (λ f. faults_of f
-        ≡ earliest (item_faults lenient g index (item_taken (taken_of names.entry.taken) (program_item_tree item.entry.now)))) }
+        ≡ earliest (item_faults lenient g index (program_item_tree item.entry.now))) }
 {
     match item {
         Item::Struct(_) | Item::Union(_) => Ok(None),
@@ -125,7 +59,6 @@ fn item_fault<'p>(
             let structs = Structs {
                 tags: names.tags,
                 tables: names.tables,
-                taken: names.taken,
             };
             let judged = judged_global(alloc, structs, index, global)?;
             Ok(judged.fault)
@@ -142,7 +75,7 @@ fn items_fault<'p>(
     items: &'p [Item],
 ) -> Result<Option<Fault>, AllocError>
     ensures { (g : rules_tables.Tables) → KnowsNames names.entry g → IfOk result (λ f. faults_of f
-        ≡ earliest (items_from lenient g 0 (only_taken (taken_of names.entry.taken) (program_tree items.entry.now)))) }
+        ≡ earliest (items_from lenient g 0 (program_tree items.entry.now))) }
 {
     let mut found = None;
     let mut index = 0;
@@ -160,7 +93,7 @@ fn bodies_fault<'p>(
     lenient: bool,
     items: &'p [Item],
 ) -> Result<Option<Fault>, AllocError>
-    ensures { let all = only_taken (taken_of structs.entry.taken) (program_tree items.entry.now) in
+    ensures { let all = program_tree items.entry.now in
         KnowsStructs structs.entry (builtins (entries (judged_tags all)))
         → IfOk result (λ f. faults_of f ≡ earliest (items_from lenient (tables_of lenient all) 0 all)) }
 {
@@ -169,7 +102,6 @@ fn bodies_fault<'p>(
         globals: &globals,
         tags: structs.tags,
         tables: structs.tables,
-        taken: structs.taken,
     };
     items_fault(alloc, names, lenient, items)
 }
@@ -193,8 +125,8 @@ fn second_fault(is_new: bool, name: &Name) -> Option<Fault>
 
 /// The earliest fault of second items of a name. Fails only where no host memory is left.
 fn seconds_fault(alloc: Global, items: &[Item]) -> Result<Option<Fault>, AllocError>
-    ensures { (k : rules_taken.Taken) → IfOk result (λ f. faults_of f
-        ≡ earliest (second_names (codes "getchar" ∷ codes "putchar" ∷ []) (only_taken k (program_tree items.now)))) }
+    ensures { IfOk result (λ f. faults_of f
+        ≡ earliest (second_names (codes "getchar" ∷ codes "putchar" ∷ []) (program_tree items.now))) }
 {
     let mut seen = seen_first(alloc)?;
     let mut found = None;
@@ -207,9 +139,8 @@ fn seconds_fault(alloc: Global, items: &[Item]) -> Result<Option<Fault>, AllocEr
 }
 
 /// The fault of an item that is named `main`.
-#[tactic(auto, using(crate::proofs::Items::name_stays))]
 fn main_is(item: &Item) -> Option<Fault>
-    ensures { (k : rules_taken.Taken) → let i = item_taken k (program_item_tree item.now) in faults_of result ≡ earliest (main_is i (name_of i).at) }
+    ensures { let i = program_item_tree item.now in faults_of result ≡ earliest (main_is i (name_of i).at) }
 {
     match item {
         Item::Function(_) => None,
@@ -220,7 +151,7 @@ fn main_is(item: &Item) -> Option<Fault>
 
 /// The fault of a program without `main`, or with another item of that name.
 fn main_found(items: &[Item]) -> Option<Fault>
-    ensures { (k : rules_taken.Taken) → faults_of result ≡ earliest (main_found (only_taken k (program_tree items.now))) }
+    ensures { faults_of result ≡ earliest (main_found (program_tree items.now)) }
 {
     'each: for item in items {
         if is_main(&item_name(item).text) {
@@ -230,28 +161,24 @@ fn main_found(items: &[Item]) -> Option<Fault>
     Some(named(END_OF_TEXT))
 }
 
-/// The earliest fault of a program by the rules on names, types, regions, effects and sizes, where these forms are taken, with or without
-/// the rules on live regions and effects. Fails only where no host memory is left.
+/// The earliest fault of a program by the rules on names, types, regions, effects and sizes, with or without the rules on live regions
+/// and effects. Fails only where no host memory is left.
 pub fn program_fault(
     alloc: Global,
-    taken: Taken,
     program: &Program,
     lenient: bool,
 ) -> Result<Option<Fault>, AllocError>
-    ensures { IfOk result (λ f. faults_of f
-        ≡ earliest (constant_forms (taken_of taken) program.now ++ typing_faults lenient (only_taken (taken_of taken) program.now))) }
+    ensures { IfOk result (λ f. faults_of f ≡ earliest (typing_faults lenient program.now)) }
 {
     let items = program.items();
     let seconds = seconds_fault(alloc, items)?;
-    let tags = judged_tags(alloc, taken, items)?;
+    let tags = judged_tags(alloc, items)?;
     let structs = Structs {
         tags: &tags.names,
         tables: &tags.tables,
-        taken,
     };
     let bodies = bodies_fault(alloc, structs, lenient, items)?;
     let sizes = sizes_fault(alloc, structs, items)?;
     let found = sooner(sooner(seconds, bodies), main_found(items));
-    let rest = sooner(tags.fault, sooner(found, sizes));
-    Ok(sooner(forms_fault(taken, items), rest))
+    Ok(sooner(tags.fault, sooner(found, sizes)))
 }

@@ -1,73 +1,47 @@
 // The sizes of a program's globals and strings.
 
 ghost use Rattle.std.specs.Prelude.{◌≡◌, Bool, IfOk};
-ghost use Rattle.cyc_tree.specs.View.{constant_tree, global_tree, initial_tree, program_item_tree, program_tree};
+ghost use Rattle.cyc_tree.specs.View.{constant_tree, initial_tree, program_item_tree, program_tree};
 ghost use Rattle.source_meaning.specs.Strings.{constant_strings, initial_strings};
 ghost use Rattle.source_typing.specs.Faults.{earliest};
 ghost use Rattle.source_typing.specs.Globals.{item_statics};
 ghost use Rattle.source_typing.specs.Programs.{if_first, size_faults};
 ghost use Rattle.source_typing.specs.Scope.{at_item};
 ghost use Rattle.source_typing.specs.Tables as rules_tables;
-ghost use Rattle.source_typing.specs.Taken.{constant_taken, initial_taken, item_taken, only_taken};
 ghost use Rattle.check_faults.specs.Faults.{faults_of};
-ghost use Rattle.check_faults.specs.Taken.{taken_of};
-ghost use Rattle.check_programs.specs.Globals.{global_taken};
 ghost use Rattle.check_programs.specs.Structs.{KnowsStructs};
 ghost use Rattle.check_programs.specs.Totals.{Adds, Counts};
-ghost use Rattle.cyc_tree.specs.Tree as tree;
 
 use crate::bodies::with_items;
-use crate::global::{is_taken, judged_global};
+use crate::global::judged_global;
 use crate::names::{item_name, next_index, see};
 use crate::structs::Structs;
 use crate::total::{Total, string_bytes};
-use check_faults::{Fault, Taken};
+use check_faults::Fault;
 use check_scopes::Globals;
-use cyc_tree::{Constant, Global as GlobalItem, Initial, Item};
+use cyc_tree::{Constant, Initial, Item};
 use std::alloc::{AllocError, Global};
 
-/// With the string of a constant of a global, where strings are taken.
-fn with_constant(total: Total, taken: Taken, constant: &Constant) -> Total
-    ensures { (of : tree.TypeName) → Counts total result (constant_strings (constant_taken (taken_of taken) of (constant_tree constant.now))) }
+/// With the string of a constant of a global.
+fn with_constant(total: Total, constant: &Constant) -> Total
+    ensures { Counts total result (constant_strings (constant_tree constant.now)) }
 {
     match constant {
         Constant::Number(_, _, _)
         | Constant::Negative(_, _, _)
         | Constant::Character(_, _)
         | Constant::Null(_) => total,
-        Constant::Text(at, text) => with_text(total, taken, *at, text),
+        Constant::Text(at, text) => total.with(*at, string_bytes(text)),
     }
 }
 
-/// With a string of a global, where strings are taken.
-fn with_text(total: Total, taken: Taken, at: u32, text: &[u8]) -> Total
-    ensures { (of : tree.TypeName) → Counts total result (constant_strings (constant_taken (taken_of taken) of (tree.Constant.Text at text.now))) }
-{
-    if taken.strings {
-        total.with(at, string_bytes(text))
-    } else {
-        total
-    }
-}
-
-/// With the string that a global begins with, where it is taken.
-fn with_initial(total: Total, taken: Taken, initial: &Initial) -> Total
-    ensures { (of : tree.TypeName) → Counts total result (initial_strings (initial_taken (taken_of taken) of (initial_tree initial.now))) }
+/// With the string that a global begins with.
+fn with_initial(total: Total, initial: &Initial) -> Total
+    ensures { Counts total result (initial_strings (initial_tree initial.now)) }
 {
     match initial {
         Initial::None | Initial::Array(_) => total,
-        Initial::Constant(constant) => with_constant(total, taken, constant),
-    }
-}
-
-/// With the string of a global.
-fn with_global(total: Total, taken: Taken, global: &GlobalItem) -> Total
-    ensures { Counts total result (initial_strings (global_taken (taken_of taken) (global_tree global.now)).initial) }
-{
-    if is_taken(taken, global) {
-        with_initial(total, taken, &global.initial)
-    } else {
-        total
+        Initial::Constant(constant) => with_constant(total, constant),
     }
 }
 
@@ -80,15 +54,15 @@ fn with_item<'p>(
     item: &'p Item,
 ) -> Result<Total, AllocError>
     ensures { (lenient : Bool) (g : rules_tables.Tables) → KnowsStructs structs.entry g
-        → IfOk result (λ t. Adds total t (item_statics (at_item lenient g index) (item_taken (taken_of structs.entry.taken) (program_item_tree item.entry.now)))) }
+        → IfOk result (λ t. Adds total t (item_statics (at_item lenient g index) (program_item_tree item.entry.now))) }
 {
     match item {
         Item::Global(global) => {
             let judged = judged_global(alloc, structs, index, global)?;
             let object = total.with(global.of.at, judged.bytes);
-            Ok(with_global(object, structs.taken, global))
+            Ok(with_initial(object, &global.initial))
         }
-        Item::Function(function) => Ok(with_items(total, structs.taken, &function.body)),
+        Item::Function(function) => Ok(with_items(total, &function.body)),
         Item::Struct(_) | Item::Union(_) => Ok(total),
     }
 }
@@ -103,7 +77,7 @@ fn with_first<'p>(
     item: &'p Item,
 ) -> Result<Total, AllocError>
     ensures { (lenient : Bool) (g : rules_tables.Tables) → KnowsStructs structs.entry g → IfOk result (λ t. Adds total t
-        (if_first is_new (item_statics (at_item lenient g index) (item_taken (taken_of structs.entry.taken) (program_item_tree item.entry.now))))) }
+        (if_first is_new (item_statics (at_item lenient g index) (program_item_tree item.entry.now)))) }
 {
     if is_new {
         with_item(total, alloc, structs, index, item)
@@ -119,7 +93,7 @@ pub(crate) fn sizes_fault<'p>(
     items: &'p [Item],
 ) -> Result<Option<Fault>, AllocError>
     ensures { (lenient : Bool) (g : rules_tables.Tables) → KnowsStructs structs.entry g → IfOk result (λ f. faults_of f
-        ≡ earliest (size_faults lenient g (only_taken (taken_of structs.entry.taken) (program_tree items.entry.now)))) }
+        ≡ earliest (size_faults lenient g (program_tree items.entry.now))) }
 {
     let mut seen = Globals::new(alloc);
     let mut total = Total::Bytes(0);

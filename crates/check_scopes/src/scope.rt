@@ -10,7 +10,6 @@ ghost use Rattle.check_scopes.specs.Means.{Means, meaning_of};
 use crate::globals::Globals;
 use crate::locals::{Locals, What};
 use crate::meaning::{Meaning, Signature};
-use check_faults::Taken;
 use check_regions::RegionScope;
 use cyc_types::{CType, RegionId, Tables};
 use std::alloc::AllocError;
@@ -40,14 +39,13 @@ pub enum Named<'a, 'p> {
     NotKnown,
 }
 
-/// What is in scope where an expression is judged: names, structs and unions, regions, which forms are taken, and whether the rules
-/// on live regions and effects are left out.
+/// What is in scope where an expression is judged: names, structs and unions, regions, and whether the rules on live regions and effects
+/// are left out.
 #[derive(Drop)]
 pub struct Scope<'g, 'p> {
     pub globals: &'g Globals<'p>,
     /// The structs and unions of the program.
     pub tables: &'g Tables<'p>,
-    pub taken: Taken,
     pub locals: Locals<'p>,
     pub regions: RegionScope,
     pub lenient: bool,

@@ -7,16 +7,13 @@ use Rattle.cyc_tree.specs.Tree as tree
 use Rattle.cyc_tree.specs.declared.statement.BlockItem as code_item
 use Rattle.cyc_tree.specs.declared.expression.Expression as code_expression
 use Rattle.cyc_tree.specs.View.{OneItem, expression_tree, item_tree, items_of}
-use Rattle.cyc_tree.specs.Tree.{BlockItems, Statement}
+use Rattle.cyc_tree.specs.Tree.{Statement}
 use Rattle.source_typing.proofs.NamedBelow.{names_up}
-use Rattle.source_typing.specs.Declarations.{declare, name_added, operand}
+use Rattle.source_typing.specs.Declarations.{declare, name_added}
 use Rattle.source_typing.specs.Expressions.{judge}
-use Rattle.source_typing.specs.Faults.{Fault, earliest, fault, type_rule}
+use Rattle.source_typing.specs.Faults.{Fault, earliest}
 use Rattle.source_typing.specs.Scope.{Env, block_entered}
 use Rattle.source_typing.specs.Statements.{in_a_loop, in_a_switch, items_faults, returned, statement_faults}
-use Rattle.source_typing.specs.Taken.{Taken, declaration_taken, items_taken, statement_if, statement_taken, taken}
-use Rattle.source_typing.specs.Types.{is_key, is_unique}
-use Rattle.source_typing.specs.Verdicts as verdict
 use Rattle.check_faults.specs.Faults.{faults_of, first_of, sooner_found}
 use Rattle.check_faults.specs.declared.fault.Fault as found
 use Rattle.check_faults.proofs.Earliest.{earliest_of_both, first_joined, found_sooner}
@@ -39,56 +36,52 @@ use Rattle.check_statements.specs.Contexts.{StandsIn, Suits, kept_to}
 use Rattle.check_statements.specs.Leaving.{item_falls}
 use Rattle.check_statements.specs.declared.context.Context.{Context}
 
--- the items of a block as far as they are taken
-abbrev pub taken_items : Taken → List OneItem → BlockItems
-taken_items k items = items_taken k (items_of items)
-
 -- the faults of one item, and what is in scope after it
-abbrev pub item_faults : Taken → Env → Bool → OneItem → List Fault
-item_faults k g reached (OneItem.Declare d) = (declare g (declaration_taken k d)).faults
-item_faults k g reached (OneItem.Execute s) = statement_faults g reached (statement_taken k s)
+abbrev pub item_faults : Env → Bool → OneItem → List Fault
+item_faults g reached (OneItem.Declare d) = (declare g d).faults
+item_faults g reached (OneItem.Execute s) = statement_faults g reached s
 
-abbrev pub scope_behind : Taken → Env → OneItem → Env
-scope_behind k g (OneItem.Declare d) = (declare g (declaration_taken k d)).scope
-scope_behind k g (OneItem.Execute s) = g
+abbrev pub scope_behind : Env → OneItem → Env
+scope_behind g (OneItem.Declare d) = (declare g d).scope
+scope_behind g (OneItem.Execute s) = g
 
 and_true : (b : Bool) → (b && true) ≡ b
 and_true true = refl
 and_true false = refl
 
-item_more : (k : Taken) (g : Env) (reached : Bool) (i : OneItem) (rest : List OneItem) → items_faults g reached (taken_items k (i ∷ rest))
-    ≡ item_faults k g reached i ++ items_faults (scope_behind k g i) (reached && item_falls k i) (taken_items k rest)
-item_more k g reached (OneItem.Declare d) rest =
-    ap (λ b. item_faults k g reached (OneItem.Declare d) ++ items_faults (scope_behind k g (OneItem.Declare d)) b (taken_items k rest)) (sym (and_true reached))
-item_more k g reached (OneItem.Execute s) rest = refl
+item_more : (g : Env) (reached : Bool) (i : OneItem) (rest : List OneItem) → items_faults g reached (items_of (i ∷ rest))
+    ≡ item_faults g reached i ++ items_faults (scope_behind g i) (reached && item_falls i) (items_of rest)
+item_more g reached (OneItem.Declare d) rest =
+    ap (λ b. item_faults g reached (OneItem.Declare d) ++ items_faults (scope_behind g (OneItem.Declare d)) b (items_of rest)) (sym (and_true reached))
+item_more g reached (OneItem.Execute s) rest = refl
 
 -- where some items were judged: what stands in scope by the rules, and what was found, with the faults of the rest, is what is found of all
-pub record Going (k : Taken) (c : Context) (names : List RegionNamed) (outer : ℕ) (s : Scope) (reached : Bool) (o : Option found.Fault) (rest : List OneItem)
+pub record Going (c : Context) (names : List RegionNamed) (outer : ℕ) (s : Scope) (reached : Bool) (o : Option found.Fault) (rest : List OneItem)
     (all : Option Fault) : Type 0 where
   pub env : Env
   pub stands : StandsIn c names outer s env
-  pub same : first_of (faults_of o) (earliest (items_faults env reached (taken_items k rest))) ≡ all
+  pub same : first_of (faults_of o) (earliest (items_faults env reached (items_of rest))) ≡ all
 
-pub goes_on : (k : Taken) (c : Context) (names later : List RegionNamed) (outer : ℕ) (s after : Scope) (reached : Bool) (o fault : Option found.Fault)
+pub goes_on : (c : Context) (names later : List RegionNamed) (outer : ℕ) (s after : Scope) (reached : Bool) (o fault : Option found.Fault)
     (items : List code_item.BlockItem) (index : ℕ) (item : code_item.BlockItem) (all : Option Fault) → index < length items
-    → item ≡ get_or items index item → (h : Going k c names outer s reached o (map item_tree (drop index items)) all)
-    → faults_of fault ≡ earliest (item_faults k h.env reached (item_tree item)) → StandsIn c later outer after (scope_behind k h.env (item_tree item))
-    → Going k c later outer after (reached && item_falls k (item_tree item)) (sooner_found o fault) (map item_tree (drop (index + 1) items)) all
-goes_on k c names later outer s after reached o fault items index item all l is_item h own stands =
+    → item ≡ get_or items index item → (h : Going c names outer s reached o (map item_tree (drop index items)) all)
+    → faults_of fault ≡ earliest (item_faults h.env reached (item_tree item)) → StandsIn c later outer after (scope_behind h.env (item_tree item))
+    → Going c later outer after (reached && item_falls (item_tree item)) (sooner_found o fault) (map item_tree (drop (index + 1) items)) all
+goes_on c names later outer s after reached o fault items index item all l is_item h own stands =
     let i : OneItem = item_tree item in
     let rest : List OneItem = map item_tree (drop (index + 1) items) in
-    let others : Option Fault = earliest (items_faults (scope_behind k h.env i) (reached && item_falls k i) (taken_items k rest)) in
+    let others : Option Fault = earliest (items_faults (scope_behind h.env i) (reached && item_falls i) (items_of rest)) in
     let next : drop index items ≡ item ∷ drop (index + 1) items = drop_more items index item l ∙ ap (λ y. y ∷ drop (index + 1) items) (sym is_item) in
     record {
-      env = scope_behind k h.env i;
+      env = scope_behind h.env i;
       stands = stands;
       same =
           ap (λ f. first_of f others) (found_sooner o fault) ∙ first_joined (faults_of o) (faults_of fault) others
           ∙ ap (λ f. first_of (faults_of o) (first_of f others)) own
           ∙ ap (λ f. first_of (faults_of o) f)
-          (sym (ap earliest (item_more k h.env reached i rest)
-          ∙ earliest_of_both (item_faults k h.env reached i) (items_faults (scope_behind k h.env i) (reached && item_falls k i) (taken_items k rest))))
-          ∙ ap (λ xs. first_of (faults_of o) (earliest (items_faults h.env reached (taken_items k (map item_tree xs))))) (sym next)
+          (sym (ap earliest (item_more h.env reached i rest)
+          ∙ earliest_of_both (item_faults h.env reached i) (items_faults (scope_behind h.env i) (reached && item_falls i) (items_of rest))))
+          ∙ ap (λ xs. first_of (faults_of o) (earliest (items_faults h.env reached (items_of (map item_tree xs))))) (sym next)
           ∙ h.same;
     }
 
@@ -107,32 +100,11 @@ one_more o a r fs gs all e own h =
     ∙ ap (λ f. first_of (faults_of o) f) (sym (earliest_of_both fs gs)) ∙ h
 
 -- a `return`, with a result or without
-pub return_faults : (k : Taken) (g : Env) (reached : Bool) (at : ℕ) (v : Option code_expression.Expression)
-    → statement_faults g reached (statement_taken k (Statement.Return at (option_map expression_tree v)))
-    ≡ returned g at g.result (option_map (λ e. judge g (taken k (expression_tree e))) v)
-return_faults k g reached at None = refl
-return_faults k g reached at (Some e) = refl
-
--- what is freed, where that is taken and where it isn't
-pub free_unique_faults : (k : Taken) (g : Env) (reached : Bool) (at : ℕ) (x : tree.Name)
-    → (if k.unique then verdict.faults_of (operand g x is_unique) else fault type_rule at ∷ [])
-    ≡ statement_faults g reached (statement_taken k (Statement.FreeUnique at x))
-free_unique_faults k g reached at x = by k.unique
-  where
-    by : (b : Bool) → (if b then verdict.faults_of (operand g x is_unique) else fault type_rule at ∷ [])
-        ≡ statement_faults g reached (statement_if b at (Statement.FreeUnique at x))
-    by true = refl
-    by false = refl
-
-pub free_key_faults : (k : Taken) (g : Env) (reached : Bool) (at : ℕ) (x : tree.Name)
-    → (if k.keys then verdict.faults_of (operand g x is_key) else fault type_rule at ∷ [])
-    ≡ statement_faults g reached (statement_taken k (Statement.FreeKey at x))
-free_key_faults k g reached at x = by k.keys
-  where
-    by : (b : Bool) → (if b then verdict.faults_of (operand g x is_key) else fault type_rule at ∷ [])
-        ≡ statement_faults g reached (statement_if b at (Statement.FreeKey at x))
-    by true = refl
-    by false = refl
+pub return_faults : (g : Env) (reached : Bool) (at : ℕ) (v : Option code_expression.Expression)
+    → statement_faults g reached (Statement.Return at (option_map expression_tree v))
+    ≡ returned g at g.result (option_map (λ e. judge g (expression_tree e)) v)
+return_faults g reached at None = refl
+return_faults g reached at (Some e) = refl
 
 -- ---- blocks
 

@@ -1,10 +1,8 @@
 -- The clauses of a `switch`, one at a time.
-use Rattle.std.proofs.Common.{◌≡◌, ℕ, ◌+◌, ◌<◌, List, [], ◌∷◌, ◌++◌, Bool, true, Option, Some, None, refl, sym, ap, ◌∙◌}
+use Rattle.std.proofs.Common.{◌≡◌, ℕ, ◌+◌, ◌<◌, List, [], ◌∷◌, Bool, Option, Some, None, refl, sym, ap, ◌∙◌}
 use Rattle.std.proofs.Common.{map, length, drop, get_or, arith}
 use Rattle.std.proofs.lemmas.List.{drop_more}
-use Rattle.std.specs.Prelude.{bytes_eq, nat_le, nat_eq, ◌&&◌, ◌||◌}
-use Rattle.cyc_tree.specs.Tree.{Case, Clauses, Default, Expression, MoreClauses, NoClauses, Pattern, Statement}
-use Rattle.source_typing.specs.Expressions.{judge}
+use Rattle.cyc_tree.specs.Tree.{Case, Clauses, Default, MoreClauses, Pattern}
 use Rattle.cyc_tree.proofs.PartForms.{clause_parts}
 use Rattle.cyc_tree.specs.View.{OneClause, clause_tree, clauses_of, item_tree, items_of, pattern_tree}
 use Rattle.cyc_types.proofs.Converting.{by_none, by_outer}
@@ -14,39 +12,33 @@ use Rattle.cyc_types.specs.declared.layer.Layer.TheVariants as layer
 use Rattle.cyc_tree.specs.declared.statement.Clause as code_clause
 use Rattle.source_typing.specs.Faults.{Fault, earliest, own_after}
 use Rattle.source_typing.specs.Regions.{Region}
-use Rattle.source_typing.specs.Scope.{Env, In, InBlock, Value}
-use Rattle.source_typing.specs.Statements.{Chosen, all_named, chosen, chosen_of, clauses_faults, clauses_fit, defaults, in_a_switch, named_times, one_if}
-use Rattle.source_typing.specs.Statements.{parts_of_chosen, statement_faults, switched, switched_on}
-use Rattle.source_typing.specs.Tables.{Part}
-use Rattle.source_typing.specs.Taken.{Taken, clauses_taken, statement_if, statement_taken, taken}
+use Rattle.source_typing.specs.Scope.{Env, In, InBlock}
+use Rattle.source_typing.specs.Statements.{Chosen, chosen_of, clauses_faults, defaults, named_times, one_if}
 use Rattle.source_typing.specs.Types.{Char, Fat, Handle, Int, Key, Null, StaticType, Struct, Thin, Union, Unique, Unsigned, Void}
-use Rattle.source_typing.specs.Verdicts.{Faulty, Of, Unjudged, Verdict, after, if_fits}
-use Rattle.source_typing.specs.Verdicts as rules
 use Rattle.check_faults.specs.Faults.{faults_of, first_of, sooner_found}
 use Rattle.check_faults.specs.declared.fault.Fault as found
 use Rattle.check_faults.proofs.Earliest.{earliest_of_both, first_joined, found_sooner}
-use Rattle.check_statements.specs.Switching.{clause_faults, is_default, names_part, one_clause_taken, union_in}
+use Rattle.check_statements.specs.Switching.{clause_faults, is_default, names_part, union_in}
 
 -- ---- their faults
 
--- the clauses of a `switch` as far as they are taken
-abbrev pub taken_clauses : Taken → List code_clause.Clause → Clauses
-taken_clauses k cs = clauses_taken k (clauses_of (map clause_tree cs))
+abbrev pub clause_trees : List code_clause.Clause → Clauses
+clause_trees cs = clauses_of (map clause_tree cs)
 
-pub clause_goes_on : (k : Taken) (g : Env) (reached : Bool) (u : Option Chosen) (o fault : Option found.Fault) (clauses : List code_clause.Clause) (index : ℕ)
+pub clause_goes_on : (g : Env) (reached : Bool) (u : Option Chosen) (o fault : Option found.Fault) (clauses : List code_clause.Clause) (index : ℕ)
     (clause : code_clause.Clause) (all : Option Fault) → index < length clauses → clause ≡ get_or clauses index clause
-    → first_of (faults_of o) (earliest (clauses_faults g reached u (taken_clauses k (drop index clauses)))) ≡ all
-    → faults_of fault ≡ earliest (clause_faults g reached u (one_clause_taken k (clause_tree clause)))
-    → first_of (faults_of (sooner_found o fault)) (earliest (clauses_faults g reached u (taken_clauses k (drop (index + 1) clauses)))) ≡ all
-clause_goes_on k g reached u o fault clauses index clause all l is_clause h own =
+    → first_of (faults_of o) (earliest (clauses_faults g reached u (clause_trees (drop index clauses)))) ≡ all
+    → faults_of fault ≡ earliest (clause_faults g reached u (clause_tree clause))
+    → first_of (faults_of (sooner_found o fault)) (earliest (clauses_faults g reached u (clause_trees (drop (index + 1) clauses)))) ≡ all
+clause_goes_on g reached u o fault clauses index clause all l is_clause h own =
     let rest : List code_clause.Clause = drop (index + 1) clauses in
-    let others : Option Fault = earliest (clauses_faults g reached u (taken_clauses k rest)) in
-    let one : List Fault = clause_faults g reached u (one_clause_taken k (clause_tree clause)) in
+    let others : Option Fault = earliest (clauses_faults g reached u (clause_trees rest)) in
+    let one : List Fault = clause_faults g reached u (clause_tree clause) in
     let next : drop index clauses ≡ clause ∷ rest = drop_more clauses index clause l ∙ ap (λ y. y ∷ rest) (sym is_clause) in
     ap (λ f. first_of f others) (found_sooner o fault) ∙ first_joined (faults_of o) (faults_of fault) others
     ∙ ap (λ f. first_of (faults_of o) (first_of f others)) own
-    ∙ ap (λ f. first_of (faults_of o) f) (sym (earliest_of_both one (clauses_faults g reached u (taken_clauses k rest))))
-    ∙ ap (λ xs. first_of (faults_of o) (earliest (clauses_faults g reached u (taken_clauses k xs)))) (sym next)
+    ∙ ap (λ f. first_of (faults_of o) f) (sym (earliest_of_both one (clauses_faults g reached u (clause_trees rest))))
+    ∙ ap (λ xs. first_of (faults_of o) (earliest (clauses_faults g reached u (clause_trees xs)))) (sym next)
     ∙ h
 
 -- ---- how often they name a member
@@ -121,50 +113,3 @@ pointer_union ls t l e = ap union_in (by_outer ls t l e) ∙ pointer_no_union l 
 pub own_kept : (own parts : List Fault) (f : Fault) → earliest parts ≡ Some f → earliest (own_after own parts) ≡ Some f
 own_kept own [] f e = absurd cc
 own_kept own (g ∷ gs) f e = e
-
--- ---- whether they fit: what is taken of them has the same patterns
-
-times_taken : (k : Taken) (x : List ℕ) (cs : Clauses) → named_times x (clauses_taken k cs) ≡ named_times x cs
-times_taken k x NoClauses = refl
-times_taken k x (MoreClauses at (Case f y) body others) = ap (λ (n : ℕ). one_if (bytes_eq f.text x) + n) (times_taken k x others)
-times_taken k x (MoreClauses at Default body others) = times_taken k x others
-
-defaults_taken : (k : Taken) (cs : Clauses) → defaults (clauses_taken k cs) ≡ defaults cs
-defaults_taken k NoClauses = refl
-defaults_taken k (MoreClauses at (Case f y) body others) = defaults_taken k others
-defaults_taken k (MoreClauses at Default body others) = ap (λ (n : ℕ). 1 + n) (defaults_taken k others)
-
-named_taken : (k : Taken) (ps : List Part) (cs : Clauses) (b : Bool) → all_named ps (clauses_taken k cs) b ≡ all_named ps cs b
-named_taken k [] cs b = refl
-named_taken k (p ∷ ps) cs b =
-    ap (λ (n : ℕ). nat_le n 1 && (b || nat_eq n 1) && all_named ps (clauses_taken k cs) b) (times_taken k p.name cs)
-    ∙ ap (λ a. nat_le (named_times p.name cs) 1 && (b || nat_eq (named_times p.name cs) 1) && a) (named_taken k ps cs b)
-
-fit_taken : (k : Taken) (g : Env) (c : Chosen) (cs : Clauses) → clauses_fit g c (clauses_taken k cs) ≡ clauses_fit g c cs
-fit_taken k g c cs =
-    ap (λ (n : ℕ). nat_le n 1 && all_named (parts_of_chosen g (Some c)) (clauses_taken k cs) (nat_eq n 1)) (defaults_taken k cs)
-    ∙ ap (λ a. nat_le (defaults cs) 1 && a) (named_taken k (parts_of_chosen g (Some c)) cs (nat_eq (defaults cs) 1))
-
-pub switched_taken : (k : Taken) (g : Env) (at : ℕ) (cs : Clauses) (v : Value) → switched g at (clauses_taken k cs) v ≡ switched g at cs v
-switched_taken k g at cs v = by (chosen (Of v))
-  where
-    by : (c : Option Chosen) → switched_on g at (clauses_taken k cs) v c ≡ switched_on g at cs v c
-    by None = refl
-    by (Some c) = ap (λ b. if_fits b at v) (fit_taken k g c cs)
-
-switched_after : (k : Taken) (g : Env) (at : ℕ) (cs : Clauses) (v : Verdict Value) → after v (switched g at cs) ≡ after v (switched g at (clauses_taken k cs))
-switched_after k g at cs (Faulty f fs) = refl
-switched_after k g at cs Unjudged = refl
-switched_after k g at cs (Of v) = sym (switched_taken k g at cs v)
-
--- a `switch`, where unions are taken
-pub switch_faults : (k : Taken) (g : Env) (reached : Bool) (at : ℕ) (e : Expression) (cs : Clauses) → k.unions ≡ true
-    → let v = judge g (taken k e) in
-    earliest (own_after (rules.faults_of (after v (switched g at cs)))
-    (rules.faults_of v ++ clauses_faults (in_a_switch g) reached (chosen v) (clauses_taken k cs)))
-    ≡ earliest (statement_faults g reached (statement_taken k (Statement.Switch at e cs)))
-switch_faults k g reached at e cs unions =
-    let v : Verdict Value = judge g (taken k e) in
-    let inside : List Fault = rules.faults_of v ++ clauses_faults (in_a_switch g) reached (chosen v) (clauses_taken k cs) in
-    ap (λ w. earliest (own_after (rules.faults_of w) inside)) (switched_after k g at cs v)
-    ∙ ap (λ b. earliest (statement_faults g reached (statement_if b at (Statement.Switch at (taken k e) (clauses_taken k cs))))) (sym unions)

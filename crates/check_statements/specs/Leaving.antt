@@ -1,7 +1,6 @@
 -- How statements may be left, in code and by the rules.
 use Rattle.std.specs.Prelude.{Bool, true}
 use Rattle.cyc_tree.specs.View.{OneItem}
-use Rattle.source_typing.specs.Taken.{Taken, statement_taken}
 use Rattle.source_typing.specs.Ways.{Ways, ways, ways_of}
 use Rattle.check_statements.specs.declared.ways.Ways as code
 
@@ -9,6 +8,6 @@ abbrev pub ways_in : code.Ways → Ways
 ways_in w = ways w.falls w.breaks
 
 -- whether the end of an item of a block is reached, where its start is
-abbrev pub item_falls : Taken → OneItem → Bool
-item_falls k (OneItem.Declare d) = true
-item_falls k (OneItem.Execute s) = (ways_of (statement_taken k s)).falls
+abbrev pub item_falls : OneItem → Bool
+item_falls (OneItem.Declare d) = true
+item_falls (OneItem.Execute s) = (ways_of s).falls

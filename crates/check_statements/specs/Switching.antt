@@ -7,7 +7,6 @@ use Rattle.source_typing.specs.Faults.{Fault, own_after, test, type_rule}
 use Rattle.source_typing.specs.Scope.{Env}
 use Rattle.source_typing.specs.Statements.{clause_names, clause_scope, items_faults}
 use Rattle.source_typing.specs.Statements as rules
-use Rattle.source_typing.specs.Taken.{Taken, items_taken}
 use Rattle.source_typing.specs.Types.{StaticType, Union}
 use Rattle.source_typing.specs.Ways.{ways_of_items}
 use Rattle.check_statements.specs.declared.switch.Chosen.{Chosen}
@@ -29,10 +28,6 @@ is_default Default = true
 abbrev pub names_part : Pattern → List ℕ → Bool
 names_part (Case f x) member = bytes_eq f.text member
 names_part Default member = false
-
--- a clause as far as it is taken
-abbrev pub one_clause_taken : Taken → OneClause → OneClause
-one_clause_taken k c = record { at = c.at; pattern = c.pattern; body = items_taken k c.body }
 
 -- the faults of one clause: those of its pattern and of its block, or else that its end is reached
 abbrev pub clause_faults : Env → Bool → Option rules.Chosen → OneClause → List Fault

@@ -7,10 +7,8 @@ ghost use Rattle.cyc_types.specs.Types.{static_type};
 ghost use Rattle.source_typing.specs.Declarations.{alias_fits, alias_type, aliased};
 ghost use Rattle.source_typing.specs.Scope.{Env};
 ghost use Rattle.source_typing.specs.Scope as judged;
-ghost use Rattle.source_typing.specs.Taken.{declaration_taken};
 ghost use Rattle.source_typing.specs.Types.{PartialType, StaticType};
 ghost use Rattle.source_typing.specs.Verdicts as verdict;
-ghost use Rattle.check_faults.specs.Taken.{taken_of};
 ghost use Rattle.check_faults.specs.Verdicts.{short_of, shortened};
 ghost use Rattle.check_operators.specs.Values.{value_of};
 ghost use Rattle.check_scopes.specs.Changes.{left};
@@ -23,10 +21,10 @@ ghost use Rattle.check_statements.specs.Aliases.{declared_alias};
 
 use crate::context::Context;
 use crate::fitting::local_tag;
-use crate::local::{Judged, refused, what_of};
+use crate::local::{Judged, what_of};
 use crate::operand::{Kind, operand};
 use crate::regions::next_named;
-use check_faults::{Fault, FaultKind, Taken, Verdict, sooner};
+use check_faults::{Fault, FaultKind, Verdict, sooner};
 use check_operators::Value;
 use check_regions::RegionNames;
 use check_scopes::Scope;
@@ -38,7 +36,6 @@ use std::alloc::{AllocError, Global};
 /// An alias, its name apart: its region, its type and the pointer that it is one of.
 #[derive(Clone, Copy)]
 pub(crate) struct Alias<'p> {
-    pub(crate) at: u32,
     pub(crate) region: &'p RegionName,
     pub(crate) of: &'p TypeName,
     pub(crate) source: &'p Name,
@@ -135,28 +132,23 @@ pub(crate) fn own_alias<'p>(
     context: Context<'_, 'p>,
     alias: Alias<'p>,
 ) -> Result<Judged<'p>, AllocError>
-    ensures judged { (g : Env) (x : tree.Name) → Knows scope.old g → Suits context.entry names.old g
-        → let d = declaration_taken (taken_of scope.old.taken) (declared_alias alias.entry x) in
+    ensures judged { (g : Env) (at : ℕ) (x : tree.Name) → Knows scope.old g → Suits context.entry names.old g
+        → let d = declared_alias at alias.entry x in
         IfOk result (Matches (own_faults g d) (own_what g d)) }
-    ensures stands { (g : Env) (x : tree.Name) (outer : ℕ) → StandsIn context.entry names.old outer scope.old g
+    ensures stands { (g : Env) (at : ℕ) (x : tree.Name) (outer : ℕ) → StandsIn context.entry names.old outer scope.old g
         → OnOk result (StandsIn context.entry names.new outer scope.new
-        (own_scope g (declaration_taken (taken_of scope.old.taken) (declared_alias alias.entry x)))) }
+        (own_scope g (declared_alias at alias.entry x))) }
     ensures locals { OnOk result (scope.new.locals ≡ scope.old.locals) }
     ensures left { OnOk result ((count : ℕ) (mark : RegionMark) → mark.names ≤ length scope.old.regions.begun
         → left count mark scope.new ≡ left count mark scope.old) }
     ensures kept { OnOk result ((count : ℕ) → count ≤ length names.old → kept_to count names.new ≡ kept_to count names.old) }
 {
-    if !scope.taken.unique {
-        return Ok(refused(alias.at));
-    }
-    // an alias of any type is taken where aliases are
-    let all = Taken::whole();
     let source = operand(scope, alloc, Kind::Unique, alias.source)?;
-    let tag = local_tag(all, scope, alias.of);
-    let misses_region = misses_region_in(all, tag, alias.of);
+    let tag = local_tag(scope, alias.of);
+    let misses_region = misses_region_in(tag, alias.of);
     let next = next_named(scope, names, alias.region)?;
     scope.regions.begin_name(true)?;
-    let written = written_in(alloc, all, tag, names, alias.of)?;
+    let written = written_in(alloc, tag, names, alias.of)?;
     let of = alias_type(written, alias.of.at, next.id, misses_region, &source)?;
     let fault = sooner(sooner(next.fault, source.fault()), of.fault());
     Ok(Judged {

@@ -6,10 +6,8 @@ ghost use Rattle.source_typing.specs.Declarations.{declare};
 ghost use Rattle.source_typing.specs.Faults.{earliest};
 ghost use Rattle.source_typing.specs.Scope.{Env, second, with_local};
 ghost use Rattle.source_typing.specs.Tables.{What as TheWhat};
-ghost use Rattle.source_typing.specs.Taken.{declaration_taken};
 ghost use Rattle.source_typing.specs.Written.{RegionNamed};
 ghost use Rattle.check_faults.specs.Faults.{faults_of};
-ghost use Rattle.check_faults.specs.Taken.{taken_of};
 ghost use Rattle.check_scopes.specs.Changes.{IsBlock, left};
 ghost use Rattle.check_scopes.specs.Knows.{Knows};
 ghost use Rattle.check_scopes.specs.Matching.{AreLocals};
@@ -40,11 +38,11 @@ fn declared_own<'p>(
     declaration: &'p Declaration,
 ) -> Result<Judged<'p>, AllocError>
     ensures judged { (g : Env) → Knows scope.old g → Suits context.entry names.old g
-        → let d = declaration_taken (taken_of scope.old.taken) (declaration_tree declaration.entry.now) in
+        → let d = declaration_tree declaration.entry.now in
         IfOk result (Matches (own_faults g d) (own_what g d)) }
     ensures stands { (g : Env) (outer : ℕ) → StandsIn context.entry names.old outer scope.old g
         → OnOk result (StandsIn context.entry names.new outer scope.new
-        (own_scope g (declaration_taken (taken_of scope.old.taken) (declaration_tree declaration.entry.now)))) }
+        (own_scope g (declaration_tree declaration.entry.now))) }
     ensures locals { OnOk result (scope.new.locals ≡ scope.old.locals) }
     ensures left { OnOk result ((count : ℕ) (mark : RegionMark) → mark.names ≤ length scope.old.regions.begun → mark.opened ≤ length scope.old.regions.opened
         → left count mark scope.new ≡ left count mark scope.old) }
@@ -54,22 +52,15 @@ fn declared_own<'p>(
         Declaration::Local(of, _, initializer) => {
             local(scope, names, alloc, context, of, initializer)
         }
-        Declaration::Region(at, region, _) => {
-            own_region(scope, names, alloc, context, *at, region)
+        Declaration::Region(_, region, _) => own_region(scope, names, alloc, context, region),
+        Declaration::Open(_, region, _, key) => {
+            own_open(scope, names, alloc, context, region, key)
         }
-        Declaration::Open(at, region, _, key) => {
-            own_open(scope, names, alloc, context, *at, region, key)
-        }
-        Declaration::Alias(at, region, of, _, source) => {
-            let alias = Alias {
-                at: *at,
-                region,
-                of,
-                source,
-            };
+        Declaration::Alias(_, region, of, _, source) => {
+            let alias = Alias { region, of, source };
             own_alias(scope, names, alloc, context, alias)
         }
-        Declaration::NewKey(at, region, _) => own_key(scope, names, alloc, context, *at, region),
+        Declaration::NewKey(_, region, _) => own_key(scope, names, alloc, context, region),
     }
 }
 
@@ -113,13 +104,13 @@ pub fn declare<'p>(
 ) -> Result<Option<Fault>, AllocError>
     ensures fault { (g : Env) → StandsIn context.entry names.old outer scope.old g
         → IfOk result (λ f. faults_of f
-        ≡ earliest (declare g (declaration_taken (taken_of scope.old.taken) (declaration_tree declaration.entry.now))).faults) }
+        ≡ earliest (declare g (declaration_tree declaration.entry.now)).faults) }
     ensures known { (g : Env) → StandsIn context.entry names.old outer scope.old g
         → OnOk result (StandsIn context.entry names.new outer scope.new
-        (declare g (declaration_taken (taken_of scope.old.taken) (declaration_tree declaration.entry.now))).scope) }
+        (declare g (declaration_tree declaration.entry.now)).scope) }
     ensures locals { (g : Env) → StandsIn context.entry names.old outer scope.old g → AreLocals scope.old.locals g.locals
         → OnOk result (AreLocals scope.new.locals
-        (declare g (declaration_taken (taken_of scope.old.taken) (declaration_tree declaration.entry.now))).scope.locals) }
+        (declare g (declaration_tree declaration.entry.now)).scope.locals) }
     // where the block is left, what was in scope before is so again
     ensures left { OnOk result ((count : ℕ) (mark : RegionMark) → count ≤ length scope.old.locals
         → mark.names ≤ length scope.old.regions.begun → mark.opened ≤ length scope.old.regions.opened

@@ -1,16 +1,12 @@
 // Exchanges `a :=: b`.
 
-ghost use Rattle.std.specs.Prelude.{◌≡◌, ◌++◌, Bool, IfOk, List};
-ghost use Rattle.cyc_tree.specs.Tree.{Exchange};
+ghost use Rattle.std.specs.Prelude.{◌≡◌, ◌++◌, IfOk, List};
 ghost use Rattle.cyc_tree.specs.View.{expression_tree};
 ghost use Rattle.source_typing.specs.Exchanges.{acts, exchangeable, exchanged};
 ghost use Rattle.source_typing.specs.Expressions.{judge};
 ghost use Rattle.source_typing.specs.Faults.{earliest};
 ghost use Rattle.source_typing.specs.Scope.{Env, is_place};
-ghost use Rattle.source_typing.specs.Statements.{statement_faults};
-ghost use Rattle.source_typing.specs.Taken.{statement_taken, taken};
 ghost use Rattle.check_faults.specs.Faults.{faults_of};
-ghost use Rattle.check_faults.specs.Taken.{taken_of};
 ghost use Rattle.check_scopes.specs.Knows.{Knows};
 ghost use Rattle.check_operators.specs.Values.{value_of};
 ghost use Rattle.source_typing.specs.Faults as rules;
@@ -62,8 +58,8 @@ pub(crate) fn exchange_fault(
     right: &Expression,
 ) -> Result<Option<Fault>, AllocError>
     ensures { (g : Env) → Knows scope.now g
-        → let a = taken (taken_of scope.now.taken) (expression_tree left.now) in
-        let b = taken (taken_of scope.now.taken) (expression_tree right.now) in
+        → let a = expression_tree left.now in
+        let b = expression_tree right.now in
         IfOk result (λ f. faults_of f ≡ earliest (verdict.faults_of (verdict.both (judge g a) (judge g b) (exchanged (acts a ++ acts b))))) }
 {
     let first = judge(scope, alloc, left)?;
@@ -75,22 +71,5 @@ pub(crate) fn exchange_fault(
         }
         Verdict::Wrong(fault) => Ok(Some(fault)),
         Verdict::NotJudged => Ok(None),
-    }
-}
-
-/// The earliest fault of an exchange as a statement, which may not be taken. Fails only where no host memory is left.
-pub(crate) fn exchange_taken(
-    scope: &Scope<'_, '_>,
-    alloc: Global,
-    left: &Expression,
-    right: &Expression,
-) -> Result<Option<Fault>, AllocError>
-    ensures { (g : Env) (reached : Bool) → Knows scope.now g → IfOk result (λ f. faults_of f ≡ earliest (statement_faults g reached
-        (statement_taken (taken_of scope.now.taken) (Exchange (expression_tree left.now) (expression_tree right.now))))) }
-{
-    if scope.taken.unique {
-        exchange_fault(scope, alloc, left, right)
-    } else {
-        Ok(unless(false, left.place()))
     }
 }

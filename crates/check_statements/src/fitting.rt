@@ -9,14 +9,13 @@ ghost use Rattle.source_typing.specs.Declarations.{tag_earlier};
 ghost use Rattle.source_typing.specs.Extents.{fits_bytes, variable_size};
 ghost use Rattle.source_typing.specs.Scope.{Env, in_scope};
 ghost use Rattle.source_typing.specs.Tables.{tag_in};
-ghost use Rattle.check_faults.specs.Taken.{taken_of};
 ghost use Rattle.check_faults.specs.Verdicts.{short_of, shortened};
 ghost use Rattle.check_scopes.specs.Knows.{Knows};
 ghost use Rattle.check_scopes.specs.Means.{meaning_of};
 ghost use Rattle.check_types.specs.Tagged.{TagIs};
 ghost use Rattle.check_statements.specs.Declaring.{could_be, elements_fit, fitting_by, stands_before, tag_of_meaning};
 
-use check_faults::{Fault, FaultKind, Taken, Verdict};
+use check_faults::{Fault, FaultKind, Verdict};
 use check_scopes::{Named, Scope};
 use check_types::{TagName, type_tag};
 use cyc_tree::TypeName;
@@ -41,11 +40,11 @@ fn tag_name(named: Option<Named<'_, '_>>) -> TagName
     }
 }
 
-/// What the tag means in scope that a type of structs or unions has, where it is taken.
-pub(crate) fn local_tag(taken: Taken, scope: &Scope<'_, '_>, of: &TypeName) -> TagName
-    ensures { (g : Env) → Knows scope.now g → TagIs (taken_of taken) (in_scope g) (type_tree of.now) result }
+/// What the tag means in scope that a type of structs or unions has.
+pub(crate) fn local_tag(scope: &Scope<'_, '_>, of: &TypeName) -> TagName
+    ensures { (g : Env) → Knows scope.now g → TagIs (in_scope g) (type_tree of.now) result }
 {
-    match type_tag(taken, of) {
+    match type_tag(of) {
         Some(name) => tag_name(scope.meaning(&name.text)),
         None => TagName::NoName,
     }

@@ -1,4 +1,4 @@
-//! The faults of statements and declarations in a function's body, for each value of `Taken`.
+//! The faults of statements and declarations in a function's body.
 //!
 //! What is said of them are the rules of `source_typing`: `items_fault` answers the earliest of the faults that these find in a
 //! block, in each scope of the rules that is known as the one in code is.

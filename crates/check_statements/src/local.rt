@@ -1,19 +1,17 @@
 // Locals, by their types and their initializers.
 
-ghost use Rattle.std.specs.Prelude.{◌≡◌, ◌∷◌, IfOk, List, None, Option, []};
+ghost use Rattle.std.specs.Prelude.{◌≡◌, IfOk, List, None, Option};
 ghost use Rattle.cyc_tree.specs.View.{expression_tree, initializer_tree, type_tree};
 ghost use Rattle.cyc_types.specs.Bases.{base_type};
 ghost use Rattle.cyc_types.specs.Regions.{region_of};
 ghost use Rattle.cyc_types.specs.Types.{static_type};
 ghost use Rattle.source_typing.specs.Declarations.{converted_to, set_faults, set_type, unset_type, what_after, what_of};
 ghost use Rattle.source_typing.specs.Expressions.{judge};
-ghost use Rattle.source_typing.specs.Faults.{earliest, fault, type_rule};
+ghost use Rattle.source_typing.specs.Faults.{earliest};
 ghost use Rattle.source_typing.specs.Scope.{Env};
 ghost use Rattle.source_typing.specs.Tables.{Stored, Unknown};
-ghost use Rattle.source_typing.specs.Taken.{declaration_taken, taken, type_taken};
 ghost use Rattle.source_typing.specs.Types.{StaticType};
 ghost use Rattle.check_faults.specs.Faults.{faults_of};
-ghost use Rattle.check_faults.specs.Taken.{taken_of};
 ghost use Rattle.check_faults.specs.Verdicts.{short_of, shortened};
 ghost use Rattle.check_operators.specs.Values.{value_of};
 ghost use Rattle.check_scopes.specs.Knows.{Knows};
@@ -28,11 +26,10 @@ ghost use Rattle.source_typing.specs.Verdicts as verdict;
 use crate::context::Context;
 use crate::local_types::{set_type, unset_type};
 use check_expressions::judge;
-use check_faults::{Fault, FaultKind, Verdict, sooner};
+use check_faults::{Fault, Verdict, sooner};
 use check_operators::{Value, converted};
 use check_regions::RegionNames;
 use check_scopes::{Scope, What};
-use check_types::takes_type_in;
 use cyc_tree::{Expression, Initializer, TypeName};
 use cyc_types::{BaseType, CType, RegionId};
 use std::alloc::{AllocError, Global};
@@ -117,7 +114,7 @@ fn judged_as<'p>(
     }
 }
 
-/// A local without an initializer, or an array of so many elements, of a type that is taken or not. Fails only where no host memory is left.
+/// A local without an initializer, or an array of so many elements. Fails only where no host memory is left.
 fn unset<'p>(
     scope: &Scope<'_, 'p>,
     names: &RegionNames<'_>,
@@ -127,14 +124,14 @@ fn unset<'p>(
     count: Option<u32>,
 ) -> Result<Judged<'p>, AllocError>
     ensures { (g : Env) → Knows scope.now g → Suits context.entry names.now g
-        → let t = unset_type g (type_taken (taken_of scope.now.taken) (type_tree of.entry.now)) count in
+        → let t = unset_type g (type_tree of.entry.now) count in
         IfOk result (Matches (verdict.faults_of t) (what_of g.frame count t)) }
 {
     let found = unset_type(scope, names, alloc, context, of, count)?;
     Ok(judged_as(found.fault(), context.frame, count, found))
 }
 
-/// A local with an initializer, of a type that is taken. Fails only where no host memory is left.
+/// A local with an initializer. Fails only where no host memory is left.
 fn set<'p>(
     scope: &Scope<'_, 'p>,
     names: &RegionNames<'_>,
@@ -144,8 +141,8 @@ fn set<'p>(
     initial: &Expression,
 ) -> Result<Judged<'p>, AllocError>
     ensures { (g : Env) → Knows scope.now g → Suits context.entry names.now g
-        → let v = judge g (taken (taken_of scope.now.taken) (expression_tree initial.now)) in
-        let t = set_type g (type_taken (taken_of scope.now.taken) (type_tree of.entry.now)) v in
+        → let v = judge g (expression_tree initial.now) in
+        let t = set_type g (type_tree of.entry.now) v in
         IfOk result (Matches (set_faults g v t) (what_after (set_faults g v t) (what_of g.frame None t))) }
 {
     let value = judge(scope, alloc, initial)?;
@@ -180,19 +177,6 @@ pub(crate) fn unknown_local<'p>(fault: Option<Fault>) -> Judged<'p>
     }
 }
 
-/// A declaration that isn't taken.
-pub(crate) fn refused<'p>(at: u32) -> Judged<'p>
-    ensures { Matches (fault type_rule at ∷ []) Unknown result }
-{
-    Judged {
-        fault: Some(Fault {
-            kind: FaultKind::Typing,
-            at,
-        }),
-        what: What::NotKnown,
-    }
-}
-
 /// A local by its type and its initializer. Fails only where no host memory is left.
 pub(crate) fn local<'p>(
     scope: &Scope<'_, 'p>,
@@ -203,24 +187,12 @@ pub(crate) fn local<'p>(
     initializer: &Initializer,
 ) -> Result<Judged<'p>, AllocError>
     ensures { (g : Env) (x : tree.Name) → Knows scope.now g → Suits context.entry names.now g
-        → let d = declaration_taken (taken_of scope.now.taken) (tree.Local (type_tree of.entry.now) x (initializer_tree initializer.now)) in
+        → let d = tree.Local (type_tree of.entry.now) x (initializer_tree initializer.now) in
         IfOk result (Matches (own_faults g d) (own_what g d)) }
 {
     match initializer {
         Initializer::None => unset(scope, names, alloc, context, of, None),
-        Initializer::Array(count) => {
-            if scope.taken.arrays {
-                unset(scope, names, alloc, context, of, Some(*count))
-            } else {
-                Ok(refused(of.at))
-            }
-        }
-        Initializer::Value(initial) => {
-            if takes_type_in(scope.taken, of) {
-                set(scope, names, alloc, context, of, initial)
-            } else {
-                Ok(refused(of.at))
-            }
-        }
+        Initializer::Array(count) => unset(scope, names, alloc, context, of, Some(*count)),
+        Initializer::Value(initial) => set(scope, names, alloc, context, of, initial),
     }
 }

@@ -6,10 +6,8 @@ ghost use Rattle.cyc_types.specs.Types.{static_type};
 ghost use Rattle.source_typing.specs.Declarations.{fitting_local, local_type, set_type, taken_from, unset_type};
 ghost use Rattle.source_typing.specs.Scope.{Env};
 ghost use Rattle.source_typing.specs.Scope as judged;
-ghost use Rattle.source_typing.specs.Taken.{type_taken};
 ghost use Rattle.source_typing.specs.Types.{PartialType, StaticType};
 ghost use Rattle.source_typing.specs.Verdicts as verdict;
-ghost use Rattle.check_faults.specs.Taken.{taken_of};
 ghost use Rattle.check_faults.specs.Verdicts.{short_of, shortened};
 ghost use Rattle.check_operators.specs.Values.{value_of};
 ghost use Rattle.check_scopes.specs.Knows.{Knows};
@@ -82,10 +80,10 @@ pub(crate) fn unset_type<'p>(
     count: Option<u32>,
 ) -> Result<Verdict<CType<'p>>, AllocError>
     ensures { (g : Env) → Knows scope.now g → Suits context.entry names.now g
-        → IfOk result (λ v. short_of static_type v ≡ shortened (unset_type g (type_taken (taken_of scope.now.taken) (type_tree of.entry.now)) count)) }
+        → IfOk result (λ v. short_of static_type v ≡ shortened (unset_type g (type_tree of.entry.now) count)) }
 {
-    let tag = local_tag(scope.taken, scope, of);
-    let written = written_in(alloc, scope.taken, tag, names, of)?;
+    let tag = local_tag(scope, of);
+    let written = written_in(alloc, tag, names, of)?;
     local_type(scope, context.item, written, of.at, count, false, None)
 }
 
@@ -127,11 +125,11 @@ pub(crate) fn set_type<'p>(
     value: &Verdict<Value<'_>>,
 ) -> Result<Verdict<CType<'p>>, AllocError>
     ensures { (g : Env) (v : verdict.Verdict judged.Value) → Knows scope.now g → Suits context.entry names.now g → short_of value_of value.now ≡ shortened v
-        → IfOk result (λ found. short_of static_type found ≡ shortened (set_type g (type_taken (taken_of scope.now.taken) (type_tree of.entry.now)) v)) }
+        → IfOk result (λ found. short_of static_type found ≡ shortened (set_type g (type_tree of.entry.now) v)) }
 {
-    let tag = local_tag(scope.taken, scope, of);
-    let written = written_in(alloc, scope.taken, tag, names, of)?;
-    if misses_region_in(scope.taken, tag, of) {
+    let tag = local_tag(scope, of);
+    let written = written_in(alloc, tag, names, of)?;
+    if misses_region_in(tag, of) {
         taken_from(scope, context.item, written, of.at, value)
     } else {
         local_type(scope, context.item, written, of.at, None, true, None)

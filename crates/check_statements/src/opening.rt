@@ -9,10 +9,8 @@ ghost use Rattle.source_typing.specs.Declarations.{key_region, named_region, ope
 ghost use Rattle.source_typing.specs.Faults.{earliest};
 ghost use Rattle.source_typing.specs.Scope.{Env};
 ghost use Rattle.source_typing.specs.Scope as judged;
-ghost use Rattle.source_typing.specs.Taken.{declaration_taken};
 ghost use Rattle.source_typing.specs.Verdicts as verdict;
 ghost use Rattle.check_faults.specs.Faults.{faults_of};
-ghost use Rattle.check_faults.specs.Taken.{taken_of};
 ghost use Rattle.check_faults.specs.Verdicts.{short_of, shortened};
 ghost use Rattle.check_operators.specs.Values.{value_of};
 ghost use Rattle.check_scopes.specs.Changes.{left};
@@ -24,7 +22,7 @@ ghost use Rattle.cyc_tree.specs.Tree as tree;
 ghost use Rattle.source_typing.specs.Faults as rules;
 
 use crate::context::Context;
-use crate::local::{Judged, plain_local, refused, unknown_local};
+use crate::local::{Judged, plain_local, unknown_local};
 use crate::operand::{Kind, operand};
 use check_faults::{Fault, FaultKind, Verdict, sooner};
 use check_operators::Value;
@@ -140,23 +138,19 @@ pub(crate) fn own_open<'p>(
     names: &RegionNames<'_>,
     alloc: Global,
     context: Context<'_, 'p>,
-    at: u32,
     region: &RegionName,
     key: &Name,
 ) -> Result<Judged<'p>, AllocError>
-    ensures judged { (g : Env) (x : tree.Name) → Knows scope.old g → Suits context.entry names.now g
-        → let d = declaration_taken (taken_of scope.old.taken) (tree.Open at (region_tree region.now) x (name_tree key.now)) in
+    ensures judged { (g : Env) (at : ℕ) (x : tree.Name) → Knows scope.old g → Suits context.entry names.now g
+        → let d = tree.Open at (region_tree region.now) x (name_tree key.now) in
         IfOk result (Matches (own_faults g d) (own_what g d)) }
-    ensures stands { (g : Env) (x : tree.Name) (outer : ℕ) → StandsIn context.entry names.now outer scope.old g
+    ensures stands { (g : Env) (at : ℕ) (x : tree.Name) (outer : ℕ) → StandsIn context.entry names.now outer scope.old g
         → OnOk result (StandsIn context.entry names.now outer scope.new
-        (own_scope g (declaration_taken (taken_of scope.old.taken) (tree.Open at (region_tree region.now) x (name_tree key.now))))) }
+        (own_scope g (tree.Open at (region_tree region.now) x (name_tree key.now)))) }
     ensures locals { OnOk result (scope.new.locals ≡ scope.old.locals) }
     ensures left { OnOk result ((count : ℕ) (mark : RegionMark) → mark.opened ≤ length scope.old.regions.opened
         → left count mark scope.new ≡ left count mark scope.old) }
 {
-    if !scope.taken.keys {
-        return Ok(refused(at));
-    }
     let opened = opened_region(scope, names, alloc, region, key)?;
     match opened {
         Verdict::Of(opened) => {

@@ -1,10 +1,10 @@
 // Names that have to be of a kind of type.
 
-ghost use Rattle.std.specs.Prelude.{◌≡◌, ◌∷◌, IfOk, [], if◌then◌else◌};
+ghost use Rattle.std.specs.Prelude.{◌≡◌, IfOk};
 ghost use Rattle.cyc_tree.specs.View.{name_tree};
 ghost use Rattle.cyc_types.specs.Types.{static_type};
 ghost use Rattle.source_typing.specs.Declarations.{if_type, operand};
-ghost use Rattle.source_typing.specs.Faults.{earliest, fault, type_rule};
+ghost use Rattle.source_typing.specs.Faults.{earliest};
 ghost use Rattle.source_typing.specs.Scope.{Env};
 ghost use Rattle.source_typing.specs.Scope as judged;
 ghost use Rattle.source_typing.specs.Types.{is_unique};
@@ -15,7 +15,6 @@ ghost use Rattle.check_scopes.specs.Knows.{Knows};
 ghost use Rattle.check_operators.specs.Values.{value_of};
 ghost use Rattle.check_statements.specs.Operands.{is_kind};
 
-use crate::returning::unless;
 use check_faults::{Fault, FaultKind, Verdict};
 use check_operators::{Value, variable};
 use check_scopes::Scope;
@@ -96,23 +95,4 @@ pub(crate) fn operand_fault(
 {
     let value = operand(scope, alloc, kind, name)?;
     Ok(value.fault())
-}
-
-/// The earliest fault of a statement that frees a name of a kind, which may not be taken. Fails only where no host memory is left.
-pub(crate) fn free_taken(
-    scope: &Scope<'_, '_>,
-    alloc: Global,
-    taken: bool,
-    at: u32,
-    kind: Kind,
-    name: &Name,
-) -> Result<Option<Fault>, AllocError>
-    ensures { (g : Env) → Knows scope.now g → IfOk result (λ f. faults_of f
-        ≡ earliest (if taken then verdict.faults_of (operand g (name_tree name.now) (is_kind kind)) else fault type_rule at ∷ [])) }
-{
-    if taken {
-        operand_fault(scope, alloc, kind, name)
-    } else {
-        Ok(unless(false, at))
-    }
 }

@@ -7,9 +7,7 @@ ghost use Rattle.source_typing.specs.Declarations.{is_visible, region_declared, 
 ghost use Rattle.source_typing.specs.Faults.{earliest};
 ghost use Rattle.source_typing.specs.Regions.{Level, Regions};
 ghost use Rattle.source_typing.specs.Scope.{Env, next_region};
-ghost use Rattle.source_typing.specs.Taken.{declaration_taken};
 ghost use Rattle.check_faults.specs.Faults.{faults_of};
-ghost use Rattle.check_faults.specs.Taken.{taken_of};
 ghost use Rattle.check_scopes.specs.Changes.{left};
 ghost use Rattle.check_scopes.specs.Knows.{Knows};
 ghost use Rattle.check_regions.specs.declared.scope.RegionMark.{RegionMark};
@@ -18,7 +16,7 @@ ghost use Rattle.check_statements.specs.Declaring.{Matches, own_faults, own_scop
 ghost use Rattle.cyc_tree.specs.Tree as tree;
 
 use crate::context::Context;
-use crate::local::{Judged, plain_local, refused};
+use crate::local::{Judged, plain_local};
 use check_faults::{Fault, FaultKind};
 use check_regions::RegionNames;
 use check_scopes::Scope;
@@ -112,23 +110,19 @@ pub(crate) fn own_region<'p>(
     names: &mut RegionNames<'p>,
     alloc: Global,
     context: Context<'_, 'p>,
-    at: u32,
     region: &'p RegionName,
 ) -> Result<Judged<'p>, AllocError>
-    ensures judged { (g : Env) (x : tree.Name) → Knows scope.old g → Suits context.entry names.old g
-        → let d = declaration_taken (taken_of scope.old.taken) (tree.Region at (region_tree region.entry.now) x) in
+    ensures judged { (g : Env) (at : ℕ) (x : tree.Name) → Knows scope.old g → Suits context.entry names.old g
+        → let d = tree.Region at (region_tree region.entry.now) x in
         IfOk result (Matches (own_faults g d) (own_what g d)) }
-    ensures stands { (g : Env) (x : tree.Name) (outer : ℕ) → StandsIn context.entry names.old outer scope.old g
+    ensures stands { (g : Env) (at : ℕ) (x : tree.Name) (outer : ℕ) → StandsIn context.entry names.old outer scope.old g
         → OnOk result (StandsIn context.entry names.new outer scope.new
-        (own_scope g (declaration_taken (taken_of scope.old.taken) (tree.Region at (region_tree region.entry.now) x)))) }
+        (own_scope g (tree.Region at (region_tree region.entry.now) x))) }
     ensures locals { OnOk result (scope.new.locals ≡ scope.old.locals) }
     ensures left { OnOk result ((count : ℕ) (mark : RegionMark) → mark.names ≤ length scope.old.regions.begun
         → left count mark scope.new ≡ left count mark scope.old) }
     ensures kept { OnOk result ((count : ℕ) → count ≤ length names.old → kept_to count names.new ≡ kept_to count names.old) }
 {
-    if !scope.taken.regions {
-        return Ok(refused(at));
-    }
     let next = next_named(scope, names, region)?;
     scope.regions.begin_block()?;
     let handle = BaseType::Handle(next.id);
@@ -142,23 +136,19 @@ pub(crate) fn own_key<'p>(
     names: &mut RegionNames<'p>,
     alloc: Global,
     context: Context<'_, 'p>,
-    at: u32,
     region: &'p RegionName,
 ) -> Result<Judged<'p>, AllocError>
-    ensures judged { (g : Env) (x : tree.Name) → Knows scope.old g → Suits context.entry names.old g
-        → let d = declaration_taken (taken_of scope.old.taken) (tree.NewKey at (region_tree region.entry.now) x) in
+    ensures judged { (g : Env) (at : ℕ) (x : tree.Name) → Knows scope.old g → Suits context.entry names.old g
+        → let d = tree.NewKey at (region_tree region.entry.now) x in
         IfOk result (Matches (own_faults g d) (own_what g d)) }
-    ensures stands { (g : Env) (x : tree.Name) (outer : ℕ) → StandsIn context.entry names.old outer scope.old g
+    ensures stands { (g : Env) (at : ℕ) (x : tree.Name) (outer : ℕ) → StandsIn context.entry names.old outer scope.old g
         → OnOk result (StandsIn context.entry names.new outer scope.new
-        (own_scope g (declaration_taken (taken_of scope.old.taken) (tree.NewKey at (region_tree region.entry.now) x)))) }
+        (own_scope g (tree.NewKey at (region_tree region.entry.now) x))) }
     ensures locals { OnOk result (scope.new.locals ≡ scope.old.locals) }
     ensures left { OnOk result ((count : ℕ) (mark : RegionMark) → mark.names ≤ length scope.old.regions.begun
         → left count mark scope.new ≡ left count mark scope.old) }
     ensures kept { OnOk result ((count : ℕ) → count ≤ length names.old → kept_to count names.new ≡ kept_to count names.old) }
 {
-    if !scope.taken.keys {
-        return Ok(refused(at));
-    }
     let next = next_named(scope, names, region)?;
     scope.regions.begin_name(false)?;
     let key = BaseType::Key(next.id);

@@ -7,11 +7,9 @@ ghost use Rattle.source_typing.specs.Faults.{earliest, test, type_rule};
 ghost use Rattle.source_typing.specs.Scope.{Env};
 ghost use Rattle.source_typing.specs.Statements.{condition, condition_faults, returned};
 ghost use Rattle.source_typing.specs.Scope as rules_scope;
-ghost use Rattle.source_typing.specs.Taken.{taken};
 ghost use Rattle.source_typing.specs.Verdicts as rules;
 ghost use Rattle.source_typing.specs.Expressions.{judge};
 ghost use Rattle.check_faults.specs.Faults.{faults_of};
-ghost use Rattle.check_faults.specs.Taken.{taken_of};
 ghost use Rattle.check_faults.specs.Verdicts.{short_of, shortened};
 ghost use Rattle.check_scopes.specs.Knows.{Knows};
 ghost use Rattle.check_operators.specs.Values.{value_of};
@@ -51,14 +49,14 @@ fn tested<'p>(judged: Verdict<Value<'p>>, at: u32) -> Verdict<Value<'p>>
 }
 
 /// The earliest fault of the condition of an `if` or a loop. Fails only where no host memory is left.
-#[tactic(auto, using(crate::proofs::Answered::fault_is, crate::proofs::Answered::taken_place))]
+#[tactic(auto, using(crate::proofs::Answered::fault_is))]
 pub(crate) fn condition_fault(
     scope: &Scope<'_, '_>,
     alloc: Global,
     of: &Expression,
 ) -> Result<Option<Fault>, AllocError>
     ensures { (g : Env) → Knows scope.now g
-        → IfOk result (λ f. faults_of f ≡ earliest (condition_faults g (taken (taken_of scope.now.taken) (expression_tree of.now)))) }
+        → IfOk result (λ f. faults_of f ≡ earliest (condition_faults g (expression_tree of.now))) }
 {
     let judged = judge(scope, alloc, of)?;
     Ok(tested(judged, of.place()).fault())
@@ -72,7 +70,7 @@ pub(crate) fn expression_fault(
     of: &Expression,
 ) -> Result<Option<Fault>, AllocError>
     ensures { (g : Env) → Knows scope.now g
-        → IfOk result (λ f. faults_of f ≡ earliest (rules.faults_of (judge g (taken (taken_of scope.now.taken) (expression_tree of.now))))) }
+        → IfOk result (λ f. faults_of f ≡ earliest (rules.faults_of (judge g (expression_tree of.now)))) }
 {
     let judged = judge(scope, alloc, of)?;
     Ok(judged.fault())
@@ -132,7 +130,7 @@ pub(crate) fn return_fault<'p>(
     value: &Option<Expression>,
 ) -> Result<Option<Fault>, AllocError>
     ensures { (g : Env) → Knows scope.now g → IfOk result (λ f. faults_of f ≡ earliest (returned g at
-        (option_map (λ t. static_type t.now) result_type.entry) (option_map (λ e. judge g (taken (taken_of scope.now.taken) (expression_tree e))) value.now))) }
+        (option_map (λ t. static_type t.now) result_type.entry) (option_map (λ e. judge g (expression_tree e)) value.now))) }
 {
     match value {
         None => Ok(none_returned(at, result_type)),

@@ -5,19 +5,17 @@ ghost use Rattle.cyc_tree.specs.View.{clause_tree, clauses_of, item_tree, items_
 ghost use Rattle.source_typing.specs.Faults.{earliest};
 ghost use Rattle.source_typing.specs.Scope.{Env, block_entered};
 ghost use Rattle.source_typing.specs.Statements.{clauses_faults, items_faults, statement_faults};
-ghost use Rattle.source_typing.specs.Taken.{clauses_taken, items_taken, statement_taken};
 ghost use Rattle.check_faults.specs.Faults.{faults_of};
-ghost use Rattle.check_faults.specs.Taken.{taken_of};
 ghost use Rattle.check_scopes.specs.Changes.{AllAround, left};
 ghost use Rattle.check_scopes.specs.Knows.{Knows};
 ghost use Rattle.check_regions.specs.declared.scope.RegionMark.{RegionMark};
 ghost use Rattle.check_statements.specs.Contexts.{StandsIn, Suits, kept_to};
-ghost use Rattle.check_statements.specs.Switching.{chosen_in, clause_faults, one_clause_taken};
+ghost use Rattle.check_statements.specs.Switching.{chosen_in, clause_faults};
 
 use crate::context::Context;
 use crate::declaration::declare;
-use crate::exchange::exchange_taken;
-use crate::operand::{Kind, free_taken};
+use crate::exchange::exchange_fault;
+use crate::operand::{Kind, operand_fault};
 use crate::regions::next_region;
 use crate::returning::{condition_fault, expression_fault, return_fault, unless};
 use crate::switch::{Chosen, bind, clause_found, switch_fault, union_of};
@@ -42,7 +40,7 @@ fn statement_fault<'p>(
 ) -> Result<Option<Fault>, AllocError>
     ensures fault { (g : Env) → Knows scope.old g → Suits context.entry names.old g → AllAround g.block g.locals
         → IfOk result (λ f. faults_of f
-        ≡ earliest (statement_faults g reached (statement_taken (taken_of scope.old.taken) (statement_tree statement.entry.now)))) }
+        ≡ earliest (statement_faults g reached (statement_tree statement.entry.now))) }
     ensures scope { OnOk result (scope.new ≡ scope.old) }
     ensures kept { OnOk result (names.new ≡ names.old) }
 {
@@ -50,7 +48,7 @@ fn statement_fault<'p>(
         Statement::Empty(_) => Ok(None),
         Statement::Block(_, items) => block_fault(scope, names, alloc, context, reached, items),
         Statement::Run(value) => expression_fault(scope, alloc, value),
-        Statement::Exchange(left, right) => exchange_taken(scope, alloc, left, right),
+        Statement::Exchange(left, right) => exchange_fault(scope, alloc, left, right),
         Statement::If(_, condition, body) => {
             let first = condition_fault(scope, alloc, condition)?;
             let second = statement_fault(scope, names, alloc, context, reached, body)?;
@@ -68,9 +66,6 @@ fn statement_fault<'p>(
             Ok(sooner(first, second))
         }
         Statement::Switch(at, place, clauses) => {
-            if !scope.taken.unions {
-                return Ok(unless(false, *at));
-            }
             let place = judge(scope, alloc, place)?;
             let inside = clauses_fault(
                 scope,
@@ -86,12 +81,8 @@ fn statement_fault<'p>(
         Statement::Break(at) => Ok(unless(context.can_break(), *at)),
         Statement::Continue(at) => Ok(unless(context.in_loop, *at)),
         Statement::Return(at, value) => return_fault(scope, alloc, *at, context.result, value),
-        Statement::FreeUnique(at, pointer) => {
-            free_taken(scope, alloc, scope.taken.unique, *at, Kind::Unique, pointer)
-        }
-        Statement::FreeKey(at, key) => {
-            free_taken(scope, alloc, scope.taken.keys, *at, Kind::Key, key)
-        }
+        Statement::FreeUnique(_, pointer) => operand_fault(scope, alloc, Kind::Unique, pointer),
+        Statement::FreeKey(_, key) => operand_fault(scope, alloc, Kind::Key, key),
     }
 }
 
@@ -107,7 +98,7 @@ fn block_fault<'p>(
 ) -> Result<Option<Fault>, AllocError>
     ensures fault { (g : Env) → Knows scope.old g → Suits context.entry names.old g → AllAround g.block g.locals
         → IfOk result (λ f. faults_of f
-        ≡ earliest (items_faults (block_entered g) reached (items_taken (taken_of scope.old.taken) (items_of (map item_tree items.entry.now))))) }
+        ≡ earliest (items_faults (block_entered g) reached (items_of (map item_tree items.entry.now)))) }
     ensures scope { OnOk result (scope.new ≡ scope.old) }
     ensures kept { OnOk result (names.new ≡ names.old) }
 {
@@ -138,7 +129,7 @@ pub fn items_fault<'p>(
 ) -> Result<Option<Fault>, AllocError>
     ensures fault { (g : Env) → StandsIn context.entry names.old outer scope.old g
         → IfOk result (λ f. faults_of f
-        ≡ earliest (items_faults g reached (items_taken (taken_of scope.old.taken) (items_of (map item_tree items.entry.now))))) }
+        ≡ earliest (items_faults g reached (items_of (map item_tree items.entry.now)))) }
     ensures left { OnOk result ((count : ℕ) (mark : RegionMark) → count ≤ length scope.old.locals → mark.names ≤ length scope.old.regions.begun
         → mark.opened ≤ length scope.old.regions.opened → left count mark scope.new ≡ left count mark scope.old) }
     ensures kept { OnOk result ((count : ℕ) → count ≤ length names.old → kept_to count names.new ≡ kept_to count names.old) }
@@ -155,7 +146,7 @@ pub fn items_fault<'p>(
             }
         };
         found = sooner(found, fault);
-        reached = reached_after(scope.taken, reached, item);
+        reached = reached_after(reached, item);
     }
     Ok(found)
 }
@@ -174,7 +165,7 @@ fn clauses_fault<'p>(
 ) -> Result<Option<Fault>, AllocError>
     ensures fault { (g : Env) → Knows scope.old g → Suits context.entry names.old g → AllAround g.block g.locals
         → IfOk result (λ f. faults_of f ≡ earliest (clauses_faults g reached (option_map chosen_in chosen.entry)
-        (clauses_taken (taken_of scope.old.taken) (clauses_of (map clause_tree clauses.entry.now))))) }
+        (clauses_of (map clause_tree clauses.entry.now)))) }
     ensures scope { OnOk result (scope.new ≡ scope.old) }
     ensures kept { OnOk result (names.new ≡ names.old) }
 {
@@ -200,7 +191,7 @@ fn clause_fault<'p>(
 ) -> Result<Option<Fault>, AllocError>
     ensures fault { (g : Env) → Knows scope.old g → Suits context.entry names.old g → AllAround g.block g.locals
         → IfOk result (λ f. faults_of f ≡ earliest (clause_faults g reached (option_map chosen_in chosen.entry)
-        (one_clause_taken (taken_of scope.old.taken) (clause_tree clause.entry.now)))) }
+        (clause_tree clause.entry.now))) }
     ensures scope { OnOk result (scope.new ≡ scope.old) }
     ensures kept { OnOk result (names.new ≡ names.old) }
 {

@@ -21,7 +21,6 @@ ghost use Rattle.source_typing.specs.Statements.{
 };
 ghost use Rattle.source_typing.specs.Tables.{part_in};
 ghost use Rattle.check_faults.specs.Faults.{faults_of};
-ghost use Rattle.check_faults.specs.Taken.{taken_of};
 ghost use Rattle.check_faults.specs.Verdicts.{short_of, shortened};
 ghost use Rattle.source_typing.specs.Ways.{ways_of_items};
 ghost use Rattle.source_typing.specs.Written.{RegionNamed};
@@ -32,7 +31,7 @@ ghost use Rattle.check_regions.specs.declared.scope.RegionMark.{RegionMark};
 ghost use Rattle.check_statements.specs.Contexts.{StandsIn};
 ghost use Rattle.check_statements.specs.declared.context.Context.{Context};
 ghost use Rattle.check_operators.specs.Values.{value_of};
-ghost use Rattle.check_statements.specs.Switching.{chosen_in, clause_faults, one_clause_taken, union_in};
+ghost use Rattle.check_statements.specs.Switching.{chosen_in, clause_faults, union_in};
 ghost use Rattle.cyc_tree.specs.Tree as tree;
 ghost use Rattle.source_typing.specs.Faults as rules;
 ghost use Rattle.source_typing.specs.Scope as judged;
@@ -42,7 +41,7 @@ ghost use Rattle.source_typing.specs.Verdicts as verdict;
 use crate::named_members::clauses_fit;
 use crate::returning::unless;
 use crate::ways::items_fall;
-use check_faults::{Fault, FaultKind, Taken, Verdict, sooner};
+use check_faults::{Fault, FaultKind, Verdict, sooner};
 use check_operators::{Seat, Value, renamed_type};
 use check_scopes::{Scope, What};
 use cyc_tree::{Clause, Name, Pattern};
@@ -231,11 +230,11 @@ pub fn bind<'p>(
 }
 
 /// The fault of a clause whose end is reached.
-fn end_fault(taken: Taken, reached: bool, clause: &Clause) -> Option<Fault>
-    ensures { let c = one_clause_taken (taken_of taken) (clause_tree clause.now) in
+fn end_fault(reached: bool, clause: &Clause) -> Option<Fault>
+    ensures { let c = clause_tree clause.now in
         faults_of result ≡ earliest (test (not (reached && (ways_of_items c.body).falls)) type_rule c.at) }
 {
-    let falls = reached && items_fall(taken, &clause.body);
+    let falls = reached && items_fall(&clause.body);
     unless(!falls, clause.at)
 }
 
@@ -258,12 +257,12 @@ pub(crate) fn clause_found(
     inside: Option<Fault>,
 ) -> Option<Fault>
     ensures { (g : Env) → HasTags scope.now.tables.now g.tables
-        → let c = one_clause_taken (taken_of scope.now.taken) (clause_tree clause.now) in
+        → let c = clause_tree clause.now in
         let u = option_map chosen_in chosen.entry in
         faults_of inside ≡ earliest (items_faults (clause_scope g u c.pattern) reached c.body) → faults_of result ≡ earliest (clause_faults g reached u c) }
 {
     let pattern = pattern_fault(scope.tables, chosen, &clause.pattern);
-    let end = end_fault(scope.taken, reached, clause);
+    let end = end_fault(reached, clause);
     first_or(sooner(pattern, inside), end)
 }
 

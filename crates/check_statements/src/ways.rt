@@ -2,12 +2,9 @@
 
 ghost use Rattle.std.specs.Prelude.{◌≡◌, ◌&&◌, false, map, true};
 ghost use Rattle.cyc_tree.specs.View.{clause_tree, clauses_of, item_tree, items_of, statement_tree};
-ghost use Rattle.source_typing.specs.Taken.{clauses_taken, items_taken, statement_taken};
-ghost use Rattle.check_faults.specs.Taken.{taken_of};
 ghost use Rattle.source_typing.specs.Ways.{breaks_of, either_way, then_ways, ways, ways_of, ways_of_items};
 ghost use Rattle.check_statements.specs.Leaving.{item_falls, ways_in};
 
-use check_faults::Taken;
 use cyc_tree::{BlockItem, Clause, Statement};
 
 /// How a statement may be left whose start is reached.
@@ -53,18 +50,18 @@ fn falling() -> Ways
 
 /// How a statement may be left.
 #[cycle(ways)]
-fn statement_ways(taken: Taken, statement: &Statement) -> Ways
-    ensures { ways_in result ≡ ways_of (statement_taken (taken_of taken) (statement_tree statement.now)) }
+fn statement_ways(statement: &Statement) -> Ways
+    ensures { ways_in result ≡ ways_of (statement_tree statement.now) }
 {
     match statement {
-        Statement::Block(_, items) => items_ways(taken, items),
-        Statement::If(_, _, body) => statement_ways(taken, body).or(falling()),
+        Statement::Block(_, items) => items_ways(items),
+        Statement::If(_, _, body) => statement_ways(body).or(falling()),
         Statement::IfElse(_, _, body, otherwise) => {
-            let first = statement_ways(taken, body);
-            first.or(statement_ways(taken, otherwise))
+            let first = statement_ways(body);
+            first.or(statement_ways(otherwise))
         }
         Statement::Switch(_, _, clauses) => Ways {
-            falls: !taken.unions || clauses_break(taken, clauses),
+            falls: clauses_break(clauses),
             breaks: false,
         },
         Statement::Break(_) => Ways {
@@ -81,14 +78,14 @@ fn statement_ways(taken: Taken, statement: &Statement) -> Ways
 
 /// How the items of a block may be left.
 #[cycle(ways)]
-fn items_ways(taken: Taken, items: &[BlockItem]) -> Ways
-    ensures { ways_in result ≡ ways_of_items (items_taken (taken_of taken) (items_of (map item_tree items.now))) }
+fn items_ways(items: &[BlockItem]) -> Ways
+    ensures { ways_in result ≡ ways_of_items (items_of (map item_tree items.now)) }
 {
     let mut so_far = falling();
     'each: for item in items {
         let next = match item {
             BlockItem::Declare(_) => falling(),
-            BlockItem::Execute(statement) => statement_ways(taken, statement),
+            BlockItem::Execute(statement) => statement_ways(statement),
         };
         so_far = so_far.then(next);
     }
@@ -97,36 +94,36 @@ fn items_ways(taken: Taken, items: &[BlockItem]) -> Ways
 
 /// Whether a `break` leaves one of the clauses of a `switch`.
 #[cycle(ways)]
-fn clauses_break(taken: Taken, clauses: &[Clause]) -> bool
-    ensures { result ≡ breaks_of (clauses_taken (taken_of taken) (clauses_of (map clause_tree clauses.now))) }
+fn clauses_break(clauses: &[Clause]) -> bool
+    ensures { result ≡ breaks_of (clauses_of (map clause_tree clauses.now)) }
 {
     let mut any = false;
     'each: for clause in clauses {
-        any = any || items_ways(taken, &clause.body).breaks;
+        any = any || items_ways(&clause.body).breaks;
     }
     any
 }
 
 /// Whether the end of an item of a block is reached, by whether its start is.
-pub(crate) fn reached_after(taken: Taken, reached: bool, item: &BlockItem) -> bool
-    ensures { result ≡ (reached && item_falls (taken_of taken) (item_tree item.now)) }
+pub(crate) fn reached_after(reached: bool, item: &BlockItem) -> bool
+    ensures { result ≡ (reached && item_falls (item_tree item.now)) }
 {
-    reached && item_falls(taken, item)
+    reached && item_falls(item)
 }
 
 /// Whether the end of an item of a block is reached, where its start is.
-fn item_falls(taken: Taken, item: &BlockItem) -> bool
-    ensures { result ≡ item_falls (taken_of taken) (item_tree item.now) }
+fn item_falls(item: &BlockItem) -> bool
+    ensures { result ≡ item_falls (item_tree item.now) }
 {
     match item {
         BlockItem::Declare(_) => true,
-        BlockItem::Execute(statement) => statement_ways(taken, statement).falls,
+        BlockItem::Execute(statement) => statement_ways(statement).falls,
     }
 }
 
 /// Whether the end of a block is reached, where its start is.
-pub fn items_fall(taken: Taken, items: &[BlockItem]) -> bool
-    ensures { result ≡ (ways_of_items (items_taken (taken_of taken) (items_of (map item_tree items.now)))).falls }
+pub fn items_fall(items: &[BlockItem]) -> bool
+    ensures { result ≡ (ways_of_items (items_of (map item_tree items.now))).falls }
 {
-    items_ways(taken, items).falls
+    items_ways(items).falls
 }

@@ -9,22 +9,19 @@ use Rattle.source_typing.specs.Faults.{Fault, earliest, is_clean, type_rule}
 use Rattle.source_typing.specs.Tables.{OfOther, OfTag, Tables, as_tag, find}
 use Rattle.source_typing.specs.Tags.{argument_count, bare_tag, fits_member, head_entry, head_faults, head_fitting, head_type, head_written}
 use Rattle.source_typing.specs.Tags.{region_parameters, repeated, settled_alone}
-use Rattle.source_typing.specs.Taken.{Taken, refused_type, type_taken}
-use Rattle.source_typing.specs.Types.{PartialType, StaticType, same_bool}
+use Rattle.source_typing.specs.Types.{StaticType, same_bool}
 use Rattle.source_typing.specs.Verdicts.{Faulty, Of, Unjudged, Verdict, after, faults_of, if_fits, refuse}
 use Rattle.source_typing.specs.Written.{RegionNamed, all_found, argument_spots, base_of, regions_of_tag, spot, spots_of, written, written_on, written_with}
 use Rattle.check_faults.proofs.Earliest.{sooner_none}
 use Rattle.check_faults.specs.Verdicts.{Is, NotJudged, Short, Wrong, shortened}
 use Rattle.check_types.specs.Arguments.{written_arguments}
-use Rattle.check_types.specs.Handles.{handle_taken, is_key_base, region_base}
-use Rattle.check_types.specs.Reading.{plain_of, taken_base}
 use Rattle.check_types.specs.Naming.{tag_named}
-use Rattle.check_types.specs.Tagged.{IsNamed, TagIs, is_union_base, named_as, regions_named, tag_base, tag_name_of, tag_taken}
+use Rattle.check_types.specs.Tagged.{IsNamed, TagIs, base_tag, is_union_base, named_as, regions_named, tag_base, tag_name_of, type_tag}
 use Rattle.check_types.specs.declared.tag_names.TagNames.{TagNames}
 use Rattle.check_types.specs.declared.tagged.TagName.{TagName}
 use Rattle.check_types.specs.declared.tagged.TagName.TheVariants as code
 use Rattle.check_types.proofs.TagTypes.{named_by, regions_by}
-use Rattle.check_types.proofs.TakenTypes.{handle_is_base, handle_stands, not_taken, plain_is_base, plain_stands, tag_is_base, tag_stands}
+use Rattle.check_types.proofs.PlainTypes.{tag_is_base}
 use Rattle.check_structs.specs.FirstKnown.{AreHeads, AreNames, any_count, count_by}
 use Rattle.check_structs.specs.Members.{scoped, type_alone}
 use Rattle.check_structs.specs.Parameters.{SameNames}
@@ -65,40 +62,21 @@ module _ (union : Bool) (g h : Tables) (i : ℕ) (names : List RegionNamed) (t :
 
 -- ---- a type that is neither a struct nor a union
 
-plain_as : (union : Bool) (g : Tables) (i : ℕ) (names : List RegionNamed) (at : ℕ) (b : tree.Base) (ps : List tree.Pointer) (p : PartialType)
-    → plain_of b ≡ Some p → IsAs union g g i names (record { at = at; base = b; pointers = ps })
-plain_as union g i names at tree.Int ps p e = of_base union g g i names (record { at = at; base = tree.Int; pointers = ps }) refl refl
-plain_as union g i names at tree.Unsigned ps p e = of_base union g g i names (record { at = at; base = tree.Unsigned; pointers = ps }) refl refl
-plain_as union g i names at tree.Char ps p e = of_base union g g i names (record { at = at; base = tree.Char; pointers = ps }) refl refl
-plain_as union g i names at tree.Void ps p e = of_base union g g i names (record { at = at; base = tree.Void; pointers = ps }) refl refl
-plain_as union g i names at (tree.Struct tag rs) ps p e = absurd cc
-plain_as union g i names at (tree.Union tag rs) ps p e = absurd cc
-plain_as union g i names at (tree.Handle r) ps p e = absurd cc
-plain_as union g i names at (tree.Key r) ps p e = absurd cc
-
--- a handle or a key
-handle_as : (union : Bool) (g : Tables) (i : ℕ) (names : List RegionNamed) (at : ℕ) (key : Bool) (r : tree.RegionName) (ps : List tree.Pointer)
-    → IsAs union g g i names (record { at = at; base = region_base key r; pointers = ps })
-handle_as union g i names at false r ps = of_written union g g i names (record { at = at; base = tree.Handle r; pointers = ps }) refl
-handle_as union g i names at true r ps = of_written union g g i names (record { at = at; base = tree.Key r; pointers = ps }) refl
-
-other_as : (union : Bool) (k : Taken) (g : Tables) (i : ℕ) (names : List RegionNamed) (t : TypeName) → tag_taken k t ≡ None
-    → IsAs union g g i names (type_taken k t)
-other_as union k g i names t x = handle (handle_taken k t) refl
+other_as : (union : Bool) (g : Tables) (i : ℕ) (names : List RegionNamed) (t : TypeName) → type_tag t ≡ None → IsAs union g g i names t
+other_as union g i names t h = by t.base h
   where
-    plain : (o : Option PartialType) → taken_base k t ≡ o → handle_taken k t ≡ None → IsAs union g g i names (type_taken k t)
-    plain (Some p) e r =
-        subst (IsAs union g g i names) (sym (plain_stands k t p e)) (plain_as union g i names t.at t.base t.pointers p (plain_is_base k t p e))
-    plain None e r =
-        subst (IsAs union g g i names) (sym (not_taken k t x r e))
-        (of_base union g g i names (refused_type t.at) refl refl)
+    with_base : tree.Base → TypeName
+    with_base b = record { at = t.at; base = b; pointers = t.pointers }
 
-    handle : (o : Option tree.RegionName) → handle_taken k t ≡ o → IsAs union g g i names (type_taken k t)
-    handle None e = plain (taken_base k t) refl e
-    handle (Some r) e =
-        subst (IsAs union g g i names) (sym (handle_stands k t r e))
-        (subst (λ b. IsAs union g g i names (record { at = t.at; base = b; pointers = t.pointers })) (sym (handle_is_base k t r e))
-        (handle_as union g i names t.at (is_key_base t.base) r t.pointers))
+    by : (b : tree.Base) → base_tag b ≡ None → IsAs union g g i names (with_base b)
+    by tree.Int h = of_base union g g i names (with_base tree.Int) refl refl
+    by tree.Unsigned h = of_base union g g i names (with_base tree.Unsigned) refl refl
+    by tree.Char h = of_base union g g i names (with_base tree.Char) refl refl
+    by tree.Void h = of_base union g g i names (with_base tree.Void) refl refl
+    by (tree.Handle r) h = of_written union g g i names (with_base (tree.Handle r)) refl
+    by (tree.Key r) h = of_written union g g i names (with_base (tree.Key r)) refl
+    by (tree.Struct tag rs) h = absurd cc
+    by (tree.Union tag rs) h = absurd cc
 
 -- ---- a struct's or union's
 
@@ -184,10 +162,10 @@ tagged_as union g i names at wanted x rs ps n named =
     by (code.Tag u m) named = kind u (same_bool u wanted) m named
 
 -- by which tables the type of a member is read, where its tag means this
-pub record HeadAs (union : Bool) (k : Taken) (g : Tables) (i : ℕ) (names : List RegionNamed) (t : TypeName) (n : TagName) : Type 0 where
+pub record HeadAs (union : Bool) (g : Tables) (i : ℕ) (names : List RegionNamed) (t : TypeName) (n : TagName) : Type 0 where
   pub by : Tables
-  pub tag : TagIs k by t n
-  pub is : IsAs union g by i names (type_taken k t)
+  pub tag : TagIs by t n
+  pub is : IsAs union g by i names t
 
 none_some : (x : tree.Name) → None ≡ Some x → ⊥
 none_some x e = absurd cc
@@ -195,29 +173,28 @@ none_some x e = absurd cc
 same_some : (x y : tree.Name) → Some x ≡ Some y → x ≡ y
 same_some x y e = cc
 
-pub head_as : (union : Bool) (k : Taken) (g : Tables) (i : ℕ) (names : List RegionNamed) (t : TypeName) (n : TagName) → TagIs k g t n
-    → HeadAs union k g i names t (any_count n (written_arguments t.base))
-head_as union k g i names t n tag = by (tag_taken k t) refl
+pub head_as : (union : Bool) (g : Tables) (i : ℕ) (names : List RegionNamed) (t : TypeName) (n : TagName) → TagIs g t n
+    → HeadAs union g i names t (any_count n (written_arguments t.base))
+head_as union g i names t n tag = by (type_tag t) refl
   where
     rs : List tree.RegionName
     rs = written_arguments t.base
 
-    by : (o : Option tree.Name) → tag_taken k t ≡ o → HeadAs union k g i names t (any_count n rs)
+    by : (o : Option tree.Name) → type_tag t ≡ o → HeadAs union g i names t (any_count n rs)
     by None h = record {
       by = g;
-      tag = λ x taken. absurd (none_some x (sym h ∙ taken));
-      is = other_as union k g i names t h;
+      tag = λ x e. absurd (none_some x (sym h ∙ e));
+      is = other_as union g i names t h;
     }
     by (Some x) h =
         let named = (tag x h).is in
         record {
           by = asked g x.text n rs;
-          tag = λ y taken. subst (λ (z : tree.Name). IsNamed (asked g x.text n rs) z.text (any_count n rs)) (same_some x y (sym h ∙ taken))
+          tag = λ y e. subst (λ (z : tree.Name). IsNamed (asked g x.text n rs) z.text (any_count n rs)) (same_some x y (sym h ∙ e))
               (record { is = asked_named g x.text n rs named });
           is =
-              subst (IsAs union g (asked g x.text n rs) i names) (sym (tag_stands k t x h))
-              (subst (λ b. IsAs union g (asked g x.text n rs) i names (record { at = t.at; base = b; pointers = t.pointers })) (sym (tag_is_base k t x h))
-              (tagged_as union g i names t.at (is_union_base t.base) x rs t.pointers n named));
+              subst (λ b. IsAs union g (asked g x.text n rs) i names (record { at = t.at; base = b; pointers = t.pointers })) (sym (tag_is_base t x h))
+              (tagged_as union g i names t.at (is_union_base t.base) x rs t.pointers n named);
         }
 
 -- ---- members
@@ -280,20 +257,20 @@ own_named g i union s others own count same counted names x = record {
     by true = refl
     by false = (names x).is
 
--- the name of a union, or else a struct, that is taken, by what was read of its region parameters and members
-pub tag_head : (union : Bool) (g : Tables) (i : ℕ) (s : tree.Structure) (ms : List tree.Member) (names : List RegionNamed) (regions : Option code_fault.Fault)
+-- the name of a union, or else a struct, by what was read of its region parameters and members
+pub tag_head : (union : Bool) (g : Tables) (i : ℕ) (s : tree.Structure) (names : List RegionNamed) (regions : Option code_fault.Fault)
     (sound own : Bool) (count : ℕ) → SameNames names (region_parameters s).0 → code_faults.faults_of regions ≡ earliest (region_parameters s).1
-    → count ≡ length s.regions → own ≡ is_clean (head_faults (scoped (own_tables g i union s) i names) union ms ++ repeated [] ms)
+    → count ≡ length s.regions → own ≡ is_clean (head_faults (scoped (own_tables g i union s) i names) union s.members ++ repeated [] s.members)
     → sound ≡ (is_none regions && own)
-    → (if sound then code.Tag union count else code.NotJudged count) ≡ tag_name_of (Some (head_entry g i union (record s { members = ms })))
-tag_head union g i s ms names regions sound own count same of_regions counted is all =
+    → (if sound then code.Tag union count else code.NotJudged count) ≡ tag_name_of (Some (head_entry g i union s))
+tag_head union g i s names regions sound own count same of_regions counted is all =
     let own_g = own_tables g i union s in
     ap (λ (b : Bool). if b then code.Tag union count else code.NotJudged count)
     (all
     ∙ ap (λ b. b && own) (clean_none regions (region_parameters s).1 of_regions)
     ∙ ap (λ b. is_clean (region_parameters s).1 && b)
-    (is ∙ ap (λ fs. is_clean (fs ++ repeated [] ms)) (heads_alike union own_g i names (region_parameters s).0 same ms))
-    ∙ sym (clean_of_both (region_parameters s).1 (head_faults (scoped own_g i (region_parameters s).0) union ms ++ repeated [] ms))
-    ∙ ap is_clean (sym (append_assoc (region_parameters s).1 (head_faults (scoped own_g i (region_parameters s).0) union ms) (repeated [] ms))))
-    ∙ ap (λ (n : ℕ). if is_clean ((region_parameters s).1 ++ head_faults (scoped own_g i (region_parameters s).0) union ms ++ repeated [] ms)
+    (is ∙ ap (λ fs. is_clean (fs ++ repeated [] s.members)) (heads_alike union own_g i names (region_parameters s).0 same s.members))
+    ∙ sym (clean_of_both (region_parameters s).1 (head_faults (scoped own_g i (region_parameters s).0) union s.members ++ repeated [] s.members))
+    ∙ ap is_clean (sym (append_assoc (region_parameters s).1 (head_faults (scoped own_g i (region_parameters s).0) union s.members) (repeated [] s.members))))
+    ∙ ap (λ (n : ℕ). if is_clean ((region_parameters s).1 ++ head_faults (scoped own_g i (region_parameters s).0) union s.members ++ repeated [] s.members)
     then code.Tag union n else code.NotJudged n) counted

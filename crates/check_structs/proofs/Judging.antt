@@ -12,7 +12,6 @@ use Rattle.source_typing.specs.Scope.{Env}
 use Rattle.source_typing.specs.Tables.{OfTag, Part, Tables}
 use Rattle.source_typing.specs.Tags.{all_typed, member_faults, member_fitting, member_type, parts_by, region_parameters, repeated, settled_alone}
 use Rattle.source_typing.specs.Tags.{struct_bytes, struct_sized, tag_entry, tag_faults, tag_scope}
-use Rattle.source_typing.specs.Taken.{Taken, type_taken}
 use Rattle.source_typing.specs.Types.{StaticType}
 use Rattle.source_typing.specs.Verdicts.{Faulty, Of, Unjudged, Verdict, after, faults_of, known}
 use Rattle.source_typing.specs.Written.{RegionNamed}
@@ -20,7 +19,6 @@ use Rattle.check_faults.proofs.Earliest.{earliest_of_both, first_joined, found_s
 use Rattle.check_faults.proofs.Shortened.{shortened_after}
 use Rattle.check_faults.specs.Faults.{first_of, sooner_found}
 use Rattle.check_faults.specs.Verdicts.{Is, Short, fault_in, short_after, shortened}
-use Rattle.check_types.proofs.TakenTypes.{place_stays}
 use Rattle.check_structs.specs.Members.{scoped, type_alone}
 use Rattle.check_structs.specs.Parameters.{SameNames}
 use Rattle.check_structs.specs.Tags.{fits_as, known_short, member_by, or_own}
@@ -99,25 +97,14 @@ earliest_own own (f ∷ fs) = by (earliest fs)
 -- ---- a member's type
 
 -- by what its type alone is
-pub type_by : (union : Bool) (k : Taken) (g : Tables) (names : List RegionNamed) (t : TypeName) (declared : StaticType → Bool) (s : Short StaticType)
-    → s ≡ shortened (type_alone g names (type_taken k t))
-    → short_after s (λ a. shortened (fits_as union declared (type_taken k t).at a)) ≡ shortened (member_by union declared g names (type_taken k t))
-type_by union k g names t declared s is =
-    ap (λ o. short_after o (λ a. shortened (fits_as union declared (type_taken k t).at a))) is
-    ∙ sym (shortened_after (type_alone g names (type_taken k t)) (fits_as union declared (type_taken k t).at))
-
--- one whose type alone is in order
-pub type_fits : (union : Bool) (k : Taken) (g : Tables) (names : List RegionNamed) (t : TypeName) (declared : StaticType → Bool) (s : StaticType)
-    → Is s ≡ shortened (type_alone g names (type_taken k t))
-    → shortened (fits_as union declared t.at s) ≡ shortened (member_by union declared g names (type_taken k t))
-type_fits union k g names t declared s is =
-    ap (λ at. shortened (fits_as union declared at s)) (sym (place_stays k t)) ∙ type_by union k g names t declared (Is s) is
+pub type_by : (union : Bool) (g : Tables) (names : List RegionNamed) (t : TypeName) (declared : StaticType → Bool) (s : Short StaticType)
+    → s ≡ shortened (type_alone g names t)
+    → short_after s (λ a. shortened (fits_as union declared t.at a)) ≡ shortened (member_by union declared g names t)
+type_by union g names t declared s is =
+    ap (λ o. short_after o (λ a. shortened (fits_as union declared t.at a))) is
+    ∙ sym (shortened_after (type_alone g names t) (fits_as union declared t.at))
 
 -- ---- a struct or union
-
--- one with other members
-abbrev pub with_members : Structure → List tree.Member → Structure
-with_members s ms = record s { members = ms }
 
 -- only a struct can have too many bytes
 bytes_same : (union : Bool) (g here : Tables) (s : Structure) (ps : List Part) → struct_bytes g s ps ≡ struct_bytes here s ps
@@ -125,32 +112,32 @@ bytes_same : (union : Bool) (g here : Tables) (s : Structure) (ps : List Part) �
 bytes_same true g here s ps h = refl
 bytes_same false g here s ps h = ap (λ n. test (not (all_typed ps) || fits_bytes n) size_rule s.tag.at) (sym h)
 
-module _ (union : Bool) (g here : Tables) (i : ℕ) (s : Structure) (ms : List tree.Member) (names : List RegionNamed) (ps : List Part)
+module _ (union : Bool) (g here : Tables) (i : ℕ) (s : Structure) (names : List RegionNamed) (ps : List Part)
     (regions fault second now : Option code.Fault) (same : SameNames names (region_parameters s).0)
-    (of_regions : found.faults_of regions ≡ earliest (region_parameters s).1) (parts : ps ≡ parts_by (scoped g i names) union ms)
-    (of_members : found.faults_of fault ≡ earliest (member_faults (scoped g i names) union ms))
-    (of_second : found.faults_of second ≡ earliest (repeated [] ms))
+    (of_regions : found.faults_of regions ≡ earliest (region_parameters s).1) (parts : ps ≡ parts_by (scoped g i names) union s.members)
+    (of_members : found.faults_of fault ≡ earliest (member_faults (scoped g i names) union s.members))
+    (of_second : found.faults_of second ≡ earliest (repeated [] s.members))
     (bytes : (s : Structure) (ps : List Part) → struct_bytes g s ps ≡ struct_bytes here s ps)
     (is : found.faults_of now
-    ≡ or_own (found.faults_of (sooner_found regions (sooner_found fault second))) (earliest (struct_sized here union (with_members s ms) ps))) where
+    ≡ or_own (found.faults_of (sooner_found regions (sooner_found fault second))) (earliest (struct_sized here union s ps))) where
   abbrev e : Env
-  e = tag_scope g i (with_members s ms)
+  e = tag_scope g i s
 
   abbrev own : List Fault
-  own = member_faults e union ms ++ repeated [] ms
+  own = member_faults e union s.members ++ repeated [] s.members
 
-  here_parts : ps ≡ parts_by e union ms
-  here_parts = parts ∙ parts_alike union g i names (region_parameters s).0 same ms
+  here_parts : ps ≡ parts_by e union s.members
+  here_parts = parts ∙ parts_alike union g i names (region_parameters s).0 same s.members
 
   own_found : found.faults_of (sooner_found fault second) ≡ earliest own
   own_found =
       found_sooner fault second
-      ∙ ap (λ o. first_of o (found.faults_of second)) (of_members ∙ ap earliest (faults_alike union g i names (region_parameters s).0 same ms))
-      ∙ ap (first_of (earliest (member_faults e union ms))) of_second
-      ∙ sym (earliest_of_both (member_faults e union ms) (repeated [] ms))
+      ∙ ap (λ o. first_of o (found.faults_of second)) (of_members ∙ ap earliest (faults_alike union g i names (region_parameters s).0 same s.members))
+      ∙ ap (first_of (earliest (member_faults e union s.members))) of_second
+      ∙ sym (earliest_of_both (member_faults e union s.members) (repeated [] s.members))
 
   abbrev all : List Fault
-  all = (region_parameters s).1 ++ member_faults e union ms ++ repeated [] ms
+  all = (region_parameters s).1 ++ member_faults e union s.members ++ repeated [] s.members
 
   parts_found : found.faults_of (sooner_found regions (sooner_found fault second)) ≡ earliest all
   parts_found =
@@ -158,20 +145,20 @@ module _ (union : Bool) (g here : Tables) (i : ℕ) (s : Structure) (ms : List t
       ∙ ap (λ o. first_of o (found.faults_of (sooner_found fault second))) of_regions
       ∙ ap (first_of (earliest (region_parameters s).1)) own_found
       ∙ sym (earliest_of_both (region_parameters s).1 own)
-      ∙ ap earliest (sym (append_assoc (region_parameters s).1 (member_faults e union ms) (repeated [] ms)))
+      ∙ ap earliest (sym (append_assoc (region_parameters s).1 (member_faults e union s.members) (repeated [] s.members)))
 
-  pub tag_fault : found.faults_of now ≡ earliest (tag_faults g i union (with_members s ms))
+  pub tag_fault : found.faults_of now ≡ earliest (tag_faults g i union s)
   tag_fault =
       is
-      ∙ ap (λ o. or_own o (earliest (struct_sized here union (with_members s ms) ps))) parts_found
-      ∙ ap (λ ps. or_own (earliest all) (earliest (struct_sized here union (with_members s ms) ps))) here_parts
+      ∙ ap (λ o. or_own o (earliest (struct_sized here union s ps))) parts_found
+      ∙ ap (λ ps. or_own (earliest all) (earliest (struct_sized here union s ps))) here_parts
       ∙ ap (λ fs. or_own (earliest all) (earliest fs))
-      (bytes_same union g here (with_members s ms) (parts_by e union ms) (bytes (with_members s ms) (parts_by e union ms)))
-      ∙ sym (earliest_own (struct_sized g union (with_members s ms) (parts_by e union ms)) all)
+      (bytes_same union g here s (parts_by e union s.members) (bytes s (parts_by e union s.members)))
+      ∙ sym (earliest_own (struct_sized g union s (parts_by e union s.members)) all)
 
   pub tag_is : (sound : Bool) (n : ℕ) → sound ≡ is_none now → n ≡ length s.regions
       → OfTag (record { text = s.tag.text; is_union = union; order = i; regions = n; parts = ps; sound = sound })
-      ≡ tag_entry g i union (with_members s ms)
+      ≡ tag_entry g i union s
   tag_is sound n is_sound count =
       ap (λ (ps : List Part). OfTag (record { text = s.tag.text; is_union = union; order = i; regions = n; parts = ps; sound = sound })) here_parts
       ∙ ap (λ (n : ℕ). OfTag (record {
@@ -179,7 +166,7 @@ module _ (union : Bool) (g here : Tables) (i : ℕ) (s : Structure) (ms : List t
         is_union = union;
         order = i;
         regions = n;
-        parts = parts_by e union ms;
+        parts = parts_by e union s.members;
         sound = sound;
       })) count
       ∙ ap (λ (b : Bool). OfTag (record {
@@ -187,6 +174,6 @@ module _ (union : Bool) (g here : Tables) (i : ℕ) (s : Structure) (ms : List t
         is_union = union;
         order = i;
         regions = length s.regions;
-        parts = parts_by e union ms;
+        parts = parts_by e union s.members;
         sound = b;
-      })) (is_sound ∙ clean_none now (tag_faults g i union (with_members s ms)) tag_fault)
+      })) (is_sound ∙ clean_none now (tag_faults g i union s) tag_fault)

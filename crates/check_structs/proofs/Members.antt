@@ -11,7 +11,6 @@ use Rattle.cyc_types.specs.declared.layer.Layer.{Layer}
 use Rattle.cyc_types.specs.declared.layer.Layer.TheVariants as pointer
 use Rattle.source_typing.specs.Faults.{Fault, earliest, name_rule, test}
 use Rattle.source_typing.specs.Tags.{is_named, repeated}
-use Rattle.source_typing.specs.Taken.{Taken, members_taken}
 use Rattle.source_typing.specs.Types.{StaticType, is_unique}
 use Rattle.check_faults.proofs.Earliest.{earliest_of_both, first_joined, found_sooner}
 use Rattle.check_faults.specs.Faults.{faults_of, first_of, sooner_found}
@@ -44,21 +43,6 @@ repeated_next members rest m text old new found fault now is_new same is e is_fi
       (is_first ∙ ap (λ t. not (has_tag_name old t)) same ∙ ap not (left.are m.name.text))
       ∙ left.is;
 }
-
--- ---- members that aren't taken keep their names
-
-same_named : (k : Taken) (ms : List Member) (x : List ℕ) → is_named (members_taken k ms) x ≡ is_named ms x
-same_named k [] x = refl
-same_named k (m ∷ ms) x = ap (λ b. bytes_eq m.name.text x || b) (same_named k ms x)
-
-repeated_on : (k : Taken) (before ms : List Member) → repeated (members_taken k before) (members_taken k ms) ≡ repeated before ms
-repeated_on k before [] = refl
-repeated_on k before (m ∷ ms) =
-    ap (λ b. test (not b) name_rule m.name.at ++ repeated (members_taken k (m ∷ before)) (members_taken k ms)) (same_named k before m.name.text)
-    ∙ ap (λ fs. test (not (is_named before m.name.text)) name_rule m.name.at ++ fs) (repeated_on k (m ∷ before) ms)
-
-pub repeated_taken : (k : Taken) (ms : List Member) → repeated [] (members_taken k ms) ≡ repeated [] ms
-repeated_taken k ms = repeated_on k [] ms
 
 -- ---- unique pointers
 

@@ -16,9 +16,6 @@ use Rattle.source_typing.specs.Declarations.{tag_earlier}
 use Rattle.source_typing.specs.Programs.{Judged, builtins, entries, first_entry, first_from, judged_tag, name_of}
 use Rattle.source_typing.specs.Tables.{Entry, Named, OfBuiltin, OfFunction, OfOther, OfTag, OfValue, Tables, Tag, as_tag, each_part, find, parts_of_tag, tag_in}
 use Rattle.source_typing.specs.Tags.{tag_scope}
-use Rattle.source_typing.specs.Taken.{item_taken, only_taken}
-use Rattle.check_faults.specs.Taken.{taken_of}
-use Rattle.check_faults.specs.declared.taken.Taken as code_taken
 use Rattle.check_types.specs.Naming.{has_tag_name, tag_named}
 use Rattle.check_types.specs.Tagged.{IsNamed, tag_name_of}
 use Rattle.check_types.specs.declared.tag_names.TagNames.{TagNames}
@@ -64,19 +61,19 @@ found_before i (n ∷ ns) x (own, others) = by (bytes_eq n.name x) (found_before
 
 -- ---- tags that stand later
 
-pub later_own : (k : code_taken.Taken) (g : Tables) (j : ℕ) (items : List Item) → AreOwn (first_from g j (only_taken (taken_of k) items))
-later_own k g j [] = tt
-later_own k g j (tree.StructItem s ∷ items) = (refl, later_own k g (suc j) items)
-later_own k g j (tree.UnionItem s ∷ items) = (refl, later_own k g (suc j) items)
-later_own k g j (tree.GlobalItem x ∷ items) = (tt, later_own k g (suc j) items)
-later_own k g j (tree.FunctionItem f ∷ items) = (tt, later_own k g (suc j) items)
+pub later_own : (g : Tables) (j : ℕ) (items : List Item) → AreOwn (first_from g j items)
+later_own g j [] = tt
+later_own g j (tree.StructItem s ∷ items) = (refl, later_own g (suc j) items)
+later_own g j (tree.UnionItem s ∷ items) = (refl, later_own g (suc j) items)
+later_own g j (tree.GlobalItem x ∷ items) = (tt, later_own g (suc j) items)
+later_own g j (tree.FunctionItem f ∷ items) = (tt, later_own g (suc j) items)
 
-pub later_empty : (k : code_taken.Taken) (g : Tables) (j : ℕ) (items : List Item) → AreEmpty (first_from g j (only_taken (taken_of k) items))
-later_empty k g j [] = tt
-later_empty k g j (tree.StructItem s ∷ items) = (refl, later_empty k g (suc j) items)
-later_empty k g j (tree.UnionItem s ∷ items) = (refl, later_empty k g (suc j) items)
-later_empty k g j (tree.GlobalItem x ∷ items) = (tt, later_empty k g (suc j) items)
-later_empty k g j (tree.FunctionItem f ∷ items) = (tt, later_empty k g (suc j) items)
+pub later_empty : (g : Tables) (j : ℕ) (items : List Item) → AreEmpty (first_from g j items)
+later_empty g j [] = tt
+later_empty g j (tree.StructItem s ∷ items) = (refl, later_empty g (suc j) items)
+later_empty g j (tree.UnionItem s ∷ items) = (refl, later_empty g (suc j) items)
+later_empty g j (tree.GlobalItem x ∷ items) = (tt, later_empty g (suc j) items)
+later_empty g j (tree.FunctionItem f ∷ items) = (tt, later_empty g (suc j) items)
 
 abbrev if_later : ℕ → Option Entry → Type 0
 if_later i (Some (OfTag t)) = i ≤ t.order
@@ -130,13 +127,13 @@ earlier_both i None (Some (OfFunction s)) before after h = absurd cc
 earlier_both i None (Some (OfBuiltin k)) before after h = absurd cc
 earlier_both i None (Some OfOther) before after h = absurd cc
 
-module _ (k : code_taken.Taken) (all : Program) (i : ℕ) (items : Program) (done : JudgedTags) (first : TagNames)
-    (to : JudgedTo all i (only_taken (taken_of k) items) done) (names : AreNames first (first_tags all)) where
+module _ (all : Program) (i : ℕ) (items : Program) (done : JudgedTags) (first : TagNames)
+    (to : JudgedTo all i items done) (names : AreNames first (first_tags all)) where
   abbrev before : Tables
   before = builtins (entries to.js)
 
   abbrev later : Tables
-  later = first_from (bare_tags all) i (only_taken (taken_of k) items)
+  later = first_from (bare_tags all) i items
 
   left_of : (x : List ℕ) → find before x ≡ None → find (first_tags all) x ≡ find later x
   left_of x h = to.left x (ap is_some h)
@@ -159,7 +156,7 @@ module _ (k : code_taken.Taken) (all : Program) (i : ℕ) (items : Program) (don
       let same : i ≤ i = omega arith in
       ap (λ o. tag_earlier i (as_tag o)) both
       ∙ earlier_both i (find before x) (find later x) (found_before i before x are_before)
-      (found_later i i (bare_tags all) (only_taken (taken_of k) items) x same) (sym (ap (λ o. is_some (as_tag o)) both) ∙ h)
+      (found_later i i (bare_tags all) items x same) (sym (ap (λ o. is_some (as_tag o)) both) ∙ h)
       ∙ ap is_some (found_first before [] x refl ∙ ap (λ t. tag_in t x) (sym to.are.tables))
 
   pub stands_at : StandsAt done.names first (tables_of done.tables) i (before ++ later)
@@ -167,7 +164,7 @@ module _ (k : code_taken.Taken) (all : Program) (i : ℕ) (items : Program) (don
     names = known_at;
     earlier = earlier_at;
     bytes = λ s ps.
-        later_bytes before later s ps (before_own i before are_before) (later_empty k (bare_tags all) i items) (later_own k (bare_tags all) i items)
+        later_bytes before later s ps (before_own i before are_before) (later_empty (bare_tags all) i items) (later_own (bare_tags all) i items)
         ∙ same_bytes before (tables_of done.tables) s ps ((has_first done.tables before to.are.tables).layouts);
   }
 
@@ -196,30 +193,27 @@ before_more i (m ∷ ms) n (of, others) own = (by m.entry of, before_more i ms n
 below_next : (i : ℕ) → nat_lt i (suc i) ≡ true
 below_next i = grind (arith, nat_tests)
 
-judged_before : (k : code_taken.Taken) (g : Tables) (i : ℕ) (item : Item)
-    → let j = judged_tag g i (item_taken (taken_of k) item) in IsBefore (suc i) j.entry.name j.entry.entry
-judged_before k g i (tree.StructItem s) = (refl, below_next i)
-judged_before k g i (tree.UnionItem s) = (refl, below_next i)
-judged_before k g i (tree.GlobalItem x) = tt
-judged_before k g i (tree.FunctionItem f) = tt
+judged_before : (g : Tables) (i : ℕ) (item : Item)
+    → let j = judged_tag g i item in IsBefore (suc i) j.entry.name j.entry.entry
+judged_before g i (tree.StructItem s) = (refl, below_next i)
+judged_before g i (tree.UnionItem s) = (refl, below_next i)
+judged_before g i (tree.GlobalItem x) = tt
+judged_before g i (tree.FunctionItem f) = tt
 
-module _ (k : code_taken.Taken) (all : Program) (i : ℕ) (item : Item) (items : Program) (done next : JudgedTags)
-    (to : JudgedTo all i (only_taken (taken_of k) (item ∷ items)) done) where
-  abbrev taken : Item
-  taken = item_taken (taken_of k) item
-
+module _ (all : Program) (i : ℕ) (item : Item) (items : Program) (done next : JudgedTags)
+    (to : JudgedTo all i (item ∷ items) done) where
   -- what the rules find of it
   abbrev pub found_here : Judged
-  found_here = judged_tag (builtins (entries to.js ++ first_from (bare_tags all) i (only_taken (taken_of k) (item ∷ items)))) i taken
+  found_here = judged_tag (builtins (entries to.js ++ first_from (bare_tags all) i (item ∷ items))) i item
 
-  left_here : (x : List ℕ) (n : Named) → n.name ≡ (name_of taken).text → is_some (find (builtins (entries to.js) ++ n ∷ []) x) ≡ false
-      → find (first_tags all) x ≡ find (first_from (bare_tags all) (suc i) (only_taken (taken_of k) items)) x
+  left_here : (x : List ℕ) (n : Named) → n.name ≡ (name_of item).text → is_some (find (builtins (entries to.js) ++ n ∷ []) x) ≡ false
+      → find (first_tags all) x ≡ find (first_from (bare_tags all) (suc i) items) x
   left_here x n same h =
       by (find (builtins (entries to.js)) x) (bytes_eq n.name x) refl refl
       (sym (ap is_some (find_both (builtins (entries to.js)) (n ∷ []) x)) ∙ h)
     where
       rest : Option Entry
-      rest = find (first_from (bare_tags all) (suc i) (only_taken (taken_of k) items)) x
+      rest = find (first_from (bare_tags all) (suc i) items) x
 
       by : (o : Option Entry) (b : Bool) → find (builtins (entries to.js)) x ≡ o → bytes_eq n.name x ≡ b
           → is_some (or_else o (if b then Some n.entry else None)) ≡ false → find (first_tags all) x ≡ rest
@@ -227,18 +221,18 @@ module _ (k : code_taken.Taken) (all : Program) (i : ℕ) (item : Item) (items :
       by None true found at h = absurd (true≢false h)
       by None false found at h =
           to.left x (ap is_some found)
-          ∙ ap (λ (b : Bool). if b then Some (first_entry (bare_tags all) i taken) else rest) (ap (λ y. bytes_eq y x) (sym same) ∙ at)
+          ∙ ap (λ (b : Bool). if b then Some (first_entry (bare_tags all) i item) else rest) (ap (λ y. bytes_eq y x) (sym same) ∙ at)
 
-  pub judged_next : AreJudged (to.js ++ found_here ∷ []) next → JudgedTo all (suc i) (only_taken (taken_of k) items) next
+  pub judged_next : AreJudged (to.js ++ found_here ∷ []) next → JudgedTo all (suc i) items next
   judged_next are =
       let more = entries_more to.js found_here in
-      let g = builtins (entries to.js ++ first_from (bare_tags all) i (only_taken (taken_of k) (item ∷ items))) in
+      let g = builtins (entries to.js ++ first_from (bare_tags all) i (item ∷ items)) in
       record {
         js = to.js ++ found_here ∷ [];
         are = are;
         goes = to.goes;
-        left = λ x h. left_here x found_here.entry (judged_name g i taken) (sym (ap (λ es. is_some (find (builtins es) x)) more) ∙ h);
-        before = subst (AreBefore (suc i)) (sym more) (before_more i (entries to.js) found_here.entry to.before (judged_before k g i item));
+        left = λ x h. left_here x found_here.entry (judged_name g i item) (sym (ap (λ es. is_some (find (builtins es) x)) more) ∙ h);
+        before = subst (AreBefore (suc i)) (sym more) (before_more i (entries to.js) found_here.entry to.before (judged_before g i item));
       }
 
 -- ---- the first and the last

@@ -1,13 +1,12 @@
 -- The members of a struct or union, one by one.
 use Rattle.std.specs.Prelude.{Bool, List, Option, Some, false, true, ℕ, ◌≡◌, []}
-use Rattle.cyc_tree.specs.Tree.{Member, Structure, TypeName}
+use Rattle.cyc_tree.specs.Tree.{Member, TypeName}
 use Rattle.cyc_types.specs.declared.layer.Layer.{Layer}
 use Rattle.cyc_types.specs.declared.layer.Layer.TheVariants as pointer
 use Rattle.source_typing.specs.Faults.{earliest}
 use Rattle.source_typing.specs.Scope.{Env, at_item}
 use Rattle.source_typing.specs.Tables.{Tables}
 use Rattle.source_typing.specs.Tags.{is_named, repeated, settled_alone}
-use Rattle.source_typing.specs.Taken.{Taken, members_taken, structure_if, takes_structure}
 use Rattle.source_typing.specs.Types.{StaticType}
 use Rattle.source_typing.specs.Verdicts.{Verdict, after}
 use Rattle.source_typing.specs.Written.{RegionNamed, written}
@@ -15,15 +14,6 @@ use Rattle.check_faults.specs.Faults.{faults_of, first_of}
 use Rattle.check_faults.specs.declared.fault.Fault as code
 use Rattle.check_types.specs.Naming.{has_tag_name}
 use Rattle.check_types.specs.declared.tag_names.TagNames.{TagNames}
-
--- whether unions are taken, or else structs
-abbrev pub takes_kind : Taken → Bool → Bool
-takes_kind k true = k.unions
-takes_kind k false = k.structs
-
--- a union, or else a struct, where its kind is taken or not
-abbrev pub structure_taken : Taken → Bool → Structure → Structure
-structure_taken k union s = structure_if (takes_structure k (takes_kind k union) s) s (members_taken k s.members)
 
 -- an item's scope, with these region names
 abbrev pub scoped : Tables → ℕ → List RegionNamed → Env

@@ -6,19 +6,16 @@ ghost use Rattle.source_typing.specs.Faults.{is_clean};
 ghost use Rattle.source_typing.specs.Programs.{bare_entry, builtins, first_entry, name_of};
 ghost use Rattle.source_typing.specs.Tables.{Tables};
 ghost use Rattle.source_typing.specs.Tags.{bare_tag, head_entry, head_faults, head_type, repeated};
-ghost use Rattle.source_typing.specs.Taken.{item_taken, members_taken, only_taken, structure_if, takes_structure, type_taken};
 ghost use Rattle.source_typing.specs.Verdicts as rules;
-ghost use Rattle.source_typing.specs.Taken as rules_taken;
-ghost use Rattle.check_faults.specs.Taken.{taken_of};
 ghost use Rattle.check_types.specs.Arguments.{written_arguments};
 ghost use Rattle.check_types.specs.Tagged.{TagIs, tag_name_of};
 ghost use Rattle.check_types.specs.declared.tagged.TagName.TheVariants.{NotJudged, Tag};
 ghost use Rattle.check_structs.specs.FirstKnown.{AreHeads, AreNames, AreSince, any_count, bare_tags, count_by, first_tags, head_named};
-ghost use Rattle.check_structs.specs.Members.{scoped, structure_taken, takes_kind};
+ghost use Rattle.check_structs.specs.Members.{scoped};
 
 use crate::member::{fits_member, repeated_fault, type_alone};
 use crate::parameters::region_parameters;
-use check_faults::{Taken, Verdict};
+use check_faults::Verdict;
 use check_regions::RegionNames;
 use check_types::{TagName, TagNames, type_tag};
 use cyc_tree::{Base, Item, Member, Name, RegionName, Structure, TypeName};
@@ -36,33 +33,13 @@ pub(crate) fn builtin_names<'p>(alloc: Global) -> Result<TagNames<'p>, AllocErro
 
 /// An item's name.
 pub(crate) fn item_name(item: &Item) -> &Name
-    ensures { (k : rules_taken.Taken) → name_tree result.now ≡ name_of (item_taken k (program_item_tree item.now)) }
+    ensures { name_tree result.now ≡ name_of (program_item_tree item.now) }
 {
     match item {
         Item::Struct(structure) | Item::Union(structure) => &structure.tag,
         Item::Global(global) => &global.name,
         Item::Function(function) => &function.name,
     }
-}
-
-/// Whether unions are taken, or else structs.
-fn takes_kind(taken: Taken, is_union: bool) -> bool
-    ensures { result ≡ takes_kind (taken_of taken) is_union }
-{
-    if is_union {
-        taken.unions
-    } else {
-        taken.structs
-    }
-}
-
-/// Whether a union, or else a struct, is taken.
-pub(crate) fn takes_structure(taken: Taken, is_union: bool, structure: &Structure) -> bool
-    ensures { result ≡ takes_structure (taken_of taken) (takes_kind (taken_of taken) is_union) (structure_tree structure.now) }
-{
-    takes_kind(taken, is_union)
-        && (taken.parameters || structure.regions.is_empty())
-        && !structure.members.is_empty()
 }
 
 /// How many these are. A number over a u32 is want of memory.
@@ -75,54 +52,33 @@ fn count_of(regions: &[RegionName]) -> Result<u32, AllocError>
     }
 }
 
-/// How many region parameters a union, or else a struct, has: one that isn't taken has none.
-fn parameter_count(taken: Taken, is_union: bool, structure: &Structure) -> Result<u32, AllocError>
-    ensures { IfOk result (λ n. n ≡ length (structure_taken (taken_of taken) is_union (structure_tree structure.now)).regions) }
+/// What the tag of a union, or else a struct, means by its own. Fails only where it has 2^32 region parameters.
+fn bare_structure(is_union: bool, structure: &Structure) -> Result<TagName, AllocError>
+    ensures { (i : ℕ) → IfOk result (λ n. n ≡ tag_name_of (Some (bare_tag i is_union (structure_tree structure.now) true))) }
 {
-    if takes_structure(taken, is_union, structure) {
-        let count = count_of(&structure.regions)?;
-        Ok(count)
-    } else {
-        Ok(0)
-    }
-}
-
-/// What the tag of a union, or else a struct, means by its own.
-fn bare_structure(
-    taken: Taken,
-    is_union: bool,
-    structure: &Structure,
-) -> Result<TagName, AllocError>
-    ensures { (i : ℕ) → IfOk result (λ n. n
-        ≡ tag_name_of (Some (bare_tag i is_union (structure_taken (taken_of taken) is_union (structure_tree structure.now)) true))) }
-{
-    let regions = parameter_count(taken, is_union, structure)?;
+    let regions = count_of(&structure.regions)?;
     Ok(TagName::Tag { is_union, regions })
 }
 
 /// What an item's name means by its own. Fails only where a struct or union has 2^32 region parameters.
-fn bare_name(taken: Taken, item: &Item) -> Result<TagName, AllocError>
-    ensures { (i : ℕ) → IfOk result (λ n. n ≡ tag_name_of (Some (bare_entry i (item_taken (taken_of taken) (program_item_tree item.now))))) }
+fn bare_name(item: &Item) -> Result<TagName, AllocError>
+    ensures { (i : ℕ) → IfOk result (λ n. n ≡ tag_name_of (Some (bare_entry i (program_item_tree item.now)))) }
 {
     match item {
-        Item::Struct(structure) => bare_structure(taken, false, structure),
-        Item::Union(structure) => bare_structure(taken, true, structure),
+        Item::Struct(structure) => bare_structure(false, structure),
+        Item::Union(structure) => bare_structure(true, structure),
         Item::Global(_) | Item::Function(_) => Ok(TagName::Other),
     }
 }
 
 /// What the names of a program mean, where no tag is judged. Fails only where no host memory is left, or a struct or union has
 /// 2^32 region parameters.
-pub(crate) fn bare_names<'p>(
-    alloc: Global,
-    taken: Taken,
-    items: &'p [Item],
-) -> Result<TagNames<'p>, AllocError>
-    ensures { IfOk result (λ names. AreNames names (bare_tags (only_taken (taken_of taken) (program_tree items.entry.now)))) }
+pub(crate) fn bare_names<'p>(alloc: Global, items: &'p [Item]) -> Result<TagNames<'p>, AllocError>
+    ensures { IfOk result (λ names. AreNames names (bare_tags (program_tree items.entry.now))) }
 {
     let mut names = builtin_names(alloc)?;
     'each: for item in items {
-        let name = bare_name(taken, item)?;
+        let name = bare_name(item)?;
         names.add(&item_name(item).text, name)?;
     }
     Ok(names)
@@ -188,12 +144,12 @@ fn head_named(tags: HeadTags<'_, '_>, name: &[u8]) -> TagName
     }
 }
 
-/// What the tag means that a type of structs or unions has, where it is taken.
-fn head_tag(taken: Taken, tags: HeadTags<'_, '_>, of: &TypeName) -> TagName
+/// What the tag means that a type of structs or unions has.
+fn head_tag(tags: HeadTags<'_, '_>, of: &TypeName) -> TagName
     ensures { (g : Tables) → AreHeads tags.entry.own.now tags.entry.regions tags.entry.others.now g
-        → TagIs (taken_of taken) g (type_tree of.now) result }
+        → TagIs g (type_tree of.now) result }
 {
-    match type_tag(taken, of) {
+    match type_tag(of) {
         Some(name) => head_named(tags, &name.text),
         None => TagName::NoName,
     }
@@ -203,18 +159,17 @@ fn head_tag(taken: Taken, tags: HeadTags<'_, '_>, of: &TypeName) -> TagName
 /// Fails only where no host memory is left.
 fn is_head_clean(
     alloc: Global,
-    taken: Taken,
     is_union: bool,
     tags: HeadTags<'_, '_>,
     names: &RegionNames<'_>,
     of: &TypeName,
 ) -> Result<bool, AllocError>
     ensures { (g : Tables) (i : ℕ) → AreHeads tags.entry.own.now tags.entry.regions tags.entry.others.now g → IfOk result (λ b. b
-        ≡ is_clean (rules.faults_of (head_type (scoped g i names.now) is_union (type_taken (taken_of taken) (type_tree of.now))))) }
+        ≡ is_clean (rules.faults_of (head_type (scoped g i names.now) is_union (type_tree of.now)))) }
 {
-    let tag = head_tag(taken, tags, of);
+    let tag = head_tag(tags, of);
     let asked = any_count(tag, of)?;
-    match type_alone(alloc, taken, asked, names, of)? {
+    match type_alone(alloc, asked, names, of)? {
         Verdict::Of(of) => Ok(fits_member(is_union, &of)),
         Verdict::Wrong(_) => Ok(false),
         Verdict::NotJudged => Ok(true),
@@ -232,18 +187,17 @@ fn are_both(one: bool, other: bool) -> bool
 /// Fails only where no host memory is left.
 fn are_heads_clean(
     alloc: Global,
-    taken: Taken,
     is_union: bool,
     tags: HeadTags<'_, '_>,
     names: &RegionNames<'_>,
     members: &[Member],
 ) -> Result<bool, AllocError>
     ensures { (g : Tables) (i : ℕ) → AreHeads tags.entry.own.now tags.entry.regions tags.entry.others.now g → IfOk result (λ b. b
-        ≡ is_clean (head_faults (scoped g i names.now) is_union (members_taken (taken_of taken) (map member_tree members.now)))) }
+        ≡ is_clean (head_faults (scoped g i names.now) is_union (map member_tree members.now))) }
 {
     let mut clean = true;
     'each: for member in members {
-        let own = is_head_clean(alloc, taken, is_union, tags, names, &member.of)?;
+        let own = is_head_clean(alloc, is_union, tags, names, &member.of)?;
         clean = are_both(clean, own);
     }
     Ok(clean)
@@ -253,23 +207,21 @@ fn are_heads_clean(
 /// names are in scope. Fails only where no host memory is left.
 fn are_members_clean(
     alloc: Global,
-    taken: Taken,
     is_union: bool,
     tags: HeadTags<'_, '_>,
     names: &RegionNames<'_>,
     members: &[Member],
 ) -> Result<bool, AllocError>
     ensures { (g : Tables) (i : ℕ) → AreHeads tags.entry.own.now tags.entry.regions tags.entry.others.now g → IfOk result (λ b. b
-        ≡ is_clean (head_faults (scoped g i names.now) is_union (members_taken (taken_of taken) (map member_tree members.now))
-        ++ repeated [] (members_taken (taken_of taken) (map member_tree members.now)))) }
+        ≡ is_clean (head_faults (scoped g i names.now) is_union (map member_tree members.now)
+        ++ repeated [] (map member_tree members.now))) }
 {
-    let clean = are_heads_clean(alloc, taken, is_union, tags, names, members)?;
+    let clean = are_heads_clean(alloc, is_union, tags, names, members)?;
     let second = repeated_fault(alloc, members)?;
     Ok(are_both(clean, second.is_none()))
 }
 
-/// What the tag of a union, or else a struct, means that is taken and has so many region parameters, by whether its declaration has no
-/// fault.
+/// What the tag of a union, or else a struct, means that has so many region parameters, by whether its declaration has no fault.
 fn tag_name(is_union: bool, clean: bool, regions: u32) -> TagName
     ensures { result ≡ (if clean then Tag is_union regions else NotJudged regions) }
 {
@@ -280,17 +232,16 @@ fn tag_name(is_union: bool, clean: bool, regions: u32) -> TagName
     }
 }
 
-/// What the tag of a union, or else a struct, that is taken is first known to mean. Fails only where no host memory is left, or it has
-/// 2^32 region parameters.
-fn taken_head(
+/// What the tag of a union, or else a struct, is first known to mean. Fails only where no host memory is left, or it has 2^32 region
+/// parameters.
+fn head_of_structure(
     alloc: Global,
-    taken: Taken,
     is_union: bool,
     tags: &TagNames<'_>,
     structure: &Structure,
 ) -> Result<TagName, AllocError>
-    ensures { (g : Tables) (i : ℕ) → AreNames tags.now g → let s = structure_tree structure.now in
-        IfOk result (λ n. n ≡ tag_name_of (Some (head_entry g i is_union (structure_if true s (members_taken (taken_of taken) s.members))))) }
+    ensures { (g : Tables) (i : ℕ) → AreNames tags.now g
+        → IfOk result (λ n. n ≡ tag_name_of (Some (head_entry g i is_union (structure_tree structure.now)))) }
 {
     let parameters = region_parameters(alloc, &structure.regions)?;
     let tags = HeadTags {
@@ -299,7 +250,7 @@ fn taken_head(
         others: tags,
     };
     let members = &structure.members;
-    let clean = are_members_clean(alloc, taken, is_union, tags, &parameters.names, members)?;
+    let clean = are_members_clean(alloc, is_union, tags, &parameters.names, members)?;
     Ok(tag_name(
         is_union,
         are_both(parameters.fault.is_none(), clean),
@@ -307,40 +258,15 @@ fn taken_head(
     ))
 }
 
-/// What the tag of a union, or else a struct, is first known to mean. Fails only where no host memory is left, or it has 2^32 region
-/// parameters.
-fn head_of_structure(
-    alloc: Global,
-    taken: Taken,
-    is_union: bool,
-    tags: &TagNames<'_>,
-    structure: &Structure,
-) -> Result<TagName, AllocError>
-    ensures { (g : Tables) (i : ℕ) → AreNames tags.now g → IfOk result (λ n. n
-        ≡ tag_name_of (Some (head_entry g i is_union (structure_taken (taken_of taken) is_union (structure_tree structure.now))))) }
-{
-    if takes_structure(taken, is_union, structure) {
-        let name = taken_head(alloc, taken, is_union, tags, structure)?;
-        Ok(name)
-    } else {
-        Ok(TagName::NotJudged(0))
-    }
-}
-
 /// What an item's name is first known to mean. Fails only where no host memory is left, or a struct or union has 2^32 region
 /// parameters.
-fn head_name(
-    alloc: Global,
-    taken: Taken,
-    tags: &TagNames<'_>,
-    item: &Item,
-) -> Result<TagName, AllocError>
+fn head_name(alloc: Global, tags: &TagNames<'_>, item: &Item) -> Result<TagName, AllocError>
     ensures { (g : Tables) (i : ℕ) → AreNames tags.now g → IfOk result (λ n. n
-        ≡ tag_name_of (Some (first_entry g i (item_taken (taken_of taken) (program_item_tree item.now))))) }
+        ≡ tag_name_of (Some (first_entry g i (program_item_tree item.now)))) }
 {
     match item {
-        Item::Struct(structure) => head_of_structure(alloc, taken, false, tags, structure),
-        Item::Union(structure) => head_of_structure(alloc, taken, true, tags, structure),
+        Item::Struct(structure) => head_of_structure(alloc, false, tags, structure),
+        Item::Union(structure) => head_of_structure(alloc, true, tags, structure),
         Item::Global(_) | Item::Function(_) => Ok(TagName::Other),
     }
 }
@@ -349,16 +275,14 @@ fn head_name(
 /// fault hangs on no tag. Fails only where no host memory is left, or a struct or union has 2^32 region parameters.
 pub(crate) fn head_names<'p>(
     alloc: Global,
-    taken: Taken,
     bare: &TagNames<'_>,
     items: &'p [Item],
 ) -> Result<TagNames<'p>, AllocError>
-    ensures { let all = only_taken (taken_of taken) (program_tree items.entry.now) in
-        AreNames bare.now (bare_tags all) → IfOk result (λ names. AreNames names (first_tags all)) }
+    ensures { let all = program_tree items.entry.now in AreNames bare.now (bare_tags all) → IfOk result (λ names. AreNames names (first_tags all)) }
 {
     let mut names = builtin_names(alloc)?;
     'each: for item in items {
-        let name = head_name(alloc, taken, bare, item)?;
+        let name = head_name(alloc, bare, item)?;
         names.add(&item_name(item).text, name)?;
     }
     Ok(names)

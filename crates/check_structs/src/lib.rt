@@ -1,7 +1,6 @@
 //! The structs and unions of a program, as they are judged.
 //!
-//! What is said of them are the definitions of `source_typing`, on which it stands, for each value of `Taken`. A struct or union that isn't
-//! taken stands as a refused one.
+//! What is said of them are the definitions of `source_typing`, on which it stands.
 #![tactic(auto)]
 
 mod heads;

@@ -6,16 +6,14 @@ ghost use Rattle.cyc_types.specs.Types.{static_type};
 ghost use Rattle.source_typing.specs.Faults.{earliest};
 ghost use Rattle.source_typing.specs.Tables.{Tables};
 ghost use Rattle.source_typing.specs.Tags.{fits_member, repeated};
-ghost use Rattle.source_typing.specs.Taken.{type_taken};
 ghost use Rattle.source_typing.specs.Types.{is_unique};
 ghost use Rattle.check_faults.specs.Faults.{faults_of};
-ghost use Rattle.check_faults.specs.Taken.{taken_of};
 ghost use Rattle.check_faults.specs.Verdicts.{short_of, shortened};
 ghost use Rattle.check_types.specs.Tagged.{TagIs};
 ghost use Rattle.check_structs.specs.Members.{type_alone};
 
 use crate::parameters::unless_new;
-use check_faults::{Fault, FaultKind, Taken, Verdict, sooner};
+use check_faults::{Fault, FaultKind, Verdict, sooner};
 use check_regions::RegionNames;
 use check_types::{TagName, TagNames, settled_alone, written_in};
 use cyc_tree::{Member, TypeName};
@@ -25,15 +23,14 @@ use std::alloc::{AllocError, Global};
 /// The type of a member, by what its tag means, where these region names are in scope. Fails only where no host memory is left.
 pub(crate) fn type_alone<'p>(
     alloc: Global,
-    taken: Taken,
     tag: TagName,
     names: &RegionNames<'_>,
     of: &'p TypeName,
 ) -> Result<Verdict<CType<'p>>, AllocError>
-    ensures { (g : Tables) → TagIs (taken_of taken) g (type_tree of.entry.now) tag → IfOk result (λ v. short_of static_type v
-        ≡ shortened (type_alone g names.now (type_taken (taken_of taken) (type_tree of.entry.now)))) }
+    ensures { (g : Tables) → TagIs g (type_tree of.entry.now) tag → IfOk result (λ v. short_of static_type v
+        ≡ shortened (type_alone g names.now (type_tree of.entry.now))) }
 {
-    let found = written_in(alloc, taken, tag, names, of)?;
+    let found = written_in(alloc, tag, names, of)?;
     let settled = settled_alone(found, of.at)?;
     Ok(settled)
 }

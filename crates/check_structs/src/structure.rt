@@ -11,18 +11,15 @@ ghost use Rattle.cyc_types.specs.Types.{static_type};
 ghost use Rattle.source_typing.specs.Faults.{earliest};
 ghost use Rattle.source_typing.specs.Tables.{Tables as TheTables};
 ghost use Rattle.source_typing.specs.Tags.{all_typed, member_faults, member_type, parts_by, struct_sized};
-ghost use Rattle.source_typing.specs.Taken.{members_taken, refused_structure, structure_if, type_taken};
 ghost use Rattle.check_faults.specs.Faults.{faults_of, first_of};
-ghost use Rattle.check_faults.specs.Taken.{taken_of};
 ghost use Rattle.check_faults.specs.Verdicts.{fault_in, short_of, shortened};
 ghost use Rattle.check_types.specs.Tagged.{TagIs};
-ghost use Rattle.check_structs.specs.Members.{scoped, structure_taken};
+ghost use Rattle.check_structs.specs.Members.{scoped};
 ghost use Rattle.check_structs.specs.Tags.{AreKnown, IsTag, StandsAt, fits_as, known_name, known_short, member_by, or_own};
 
-use crate::heads::takes_structure;
 use crate::member::{fits_member, repeated_fault, type_alone};
 use crate::parameters::region_parameters;
-use check_faults::{Fault, FaultKind, Taken, Verdict, sooner};
+use check_faults::{Fault, FaultKind, Verdict, sooner};
 use check_regions::RegionNames;
 use check_types::{TagName, TagNames, type_tag};
 use cyc_tree::{Member, Name, Structure, TypeName};
@@ -39,11 +36,11 @@ fn known_name(judged: &TagNames<'_>, first: &TagNames<'_>, name: &[u8]) -> TagNa
     }
 }
 
-/// What the tag means that a type of structs or unions has, where it is taken.
-fn known_tag(taken: Taken, judged: &TagNames<'_>, first: &TagNames<'_>, of: &TypeName) -> TagName
-    ensures { (g : TheTables) → AreKnown judged.now first.now g → TagIs (taken_of taken) g (type_tree of.now) result }
+/// What the tag means that a type of structs or unions has.
+fn known_tag(judged: &TagNames<'_>, first: &TagNames<'_>, of: &TypeName) -> TagName
+    ensures { (g : TheTables) → AreKnown judged.now first.now g → TagIs g (type_tree of.now) result }
 {
-    match type_tag(taken, of) {
+    match type_tag(of) {
         Some(name) => known_name(judged, first, &name.text),
         None => TagName::NoName,
     }
@@ -73,17 +70,16 @@ fn fitting_member<'p>(
 /// only where no host memory is left.
 fn type_by_tag<'p>(
     alloc: Global,
-    taken: Taken,
     is_union: bool,
     tag: TagName,
     names: &RegionNames<'_>,
     tables: &Tables<'p>,
     of: &'p TypeName,
 ) -> Result<Verdict<CType<'p>>, AllocError>
-    ensures { (g : TheTables) → TagIs (taken_of taken) g (type_tree of.entry.now) tag → IfOk result (λ v. short_of static_type v
-        ≡ shortened (member_by is_union (has_declared (tables_of tables.now)) g names.now (type_taken (taken_of taken) (type_tree of.entry.now)))) }
+    ensures { (g : TheTables) → TagIs g (type_tree of.entry.now) tag → IfOk result (λ v. short_of static_type v
+        ≡ shortened (member_by is_union (has_declared (tables_of tables.now)) g names.now (type_tree of.entry.now))) }
 {
-    let found = type_alone(alloc, taken, tag, names, of)?;
+    let found = type_alone(alloc, tag, names, of)?;
     match found {
         Verdict::Of(member) => Ok(fitting_member(member, of.at, is_union, tables)),
         Verdict::Wrong(fault) => Ok(Verdict::Wrong(fault)),
@@ -94,17 +90,16 @@ fn type_by_tag<'p>(
 /// The type of a member of a union, or else of a struct, where these region names are in scope. Fails only where no host memory is left.
 fn member_type<'p>(
     alloc: Global,
-    taken: Taken,
     is_union: bool,
     known: Known<'_, 'p>,
     names: &RegionNames<'_>,
     of: &'p TypeName,
 ) -> Result<Verdict<CType<'p>>, AllocError>
     ensures { (g : TheTables) (i : ℕ) → StandsAt known.entry.judged.now known.entry.first.now (tables_of known.entry.tables.now) i g
-        → IfOk result (λ v. short_of static_type v ≡ shortened (member_type (scoped g i names.now) is_union (type_taken (taken_of taken) (type_tree of.entry.now)))) }
+        → IfOk result (λ v. short_of static_type v ≡ shortened (member_type (scoped g i names.now) is_union (type_tree of.entry.now))) }
 {
-    let tag = known_tag(taken, known.judged, known.first, of);
-    let found = type_by_tag(alloc, taken, is_union, tag, names, known.tables, of)?;
+    let tag = known_tag(known.judged, known.first, of);
+    let found = type_by_tag(alloc, is_union, tag, names, known.tables, of)?;
     Ok(found)
 }
 
@@ -155,23 +150,22 @@ impl<'p> JudgedMembers<'p> {
 /// The members of a union, or else of a struct, where these region names are in scope. Fails only where no host memory is left.
 fn judged_members<'p>(
     alloc: Global,
-    taken: Taken,
     is_union: bool,
     known: Known<'_, 'p>,
     names: &RegionNames<'_>,
     members: &'p [Member],
 ) -> Result<JudgedMembers<'p>, AllocError>
     ensures parts { (g : TheTables) (i : ℕ) → StandsAt known.entry.judged.now known.entry.first.now (tables_of known.entry.tables.now) i g → IfOk result (λ r.
-        members_of r.members.items ≡ parts_by (scoped g i names.now) is_union (members_taken (taken_of taken) (map member_tree members.entry.now))) }
+        members_of r.members.items ≡ parts_by (scoped g i names.now) is_union (map member_tree members.entry.now)) }
     ensures fault { (g : TheTables) (i : ℕ) → StandsAt known.entry.judged.now known.entry.first.now (tables_of known.entry.tables.now) i g → IfOk result (λ r.
-        faults_of r.fault ≡ earliest (member_faults (scoped g i names.now) is_union (members_taken (taken_of taken) (map member_tree members.entry.now)))) }
+        faults_of r.fault ≡ earliest (member_faults (scoped g i names.now) is_union (map member_tree members.entry.now))) }
 {
     let mut judged = JudgedMembers {
         members: Vec::new(alloc),
         fault: None,
     };
     'each: for member in members {
-        let of = member_type(alloc, taken, is_union, known, names, &member.of)?;
+        let of = member_type(alloc, is_union, known, names, &member.of)?;
         judged.add(&member.name.text, of)?;
     }
     Ok(judged)
@@ -221,22 +215,20 @@ pub(crate) struct JudgedTag<'p> {
     pub(crate) fault: Option<Fault>,
 }
 
-/// A union, or else a struct, that is taken. Fails only where no host memory is left, or it has 2^32 region parameters.
-fn taken_tag<'p>(
+/// A union, or else a struct. Fails only where no host memory is left, or it has 2^32 region parameters.
+pub(crate) fn judged_structure<'p>(
     alloc: Global,
-    taken: Taken,
     is_union: bool,
     known: Known<'_, 'p>,
     order: u32,
     structure: &'p Structure,
 ) -> Result<JudgedTag<'p>, AllocError>
     ensures { (g : TheTables) → StandsAt known.entry.judged.now known.entry.first.now (tables_of known.entry.tables.now) order g
-        → IfOk result (λ r. IsTag g order is_union (structure_if true (structure_tree structure.entry.now)
-        (members_taken (taken_of taken) (structure_tree structure.entry.now).members)) r) }
+        → IfOk result (λ r. IsTag g order is_union (structure_tree structure.entry.now) r) }
 {
     let parameters = region_parameters(alloc, &structure.regions)?;
     let names = &parameters.names;
-    let judged = judged_members(alloc, taken, is_union, known, names, &structure.members)?;
+    let judged = judged_members(alloc, is_union, known, names, &structure.members)?;
     let second = repeated_fault(alloc, &structure.members)?;
     let JudgedMembers { members, fault } = judged;
     let parts = sooner(parameters.fault, sooner(fault, second));
@@ -249,53 +241,4 @@ fn taken_tag<'p>(
         sound: fault.is_none(),
     };
     Ok(JudgedTag { tag, fault })
-}
-
-/// A struct or union that isn't taken. Fails only where no host memory is left.
-fn refused_tag<'p>(
-    alloc: Global,
-    is_union: bool,
-    order: u32,
-    structure: &Structure,
-) -> Result<JudgedTag<'p>, AllocError>
-    ensures { (g : TheTables) → IfOk result (λ r. IsTag g order is_union (refused_structure (structure_tree structure.now)) r) }
-{
-    let mut members = Vec::new(alloc);
-    members.push(TagMember {
-        name: b"".as_slice(),
-        of: None,
-    })?;
-    let tag = Tag {
-        is_union,
-        order,
-        regions: 0,
-        members,
-        sound: false,
-    };
-    let fault = Some(Fault {
-        kind: FaultKind::Typing,
-        at: structure.at,
-    });
-    Ok(JudgedTag { tag, fault })
-}
-
-/// A union, or else a struct. Fails only where no host memory is left, or it has 2^32 region parameters.
-pub(crate) fn judged_structure<'p>(
-    alloc: Global,
-    taken: Taken,
-    is_union: bool,
-    known: Known<'_, 'p>,
-    order: u32,
-    structure: &'p Structure,
-) -> Result<JudgedTag<'p>, AllocError>
-    ensures { (g : TheTables) → StandsAt known.entry.judged.now known.entry.first.now (tables_of known.entry.tables.now) order g
-        → IfOk result (λ r. IsTag g order is_union (structure_taken (taken_of taken) is_union (structure_tree structure.entry.now)) r) }
-{
-    if takes_structure(taken, is_union, structure) {
-        let judged = taken_tag(alloc, taken, is_union, known, order, structure)?;
-        Ok(judged)
-    } else {
-        let refused = refused_tag(alloc, is_union, order, structure)?;
-        Ok(refused)
-    }
 }

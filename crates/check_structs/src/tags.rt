@@ -9,9 +9,7 @@ ghost use Rattle.cyc_types.specs.Tags.{members_of, named_tag};
 ghost use Rattle.source_typing.specs.Faults.{earliest};
 ghost use Rattle.source_typing.specs.Programs.{Judged, all_tag_faults, builtins, entries, judged_tag, judged_tags};
 ghost use Rattle.source_typing.specs.Tables.{Tables as TheTables, each_part, tag_in};
-ghost use Rattle.source_typing.specs.Taken.{item_taken, only_taken};
 ghost use Rattle.check_faults.specs.Faults.{faults_of};
-ghost use Rattle.check_faults.specs.Taken.{taken_of};
 ghost use Rattle.check_types.specs.Naming.{AreTagNames, has_tag_name};
 ghost use Rattle.check_types.specs.Tagged.{tag_name_of};
 ghost use Rattle.check_structs.specs.FirstKnown.{AreNames, first_tags};
@@ -20,7 +18,7 @@ ghost use Rattle.check_structs.specs.Tags.{AreAllJudged, AreJudged, IsFound, Sta
 use crate::heads::{bare_names, builtin_names, head_names, item_name};
 use crate::parameters::next_number;
 use crate::structure::{JudgedTag, Known, judged_structure};
-use check_faults::{Fault, Taken, sooner};
+use check_faults::{Fault, sooner};
 use check_types::{TagName, TagNames};
 use cyc_tree::Item;
 use cyc_types::{TableFault, Tables, Tag};
@@ -138,21 +136,20 @@ impl<'p> JudgedTags<'p> {
 /// What is found of an item, where it is a struct or union. Fails only where no host memory is left.
 fn judged_item<'p>(
     alloc: Global,
-    taken: Taken,
     known: Known<'_, 'p>,
     order: u32,
     item: &'p Item,
 ) -> Result<Option<JudgedTag<'p>>, AllocError>
     ensures { (g : TheTables) → StandsAt known.entry.judged.now known.entry.first.now (tables_of known.entry.tables.now) order g
-        → IfOk result (IsFound (judged_tag g order (item_taken (taken_of taken) (program_item_tree item.entry.now)))) }
+        → IfOk result (IsFound (judged_tag g order (program_item_tree item.entry.now))) }
 {
     match item {
         Item::Struct(structure) => {
-            let judged = judged_structure(alloc, taken, false, known, order, structure)?;
+            let judged = judged_structure(alloc, false, known, order, structure)?;
             Ok(Some(judged))
         }
         Item::Union(structure) => {
-            let judged = judged_structure(alloc, taken, true, known, order, structure)?;
+            let judged = judged_structure(alloc, true, known, order, structure)?;
             Ok(Some(judged))
         }
         Item::Global(_) | Item::Function(_) => Ok(None),
@@ -174,13 +171,12 @@ fn no_tags<'p>(alloc: Global) -> Result<JudgedTags<'p>, AllocError>
 /// The structs and unions of items, by what is first known of their names. Fails only where no host memory is left.
 fn judged_items<'p>(
     alloc: Global,
-    taken: Taken,
     first: &TagNames<'p>,
     items: &'p [Item],
 ) -> Result<JudgedTags<'p>, AllocError>
     // these are the names that are first known
-    requires first { AreNames first.now (first_tags (only_taken (taken_of taken) (program_tree items.now))) }
-    ensures { let all = only_taken (taken_of taken) (program_tree items.entry.now) in IfOk result (λ done. AreAllJudged all done) }
+    requires first { AreNames first.now (first_tags (program_tree items.now)) }
+    ensures { IfOk result (λ done. AreAllJudged (program_tree items.entry.now) done) }
 {
     let mut done = no_tags(alloc)?;
     let mut order = 0;
@@ -190,7 +186,7 @@ fn judged_items<'p>(
             first,
             tables: &done.tables,
         };
-        let found = judged_item(alloc, taken, known, order, item)?;
+        let found = judged_item(alloc, known, order, item)?;
         done.add(&item_name(item).text, found)?;
         order = next_number(order)?;
     }
@@ -200,20 +196,13 @@ fn judged_items<'p>(
 /// The structs and unions of a program, as they are judged: what its names mean where a tag is wanted, the structs and unions by
 /// name, and the earliest fault of their declarations. Fails only where no host memory is left, or an
 /// item's number is over the greatest u32.
-pub fn judged_tags<'p>(
-    alloc: Global,
-    taken: Taken,
-    items: &'p [Item],
-) -> Result<JudgedTags<'p>, AllocError>
-    ensures fault { let all = only_taken (taken_of taken) (program_tree items.entry.now) in
-        IfOk result (λ done. faults_of done.fault ≡ earliest (all_tag_faults (judged_tags all))) }
-    ensures names { let all = only_taken (taken_of taken) (program_tree items.entry.now) in
-        IfOk result (λ done. AreTagNames done.names (builtins (entries (judged_tags all)))) }
-    ensures tables { let all = only_taken (taken_of taken) (program_tree items.entry.now) in
-        IfOk result (λ done. HasTags done.tables (builtins (entries (judged_tags all)))) }
+pub fn judged_tags<'p>(alloc: Global, items: &'p [Item]) -> Result<JudgedTags<'p>, AllocError>
+    ensures fault { IfOk result (λ done. faults_of done.fault ≡ earliest (all_tag_faults (judged_tags (program_tree items.entry.now)))) }
+    ensures names { IfOk result (λ done. AreTagNames done.names (builtins (entries (judged_tags (program_tree items.entry.now))))) }
+    ensures tables { IfOk result (λ done. HasTags done.tables (builtins (entries (judged_tags (program_tree items.entry.now))))) }
 {
-    let bare = bare_names(alloc, taken, items)?;
-    let first = head_names(alloc, taken, &bare, items)?;
-    let done = judged_items(alloc, taken, &first, items)?;
+    let bare = bare_names(alloc, items)?;
+    let first = head_names(alloc, &bare, items)?;
+    let done = judged_items(alloc, &first, items)?;
     Ok(done)
 }

@@ -1,6 +1,6 @@
 pub mod MissingRegions
 pub mod Pointers
-pub mod TakenTypes
+pub mod PlainTypes
 pub mod Parameters
 pub mod TagTypes
 pub mod Naming

@@ -3,15 +3,14 @@ use Rattle.std.proofs.Common.{◌≡◌, subst}
 use Rattle.std.specs.Prelude.{None, Some}
 use Rattle.cyc_tree.specs.Tree.{Name, TypeName}
 use Rattle.source_typing.specs.Tables.{Tables}
-use Rattle.source_typing.specs.Taken.{Taken}
-use Rattle.check_types.specs.Tagged.{IsNamed, TagIs, tag_taken}
+use Rattle.check_types.specs.Tagged.{IsNamed, TagIs, type_tag}
 use Rattle.check_types.specs.declared.tagged.TagName.{TagName}
 
-module _ (k : Taken) (g : Tables) (t : TypeName) (n : TagName) where
+module _ (g : Tables) (t : TypeName) (n : TagName) where
   -- the tag of a type of structs or unions
-  pub tag_means : (x : Name) → tag_taken k t ≡ Some x → IsNamed g x.text n → TagIs k g t n
+  pub tag_means : (x : Name) → type_tag t ≡ Some x → IsNamed g x.text n → TagIs g t n
   tag_means x h named y e = let same : x ≡ y = cc in subst (λ (y : Name). IsNamed g y.text n) same named
 
   -- another type has none
-  pub tag_of_none : tag_taken k t ≡ None → TagIs k g t n
+  pub tag_of_none : type_tag t ≡ None → TagIs g t n
   tag_of_none h y e = absurd cc

@@ -1,23 +1,20 @@
 -- Parameters' types and their region variables.
-use Rattle.std.proofs.Common.{◌≡◌, ◌+◌, ℕ, suc, true, List, [], ◌∷◌, ◌++◌, drop, map, refl, sym, ap, ◌∙◌}
+use Rattle.std.proofs.Common.{◌≡◌, ◌+◌, ℕ, true, List, [], ◌∷◌, ◌++◌, drop, map, refl, sym, ap, ◌∙◌}
 use Rattle.std.specs.Prelude.{None, Option, Some, option_map}
 use Rattle.cyc_tree.specs.Tree.{TypeName}
 use Rattle.cyc_tree.specs.View.{pointer_tree, region_tree}
 use Rattle.cyc_tree.specs.declared.name.Pointer.{Pointer}
-use Rattle.source_typing.specs.Functions.{Variables, parameter_type, take_named, take_spot, take_spots, variables}
+use Rattle.source_typing.specs.Functions.{Variables, parameter_type, take_named, take_spot, take_spots}
 use Rattle.source_typing.specs.Regions.{Region}
 use Rattle.source_typing.specs.Tables.{Tables}
-use Rattle.source_typing.specs.Taken.{Taken}
 use Rattle.source_typing.specs.Types.{PartialType}
 use Rattle.source_typing.specs.Verdicts.{unless_faulty}
 use Rattle.source_typing.specs.Written.{IsUnique, Spot, pointers_to, spot, spots_of, type_built}
 use Rattle.check_faults.specs.Verdicts.{shortened}
 use Rattle.check_types.proofs.Pointers.{next_led}
-use Rattle.check_types.proofs.TakenTypes.{not_taken, plain_built, plain_spots}
-use Rattle.check_types.specs.Handles.{handle_taken}
-use Rattle.check_types.specs.Parameters.{as_parameter, parameter_by, refused_at, spotted_by}
-use Rattle.check_types.specs.Reading.{and_layer, is_unique_name, led_by, made, plain_of, pointer_spots, pointer_trees, taken_base}
-use Rattle.check_types.specs.Tagged.{tag_taken}
+use Rattle.check_types.proofs.PlainTypes.{plain_built, plain_spots}
+use Rattle.check_types.specs.Parameters.{as_parameter}
+use Rattle.check_types.specs.Reading.{and_layer, is_unique_name, led_by, made, plain_of, pointer_spots, pointer_trees}
 use Rattle.check_types.specs.Written.{partial_to}
 use Rattle.check_types.specs.declared.layer.WrittenLayer.{WrittenLayer}
 use Rattle.cyc_tree.specs.Tree as tree
@@ -69,13 +66,6 @@ module _ (ps : List Pointer) (i : ℕ) (x : Pointer) (e : drop i ps ≡ x ∷ dr
       ∙ sym (ap (λ qs. pointers_to (pointer_trees qs) (take_spots vs (pointer_spots qs)).found (led_by o b)) e)
 
 -- ---- a parameter's type
-
-module _ (k : Taken) (g : Tables) (vs : Variables) (t : TypeName) (x : tag_taken k t ≡ None) (r : handle_taken k t ≡ None) (e : taken_base k t ≡ None) where
-  pub refused_parameter : shortened (refused_at t.at) ≡ shortened (parameter_by k g vs t)
-  refused_parameter = sym (ap (λ u. shortened (parameter_type g u (take_spots vs (spots_of g u)))) (not_taken k t x r e))
-
-  pub refused_after : variables vs.names (suc vs.count) ≡ (spotted_by k g vs t).after_all
-  refused_after = sym (ap (λ u. (take_spots vs (spots_of g u)).after_all) (not_taken k t x r e))
 
 module _ (g : Tables) (vs : Variables) (t : TypeName) (b : PartialType) (e : plain_of t.base ≡ Some b) where
   abbrev spots : List Spot

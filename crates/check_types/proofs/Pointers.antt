@@ -1,13 +1,12 @@
--- The pointers of types one by one: whether they are taken, their regions, and what they lead to.
+-- The pointers of types one by one: their regions, and what they lead to.
 use Rattle.std.proofs.Common.{◌≡◌, ◌+◌, ℕ, Bool, true, false, List, [], ◌∷◌, ◌++◌, drop, refl, sym, ap, ◌∙◌}
-use Rattle.std.specs.Prelude.{None, Option, Some, is_none, option_map, ◌&&◌, ◌||◌}
-use Rattle.std.specs.List.{list_all, list_any}
+use Rattle.std.specs.Prelude.{None, Option, Some, is_none, option_map, ◌||◌}
+use Rattle.std.specs.List.{list_any}
 use Rattle.cyc_tree.specs.Tree.{TypeName}
 use Rattle.cyc_tree.specs.View.{pointer_tree, region_tree}
 use Rattle.cyc_tree.specs.declared.name.Pointer.{Pointer}
 use Rattle.cyc_tree.specs.declared.name.Sign.{Sign}
 use Rattle.source_typing.specs.Faults.{earliest}
-use Rattle.source_typing.specs.Taken.{Taken, takes_pointers}
 use Rattle.source_typing.specs.Types.{PartialType, Void}
 use Rattle.source_typing.specs.Written.{
   Found,
@@ -28,7 +27,7 @@ use Rattle.check_faults.proofs.Shortened.{shortened_faulty, shortened_unless}
 use Rattle.check_faults.specs.Faults.{fault_of, faults_of, first_of, sooner_found}
 use Rattle.check_faults.specs.Verdicts.{Wrong, shortened}
 use Rattle.check_faults.specs.declared.fault.Fault.{Fault}
-use Rattle.check_types.specs.Reading.{and_layer, can_lead, is_unique_name, led, led_by, listed, made, pointer_spots, pointer_taken, pointer_trees}
+use Rattle.check_types.specs.Reading.{and_layer, can_lead, is_unique_name, led, led_by, listed, made, pointer_spots, pointer_trees}
 use Rattle.check_types.specs.Tagged.{pointed_on, pointers_found}
 use Rattle.check_types.specs.Written.{partial_to, partial_under}
 use Rattle.check_types.specs.declared.layer.WrittenLayer.{WrittenLayer}
@@ -37,12 +36,6 @@ use Rattle.cyc_tree.specs.Tree as tree
 use Rattle.cyc_tree.specs.declared.name.Sign.TheVariants as sign
 use Rattle.source_typing.specs.Faults as rules
 use Rattle.source_typing.specs.Types as type
-
--- ---- what is taken
-
-pub all_taken : (k : Taken) (ps : List Pointer) → list_all (λ p. pointer_taken k (pointer_tree p)) ps ≡ takes_pointers k (pointer_trees ps)
-all_taken k [] = refl
-all_taken k (p ∷ ps) = ap (λ b. pointer_taken k (pointer_tree p) && b) (all_taken k ps)
 
 -- ---- pointers to a type
 

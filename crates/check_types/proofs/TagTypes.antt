@@ -4,7 +4,6 @@ use Rattle.std.specs.Prelude.{None, Option, Some, if◌then◌else◌, is_none, 
 use Rattle.cyc_tree.specs.Tree.{Name, TypeName}
 use Rattle.source_typing.specs.Faults.{type_rule}
 use Rattle.source_typing.specs.Tables.{Entry, OfBuiltin, OfFunction, OfOther, OfTag, OfValue, Tables, as_tag, find}
-use Rattle.source_typing.specs.Taken.{Taken, type_taken}
 use Rattle.source_typing.specs.Types.{same_bool}
 use Rattle.source_typing.specs.Verdicts.{Of, refuse}
 use Rattle.source_typing.specs.Written.{
@@ -27,7 +26,7 @@ use Rattle.source_typing.specs.Written.{
   written_with,
 }
 use Rattle.check_faults.specs.Verdicts.{Is, shortened}
-use Rattle.check_types.proofs.TakenTypes.{missing_as, tag_is_base, tag_stands}
+use Rattle.check_types.proofs.PlainTypes.{tag_is_base}
 use Rattle.check_types.specs.Arguments.{spots_by, written_arguments}
 use Rattle.check_types.specs.Tagged.{
   IsNamed,
@@ -37,9 +36,9 @@ use Rattle.check_types.specs.Tagged.{
   regions_named,
   tag_base,
   tag_name_of,
-  tag_taken,
   tagged_in,
   tagged_spots,
+  type_tag,
 }
 use Rattle.check_types.specs.declared.tagged.TagName.{TagName}
 use Rattle.check_types.specs.declared.tagged.TagName.TheVariants as code
@@ -122,19 +121,18 @@ module _ (g : Tables) (t : TypeName) (x : Name) (n : TagName) (base : t.base ≡
   pub tagged_with : (y : List Found × List rules.Fault) → written_on t y.0 y.1 (named_as union n x.at) ≡ written_with g t y
   tagged_with y = ap (written_on t y.0 y.1) (sym tag_is) ∙ sym (with_found g t y)
 
-pub tagged_written : (k : Taken) (g : Tables) (names : List RegionNamed) (t : TypeName) (x : Name) (n : TagName)
-    → tag_taken k t ≡ Some x → TagIs k g t n → tagged_in names t x n ≡ written g names (type_taken k t)
-tagged_written k g names t x n h tag =
-    let base = tag_is_base k t x h in
+pub tagged_written : (g : Tables) (names : List RegionNamed) (t : TypeName) (x : Name) (n : TagName)
+    → type_tag t ≡ Some x → TagIs g t n → tagged_in names t x n ≡ written g names t
+tagged_written g names t x n h tag =
+    let base = tag_is_base t x h in
     tagged_with g t x n base (tag x h) (all_found names (tagged_spots (regions_named n) t))
     ∙ ap (λ ss. written_with g t (all_found names ss)) (sym (spots_are_by g t x n base (tag x h)))
-    ∙ sym (ap (λ u. written g names u) (tag_stands k t x h))
 
 -- ---- missing regions
 
-pub tagged_misses : (k : Taken) (g : Tables) (t : TypeName) (x : Name) (n : TagName) → tag_taken k t ≡ Some x → TagIs k g t n
-    → any_missing (tagged_spots (regions_named n) t) ≡ any_missing (spots_of g (type_taken k t))
-tagged_misses k g t x n h tag = ap any_missing (sym (spots_are_by g t x n (tag_is_base k t x h) (tag x h))) ∙ missing_as k g t (tag_stands k t x h)
+pub tagged_misses : (g : Tables) (t : TypeName) (x : Name) (n : TagName) → type_tag t ≡ Some x → TagIs g t n
+    → any_missing (tagged_spots (regions_named n) t) ≡ any_missing (spots_of g t)
+tagged_misses g t x n h tag = ap any_missing (sym (spots_are_by g t x n (tag_is_base t x h) (tag x h)))
 
 pub missing_both : (ss ts : List Spot) → (any_missing ss || any_missing ts) ≡ any_missing (ss ++ ts)
 missing_both [] ts = refl

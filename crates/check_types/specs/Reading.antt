@@ -1,13 +1,11 @@
--- Types as they are read: which of them are taken, and the pointers on a base by what was found of their regions.
-use Rattle.std.specs.Prelude.{Bool, List, None, Option, Some, false, map, true, ℕ, ◌&&◌, ◌||◌, ◌++◌, if◌then◌else◌, [], ◌∷◌}
-use Rattle.cyc_tree.specs.Tree.{TypeName}
+-- Types as they are read: the pointers on a base, by what was found of their regions.
+use Rattle.std.specs.Prelude.{Bool, List, None, Option, Some, false, map, true, ℕ, ◌&&◌, ◌||◌, ◌++◌, [], ◌∷◌}
 use Rattle.cyc_tree.specs.View.{pointer_tree}
 use Rattle.cyc_tree.specs.declared.name.Pointer.{Pointer}
 use Rattle.cyc_tree.specs.declared.name.Sign.{Sign}
 use Rattle.source_typing.specs.Faults as rules
 use Rattle.source_typing.specs.Functions.{fits_parameter}
 use Rattle.source_typing.specs.Regions.{Region}
-use Rattle.source_typing.specs.Taken.{Taken, takes_pointers, takes_region, takes_sign}
 use Rattle.source_typing.specs.Types.{Char, Fat, Int, PartialType, StaticType, Thin, TypeIn, Unique, Unsigned, Void, is_void}
 use Rattle.source_typing.specs.Verdicts.{Verdict, if_fits}
 use Rattle.source_typing.specs.Written.{Found, Is, IsUnique, Missing, Spot, as_region, spot}
@@ -19,9 +17,9 @@ use Rattle.cyc_tree.specs.Tree as tree
 use Rattle.cyc_tree.specs.declared.name.Sign.TheVariants as sign
 use Rattle.source_typing.specs.Types as type
 
--- ---- what is taken
+-- ---- bases
 
--- the type of a base that is taken
+-- the type of an integer's base, or of `void`
 abbrev pub plain_of : tree.Base → Option PartialType
 plain_of tree.Int = Some Int
 plain_of tree.Unsigned = Some Unsigned
@@ -31,13 +29,6 @@ plain_of (tree.Struct tag rs) = None
 plain_of (tree.Union tag rs) = None
 plain_of (tree.Handle r) = None
 plain_of (tree.Key r) = None
-
-abbrev pub pointer_taken : Taken → tree.Pointer → Bool
-pointer_taken k p = takes_sign k p.sign && takes_region k p.region
-
--- the base of a type that is taken
-abbrev pub taken_base : Taken → TypeName → Option PartialType
-taken_base k t = (if takes_pointers k t.pointers then plain_of t.base else None)
 
 -- ---- pointers
 

@@ -1,11 +1,10 @@
--- Types of structs and unions as they are read: whether they are taken, and what their tags mean.
-use Rattle.std.specs.Prelude.{Bool, List, None, Option, Some, false, if◌then◌else◌, length, map, true, ℕ, ◌≡◌, ◌&&◌, ◌++◌}
+-- Types of structs and unions as they are read, and what their tags mean.
+use Rattle.std.specs.Prelude.{Bool, List, None, Option, Some, false, if◌then◌else◌, length, map, true, ℕ, ◌≡◌, ◌++◌}
 use Rattle.cyc_tree.specs.Tree.{Name, TypeName}
 use Rattle.cyc_types.specs.declared.region.RegionId.{RegionId}
 use Rattle.source_typing.specs.Faults.{Fault, earliest, name_rule, region_rule, type_rule}
 use Rattle.source_typing.specs.Regions.{Region}
 use Rattle.source_typing.specs.Tables.{Entry, OfTag, Tables, find}
-use Rattle.source_typing.specs.Taken.{Taken, takes_arguments, takes_pointers}
 use Rattle.source_typing.specs.Types.{PartialType, same_bool}
 use Rattle.source_typing.specs.Verdicts.{Of, Unjudged, Verdict, refuse, unless_faulty}
 use Rattle.source_typing.specs.Written.{Found, RegionNamed, Spot, all_found, as_region, pointers_to, spot, type_built, written_on}
@@ -36,16 +35,14 @@ abbrev pub tag_type : Bool → List ℕ → List (Option Region) → PartialType
 tag_type true x rs = type.Union x rs
 tag_type false x rs = type.Struct x rs
 
--- ---- what is taken
+abbrev pub base_tag : tree.Base → Option Name
+base_tag (tree.Struct tag rs) = Some tag
+base_tag (tree.Union tag rs) = Some tag
+base_tag b = None
 
-abbrev pub tagged_base : Taken → tree.Base → Option Name
-tagged_base k (tree.Struct tag rs) = (if k.structs && takes_arguments k rs then Some tag else None)
-tagged_base k (tree.Union tag rs) = (if k.unions && takes_arguments k rs then Some tag else None)
-tagged_base k b = None
-
--- the tag of a type of structs or unions that is taken
-abbrev pub tag_taken : Taken → TypeName → Option Name
-tag_taken k t = (if takes_pointers k t.pointers then tagged_base k t.base else None)
+-- the tag of a type of structs or unions
+abbrev pub type_tag : TypeName → Option Name
+type_tag t = base_tag t.base
 
 -- ---- tags
 
@@ -66,9 +63,9 @@ regions_named code.Other = 0
 pub record IsNamed (g : Tables) (x : List ℕ) (n : TagName) : Type 0 where
   pub is : tag_name_of (find g x) ≡ n
 
--- the tag of a type of structs or unions that is taken means this
-abbrev pub TagIs : Taken → Tables → TypeName → TagName → Type 0
-TagIs k g t n = (x : Name) → tag_taken k t ≡ Some x → IsNamed g x.text n
+-- the tag of a type of structs or unions means this
+abbrev pub TagIs : Tables → TypeName → TagName → Type 0
+TagIs g t n = (x : Name) → type_tag t ≡ Some x → IsNamed g x.text n
 
 -- the tag of a union or a struct, with its count of region parameters, by what its name means
 abbrev pub named_as : Bool → TagName → ℕ → Verdict ℕ

@@ -1,21 +1,19 @@
 // The pointers of types as they are read.
 
 ghost use Rattle.std.specs.Prelude.{◌≡◌, IfOk, Some, false, is_none, option_map, true};
-ghost use Rattle.std.specs.List.{list_all, list_any};
+ghost use Rattle.std.specs.List.{list_any};
 ghost use Rattle.cyc_tree.specs.View.{pointer_tree, region_tree};
 ghost use Rattle.cyc_types.specs.Regions.{region_of};
 ghost use Rattle.source_typing.specs.Faults.{earliest};
-ghost use Rattle.source_typing.specs.Taken.{takes_pointers};
 ghost use Rattle.source_typing.specs.Types.{PartialType};
 ghost use Rattle.source_typing.specs.Written.{IsUnique, all_found, found_by, pointers_to};
 ghost use Rattle.check_faults.specs.Faults.{faults_of};
-ghost use Rattle.check_faults.specs.Taken.{taken_of};
-ghost use Rattle.check_types.specs.Reading.{and_layer, found_of, is_unique_name, led_by, listed, made, pointer_spots, pointer_taken, pointer_trees};
+ghost use Rattle.check_types.specs.Reading.{and_layer, found_of, is_unique_name, led_by, listed, made, pointer_spots, pointer_trees};
 ghost use Rattle.check_types.specs.Written.{partial_to};
 
 use crate::layer::WrittenLayer;
 use crate::settling::WrittenLayers;
-use check_faults::{Fault, FaultKind, Taken, sooner};
+use check_faults::{Fault, FaultKind, sooner};
 use check_regions::RegionNames;
 use cyc_tree::{Pointer, RegionName, Sign};
 use cyc_types::RegionId;
@@ -27,27 +25,6 @@ pub(crate) fn is_unique(region: &Option<RegionName>) -> bool
     ensures { result ≡ is_unique_name (option_map region_tree region.now) }
 {
     matches!(region, Some(RegionName::Unique(_)))
-}
-
-/// Whether a pointer is taken.
-fn takes_pointer(taken: Taken, pointer: &Pointer) -> bool
-    ensures { result ≡ pointer_taken (taken_of taken) (pointer_tree pointer.now) }
-{
-    (taken.arrays || pointer.sign != Sign::Fat) && (taken.unique || !is_unique(&pointer.region))
-}
-
-/// Whether each pointer is taken.
-pub(crate) fn takes_pointers(taken: Taken, pointers: &[Pointer]) -> bool
-    ensures { result ≡ takes_pointers (taken_of taken) (pointer_trees pointers.now) }
-{
-    takes_each(taken, pointers)
-}
-
-/// Whether each pointer is taken.
-fn takes_each(taken: Taken, pointers: &[Pointer]) -> bool
-    ensures { result ≡ list_all (λ p. pointer_taken (taken_of taken) (pointer_tree p)) pointers.now }
-{
-    pointers.iter().all(|pointer| takes_pointer(taken, pointer))
 }
 
 /// Whether a region is missing in one of the pointers.

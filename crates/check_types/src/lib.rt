@@ -1,7 +1,6 @@
 //! Types as a text writes them, and what they are once their missing regions are found.
 //!
-//! What is said of them are the definitions of `source_typing`, on which it stands, for each value of `Taken`: a function here answers
-//! the verdict that the rules have of a type that is taken, and of one that isn't.
+//! What is said of them are the definitions of `source_typing`, on which it stands: a function here answers the verdict that the rules have.
 #![tactic(auto)]
 
 mod arguments;
@@ -23,5 +22,5 @@ pub use heading::settled_alone;
 pub use layer::WrittenLayer;
 pub use settling::{WrittenLayers, WrittenType, settled};
 pub use tag_names::{TagNames, tag_of_type};
-pub use tagged::{TagName, misses_region_in, result_type_in, takes_type_in, type_tag, written_in};
+pub use tagged::{TagName, misses_region_in, result_type_in, type_tag, written_in};
 pub use variables::RegionVariables;

@@ -3,13 +3,11 @@
 ghost use Rattle.std.specs.Prelude.{◌≡◌, ◌&&◌, ◌||◌, IfOk, List, OnErr, bytes_eq, false, if◌then◌else◌, not, ℕ};
 ghost use Rattle.cyc_tree.specs.View.{type_tree};
 ghost use Rattle.source_typing.specs.Tables.{Tables};
-ghost use Rattle.check_faults.specs.Taken.{taken_of};
 ghost use Rattle.check_types.specs.Naming.{AreTagNames, has_tag_name, tag_named};
 ghost use Rattle.check_types.specs.Tagged.{TagIs};
 ghost use Rattle.check_types.specs.declared.tagged.TagName.TheVariants.{NoName};
 
 use crate::tagged::{TagName, type_tag};
-use check_faults::Taken;
 use cyc_tree::TypeName;
 use indexmap::IndexMap;
 use std::alloc::{AllocError, Global};
@@ -59,11 +57,11 @@ impl<'p> TagNames<'p> {
     }
 }
 
-/// What the tag means that a type of structs or unions has, where it is taken.
-pub fn tag_of_type(taken: Taken, names: &TagNames<'_>, of: &TypeName) -> TagName
-    ensures { (g : Tables) → AreTagNames names.now g → TagIs (taken_of taken) g (type_tree of.now) result }
+/// What the tag means that a type of structs or unions has.
+pub fn tag_of_type(names: &TagNames<'_>, of: &TypeName) -> TagName
+    ensures { (g : Tables) → AreTagNames names.now g → TagIs g (type_tree of.now) result }
 {
-    match type_tag(taken, of) {
+    match type_tag(of) {
         Some(name) => names.of(&name.text),
         None => TagName::NoName,
     }

@@ -1,31 +1,29 @@
-// Types of structs and unions, and all others, where they are taken.
+// Types of structs and unions, and all others.
 
-ghost use Rattle.std.specs.Prelude.{◌≡◌, ◌||◌, IfOk, List, is_some, option_map};
+ghost use Rattle.std.specs.Prelude.{◌≡◌, IfOk, List, option_map};
 ghost use Rattle.cyc_tree.specs.View.{base_tree, name_tree, type_tree};
 ghost use Rattle.cyc_types.specs.Types.{static_type};
 ghost use Rattle.source_typing.specs.Functions.{result_type};
 ghost use Rattle.source_typing.specs.Tables.{Tables};
-ghost use Rattle.source_typing.specs.Taken.{takes_type, type_taken};
 ghost use Rattle.source_typing.specs.Written.{Found, any_missing, spots_of, type_built, written, written_on};
 ghost use Rattle.source_typing.specs.Faults as rules;
-ghost use Rattle.check_faults.specs.Taken.{taken_of};
 ghost use Rattle.check_faults.specs.Verdicts.{short_of, shortened};
 ghost use Rattle.check_types.specs.Arguments.{count_meets, written_arguments};
 ghost use Rattle.check_types.specs.Reading.{led_by};
-ghost use Rattle.check_types.specs.Tagged.{IsRead, TagIs, if_counted, is_union_base, named_as, regions_named, tag_base, tag_taken, tag_type};
-ghost use Rattle.check_types.specs.Tagged.{tagged_in, tagged_spots};
+ghost use Rattle.check_types.specs.Tagged.{IsRead, TagIs, if_counted, is_union_base, named_as, regions_named, tag_base, tag_type};
+ghost use Rattle.check_types.specs.Tagged.{tagged_in, tagged_spots, type_tag};
 ghost use Rattle.check_types.specs.Written.{partial_base, partial_regions, partial_type};
 
 use crate::arguments::{
     arguments_fault, count_fits, found_arguments, misses_argument, written_arguments,
 };
 use crate::base::{WrittenArguments, WrittenBase};
-use crate::handles::{misses_other, takes_other, written_other};
+use crate::handles::written_handle;
 use crate::heading::{fitting, settled_alone};
-use crate::layers::{any_misses, named_layers, regions_fault, takes_pointers};
-use crate::reading::built;
+use crate::layers::{any_misses, named_layers, regions_fault};
+use crate::reading::{built, pointers_on};
 use crate::settling::{WrittenLayers, WrittenType};
-use check_faults::{Fault, FaultKind, Taken, Verdict, sooner};
+use check_faults::{Fault, FaultKind, Verdict, sooner};
 use check_regions::RegionNames;
 use cyc_tree::{Base, Name, TypeName};
 use cyc_types::CType;
@@ -60,28 +58,12 @@ impl TagName {
     }
 }
 
-/// The tag of a type of structs or unions that is taken. None: it is another type, or isn't taken.
-pub fn type_tag<'p>(taken: Taken, of: &'p TypeName) -> Option<&'p Name>
-    ensures { option_map (λ n. name_tree n.now) result ≡ tag_taken (taken_of taken) (type_tree of.entry.now) }
+/// The tag of a type of structs or unions. None: it is another type.
+pub fn type_tag<'p>(of: &'p TypeName) -> Option<&'p Name>
+    ensures { option_map (λ n. name_tree n.now) result ≡ type_tag (type_tree of.entry.now) }
 {
-    if !takes_pointers(taken, &of.pointers) {
-        return None;
-    }
     match &of.base {
-        Base::Struct(tag, arguments) => {
-            if taken.structs && (taken.parameters || arguments.is_empty()) {
-                Some(tag)
-            } else {
-                None
-            }
-        }
-        Base::Union(tag, arguments) => {
-            if taken.unions && (taken.parameters || arguments.is_empty()) {
-                Some(tag)
-            } else {
-                None
-            }
-        }
+        Base::Struct(tag, _) | Base::Union(tag, _) => Some(tag),
         _ => None,
     }
 }
@@ -190,36 +172,26 @@ fn written_tagged<'p>(
     Ok(tagged_of(tag, of, name, arguments, layers, fault))
 }
 
-/// A type as a text writes it, where the tag of a struct or union means this. A type that isn't taken is at fault at its first token;
-/// an unknown tag, a tag of another kind and an unknown region name are at fault at the name, of several the earliest; and a pointer to
-/// `void` or to a key, and a unique fat pointer, are at fault at its type. Fails only where no host memory is left.
+/// A type as a text writes it, where the tag of a struct or union means this. An unknown tag, a tag of another kind and an unknown region
+/// name are at fault at the name, of several the earliest; and a pointer to `void` or to a key, and a unique fat pointer, are at fault at
+/// its type. Fails only where no host memory is left.
 pub fn written_in<'p>(
     alloc: Global,
-    taken: Taken,
     tag: TagName,
     names: &RegionNames<'_>,
     of: &'p TypeName,
 ) -> Result<Verdict<WrittenType<'p>>, AllocError>
-    ensures { (g : Tables) → TagIs (taken_of taken) g (type_tree of.entry.now) tag → IfOk result (λ v. short_of partial_type v
-        ≡ shortened (written g names.now (type_taken (taken_of taken) (type_tree of.entry.now)))) }
+    ensures { (g : Tables) → TagIs g (type_tree of.entry.now) tag → IfOk result (λ v. short_of partial_type v
+        ≡ shortened (written g names.now (type_tree of.entry.now))) }
 {
-    match type_tag(taken, of) {
-        Some(name) => {
-            let found = written_tagged(alloc, tag, names, of, name)?;
-            Ok(found)
-        }
-        None => {
-            let found = written_other(alloc, taken, names, of)?;
-            Ok(found)
-        }
+    match &of.base {
+        Base::Struct(name, _) | Base::Union(name, _) => written_tagged(alloc, tag, names, of, name),
+        Base::Handle(region) | Base::Key(region) => written_handle(alloc, names, of, region),
+        Base::Int => pointers_on(alloc, names, of, WrittenBase::Int),
+        Base::Unsigned => pointers_on(alloc, names, of, WrittenBase::Unsigned),
+        Base::Char => pointers_on(alloc, names, of, WrittenBase::Char),
+        Base::Void => pointers_on(alloc, names, of, WrittenBase::Void),
     }
-}
-
-/// Whether a type is taken.
-pub fn takes_type_in(taken: Taken, of: &TypeName) -> bool
-    ensures { result ≡ takes_type (taken_of taken) (type_tree of.now) }
-{
-    type_tag(taken, of).is_some() || takes_other(taken, of)
 }
 
 /// Whether a region of a type of structs or unions is missing, by what its tag means.
@@ -229,14 +201,13 @@ fn misses_in_tagged(tag: TagName, of: &TypeName) -> bool
     misses_argument(written_arguments(&of.base), tag.regions()) || any_misses(&of.pointers)
 }
 
-/// Whether a region of a type is missing, where the tag of a struct or union means this; that of one that isn't taken is.
-pub fn misses_region_in(taken: Taken, tag: TagName, of: &TypeName) -> bool
-    ensures { (g : Tables) → TagIs (taken_of taken) g (type_tree of.now) tag
-        → result ≡ any_missing (spots_of g (type_taken (taken_of taken) (type_tree of.now))) }
+/// Whether a region of a type is missing, where the tag of a struct or union means this.
+pub fn misses_region_in(tag: TagName, of: &TypeName) -> bool
+    ensures { (g : Tables) → TagIs g (type_tree of.now) tag → result ≡ any_missing (spots_of g (type_tree of.now)) }
 {
-    match type_tag(taken, of) {
+    match type_tag(of) {
         Some(_) => misses_in_tagged(tag, of),
-        None => misses_other(taken, of),
+        None => any_misses(&of.pointers),
     }
 }
 
@@ -244,15 +215,14 @@ pub fn misses_region_in(taken: Taken, tag: TagName, of: &TypeName) -> bool
 /// host memory is left.
 pub fn result_type_in<'p>(
     alloc: Global,
-    taken: Taken,
     tag: TagName,
     names: &RegionNames<'_>,
     of: &'p TypeName,
 ) -> Result<Verdict<CType<'p>>, AllocError>
-    ensures { (g : Tables) → TagIs (taken_of taken) g (type_tree of.entry.now) tag → IfOk result (λ v. short_of static_type v
-        ≡ shortened (result_type g names.now (type_taken (taken_of taken) (type_tree of.entry.now)))) }
+    ensures { (g : Tables) → TagIs g (type_tree of.entry.now) tag → IfOk result (λ v. short_of static_type v
+        ≡ shortened (result_type g names.now (type_tree of.entry.now))) }
 {
-    let found = written_in(alloc, taken, tag, names, of)?;
+    let found = written_in(alloc, tag, names, of)?;
     let settled = settled_alone(found, of.at)?;
     Ok(fitting(settled, of.at, true))
 }

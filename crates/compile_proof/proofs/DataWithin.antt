@@ -33,13 +33,12 @@ use Rattle.core_lines.specs.Selected.{rounded, bytes_of, end_from, datum_local, 
 use Rattle.core_lines.specs.Running.{data_end}
 use Rattle.source_lowering.specs.Layouts.{extent_of}
 use Rattle.source_lowering.specs.Programs.{data_of, text_datum, global_datum, string_datum, program_code}
-use Rattle.source_typing.specs.Answers.{program_faults}
 use Rattle.source_typing.specs.Faults.{name_rule, test}
 use Rattle.source_typing.specs.Globals.{Static, global_size, if_passed, item_statics, static_string, total_faults}
 use Rattle.source_typing.specs.Programs.{if_first, is_seen, second_names, statics_from, tables_of}
 use Rattle.source_typing.specs.Scope.{at_item}
 use Rattle.source_typing.specs.Tables.{Tables}
-use Rattle.accepted_programs.specs.Supported.{supported}
+use Rattle.accepted_programs.specs.Accepted.{IsAccepted}
 use Rattle.source_typing.proofs.Inversion.{test_is, none_of_both}
 use Rattle.accepted_proof.proofs.good.Tables.{IsClean, is_clean_program}
 use Rattle.accepted_proof.proofs.Joined.{sized}
@@ -171,12 +170,12 @@ module _ (g : Tables) (w : World) where
       ap (λ (k : ℕ). rounded_up k 8) (datum_bytes w x.initial shape ∙ a.0) in
       omega (arith, both, strings, others, bytes)
 
--- where the rules find no fault, the data end within the limit
-pub data_within : (p : Program) → program_faults supported p ≡ [] → data_end (program_code p).data_objects ≤ 2 ^ 20
-data_within p e =
-    let clean : IsClean supported p = is_clean_program supported p e in
+-- where a program is accepted, its data end within the limit
+pub data_within : (p : Program) → IsAccepted p → data_end (program_code p).data_objects ≤ 2 ^ 20
+data_within p accepted =
+    let clean : IsClean p = is_clean_program p accepted in
     let w : World = world_of p in
-    let counted = all_counted (tables_of false p) w p 0 [] (codes "getchar" ∷ codes "putchar" ∷ []) (λ x f. absurd cc) clean.names (sized p e) in
+    let counted = all_counted (tables_of false p) w p 0 [] (codes "getchar" ∷ codes "putchar" ∷ []) (λ x f. absurd cc) clean.names (sized p accepted) in
     let within = sum_within 0 (statics_from false (tables_of false p) 0 [] p) (omega arith) clean.sizes in
     let ends = end_within (program_code p).data_objects 0 0 (omega arith) in
     let both = data_both (data_of w p) (map (string_datum w) (program_strings p)) in

@@ -10,9 +10,9 @@ pub fn lowerable_do()
     ensures { AllLowerableDo }
 {}
 
-/// A law, with nothing to run: of each program of the forms that are taken today in which the rules find no fault, and
-/// whose unions have no more members than a word counts, `lowerable_do` holds, its data are numbers that fit their places
-/// and pointers into the data, and they take no more bytes than the data of an image may.
+/// A law, with nothing to run: of each program that is accepted, and whose unions have no more members than a word
+/// counts, `lowerable_do` holds, its data are numbers that fit their places and pointers into the data, and they take no
+/// more bytes than the data of an image may.
 pub fn accepted_do()
     ensures { AllAcceptedDo }
 {}

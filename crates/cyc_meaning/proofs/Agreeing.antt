@@ -1,23 +1,18 @@
--- An accepted program is never stuck, and the Core of one that is lowered does what it does.
-use Rattle.std.proofs.Common.{◌≡◌, ℕ, List, ⊎_elim}
-use Rattle.cyc_words.specs.Events.{AreBytes, SourceEnding}
+-- The Core of an accepted program that is lowered does what the program does.
+use Rattle.std.proofs.Common.{ℕ, List, ⊎_elim}
+use Rattle.cyc_words.specs.Events.{AreBytes}
 use Rattle.cyc_tree.specs.Tree.{Program}
 use Rattle.core_meaning.specs.Meaning.{core}
-use Rattle.lower_checks.proofs.Joined.{never_stuck}
+use Rattle.lower_checks.proofs.Joined.{lowerable, never_stuck}
 use Rattle.source_lowering.proofs.Programs.{programs_same}
 use Rattle.source_lowering.specs.Agreeing.{SameOutcome}
 use Rattle.source_lowering.specs.Lowerable.{HaveFewMembers}
 use Rattle.source_lowering.specs.Programs.{program_code}
 use Rattle.source_meaning.specs.Programs.{source, unions_of, world_of}
-use Rattle.accepted_programs.proofs.Accepted.{no_faults}
 use Rattle.accepted_programs.specs.Accepted.{IsAccepted}
-use Rattle.lower_checks.proofs.Lowerable.{is_lowerable}
-
-pub is_never_stuck : (p : Program) → IsAccepted p → (input : List ℕ) (n : ℕ) → (source p input n).ending ≡ SourceEnding.Stuck → ⊥
-is_never_stuck p accepted = never_stuck p (no_faults p accepted)
 
 pub does_the_same : (p : Program) → IsAccepted p → HaveFewMembers (unions_of p) → (input : List ℕ) → AreBytes input → (n : ℕ)
     → SameOutcome (world_of p) (source p input n) (core (program_code p) input n)
 does_the_same p accepted few input bytes n =
-    ⊎_elim (λ stuck. absurd (is_never_stuck p accepted input n stuck)) (λ same. same)
-    (programs_same p (is_lowerable p accepted few) input bytes n)
+    ⊎_elim (λ stuck. absurd (never_stuck p accepted input n stuck)) (λ same. same)
+    (programs_same p (lowerable p accepted few) input bytes n)

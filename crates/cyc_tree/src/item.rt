@@ -132,7 +132,8 @@ impl Item {
     }
 }
 
-/// A program: its items, in order, which its clones share. A contract sees it as the pure tree of its items.
+/// A program: its items, in order, which its clones share. A contract sees it as the pure tree of its items. It has operands wherever
+/// an operator joins some, as the tree of each text has.
 #[derive(Drop)]
 pub struct Program {
     items: Rc<Vec<Item>>,
@@ -147,13 +148,19 @@ impl Model for Program {
     ghost coded = { coded_program };
 
     ghost use Rattle.cyc_tree.specs.View.{program_tree};
+    ghost use Rattle.cyc_tree.specs.Operands.{HasOperands};
 
     ghost view = { λ p. program_tree p.items.value.items };
+
+    ghost invariant = { λ p. HasOperands (program_tree p.items.value.items) };
 }
 
 impl Program {
+    ghost use Rattle.cyc_tree.specs.Operands.{HasOperands};
+
     /// The program of these items. An Err where no memory is left.
     pub fn new(alloc: Heap, items: Vec<Item>) -> Result<Program, AllocError>
+        requires { HasOperands (program_tree items.items) }
         ensures { IfOk result (λ program. program ≡ program_tree items.items) }
     {
         match Rc::new(alloc, items) {
@@ -162,9 +169,10 @@ impl Program {
         }
     }
 
-    /// The program's items, in order.
+    /// The program's items, in order. An operator among them has its operands.
     pub fn items(&self) -> &[Item]
-        ensures { program_tree result.now ≡ self.now }
+        ensures same { program_tree result.now ≡ self.now }
+        ensures operands { HasOperands self.now }
     {
         self.items.as_ref().as_slice()
     }

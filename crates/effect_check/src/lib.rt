@@ -1,8 +1,8 @@
 //! Live regions and effects.
 //!
 //! `effects` answers the earliest fault of names, types, regions, effects and sizes, as `typed` found it, or the program without one;
-//! `effect_fault` answers the fault with any forms of the language taken. The rules are those of `source_typing`; `check_programs` finds
-//! the fault. Stands on these and on `region_types`.
+//! `effect_fault` answers the fault alone. The rules are those of `source_typing`; `check_programs` finds the fault. Stands on these and on
+//! `region_types`.
 #![tactic(auto)]
 
 mod effected;

@@ -11,9 +11,6 @@ use Rattle.source_typing.specs.Scope.{Env, Local, block_entered, is_second, next
 use Rattle.source_typing.specs.Statements.{Chosen, bound_what, clause_scope, parts_of_chosen}
 use Rattle.source_typing.specs.States.{States}
 use Rattle.source_typing.specs.Tables.{What, part_in}
-use Rattle.source_typing.specs.Taken.{declaration_taken}
-use Rattle.check_faults.specs.Taken.{taken_of}
-use Rattle.check_faults.specs.declared.taken.Taken.{Taken}
 use Rattle.check_scopes.specs.Locals.{Known, find_what}
 use Rattle.check_scopes.specs.Matching.{AreLocals}
 use Rattle.check_scopes.specs.Means.{WhatIs}
@@ -42,12 +39,11 @@ adds_local x w g = by (is_second g.locals g.block x.text)
     by true = Nothing
     by false = One (record { name = x.text; what = w; block = g.block }) refl
 
-pub adds_declared : (forms : Taken) (g : Env) (d : tree.Declaration) (x : tree.Name) → x ≡ tree.local_of d
-    → Adds x.text g.locals (declare g (declaration_taken (taken_of forms) d)).scope.locals
-adds_declared forms g d x named =
-    let it : tree.Declaration = declaration_taken (taken_of forms) d in
-    subst (λ (e : Env). Adds x.text g.locals e.locals) (both_scopes forms g d x named)
-    (subst (λ ls. Adds x.text ls (with_local x (own_what g it) (own_scope g it)).locals) (own_locals g it) (adds_local x (own_what g it) (own_scope g it)))
+pub adds_declared : (g : Env) (d : tree.Declaration) (x : tree.Name) → x ≡ tree.local_of d
+    → Adds x.text g.locals (declare g d).scope.locals
+adds_declared g d x named =
+    subst (λ (e : Env). Adds x.text g.locals e.locals) (both_scopes g d x named)
+    (subst (λ ls. Adds x.text ls (with_local x (own_what g d) (own_scope g d)).locals) (own_locals g d) (adds_local x (own_what g d) (own_scope g d)))
 
 -- the name of a clause
 pub adds_bound : (g : Env) (c : Option Chosen) (f x : tree.Name) → Adds x.text g.locals (clause_scope g c (tree.Case f x)).locals

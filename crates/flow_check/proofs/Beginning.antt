@@ -1,19 +1,17 @@
--- How a declaration begins: its initializer, as far as it is taken, and its local.
-use Rattle.std.proofs.Common.{None, Option, Some, [], ap, refl, subst, sym, true, ℕ, ◌∙◌, ◌∷◌, ◌≡◌}
-use Rattle.std.specs.Prelude.{if◌then◌else◌, ◌&&◌}
+-- How a declaration begins: its local.
+use Rattle.std.proofs.Common.{None, Option, Some, [], ap, refl, subst, ℕ, ◌∙◌, ◌∷◌, ◌≡◌}
+use Rattle.std.specs.Prelude.{if◌then◌else◌}
 use Rattle.cyc_tree.specs.Tree as tree
 use Rattle.cyc_tree.specs.View.{name_tree}
 use Rattle.cyc_tree.specs.declared.name.Name as code_name
 use Rattle.cyc_types.specs.Types.{static_type}
 use Rattle.cyc_types.specs.declared.ctype.CType.{CType}
 use Rattle.cyc_types.specs.declared.region.RegionId.{RegionId}
-use Rattle.flow_summaries.specs.Exits.{Exits, lent_in, with_passage}
-use Rattle.flow_summaries.specs.Expressions.{uses_of}
+use Rattle.flow_summaries.specs.Exits.{Exits, lent_in}
 use Rattle.source_typing.specs.Left.{begins_as}
 use Rattle.source_typing.specs.Scope.{Env}
 use Rattle.source_typing.specs.States.{Held, Plain, State, States}
 use Rattle.source_typing.specs.Tables.{What, is_copyable}
-use Rattle.source_typing.specs.Taken.{Taken, declaration_taken, declared_if, taken, takes_type}
 use Rattle.check_scopes.specs.Means.{WhatIs}
 use Rattle.check_scopes.specs.Means as means
 use Rattle.check_scopes.specs.declared.locals.What as code
@@ -22,13 +20,6 @@ use Rattle.flow_effects.specs.Passed.{state_of}
 use Rattle.flow_effects.specs.Steps.{name_at}
 use Rattle.flow_effects.specs.declared.passed.Begun.{Begun}
 use Rattle.flow_check.proofs.Adding.{Begins}
-use Rattle.flow_check.specs.Declarations.{initial_before}
-
--- an initializer that is taken
-pub given_before : (k : Taken) (g : Env) (rest : Exits) (t : tree.TypeName) (x : tree.Name) (e : tree.Expression) → takes_type k t ≡ true
-    → with_passage (uses_of g (taken k e)).value rest ≡ initial_before g (declaration_taken k (tree.Local t x (tree.Initializer.Value e))) rest
-given_before k g rest t x e h =
-    sym (ap (λ b. initial_before g (declared_if (b && true) t.at (tree.Local t x (tree.Initializer.Value (taken k e)))) rest) h)
 
 -- ---- the state in which a local begins
 

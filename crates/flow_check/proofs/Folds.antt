@@ -10,7 +10,6 @@ use Rattle.source_typing.specs.Expressions.{judge}
 use Rattle.source_typing.specs.Moves.{is_moved, place_at}
 use Rattle.source_typing.specs.Places.{arrow, indexed, member}
 use Rattle.source_typing.specs.Scope.{Env, Value}
-use Rattle.source_typing.specs.Taken.{Taken, suffixes_taken, taken}
 use Rattle.source_typing.specs.Verdicts.{Verdict, after, both}
 use Rattle.std.specs.Prelude.{false, not, ◌&&◌}
 use Rattle.check_faults.proofs.Shortened.{shortened_after, shortened_both}
@@ -43,29 +42,29 @@ tests_after g p (MoreExpressions e es) = tests_after g (in_turn_or_not p (uses_o
 -- ---- suffixes
 
 -- a suffix by what is answered of what stands before it
-index_shortly : (k : Taken) (g : Env) (v : Verdict Value) (e : Expression)
-    → shortened (both v (judge g (taken k e)) (indexed g)) ≡ short_suffix k g (shortened v) (OneSuffix.Index e)
-index_shortly k g v e = shortened_both v (judge g (taken k e)) (indexed g)
+index_shortly : (g : Env) (v : Verdict Value) (e : Expression)
+    → shortened (both v (judge g e) (indexed g)) ≡ short_suffix g (shortened v) (OneSuffix.Index e)
+index_shortly g v e = shortened_both v (judge g e) (indexed g)
 
-pub suffixes_shortly : (k : Taken) (g : Env) (v : Verdict Value) (u : Uses) (xs : List OneSuffix)
-    → uses_suffixes g v u (suffixes_taken k (suffixes_of xs)) ≡ all_short_uses k g (shortened v) u xs
-suffixes_shortly k g v u [] = refl
-suffixes_shortly k g v u (OneSuffix.Index e ∷ xs) =
-    let w : Verdict Value = both v (judge g (taken k e)) (indexed g) in
-    let after_it : shortened w ≡ short_suffix k g (shortened v) (OneSuffix.Index e) = index_shortly k g v e in
-    suffixes_shortly k g w (indexed_uses (place_at 0 v) (is_moved g w) u (uses_of g (taken k e))) xs
-    ∙ ap₂ (λ s x. all_short_uses k g s x xs) after_it
-    (ap₂ (λ at m. indexed_uses at m u (uses_of g (taken k e))) (placed_shortly v) (moved_shortly g w ∙ ap (is_moved_short g) after_it))
-suffixes_shortly k g v u (OneSuffix.Dot f ∷ xs) =
+pub suffixes_shortly : (g : Env) (v : Verdict Value) (u : Uses) (xs : List OneSuffix)
+    → uses_suffixes g v u (suffixes_of xs) ≡ all_short_uses g (shortened v) u xs
+suffixes_shortly g v u [] = refl
+suffixes_shortly g v u (OneSuffix.Index e ∷ xs) =
+    let w : Verdict Value = both v (judge g e) (indexed g) in
+    let after_it : shortened w ≡ short_suffix g (shortened v) (OneSuffix.Index e) = index_shortly g v e in
+    suffixes_shortly g w (indexed_uses (place_at 0 v) (is_moved g w) u (uses_of g e)) xs
+    ∙ ap₂ (λ s x. all_short_uses g s x xs) after_it
+    (ap₂ (λ at m. indexed_uses at m u (uses_of g e)) (placed_shortly v) (moved_shortly g w ∙ ap (is_moved_short g) after_it))
+suffixes_shortly g v u (OneSuffix.Dot f ∷ xs) =
     let w : Verdict Value = after v (member g f) in
-    let after_it : shortened w ≡ short_suffix k g (shortened v) (OneSuffix.Dot f) = shortened_after v (member g f) in
-    suffixes_shortly k g w (member_uses (place_at 0 v) (is_moved g w) u) xs
-    ∙ ap₂ (λ s x. all_short_uses k g s x xs) after_it
+    let after_it : shortened w ≡ short_suffix g (shortened v) (OneSuffix.Dot f) = shortened_after v (member g f) in
+    suffixes_shortly g w (member_uses (place_at 0 v) (is_moved g w) u) xs
+    ∙ ap₂ (λ s x. all_short_uses g s x xs) after_it
     (ap₂ (λ at m. member_uses at m u) (placed_shortly v) (moved_shortly g w ∙ ap (is_moved_short g) after_it))
-suffixes_shortly k g v u (OneSuffix.Arrow f ∷ xs) =
+suffixes_shortly g v u (OneSuffix.Arrow f ∷ xs) =
     let w : Verdict Value = after v (arrow g f) in
-    let after_it : shortened w ≡ short_suffix k g (shortened v) (OneSuffix.Arrow f) = shortened_after v (arrow g f) in
-    suffixes_shortly k g w (arrow_uses (place_at 0 v) (is_moved g w) v u) xs
-    ∙ ap₂ (λ s x. all_short_uses k g s x xs) after_it
+    let after_it : shortened w ≡ short_suffix g (shortened v) (OneSuffix.Arrow f) = shortened_after v (arrow g f) in
+    suffixes_shortly g w (arrow_uses (place_at 0 v) (is_moved g w) v u) xs
+    ∙ ap₂ (λ s x. all_short_uses g s x xs) after_it
     ((λ j. uses_as_place (placed_shortly v j) ((moved_shortly g w ∙ ap (is_moved_short g) after_it) j) false
     (in_turn u.look (copied_if (unique_shortly v j && not u.whole) (placed_shortly v j)))))

@@ -8,7 +8,6 @@ use Rattle.flow_summaries.proofs.Sooner.{sooner_joined}
 use Rattle.flow_summaries.specs.Statements.{fault_from, fault_of_item}
 use Rattle.source_typing.specs.Programs.{builtins, entries, judged_tags, tables_of}
 use Rattle.source_typing.specs.Tables.{Tables}
-use Rattle.source_typing.specs.Taken.{Taken, item_taken, only_taken}
 use Rattle.check_faults.specs.Faults.{sooner_found}
 use Rattle.check_faults.specs.declared.fault.Fault.{Fault}
 use Rattle.check_functions.specs.Bodies.{KnowsGlobals, KnowsNames}
@@ -20,21 +19,21 @@ use Rattle.check_programs.specs.declared.structs.Structs.{Structs}
 use Rattle.check_types.specs.Naming.{AreTagNames}
 
 -- what was found before an item, at it and after it
-pub flow_goes_on : (k : Taken) (g : Tables) (i : ℕ) (items : List code_item.Item) (index : ℕ) (item : code_item.Item) (found now : Option Fault)
-    → index < length items → item ≡ get_or items index item → now ≡ sooner_found found (fault_of_item g i (item_taken k (program_item_tree item)))
-    → sooner_found now (fault_from g (suc i) (only_taken k (program_tree (drop (index + 1) items))))
-    ≡ sooner_found found (fault_from g i (only_taken k (program_tree (drop index items))))
-flow_goes_on k g i items index item found now h is e =
-    let this : Option Fault = fault_of_item g i (item_taken k (program_item_tree item)) in
-    let rest : Option Fault = fault_from g (suc i) (only_taken k (program_tree (drop (index + 1) items))) in
+pub flow_goes_on : (g : Tables) (i : ℕ) (items : List code_item.Item) (index : ℕ) (item : code_item.Item) (found now : Option Fault)
+    → index < length items → item ≡ get_or items index item → now ≡ sooner_found found (fault_of_item g i (program_item_tree item))
+    → sooner_found now (fault_from g (suc i) (program_tree (drop (index + 1) items)))
+    ≡ sooner_found found (fault_from g i (program_tree (drop index items)))
+flow_goes_on g i items index item found now h is e =
+    let this : Option Fault = fault_of_item g i (program_item_tree item) in
+    let rest : Option Fault = fault_from g (suc i) (program_tree (drop (index + 1) items)) in
     ap (λ o. sooner_found o rest) e
     ∙ sooner_joined found this rest
-    ∙ ap (λ (l : List code_item.Item). sooner_found found (fault_from g i (only_taken k (program_tree l)))) (sym (next_of items index item h is))
+    ∙ ap (λ (l : List code_item.Item). sooner_found found (fault_from g i (program_tree l))) (sym (next_of items index item h is))
 
 -- what is known of structs by the tags alone, and of all names
 pub knows_program : (n : Names) (p : Program) → AreTagNames n.tags.now (builtins (entries (judged_tags p)))
     → HasTags n.tables.now (builtins (entries (judged_tags p))) → KnowsGlobals n.globals.now (tables_of false p) → KnowsNames n (tables_of false p)
 knows_program n p names tables globals =
-    let s : Structs = record { tags = n.tags; tables = n.tables; taken = n.taken } in
+    let s : Structs = record { tags = n.tags; tables = n.tables } in
     let knows : KnowsStructs s (tables_of false p) = knows_all s false p (record { names = names; tables = tables }) in
     record { globals = globals; tag_names = knows.names; tags = knows.tables }

@@ -8,7 +8,6 @@ use Rattle.flow_summaries.specs.Expressions.{uses_of}
 use Rattle.flow_summaries.specs.Passages.{Passage, copied_if, in_turn}
 use Rattle.flow_summaries.specs.Uses.{Uses, uses_as_place}
 use Rattle.source_typing.specs.Scope.{Env, Value}
-use Rattle.source_typing.specs.Taken.{Taken, taken}
 use Rattle.check_faults.specs.Verdicts.{Short, short_of}
 use Rattle.check_expressions.specs.Suffixes.{short_suffix}
 use Rattle.check_operators.specs.Values.{value_of}
@@ -29,58 +28,58 @@ same_place : (g : Env) (at bt : ℕ) (s t : Short Value) (a b : Bool) (p q : Pas
     → uses_as_place at (is_moved_short g s) a p ≡ uses_as_place bt (is_moved_short g t) b q
 same_place g at bt s t a b p q e f h i = λ j. uses_as_place (e j) (is_moved_short g (f j)) (h j) (i j)
 
-module _ (k : Taken) (g : Env) (s t : Short Value) (u : Uses) (r : Suffixed) (x : OneSuffix) (at : ℕ) (own : Bool) (p : Passage) where
-  pub after_index : (e : Expression) → x ≡ OneSuffix.Index e → at ≡ place_short s → t ≡ short_suffix k g s (OneSuffix.Index e) → own ≡ u.own
-      → p ≡ in_turn (uses_of g (taken k e)).look u.look → IsSuffixed t (uses_as_place at (is_moved_short g t) own p) r
-      → IsSuffixed (short_suffix k g s x) (short_uses k g s u x) r
+module _ (g : Env) (s t : Short Value) (u : Uses) (r : Suffixed) (x : OneSuffix) (at : ℕ) (own : Bool) (p : Passage) where
+  pub after_index : (e : Expression) → x ≡ OneSuffix.Index e → at ≡ place_short s → t ≡ short_suffix g s (OneSuffix.Index e) → own ≡ u.own
+      → p ≡ in_turn (uses_of g e).look u.look → IsSuffixed t (uses_as_place at (is_moved_short g t) own p) r
+      → IsSuffixed (short_suffix g s x) (short_uses g s u x) r
   after_index e is place judged owned passes h =
-      same_suffixed t (short_suffix k g s x) (uses_as_place at (is_moved_short g t) own p) (short_uses k g s u x) r (judged ∙ ap (short_suffix k g s) (sym is))
-      (same_place g at (place_short s) t (short_suffix k g s (OneSuffix.Index e)) own u.own p (in_turn (uses_of g (taken k e)).look u.look) place judged owned passes
-      ∙ ap (short_uses k g s u) (sym is)) h
+      same_suffixed t (short_suffix g s x) (uses_as_place at (is_moved_short g t) own p) (short_uses g s u x) r (judged ∙ ap (short_suffix g s) (sym is))
+      (same_place g at (place_short s) t (short_suffix g s (OneSuffix.Index e)) own u.own p (in_turn (uses_of g e).look u.look) place judged owned passes
+      ∙ ap (short_uses g s u) (sym is)) h
 
-  pub after_dot : (f : Name) → x ≡ OneSuffix.Dot f → at ≡ place_short s → t ≡ short_suffix k g s (OneSuffix.Dot f) → own ≡ u.own → p ≡ u.look
-      → IsSuffixed t (uses_as_place at (is_moved_short g t) own p) r → IsSuffixed (short_suffix k g s x) (short_uses k g s u x) r
+  pub after_dot : (f : Name) → x ≡ OneSuffix.Dot f → at ≡ place_short s → t ≡ short_suffix g s (OneSuffix.Dot f) → own ≡ u.own → p ≡ u.look
+      → IsSuffixed t (uses_as_place at (is_moved_short g t) own p) r → IsSuffixed (short_suffix g s x) (short_uses g s u x) r
   after_dot f is place judged owned passes h =
-      same_suffixed t (short_suffix k g s x) (uses_as_place at (is_moved_short g t) own p) (short_uses k g s u x) r (judged ∙ ap (short_suffix k g s) (sym is))
-      (same_place g at (place_short s) t (short_suffix k g s (OneSuffix.Dot f)) own u.own p u.look place judged owned passes
-      ∙ ap (short_uses k g s u) (sym is)) h
+      same_suffixed t (short_suffix g s x) (uses_as_place at (is_moved_short g t) own p) (short_uses g s u x) r (judged ∙ ap (short_suffix g s) (sym is))
+      (same_place g at (place_short s) t (short_suffix g s (OneSuffix.Dot f)) own u.own p u.look place judged owned passes
+      ∙ ap (short_uses g s u) (sym is)) h
 
-  pub after_arrow : (f : Name) → x ≡ OneSuffix.Arrow f → at ≡ place_short s → t ≡ short_suffix k g s (OneSuffix.Arrow f) → own ≡ false
+  pub after_arrow : (f : Name) → x ≡ OneSuffix.Arrow f → at ≡ place_short s → t ≡ short_suffix g s (OneSuffix.Arrow f) → own ≡ false
       → p ≡ in_turn u.look (copied_if (is_unique_short s && not u.whole) (place_short s))
-      → IsSuffixed t (uses_as_place at (is_moved_short g t) own p) r → IsSuffixed (short_suffix k g s x) (short_uses k g s u x) r
+      → IsSuffixed t (uses_as_place at (is_moved_short g t) own p) r → IsSuffixed (short_suffix g s x) (short_uses g s u x) r
   after_arrow f is place judged owned passes h =
-      same_suffixed t (short_suffix k g s x) (uses_as_place at (is_moved_short g t) own p) (short_uses k g s u x) r (judged ∙ ap (short_suffix k g s) (sym is))
-      (same_place g at (place_short s) t (short_suffix k g s (OneSuffix.Arrow f)) own false p
+      same_suffixed t (short_suffix g s x) (uses_as_place at (is_moved_short g t) own p) (short_uses g s u x) r (judged ∙ ap (short_suffix g s) (sym is))
+      (same_place g at (place_short s) t (short_suffix g s (OneSuffix.Arrow f)) own false p
       (in_turn u.look (copied_if (is_unique_short s && not u.whole) (place_short s))) place judged owned passes
-      ∙ ap (short_uses k g s u) (sym is)) h
+      ∙ ap (short_uses g s u) (sym is)) h
 
 -- ---- suffixes, one after another
 
 -- what stands after some suffixes, and the other ones, are the whole
-pub record Rest (k : Taken) (g : Env) (c : Suffixed) (xs : List OneSuffix) (all : Uses) : Type 0 where
+pub record Rest (g : Env) (c : Suffixed) (xs : List OneSuffix) (all : Uses) : Type 0 where
   pub part : c.look.whole ≡ false
-  pub same : all_short_uses k g (short_of value_of c.judged) (uses_as_place c.at c.moves c.look.own (passage_of c.look.passed)) xs ≡ all
+  pub same : all_short_uses g (short_of value_of c.judged) (uses_as_place c.at c.moves c.look.own (passage_of c.look.passed)) xs ≡ all
 
-pub after_first : (k : Taken) (g : Env) (s : Short Value) (u : Uses) (r : Suffixed) (x : code_suffix.Suffix) (xs all : List code_suffix.Suffix) → all ≡ x ∷ xs
-    → IsSuffixed (short_suffix k g s (suffix_tree x)) (short_uses k g s u (suffix_tree x)) r
-    → Rest k g r (map suffix_tree xs) (all_short_uses k g s u (map suffix_tree all))
-after_first k g s u r x xs all is h = record {
+pub after_first : (g : Env) (s : Short Value) (u : Uses) (r : Suffixed) (x : code_suffix.Suffix) (xs all : List code_suffix.Suffix) → all ≡ x ∷ xs
+    → IsSuffixed (short_suffix g s (suffix_tree x)) (short_uses g s u (suffix_tree x)) r
+    → Rest g r (map suffix_tree xs) (all_short_uses g s u (map suffix_tree all))
+after_first g s u r x xs all is h = record {
   part = h.part;
-  same = ap₂ (λ a b. all_short_uses k g a b (map suffix_tree xs)) h.judged (sym h.uses) ∙ ap (λ ys. all_short_uses k g s u (map suffix_tree ys)) (sym is);
+  same = ap₂ (λ a b. all_short_uses g a b (map suffix_tree xs)) h.judged (sym h.uses) ∙ ap (λ ys. all_short_uses g s u (map suffix_tree ys)) (sym is);
 }
 
 -- what is looked at, as it is
 pub looked_is : (c : Suffixed) → c.look.whole ≡ false → IsUsed usage.Look (uses_as_place c.at c.moves c.look.own (passage_of c.look.passed)) c.look
 looked_is c h = record { passed = refl; whole = h; own = refl }
 
-pub after_next : (k : Taken) (g : Env) (c r : Suffixed) (xs : List code_suffix.Suffix) (i : ℕ) (x : code_suffix.Suffix) (all : Uses) → i < length xs → x ≡ get_or xs i x
-    → Rest k g c (map suffix_tree (drop i xs)) all
-    → IsSuffixed (short_suffix k g (short_of value_of c.judged) (suffix_tree x))
-    (short_uses k g (short_of value_of c.judged) (uses_as_place c.at c.moves c.look.own (passage_of c.look.passed)) (suffix_tree x)) r
-    → Rest k g r (map suffix_tree (drop (i + 1) xs)) all
-after_next k g c r xs i x all l is_item h one = record {
+pub after_next : (g : Env) (c r : Suffixed) (xs : List code_suffix.Suffix) (i : ℕ) (x : code_suffix.Suffix) (all : Uses) → i < length xs → x ≡ get_or xs i x
+    → Rest g c (map suffix_tree (drop i xs)) all
+    → IsSuffixed (short_suffix g (short_of value_of c.judged) (suffix_tree x))
+    (short_uses g (short_of value_of c.judged) (uses_as_place c.at c.moves c.look.own (passage_of c.look.passed)) (suffix_tree x)) r
+    → Rest g r (map suffix_tree (drop (i + 1) xs)) all
+after_next g c r xs i x all l is_item h one = record {
   part = one.part;
-  same = suffixes_step k g xs i x (short_of value_of c.judged) (short_of value_of r.judged)
+  same = suffixes_step g xs i x (short_of value_of c.judged) (short_of value_of r.judged)
       (uses_as_place c.at c.moves c.look.own (passage_of c.look.passed)) (uses_as_place r.at r.moves r.look.own (passage_of r.look.passed)) l is_item one.judged
       (sym one.uses) ∙ h.same;
 }

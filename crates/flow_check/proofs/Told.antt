@@ -1,22 +1,18 @@
--- What the forms of statements do as far as they are taken, by what their parts do.
-use Rattle.std.proofs.Common.{Bool, IfOk, List, None, Option, Some, [], ap, drop, false, get_or, length, refl, subst, sym, true, ℕ, ◌+◌, ◌++◌, ◌<◌, ◌∙◌, ◌∷◌, ◌≡◌}
+-- What the forms of statements do, by what their parts do.
+use Rattle.std.proofs.Common.{IfOk, List, Option, [], ap, drop, get_or, length, map, subst, sym, true, ℕ, ◌+◌, ◌++◌, ◌<◌, ◌∙◌, ◌∷◌, ◌≡◌}
 use Rattle.std.proofs.lemmas.List.{drop_more}
-use Rattle.std.specs.Prelude.{Result, option_map}
+use Rattle.std.specs.Prelude.{Result}
 use Rattle.cyc_tree.specs.Tree.{Statement}
-use Rattle.cyc_tree.specs.View.{clause_tree, expression_tree, statement_tree}
+use Rattle.cyc_tree.specs.View.{clause_tree, clauses_of, statement_tree}
 use Rattle.cyc_tree.specs.declared.statement.Clause as code_clause
-use Rattle.cyc_tree.specs.declared.expression.Expression as code_expression
 use Rattle.cyc_tree.specs.declared.statement.Statement as code_statement
-use Rattle.flow_summaries.specs.Exits.{Exits, either_exits, ends}
+use Rattle.flow_summaries.specs.Exits.{Exits, either_exits}
 use Rattle.flow_summaries.specs.Statements as rules
 use Rattle.source_typing.specs.Scope.{Env}
 use Rattle.source_typing.specs.Statements.{Chosen, in_a_loop, in_a_switch}
-use Rattle.source_typing.specs.Taken.{Taken, result_taken, statement_if, statement_taken, taken}
 use Rattle.source_typing.specs.Written.{RegionNamed}
 use Rattle.check_scopes.specs.declared.scope.Scope.{Scope}
 use Rattle.check_statements.proofs.Blocks.{loop_known, loop_suits, switch_known, switch_suits}
-use Rattle.check_statements.proofs.Clauses.{taken_clauses}
-use Rattle.check_statements.specs.Switching.{one_clause_taken}
 use Rattle.check_statements.specs.declared.context.Context.{Context}
 use Rattle.flow_effects.proofs.Sequences.{before_more}
 use Rattle.flow_effects.specs.Steps.{all_before}
@@ -33,23 +29,9 @@ module _ {E : Type 0} (r : Result code.Exits E) where
   answers_as x y p h = subst (λ z. IfOk r (λ w. exits_of w ≡ z)) p h
 
   -- of a statement by its tree
-  pub of_statement : (k : Taken) (g : Env) (s : code_statement.Statement) (t : Statement) → statement_tree s ≡ t
-      → IfOk r (λ w. exits_of w ≡ rules.exits_of g (statement_taken k t)) → IfOk r (λ w. exits_of w ≡ rules.exits_of g (statement_taken k (statement_tree s)))
-  of_statement k g s t p h = subst (λ u. IfOk r (λ w. exits_of w ≡ rules.exits_of g (statement_taken k u))) (sym p) h
-
--- a form that is taken, and one that isn't
-module _ (g : Env) (at : ℕ) (s : Statement) where
-  pub taken_exits : (b : Bool) → b ≡ true → rules.exits_of g s ≡ rules.exits_of g (statement_if b at s)
-  taken_exits b e = sym (ap (λ b. rules.exits_of g (statement_if b at s)) e)
-
-  pub idle_exits : (b : Bool) → b ≡ false → ends ≡ rules.exits_of g (statement_if b at s)
-  idle_exits b e = sym (ap (λ b. rules.exits_of g (statement_if b at s)) e)
-
--- the value of a `return`
-pub value_taken : (k : Taken) (v : Option code_expression.Expression)
-    → option_map (λ e. taken k (expression_tree e)) v ≡ result_taken k (option_map expression_tree v)
-value_taken k None = refl
-value_taken k (Some e) = refl
+  pub of_statement : (g : Env) (s : code_statement.Statement) (t : Statement) → statement_tree s ≡ t
+      → IfOk r (λ w. exits_of w ≡ rules.exits_of g t) → IfOk r (λ w. exits_of w ≡ rules.exits_of g (statement_tree s))
+  of_statement g s t p h = subst (λ u. IfOk r (λ w. exits_of w ≡ rules.exits_of g u)) (sym p) h
 
 -- ---- within a loop, and within a `switch`
 
@@ -68,15 +50,15 @@ still_follows c names later s after g same kept h =
 
 -- ---- the clauses of a `switch`, one more of them
 
-pub way_goes_on : (k : Taken) (g : Env) (u : Option Chosen) (ways : List Step) (way : code.Exits) (clauses : List code_clause.Clause) (index : ℕ)
+pub way_goes_on : (g : Env) (u : Option Chosen) (ways : List Step) (way : code.Exits) (clauses : List code_clause.Clause) (index : ℕ)
     (clause : code_clause.Clause) (all : Exits) → index < length clauses → clause ≡ get_or clauses index clause
-    → all_before ways (rules.exits_of_clauses g u (taken_clauses k (drop index clauses))) ≡ all
-    → exits_of way ≡ clause_exits g u (one_clause_taken k (clause_tree clause))
-    → all_before (ways ++ step.Way way ∷ []) (rules.exits_of_clauses g u (taken_clauses k (drop (index + 1) clauses))) ≡ all
-way_goes_on k g u ways way clauses index clause all l is_clause h own =
+    → all_before ways (rules.exits_of_clauses g u (clauses_of (map clause_tree (drop index clauses)))) ≡ all
+    → exits_of way ≡ clause_exits g u (clause_tree clause)
+    → all_before (ways ++ step.Way way ∷ []) (rules.exits_of_clauses g u (clauses_of (map clause_tree (drop (index + 1) clauses)))) ≡ all
+way_goes_on g u ways way clauses index clause all l is_clause h own =
     let rest : List code_clause.Clause = drop (index + 1) clauses in
     let next : drop index clauses ≡ clause ∷ rest = drop_more clauses index clause l ∙ ap (λ y. y ∷ rest) (sym is_clause) in
-    before_more ways (step.Way way) (rules.exits_of_clauses g u (taken_clauses k rest))
-    ∙ ap (λ w. all_before ways (either_exits w (rules.exits_of_clauses g u (taken_clauses k rest)))) own
-    ∙ ap (λ xs. all_before ways (rules.exits_of_clauses g u (taken_clauses k xs))) (sym next)
+    before_more ways (step.Way way) (rules.exits_of_clauses g u (clauses_of (map clause_tree rest)))
+    ∙ ap (λ w. all_before ways (either_exits w (rules.exits_of_clauses g u (clauses_of (map clause_tree rest))))) own
+    ∙ ap (λ xs. all_before ways (rules.exits_of_clauses g u (clauses_of (map clause_tree xs)))) (sym next)
     ∙ h

@@ -8,7 +8,6 @@ use Rattle.flow_summaries.specs.Expressions.{uses_of}
 use Rattle.flow_summaries.specs.Passages.{Passage, copied_if, in_turn, in_turn_or_not}
 use Rattle.flow_summaries.specs.Uses.{Uses, indexed_uses, member_uses, uses_as_place}
 use Rattle.source_typing.specs.Scope.{Env, Value}
-use Rattle.source_typing.specs.Taken.{Taken, taken}
 use Rattle.std.specs.Prelude.{false, not, ◌&&◌}
 use Rattle.check_faults.specs.Verdicts.{Short}
 
@@ -28,15 +27,15 @@ passed_tests g p NoExpressions = p
 passed_tests g p (MoreExpressions e es) = passed_tests g (in_turn_or_not p (uses_of g e).look) es
 
 -- one suffix, by what is answered of what stands before it
-abbrev pub short_uses : Taken → Env → Short Value → Uses → OneSuffix → Uses
-short_uses k g s u (OneSuffix.Index e) =
-    indexed_uses (place_short s) (is_moved_short g (short_suffix k g s (OneSuffix.Index e))) u (uses_of g (taken k e))
-short_uses k g s u (OneSuffix.Dot f) = member_uses (place_short s) (is_moved_short g (short_suffix k g s (OneSuffix.Dot f))) u
-short_uses k g s u (OneSuffix.Arrow f) =
-    uses_as_place (place_short s) (is_moved_short g (short_suffix k g s (OneSuffix.Arrow f))) false
+abbrev pub short_uses : Env → Short Value → Uses → OneSuffix → Uses
+short_uses g s u (OneSuffix.Index e) =
+    indexed_uses (place_short s) (is_moved_short g (short_suffix g s (OneSuffix.Index e))) u (uses_of g e)
+short_uses g s u (OneSuffix.Dot f) = member_uses (place_short s) (is_moved_short g (short_suffix g s (OneSuffix.Dot f))) u
+short_uses g s u (OneSuffix.Arrow f) =
+    uses_as_place (place_short s) (is_moved_short g (short_suffix g s (OneSuffix.Arrow f))) false
     (in_turn u.look (copied_if (is_unique_short s && not u.whole) (place_short s)))
 
 -- suffixes, one after another
-abbrev pub all_short_uses : Taken → Env → Short Value → Uses → List OneSuffix → Uses
-all_short_uses k g s u [] = u
-all_short_uses k g s u (x ∷ xs) = all_short_uses k g (short_suffix k g s x) (short_uses k g s u x) xs
+abbrev pub all_short_uses : Env → Short Value → Uses → List OneSuffix → Uses
+all_short_uses g s u [] = u
+all_short_uses g s u (x ∷ xs) = all_short_uses g (short_suffix g s x) (short_uses g s u x) xs

@@ -1,19 +1,16 @@
 // What declarations do to locals that can't be copied.
 
 ghost use Rattle.std.specs.Prelude.{◌≡◌, ◌≤◌, IfOk, OnOk, Some, length, ℕ};
-ghost use Rattle.cyc_tree.specs.Tree as tree;
-ghost use Rattle.cyc_tree.specs.View.{declaration_tree, initializer_tree, name_tree, type_tree};
+ghost use Rattle.cyc_tree.specs.View.{declaration_tree, initializer_tree, name_tree};
 ghost use Rattle.cyc_types.specs.Sameness.{HasTags};
 ghost use Rattle.flow_summaries.specs.Exits as rules;
-ghost use Rattle.flow_summaries.specs.Exits.{lent_in};
+ghost use Rattle.flow_summaries.specs.Exits.{lent_in, with_passage};
 ghost use Rattle.flow_summaries.specs.Uses.{number_of};
-ghost use Rattle.flow_summaries.specs.Statements.{exits_of_declared};
+ghost use Rattle.flow_summaries.specs.Statements.{exits_of_declared, passage_of_initial};
 ghost use Rattle.source_typing.specs.Declarations.{declare};
 ghost use Rattle.source_typing.specs.Left.{added_by, begins_as};
 ghost use Rattle.source_typing.specs.Scope.{Env};
 ghost use Rattle.source_typing.specs.Tables.{What as TheWhat};
-ghost use Rattle.source_typing.specs.Taken.{declaration_taken};
-ghost use Rattle.check_faults.specs.Taken.{taken_of};
 ghost use Rattle.check_scopes.specs.Changes.{left};
 ghost use Rattle.check_scopes.specs.Knows.{Knows};
 ghost use Rattle.check_scopes.specs.Matching.{AreLocals};
@@ -29,36 +26,28 @@ use crate::expressions::given;
 use check_regions::RegionNames;
 use check_scopes::{Scope, What};
 use check_statements::{Context, declare};
-use check_types::takes_type_in;
-use cyc_tree::{Declaration, Initializer, Name, TypeName};
+use cyc_tree::{Declaration, Initializer, Name};
 use cyc_types::{Tables, is_copyable};
 use flow_effects::{Begun, Declared, Loan, Passed};
 use std::alloc::{AllocError, Global};
 
-/// The value of a local of this type, where one is given and taken. Fails only where no host memory is left.
+/// The value of a local, where one is given. Fails only where no host memory is left.
 #[tactic(auto, using(flow_effects::proofs::Turns::nothing_before))]
 fn value_given(
     scope: &Scope<'_, '_>,
     alloc: Global,
-    of: &TypeName,
     initializer: &Initializer,
 ) -> Result<Option<Passed>, AllocError>
-    ensures { (g : Env) (x : tree.Name) (rest : rules.Exits) → Knows scope.now g → AreLocals scope.now.locals g.locals → IfOk result (λ p. passed_if p rest
-        ≡ initial_before g (declaration_taken (taken_of scope.now.taken) (tree.Local (type_tree of.now) x (initializer_tree initializer.now))) rest) }
+    ensures { (g : Env) (rest : rules.Exits) → Knows scope.now g → AreLocals scope.now.locals g.locals
+        → IfOk result (λ p. passed_if p rest ≡ with_passage (passage_of_initial g (initializer_tree initializer.now)) rest) }
 {
     match initializer {
-        Initializer::Value(value) => {
-            if takes_type_in(scope.taken, of) {
-                Ok(Some(given(scope, alloc, value)?))
-            } else {
-                Ok(None)
-            }
-        }
+        Initializer::Value(value) => Ok(Some(given(scope, alloc, value)?)),
         Initializer::None | Initializer::Array(_) => Ok(None),
     }
 }
 
-/// The initializer of a declaration, where it has one that is taken. Fails only where no host memory is left.
+/// The initializer of a declaration, where it has one. Fails only where no host memory is left.
 #[tactic(auto, using(flow_effects::proofs::Turns::nothing_before))]
 fn initial(
     scope: &Scope<'_, '_>,
@@ -66,10 +55,10 @@ fn initial(
     declaration: &Declaration,
 ) -> Result<Option<Passed>, AllocError>
     ensures { (g : Env) (rest : rules.Exits) → Knows scope.now g → AreLocals scope.now.locals g.locals → IfOk result (λ p. passed_if p rest
-        ≡ initial_before g (declaration_taken (taken_of scope.now.taken) (declaration_tree declaration.now)) rest) }
+        ≡ initial_before g (declaration_tree declaration.now) rest) }
 {
     match declaration {
-        Declaration::Local(of, _, initializer) => value_given(scope, alloc, of, initializer),
+        Declaration::Local(_, _, initializer) => value_given(scope, alloc, initializer),
         _ => Ok(None),
     }
 }
@@ -86,16 +75,14 @@ fn loan_of(scope: &Scope<'_, '_>, at: u32, name: &Name) -> Loan
     }
 }
 
-/// The loan that begins with a declaration, where one does and is taken.
+/// The loan that begins with a declaration, where one does.
 fn loan(scope: &Scope<'_, '_>, declaration: &Declaration) -> Option<Loan>
     ensures { (g : Env) (rest : rules.Exits) → AreLocals scope.now.locals g.locals → lent_if result rest
-        ≡ loan_before g (declaration_taken (taken_of scope.now.taken) (declaration_tree declaration.now)) rest }
+        ≡ loan_before g (declaration_tree declaration.now) rest }
 {
     match declaration {
-        Declaration::Open(at, _, _, key) if scope.taken.keys => Some(loan_of(scope, *at, key)),
-        Declaration::Alias(at, _, _, _, source) if scope.taken.unique => {
-            Some(loan_of(scope, *at, source))
-        }
+        Declaration::Open(at, _, _, key) => Some(loan_of(scope, *at, key)),
+        Declaration::Alias(at, _, _, _, source) => Some(loan_of(scope, *at, source)),
         _ => None,
     }
 }
@@ -143,11 +130,10 @@ pub(crate) fn declared<'p>(
     declaration: &'p Declaration,
 ) -> Result<Declared, AllocError>
     ensures before { (g : Env) (rest : rules.Exits) → Stands context.entry names.old outer scope.old g
-        → let d = declaration_taken (taken_of scope.old.taken) (declaration_tree declaration.entry.now) in
-        IfOk result (λ step. declared_before step rest ≡ exits_of_declared g (declare g d).scope d rest) }
+        → let d = declaration_tree declaration.entry.now in IfOk result (λ step. declared_before step rest ≡ exits_of_declared g (declare g d).scope d rest) }
     ensures known { (g : Env) → Stands context.entry names.old outer scope.old g
         → OnOk result (Stands context.entry names.new outer scope.new
-        (declare g (declaration_taken (taken_of scope.old.taken) (declaration_tree declaration.entry.now))).scope) }
+        (declare g (declaration_tree declaration.entry.now)).scope) }
     ensures left { OnOk result ((count : ℕ) (mark : RegionMark) → count ≤ length scope.old.locals → mark.names ≤ length scope.old.regions.begun
         → mark.opened ≤ length scope.old.regions.opened → left count mark scope.new ≡ left count mark scope.old) }
     ensures kept { OnOk result ((count : ℕ) → count ≤ length names.old → kept_to count names.new ≡ kept_to count names.old) }

@@ -1,14 +1,12 @@
 // What expressions do to locals that can't be copied.
 
-ghost use Rattle.std.specs.Prelude.{◌≡◌, ◌+◌, ◌&&◌, ◌||◌, IfOk, if◌then◌else◌, length, map, not, true};
+ghost use Rattle.std.specs.Prelude.{◌≡◌, ◌≤◌, ◌+◌, ◌&&◌, ◌||◌, IfOk, length, map, not};
 ghost use Rattle.cyc_tree.specs.Tree.{Prefixed};
-ghost use Rattle.cyc_tree.specs.View.{expression_tree, expressions_of, link_tree, links_of, made_tree, suffix_tree, suffixes_of};
+ghost use Rattle.cyc_tree.specs.View.{expression_tree, expressions_of, link_tree, links_of, made_tree, suffix_tree};
 ghost use Rattle.flow_summaries.specs.Expressions.{uses_made, uses_of};
 ghost use Rattle.flow_summaries.specs.Passages.{copied_if, in_turn, unchanged};
 ghost use Rattle.flow_summaries.specs.Uses.{Uses, uses_as_value};
 ghost use Rattle.source_typing.specs.Scope.{Env};
-ghost use Rattle.source_typing.specs.Taken.{all_taken, are_suffixed, links_taken, made_taken, taken, takes_made};
-ghost use Rattle.check_faults.specs.Taken.{taken_of};
 ghost use Rattle.check_faults.specs.Verdicts.{short_of};
 ghost use Rattle.check_expressions.specs.Suffixes.{short_suffix};
 ghost use Rattle.flow_check.specs.Folded.{all_short_uses, passed_all, passed_links, passed_tests, short_uses};
@@ -25,8 +23,8 @@ use crate::facts::{in_block, is_moved, is_unique_value, place_of};
 use crate::name::uses_of_name;
 use crate::suffixed::Suffixed;
 use check_expressions::{
-    Around, are_linked, are_some, arrow_part, goal_part, indexed_parts, is_unique_region,
-    judge_inside, member_part, prefixed_part, takes_handle, takes_suffixes, with_counter,
+    Around, arrow_part, goal_part, indexed_parts, is_unique_region, judge_inside, member_part,
+    prefixed_part, with_counter,
 };
 use check_faults::Verdict;
 use check_operators::Value;
@@ -52,7 +50,7 @@ pub(crate) fn uses<'p>(
     expression: &Expression,
 ) -> Result<Used, AllocError>
     ensures { (g : Env) → IsWithin scope.now around.entry g
-        → IfOk result (IsUsed how (uses_of g (taken (taken_of scope.now.taken) (expression_tree expression.now)))) }
+        → IfOk result (IsUsed how (uses_of g (expression_tree expression.now))) }
 {
     match expression {
         Expression::Number(_, _, _) => Ok(idle()),
@@ -67,23 +65,17 @@ pub(crate) fn uses<'p>(
             Ok(Used::value(passed))
         }
         Expression::MakeUnion(_, _, value) => {
-            if !scope.taken.unions {
-                return Ok(idle());
-            }
             let value = uses(scope, alloc, around, Usage::Value, value)?;
             Ok(Used::value(value.passed))
         }
         Expression::NumElts(_, operand) => {
-            if !scope.taken.arrays {
-                return Ok(idle());
-            }
             let operand = uses(scope, alloc, around, Usage::Look, operand)?;
             Ok(Used::value(operand.passed))
         }
         Expression::Grouped(_, inner) => uses(scope, alloc, around, how, inner),
         Expression::Suffixed(primary, suffixes) => {
-            if !takes_suffixes(scope.taken, suffixes) {
-                return Ok(idle());
+            if suffixes.is_empty() {
+                return uses(scope, alloc, around, how, primary);
             }
             let judged = judge_inside(scope, alloc, around, primary)?;
             let used = uses(scope, alloc, around, Usage::Look, primary)?;
@@ -92,40 +84,32 @@ pub(crate) fn uses<'p>(
         Expression::Prefixed(at, operator, operand) => {
             prefixed(scope, alloc, around, how, *at, *operator, operand)
         }
-        Expression::New(_, new) => {
-            if !scope.taken.regions {
-                return Ok(idle());
-            }
-            made(scope, alloc, around, Passed::nothing(), new)
-        }
+        Expression::New(_, new) => made(scope, alloc, around, Passed::nothing(), new),
         Expression::NewIn(_, handle, new) => {
-            if !takes_handle(scope.taken, handle) {
-                return Ok(idle());
-            }
             let judged = judge_inside(scope, alloc, around, handle)?;
             let goal = goal_part(scope, is_unique_region(handle), judged);
             let looked = uses(scope, alloc, around, Usage::Look, handle)?;
             made(scope, alloc, around.inside(&goal), looked.passed, new)
         }
         Expression::Chain(first, links) => {
-            if !are_linked(links) {
-                return Ok(idle());
+            if links.is_empty() {
+                return uses(scope, alloc, around, how, first);
             }
             let first = uses(scope, alloc, around, Usage::Look, first)?;
             let passed = passed_links(scope, alloc, around, first.passed, links)?;
             Ok(Used::value(passed))
         }
         Expression::AllOf(first, others) => {
-            if !are_some(others) {
-                return Ok(idle());
+            if others.is_empty() {
+                return uses(scope, alloc, around, how, first);
             }
             let first = uses(scope, alloc, around, Usage::Look, first)?;
             let passed = passed_tests(scope, alloc, around, first.passed, others)?;
             Ok(Used::value(passed))
         }
         Expression::AnyOf(first, others) => {
-            if !are_some(others) {
-                return Ok(idle());
+            if others.is_empty() {
+                return uses(scope, alloc, around, how, first);
             }
             let first = uses(scope, alloc, around, Usage::Look, first)?;
             let passed = passed_tests(scope, alloc, around, first.passed, others)?;
@@ -148,7 +132,7 @@ fn passed_all(
     arguments: &[Expression],
 ) -> Result<Passed, AllocError>
     ensures { (g : Env) → IsWithin scope.now around.entry g → IfOk result (λ p. passage_of p
-        ≡ passed_all g unchanged (all_taken (taken_of scope.now.taken) (expressions_of (map expression_tree arguments.now)))) }
+        ≡ passed_all g unchanged (expressions_of (map expression_tree arguments.now))) }
 {
     let mut passed = Passed::nothing();
     'each: for argument in arguments {
@@ -168,7 +152,7 @@ fn passed_links(
     links: &[Link],
 ) -> Result<Passed, AllocError>
     ensures { (g : Env) → IsWithin scope.now around.entry g → IfOk result (λ p. passage_of p
-        ≡ passed_links g (passage_of first) (links_taken (taken_of scope.now.taken) (links_of (map link_tree links.now)))) }
+        ≡ passed_links g (passage_of first) (links_of (map link_tree links.now))) }
 {
     let mut passed = first;
     'each: for link in links {
@@ -188,7 +172,7 @@ fn passed_tests(
     others: &[Expression],
 ) -> Result<Passed, AllocError>
     ensures { (g : Env) → IsWithin scope.now around.entry g → IfOk result (λ p. passage_of p
-        ≡ passed_tests g (passage_of first) (all_taken (taken_of scope.now.taken) (expressions_of (map expression_tree others.now)))) }
+        ≡ passed_tests g (passage_of first) (expressions_of (map expression_tree others.now))) }
 {
     let mut passed = first;
     'each: for operand in others {
@@ -210,7 +194,7 @@ fn prefixed(
     operand: &Expression,
 ) -> Result<Used, AllocError>
     ensures { (g : Env) → IsWithin scope.now around.entry g → IfOk result (IsUsed how (uses_of g
-        (Prefixed at operator (taken (taken_of scope.now.taken) (expression_tree operand.now))))) }
+        (Prefixed at operator (expression_tree operand.now)))) }
 {
     match operator {
         Prefix::Negate | Prefix::Not | Prefix::Complement => {
@@ -275,9 +259,9 @@ fn suffix_after<'p>(
     used: Used,
     suffix: &Suffix,
 ) -> Result<Suffixed<'p>, AllocError>
-    ensures { (g : Env) (u : Uses) → IsWithin scope.now around.entry g → IsUsed usage.Look u used → let k = taken_of scope.now.taken in
-        IfOk result (IsSuffixed (short_suffix k g (short_of value_of judged.entry) (suffix_tree suffix.now))
-        (short_uses k g (short_of value_of judged.entry) u (suffix_tree suffix.now))) }
+    ensures { (g : Env) (u : Uses) → IsWithin scope.now around.entry g → IsUsed usage.Look u used
+        → IfOk result (IsSuffixed (short_suffix g (short_of value_of judged.entry) (suffix_tree suffix.now))
+        (short_uses g (short_of value_of judged.entry) u (suffix_tree suffix.now))) }
 {
     let at = place_of(&judged);
     match suffix {
@@ -313,8 +297,8 @@ fn suffixed<'p>(
     suffixes: &[Suffix],
 ) -> Result<Used, AllocError>
     ensures { (g : Env) (u : Uses) → IsWithin scope.now around.entry g → IsUsed usage.Look u used
-        → are_suffixed (suffixes_of (map suffix_tree suffixes.now)) ≡ true
-        → IfOk result (IsUsed how (all_short_uses (taken_of scope.now.taken) g (short_of value_of judged.entry) u (map suffix_tree suffixes.now))) }
+        → 1 ≤ length suffixes.now
+        → IfOk result (IsUsed how (all_short_uses g (short_of value_of judged.entry) u (map suffix_tree suffixes.now))) }
 {
     let Some((first, others)) = suffixes.split_first() else {
         return Ok(used);
@@ -346,9 +330,8 @@ fn made(
     handle: Passed,
     new: &Made,
 ) -> Result<Used, AllocError>
-    ensures { (g : Env) (how : TheUsage) → IsWithin scope.now around.entry g → let k = taken_of scope.now.taken in
-        IfOk result (IsUsed how (if takes_made k (made_tree new.now) then uses_made g (made_taken k (made_tree new.now)) (passage_of handle)
-        else uses_as_value unchanged)) }
+    ensures { (g : Env) (how : TheUsage) → IsWithin scope.now around.entry g
+        → IfOk result (IsUsed how (uses_made g (made_tree new.now) (passage_of handle))) }
 {
     match new {
         Made::One(value) => {
@@ -356,9 +339,6 @@ fn made(
             Ok(Used::value(handle.in_turn(value.passed)))
         }
         Made::Array(index, count, element) => {
-            if !scope.taken.filled {
-                return Ok(idle());
-            }
             let count = uses(scope, alloc, around, Usage::Look, count)?;
             let counters = with_counter(alloc, around.counters, &index.text)?;
             let locals = locals_around(scope, around)?;

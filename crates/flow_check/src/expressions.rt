@@ -6,8 +6,6 @@ ghost use Rattle.flow_summaries.specs.Expressions.{uses_of};
 ghost use Rattle.flow_summaries.specs.Statements.{freed_local, passage_of_result};
 ghost use Rattle.flow_summaries.specs.Uses.{number_of};
 ghost use Rattle.source_typing.specs.Scope.{Env};
-ghost use Rattle.source_typing.specs.Taken.{taken};
-ghost use Rattle.check_faults.specs.Taken.{taken_of};
 ghost use Rattle.check_scopes.specs.Knows.{Knows};
 ghost use Rattle.check_scopes.specs.Matching.{AreLocals};
 ghost use Rattle.flow_effects.specs.Passed.{passage_of};
@@ -27,7 +25,7 @@ pub(crate) fn given(
     expression: &Expression,
 ) -> Result<Passed, AllocError>
     ensures { (g : Env) → Knows scope.now g → AreLocals scope.now.locals g.locals
-        → IfOk result (λ p. passage_of p ≡ (uses_of g (taken (taken_of scope.now.taken) (expression_tree expression.now))).value) }
+        → IfOk result (λ p. passage_of p ≡ (uses_of g (expression_tree expression.now)).value) }
 {
     let around = Around {
         enclosing: Enclosing::In(RegionId::Heap),
@@ -44,7 +42,7 @@ pub(crate) fn looked(
     expression: &Expression,
 ) -> Result<Passed, AllocError>
     ensures { (g : Env) → Knows scope.now g → AreLocals scope.now.locals g.locals
-        → IfOk result (λ p. passage_of p ≡ (uses_of g (taken (taken_of scope.now.taken) (expression_tree expression.now))).look) }
+        → IfOk result (λ p. passage_of p ≡ (uses_of g (expression_tree expression.now)).look) }
 {
     let around = Around {
         enclosing: Enclosing::In(RegionId::Heap),
@@ -61,7 +59,7 @@ pub(crate) fn result_given(
     value: &Option<Expression>,
 ) -> Result<Passed, AllocError>
     ensures { (g : Env) → Knows scope.now g → AreLocals scope.now.locals g.locals → IfOk result (λ p. passage_of p
-        ≡ passage_of_result g (option_map (λ e. taken (taken_of scope.now.taken) (expression_tree e)) value.now)) }
+        ≡ passage_of_result g (option_map expression_tree value.now)) }
 {
     match value {
         None => Ok(Passed::nothing()),

@@ -8,9 +8,7 @@ ghost use Rattle.source_typing.specs.Functions.{body_scope, head_of, with_parame
 ghost use Rattle.source_typing.specs.Left.{states_at};
 ghost use Rattle.source_typing.specs.Scope.{Env};
 ghost use Rattle.source_typing.specs.Tables.{Tables};
-ghost use Rattle.source_typing.specs.Taken.{function_taken};
 ghost use Rattle.source_typing.specs.Written.{RegionNamed};
-ghost use Rattle.check_faults.specs.Taken.{taken_of};
 ghost use Rattle.check_functions.specs.Bodies.{KnowsNames, code_names, names_of, types_of};
 ghost use Rattle.flow_effects.specs.Passed.{state_of};
 ghost use Rattle.flow_check.specs.Standing.{Stands};
@@ -38,7 +36,6 @@ fn parameters_begun<'p>(
     ensures states { (ns : List RegionNamed) (g : Env) (ms : List tree.Member) → code_names parameters.now ≡ names_of ms
         → Stands context.entry ns 0 scope.old g → IfOk result (λ states. reverse (map state_of states.items) ++ states_at g
         ≡ states_at (with_parameters ms (types_of parameters.now) g)) }
-    ensures taken { OnOk result (scope.new.taken ≡ scope.old.taken) }
 {
     let mut states = Vec::new(alloc);
     'each: for parameter in parameters {
@@ -59,10 +56,10 @@ pub(crate) fn function_flow<'p>(
     item: u32,
     function: &'p Function,
 ) -> Result<Option<Fault>, AllocError>
-    ensures { (g : Tables) → KnowsNames names.entry g → let f = function_taken (taken_of names.entry.taken) (function_tree function.entry.now) in
+    ensures { (g : Tables) → KnowsNames names.entry g → let f = function_tree function.entry.now in
         IfOk result (λ o. o ≡ fault_of_body (body_scope false g item f (head_of false g f)) f) }
 {
-    let head = read_head(alloc, names.taken, names.tags, false, function)?;
+    let head = read_head(alloc, names.tags, false, function)?;
     let mut scope = entered(alloc, names, false, &head)?;
     let frame = RegionId::Level(head.variables.count());
     let mut known = head.variables.into_names();

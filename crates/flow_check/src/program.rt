@@ -6,13 +6,11 @@ ghost use Rattle.flow_summaries.specs.Statements.{fault_from, fault_of_item};
 ghost use Rattle.source_typing.specs.Faults.{earliest};
 ghost use Rattle.source_typing.specs.Left.{flow_faults};
 ghost use Rattle.source_typing.specs.Tables as known;
-ghost use Rattle.source_typing.specs.Taken.{item_taken, only_taken};
 ghost use Rattle.check_faults.specs.Faults.{faults_of};
-ghost use Rattle.check_faults.specs.Taken.{taken_of};
 ghost use Rattle.check_functions.specs.Bodies.{KnowsNames};
 
 use crate::function::function_flow;
-use check_faults::{Fault, Taken, sooner};
+use check_faults::{Fault, sooner};
 use check_functions::Names;
 use check_programs::{Structs, judged_tags, next_index, program_names};
 use cyc_tree::{Item, Program};
@@ -26,7 +24,7 @@ fn item_flow<'p>(
     item: &'p Item,
 ) -> Result<Option<Fault>, AllocError>
     ensures { (g : known.Tables) → KnowsNames names.entry g → IfOk result (λ f. f
-        ≡ fault_of_item g index (item_taken (taken_of names.entry.taken) (program_item_tree item.entry.now))) }
+        ≡ fault_of_item g index (program_item_tree item.entry.now)) }
 {
     match item {
         Item::Struct(_) | Item::Union(_) | Item::Global(_) => Ok(None),
@@ -41,7 +39,7 @@ fn items_flow<'p>(
     items: &'p [Item],
 ) -> Result<Option<Fault>, AllocError>
     ensures { (g : known.Tables) → KnowsNames names.entry g → IfOk result (λ f. f
-        ≡ fault_from g 0 (only_taken (taken_of names.entry.taken) (program_tree items.entry.now))) }
+        ≡ fault_from g 0 (program_tree items.entry.now)) }
 {
     let mut found = None;
     let mut index = 0;
@@ -52,28 +50,21 @@ fn items_flow<'p>(
     Ok(found)
 }
 
-/// The earliest fault of flow of a program, whatever other faults it has, where these forms are taken. Fails only where no host memory is
-/// left.
-pub fn flow_fault(
-    alloc: Global,
-    taken: Taken,
-    program: &Program,
-) -> Result<Option<Fault>, AllocError>
-    ensures { IfOk result (λ f. faults_of f ≡ earliest (flow_faults (only_taken (taken_of taken) program.now))) }
+/// The earliest fault of flow of a program, whatever other faults it has. Fails only where no host memory is left.
+pub fn flow_fault(alloc: Global, program: &Program) -> Result<Option<Fault>, AllocError>
+    ensures { IfOk result (λ f. faults_of f ≡ earliest (flow_faults program.now)) }
 {
     let items = program.items();
-    let tags = judged_tags(alloc, taken, items)?;
+    let tags = judged_tags(alloc, items)?;
     let structs = Structs {
         tags: &tags.names,
         tables: &tags.tables,
-        taken,
     };
     let globals = program_names(alloc, structs, false, items)?;
     let names = Names {
         globals: &globals,
         tags: &tags.names,
         tables: &tags.tables,
-        taken,
     };
     items_flow(alloc, names, items)
 }

@@ -4,12 +4,10 @@ ghost use Rattle.std.specs.Prelude.{◌≡◌, ◌≤◌, IfOk, OnOk, length, ma
 ghost use Rattle.cyc_tree.specs.View.{clause_tree, clauses_of, item_tree, items_of, statement_tree};
 ghost use Rattle.flow_summaries.specs.Statements as rules;
 ghost use Rattle.source_typing.specs.Scope.{Env, block_entered};
-ghost use Rattle.source_typing.specs.Taken.{clauses_taken, items_taken, statement_taken};
-ghost use Rattle.check_faults.specs.Taken.{taken_of};
 ghost use Rattle.check_scopes.specs.Changes.{left};
 ghost use Rattle.check_regions.specs.declared.scope.RegionMark.{RegionMark};
 ghost use Rattle.check_statements.specs.Contexts.{kept_to};
-ghost use Rattle.check_statements.specs.Switching.{chosen_in, one_clause_taken};
+ghost use Rattle.check_statements.specs.Switching.{chosen_in};
 ghost use Rattle.flow_effects.specs.Exits.{exits_of};
 ghost use Rattle.flow_check.specs.Standing.{Follows, Stands};
 ghost use Rattle.flow_check.specs.Switched.{clause_exits};
@@ -35,7 +33,7 @@ fn exits<'p>(
     statement: &'p Statement,
 ) -> Result<Exits, AllocError>
     ensures exits { (g : Env) → Follows context.entry names.old scope.old g
-        → IfOk result (λ w. exits_of w ≡ rules.exits_of g (statement_taken (taken_of scope.old.taken) (statement_tree statement.entry.now))) }
+        → IfOk result (λ w. exits_of w ≡ rules.exits_of g (statement_tree statement.entry.now)) }
     ensures scope { OnOk result (scope.new ≡ scope.old) }
     ensures kept { OnOk result (names.new ≡ names.old) }
 {
@@ -44,9 +42,6 @@ fn exits<'p>(
         Statement::Block(_, items) => block(scope, names, alloc, context, items),
         Statement::Run(value) => Ok(Exits::ends_after(given(scope, alloc, value)?)),
         Statement::Exchange(left, right) => {
-            if !scope.taken.unique {
-                return Ok(Exits::ends());
-            }
             let left = looked(scope, alloc, left)?;
             let right = looked(scope, alloc, right)?;
             Ok(Exits::ends_after(left.in_turn(right)))
@@ -68,9 +63,6 @@ fn exits<'p>(
             body.loop_of(alloc, condition)
         }
         Statement::Switch(_, place, clauses) => {
-            if !scope.taken.unions {
-                return Ok(Exits::ends());
-            }
             let judged = judge(scope, alloc, place)?;
             let place = looked(scope, alloc, place)?;
             let chosen = union_of(&judged);
@@ -81,17 +73,9 @@ fn exits<'p>(
         Statement::Continue(_) => Ok(Exits::continues()),
         Statement::Return(_, value) => Ok(Exits::returns(result_given(scope, alloc, value)?)),
         Statement::FreeUnique(at, pointer) => {
-            if !scope.taken.unique {
-                return Ok(Exits::ends());
-            }
             Ok(Exits::ends_after(freed(scope, alloc, *at, pointer)?))
         }
-        Statement::FreeKey(at, key) => {
-            if !scope.taken.keys {
-                return Ok(Exits::ends());
-            }
-            Ok(Exits::ends_after(freed(scope, alloc, *at, key)?))
-        }
+        Statement::FreeKey(at, key) => Ok(Exits::ends_after(freed(scope, alloc, *at, key)?)),
     }
 }
 
@@ -105,7 +89,7 @@ fn block<'p>(
     items: &'p [BlockItem],
 ) -> Result<Exits, AllocError>
     ensures exits { (g : Env) → Follows context.entry names.old scope.old g → IfOk result (λ w. exits_of w
-        ≡ rules.exits_of_items (block_entered g) (items_taken (taken_of scope.old.taken) (items_of (map item_tree items.entry.now)))) }
+        ≡ rules.exits_of_items (block_entered g) (items_of (map item_tree items.entry.now))) }
     ensures scope { OnOk result (scope.new ≡ scope.old) }
     ensures kept { OnOk result (names.new ≡ names.old) }
 {
@@ -133,7 +117,7 @@ pub(crate) fn items_exits<'p>(
     items: &'p [BlockItem],
 ) -> Result<Exits, AllocError>
     ensures exits { (g : Env) → Stands context.entry names.old outer scope.old g → IfOk result (λ w. exits_of w
-        ≡ rules.exits_of_items g (items_taken (taken_of scope.old.taken) (items_of (map item_tree items.entry.now)))) }
+        ≡ rules.exits_of_items g (items_of (map item_tree items.entry.now))) }
     ensures left { OnOk result ((count : ℕ) (mark : RegionMark) → count ≤ length scope.old.locals → mark.names ≤ length scope.old.regions.begun
         → mark.opened ≤ length scope.old.regions.opened → left count mark scope.new ≡ left count mark scope.old) }
     ensures kept { OnOk result ((count : ℕ) → count ≤ length names.old → kept_to count names.new ≡ kept_to count names.old) }
@@ -165,7 +149,7 @@ fn switched<'p>(
     clauses: &'p [Clause],
 ) -> Result<Exits, AllocError>
     ensures exits { (g : Env) → Follows context.entry names.old scope.old g → IfOk result (λ w. exits_of w
-        ≡ rules.exits_of_clauses g (option_map chosen_in chosen.entry) (clauses_taken (taken_of scope.old.taken) (clauses_of (map clause_tree clauses.entry.now)))) }
+        ≡ rules.exits_of_clauses g (option_map chosen_in chosen.entry) (clauses_of (map clause_tree clauses.entry.now))) }
     ensures scope { OnOk result (scope.new ≡ scope.old) }
     ensures kept { OnOk result (names.new ≡ names.old) }
 {
@@ -189,7 +173,7 @@ fn clause_exits<'p>(
     clause: &'p Clause,
 ) -> Result<Exits, AllocError>
     ensures exits { (g : Env) → Follows context.entry names.old scope.old g → IfOk result (λ w. exits_of w
-        ≡ clause_exits g (option_map chosen_in chosen.entry) (one_clause_taken (taken_of scope.old.taken) (clause_tree clause.entry.now))) }
+        ≡ clause_exits g (option_map chosen_in chosen.entry) (clause_tree clause.entry.now)) }
     ensures scope { OnOk result (scope.new ≡ scope.old) }
     ensures kept { OnOk result (names.new ≡ names.old) }
 {

@@ -3,8 +3,7 @@ use Rattle.std.proofs.Common.{◌≡◌, ℕ, suc, Bool, true, false, Option, So
 use Rattle.std.specs.Prelude.{bytes_eq, codes, if◌then◌else◌}
 use Rattle.cyc_tree.specs.Tree.{Program}
 use Rattle.cyc_types.specs.FirstTags.{AlikeTags}
-use Rattle.source_typing.proofs.Inversion.{both_none, none_of_both}
-use Rattle.source_typing.proofs.TakenItems.{none_is}
+use Rattle.source_typing.proofs.Inversion.{both_none, none_is, none_of_both}
 use Rattle.source_typing.specs.Answers.{effect_fault, type_fault}
 use Rattle.source_typing.specs.Faults.{Fault, earliest, type_rule}
 use Rattle.source_typing.specs.Functions.{function_faults}
@@ -12,7 +11,6 @@ use Rattle.source_typing.specs.Programs.{all_tag_faults, builtins, entries, faul
 use Rattle.source_typing.specs.Programs.{second_names, size_faults, tables_of, typing_faults}
 use Rattle.source_typing.specs.Scope.{at_item}
 use Rattle.source_typing.specs.Tables.{Entry, OfBuiltin, OfFunction, OfOther, OfTag, OfValue, Tables, Tag, as_tag, find}
-use Rattle.source_typing.specs.Taken.{Taken, constant_forms, only_taken}
 use Rattle.source_typing.specs.Types.{same_bool}
 use Rattle.source_typing.specs.Verdicts.{Verdict, refuse}
 use Rattle.source_typing.specs.Written.{if_sound, of_kind, tag_of}
@@ -94,8 +92,5 @@ typing_clean p none =
     both_none (all_tag_faults (judged_tags p)) (faults_with true (tables_of true p) p) all.0 (ap (λ t. faults_with true t p) tables ∙ rest)
 
 -- the fault that is answered
-pub none_of_types : (k : Taken) (p : Program) → effect_fault k p ≡ None → type_fault k p ≡ None
-none_of_types k p none =
-    let forms = constant_forms k p in
-    let all = none_of_both forms (typing_faults false (only_taken k p)) (none_is (forms ++ typing_faults false (only_taken k p)) none) in
-    ap earliest (both_none forms (typing_faults true (only_taken k p)) all.0 (typing_clean (only_taken k p) all.1))
+pub none_of_types : (p : Program) → effect_fault p ≡ None → type_fault p ≡ None
+none_of_types p none = ap earliest (typing_clean p (none_is (typing_faults false p) none))

@@ -2,17 +2,14 @@
 //!
 //! `typed` finds what breaks a rule in a program, flow apart: `Typed::fault` answers the earliest fault of names, types, regions and
 //! sizes, without the rules on live regions and effects, and `Typed::effect_fault` the earliest one with these. The rules are those of
-//! `source_typing`, with the forms of the language that `supported` names; `type_fault` answers the first of the two with any of them.
-//! `check_programs` finds the faults. A program in which all these rules find no fault is gone over once: that it has none by fewer rules
-//! either is proved here (`proofs/EasedPrograms`). Stands on these and on `cyc_tree`.
+//! `source_typing`; `check_programs` finds the faults. A program in which all these rules find no fault is gone over once: that it has
+//! none by fewer rules either is proved here (`proofs/EasedPrograms`). Stands on these and on `cyc_tree`.
 #![tactic(auto)]
 
-mod forms;
 mod looking;
 mod program;
 
 pub use check_faults::{Fault, FaultKind};
 pub use check_programs::program_fault;
-pub use forms::supported;
 pub use looking::{type_fault, typed};
 pub use program::Typed;

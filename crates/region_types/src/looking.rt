@@ -3,30 +3,24 @@
 ghost use Rattle.std.specs.Prelude.{◌≡◌, IfOk};
 ghost use Rattle.source_typing.specs.Answers.{type_fault};
 ghost use Rattle.check_faults.specs.Faults.{faults_of};
-ghost use Rattle.check_faults.specs.Taken.{taken_of};
 ghost use Rattle.region_types.specs.Faults.{IsEffectFault, IsTypeFault};
 
-use crate::forms::supported;
 use crate::program::Typed;
-use check_faults::{Fault, Taken};
+use check_faults::Fault;
 use check_programs::program_fault;
 use cyc_tree::Program;
 use std::alloc::{AllocError, Global};
 
-/// A program's earliest fault of names, types, regions and sizes, without the rules on live regions and effects, where these forms are
-/// taken. Fails only where no host memory is left.
-pub fn type_fault(
-    alloc: Global,
-    taken: Taken,
-    program: &Program,
-) -> Result<Option<Fault>, AllocError>
-    ensures { IfOk result (λ f. faults_of f ≡ type_fault (taken_of taken) program.now) }
+/// A program's earliest fault of names, types, regions and sizes, without the rules on live regions and effects. Fails only where no host
+/// memory is left.
+pub fn type_fault(alloc: Global, program: &Program) -> Result<Option<Fault>, AllocError>
+    ensures { IfOk result (λ f. faults_of f ≡ type_fault program.now) }
 {
-    program_fault(alloc, taken, program, true)
+    program_fault(alloc, program, true)
 }
 
-/// The same where the forms are taken that `supported` names, and where this is the earliest fault by the rules on live regions and
-/// effects too: where these find none, the others find none.
+/// The same where this is the earliest fault by the rules on live regions and effects too: where these find none, the others find none.
+/// Fails only where no host memory is left.
 fn fault_without_effects(
     alloc: Global,
     program: &Program,
@@ -37,16 +31,16 @@ fn fault_without_effects(
 {
     match effect_fault {
         None => Ok(None),
-        Some(_) => type_fault(alloc, supported(), program),
+        Some(_) => type_fault(alloc, program),
     }
 }
 
-/// Looks at a program's names, types, regions, effects and sizes, where the forms are taken that `supported` names. A program without a
-/// fault is gone over once. Fails only where no host memory is left.
+/// Looks at a program's names, types, regions, effects and sizes. A program without a fault is gone over once. Fails only where no host
+/// memory is left.
 pub fn typed(alloc: Global, program: &Program) -> Result<Typed, AllocError>
     ensures { IfOk result (λ t. t ≡ program.now) }
 {
-    let effect_fault = program_fault(alloc, supported(), program, false)?;
+    let effect_fault = program_fault(alloc, program, false)?;
     let fault = fault_without_effects(alloc, program, effect_fault)?;
     Ok(Typed::new(program.clone()?, fault, effect_fault))
 }

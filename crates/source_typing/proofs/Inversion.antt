@@ -1,11 +1,11 @@
 -- What a phrase without fault says of its parts.
 use Rattle.std.proofs.Common.{◌≡◌, ℕ, Bool, true, false, List, [], ◌∷◌, refl}
-use Rattle.std.specs.Prelude.{◌++◌}
+use Rattle.std.specs.Prelude.{None, Option, Some, ◌++◌}
 use Rattle.cyc_tree.specs.declared.expression.Prefix.{Prefix}
 use Rattle.cyc_tree.specs.Tree as tree
 use Rattle.cyc_tree.specs.Tree.{Expression, Expressions, NoExpressions, MoreExpressions, Links, NoLinks, MoreLinks, Suffixes, NoSuffixes, Index, Dot, Arrow}
-use Rattle.source_typing.specs.Faults.{Fault, test, own_after}
-use Rattle.source_typing.specs.Verdicts.{Verdict, Faulty, Unjudged, Of, unless_faulty, after, both, if_fits}
+use Rattle.source_typing.specs.Faults.{Fault, earliest, sooner_of, test, own_after}
+use Rattle.source_typing.specs.Verdicts.{Verdict, Faulty, Unjudged, Of, faults_of, unless_faulty, after, both, if_fits}
 use Rattle.source_typing.specs.Scope.{Env, Value, meant}
 use Rattle.source_typing.specs.Places.{assigned, member, arrow, indexed}
 use Rattle.source_typing.specs.Operators.{prefixed, applied, tested_both}
@@ -54,6 +54,11 @@ none_of_both (x ∷ xs) ys e = absurd cc
 pub both_none : {A : Type 0} (xs ys : List A) → xs ≡ [] → ys ≡ [] → xs ++ ys ≡ []
 both_none [] ys a b = b
 both_none (x ∷ xs) ys a b = absurd cc
+
+pub after_clean : {A B : Type 0} (v : Verdict A) (rule : A → Verdict B) → faults_of (after v rule) ≡ [] → faults_of v ≡ []
+after_clean (Faulty f fs) rule e = e
+after_clean Unjudged rule e = refl
+after_clean (Of a) rule e = refl
 
 pub own_is : (own parts : List Fault) → own_after own parts ≡ [] → (own ≡ []) × (parts ≡ [])
 own_is own [] e = (e, refl)
@@ -118,3 +123,14 @@ goal_is at (Of (To r)) v rule w e = both_is (Of (To r)) v rule w e
 goal_is at (Of ToUnique) v rule w e = both_is (Of ToUnique) v rule w e
 goal_is at (Faulty f fs) v rule w e = both_is (Faulty f fs) v rule w e
 goal_is at Unjudged v rule w e = both_is Unjudged v rule w e
+
+-- ---- answers
+
+sooner_is : (f : Fault) (g : Option Fault) → sooner_of f g ≡ None → ⊥
+sooner_is f None e = cc
+sooner_is f (Some g) e = cc
+
+-- no fault is answered exactly where there is none
+pub none_is : (fs : List Fault) → earliest fs ≡ None → fs ≡ []
+none_is [] e = refl
+none_is (f ∷ fs) e = absurd (sooner_is f (earliest fs) e)

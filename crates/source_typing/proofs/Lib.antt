@@ -1,4 +1,3 @@
-pub mod TakenWhole
 pub mod Inversion
 pub mod Meeting
 pub mod Entries
@@ -7,11 +6,6 @@ pub mod Parts
 pub mod PlacesFit
 pub mod OperatorsFit
 pub mod CallsFit
-pub mod TakenExpressions
-pub mod TakenStatements
-pub mod TakenItems
-pub mod TakenOperands
-pub mod NoStrings
 pub mod RegionNames
 pub mod NamedBelow
 mod samples

@@ -12,7 +12,7 @@ mod ConsumedSamples2
 mod LentSamples
 mod SizeSamples
 mod TagSamples
-mod TakenSamples
+mod ParameterSamples
 mod ArraySamples
 mod TotalSamples
 mod FormSamples1

@@ -27,6 +27,5 @@ pub mod States
 pub mod Moves
 pub mod Flow
 pub mod Left
-pub mod Taken
 pub mod Answers
 pub mod Named

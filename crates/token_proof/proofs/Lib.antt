@@ -2,4 +2,3 @@ pub mod Shorter
 pub mod ExpressionSizes
 pub mod StatementSizes
 pub mod ProgramSizes
-pub mod Operands

@@ -42,7 +42,6 @@ block_judged = (
     record {
       value = record { at = 12; type = Int; seat = Nowhere };
       judged = refl;
-      is_taken = refl;
       operands = ((tt, (tt, (tt, tt))), tt);
       members =
           ((tt, (tt, tt)), tt);
@@ -56,7 +55,6 @@ block_judged = (
           accepted = record {
             value = record { at = 31; type = Fat (Level 0) Int; seat = Nowhere };
             judged = refl;
-            is_taken = refl;
             operands =
                 (tt, (tt, (tt, tt)));
             members = (tt, (tt, tt));
@@ -75,7 +73,6 @@ block_judged = (
             accepted = record {
               value = record { at = 45; type = Unsigned; seat = Nowhere };
               judged = refl;
-              is_taken = refl;
               operands = (tt, (tt, (tt, tt)));
               members = (tt, (tt, tt));
             };

@@ -26,7 +26,6 @@ block_judged = (
       accepted = record {
         value = record { at = 19; type = Fat TheHeap Unsigned; seat = Nowhere };
         judged = refl;
-        is_taken = refl;
         operands = (tt, tt);
         members = (tt, tt);
       };
@@ -44,7 +43,6 @@ block_judged = (
         accepted = record {
           value = record { at = 47; type = Unsigned; seat = In TheHeap };
           judged = refl;
-          is_taken = refl;
           operands = (tt, (tt, (tt, tt)));
           members = (tt, (tt, tt));
         };

@@ -48,7 +48,6 @@ block_judged = (
             accepted = record {
               value = record { at = 83; type = Thin false (Level 1) Int; seat = Nowhere };
               judged = refl;
-              is_taken = refl;
               operands = (tt, tt);
               members = (tt, tt);
             };
@@ -58,7 +57,7 @@ block_judged = (
           scope = refl;
         },
         (
-          record { value = record { at = 94; type = Int; seat = Nowhere }; judged = refl; is_taken = refl; operands = (tt, tt); members = (tt, tt) },
+          record { value = record { at = 94; type = Int; seat = Nowhere }; judged = refl; operands = (tt, tt); members = (tt, tt) },
           tt,
         ),
       ),
@@ -71,7 +70,7 @@ block_judged = (
           result = refl;
           object = tt;
           fitting = record {
-            accepted = record { value = record { at = 125; type = Int; seat = Nowhere }; judged = refl; is_taken = refl; operands = tt; members = tt };
+            accepted = record { value = record { at = 125; type = Int; seat = Nowhere }; judged = refl; operands = tt; members = tt };
             converts = Integers refl refl;
           };
         },

@@ -80,7 +80,7 @@ main_judged = record {
       result = refl;
       object = tt;
       fitting = record {
-        accepted = record { value = record { at = 20; type = Int; seat = Nowhere }; judged = refl; is_taken = refl; operands = tt; members = tt };
+        accepted = record { value = record { at = 20; type = Int; seat = Nowhere }; judged = refl; operands = tt; members = tt };
         converts = Integers refl refl;
       };
     },

@@ -28,7 +28,7 @@ block_judged = (
     object = tt;
     below = (tt, tt);
     fitting = record {
-      accepted = record { value = record { at = 14; type = Fat TheHeap Char; seat = Nowhere }; judged = refl; is_taken = refl; operands = tt; members = tt };
+      accepted = record { value = record { at = 14; type = Fat TheHeap Char; seat = Nowhere }; judged = refl; operands = tt; members = tt };
       converts = Same;
     };
     shape = refl;
@@ -38,7 +38,6 @@ block_judged = (
     record {
       value = record { at = 20; type = Char; seat = Nowhere };
       judged = refl;
-      is_taken = refl;
       operands = ((tt, (tt, (tt, tt))), tt);
       members =
           ((tt, (tt, tt)), tt);
@@ -52,7 +51,6 @@ block_judged = (
           accepted = record {
             value = record { at = 39; type = Unsigned; seat = Nowhere };
             judged = refl;
-            is_taken = refl;
             operands =
                 (tt, (tt, (((tt, (tt, (tt, tt)))), tt)));
             members = (tt, ((tt, (tt, tt)), tt));

@@ -47,7 +47,6 @@ block_judged = (
       accepted = record {
         value = record { at = 14; type = Union (codes "u") []; seat = Nowhere };
         judged = refl;
-        is_taken = refl;
         operands = tt;
         members =
             tt;
@@ -63,7 +62,6 @@ block_judged = (
         accepted = record {
           value = record { at = 30; type = Union (codes "u") []; seat = In (Level 0) };
           judged = refl;
-          is_taken = refl;
           operands = tt;
           members = tt;
         };
@@ -82,7 +80,7 @@ block_judged = (
             result = refl;
             object = tt;
             fitting = record {
-              accepted = record { value = record { at = 55; type = Int; seat = In (Level 1) }; judged = refl; is_taken = refl; operands = tt; members = tt };
+              accepted = record { value = record { at = 55; type = Int; seat = In (Level 1) }; judged = refl; operands = tt; members = tt };
               converts = Integers refl refl;
             };
           },
@@ -97,7 +95,7 @@ block_judged = (
               result = refl;
               object = tt;
               fitting = record {
-                accepted = record { value = record { at = 78; type = Int; seat = Nowhere }; judged = refl; is_taken = refl; operands = tt; members = tt };
+                accepted = record { value = record { at = 78; type = Int; seat = Nowhere }; judged = refl; operands = tt; members = tt };
                 converts = Integers refl refl;
               };
             },

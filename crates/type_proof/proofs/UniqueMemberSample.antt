@@ -60,7 +60,6 @@ block_judged = (
       accepted = record {
         value = record { at = 30; type = Unique false (Struct (codes "s") []); seat = Nowhere };
         judged = refl;
-        is_taken = refl;
         operands = (tt, (tt, (tt, tt)));
         members = (tt, (tt, (tt, tt)));
       };
@@ -78,7 +77,6 @@ block_judged = (
         accepted = record {
           value = record { at = 86; type = Unique false Int; seat = Nowhere };
           judged = refl;
-          is_taken = refl;
           operands = (tt, tt);
           members = (tt, tt);
         };
@@ -92,14 +90,12 @@ block_judged = (
         left = record {
           value = record { at = 109; type = Unique true Int; seat = InBlock };
           judged = refl;
-          is_taken = refl;
           operands = (tt, (tt, tt));
           members = (tt, (refl, tt));
         };
         right = record {
           value = record { at = 118; type = Unique true Int; seat = In (Level 0) };
           judged = refl;
-          is_taken = refl;
           operands = tt;
           members =
               tt;
@@ -111,7 +107,6 @@ block_judged = (
         record {
           value = record { at = 121; type = Int; seat = Nowhere };
           judged = refl;
-          is_taken = refl;
           operands = ((tt, (tt, tt)), tt);
           members = ((tt, (refl, tt)), tt);
         },
@@ -126,7 +121,6 @@ block_judged = (
                 accepted = record {
                   value = record { at = 148; type = Int; seat = InBlock };
                   judged = refl;
-                  is_taken = refl;
                   operands = (tt, (tt, tt));
                   members = (tt, (refl, tt));
                 };

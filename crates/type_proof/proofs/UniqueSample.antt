@@ -45,7 +45,6 @@ block_judged = (
       accepted = record {
         value = record { at = 25; type = Unique false Int; seat = Nowhere };
         judged = refl;
-        is_taken = refl;
         operands = (tt, tt);
         members = (tt, tt);
       };
@@ -60,7 +59,7 @@ block_judged = (
       object = tt;
       below = tt;
       fitting = record {
-        accepted = record { value = record { at = 72; type = Null; seat = Nowhere }; judged = refl; is_taken = refl; operands = tt; members = tt };
+        accepted = record { value = record { at = 72; type = Null; seat = Nowhere }; judged = refl; operands = tt; members = tt };
         converts = NullToUnique;
       };
       shape = refl;
@@ -74,7 +73,7 @@ block_judged = (
           scope = refl;
         },
         (
-          record { value = record { at = 111; type = Int; seat = Nowhere }; judged = refl; is_taken = refl; operands = (tt, tt); members = (tt, tt) },
+          record { value = record { at = 111; type = Int; seat = Nowhere }; judged = refl; operands = (tt, tt); members = (tt, tt) },
           tt,
         ),
       ),
@@ -83,7 +82,6 @@ block_judged = (
           left = record {
             value = record { at = 121; type = Unique true Int; seat = In (Level 0) };
             judged = refl;
-            is_taken = refl;
             operands = tt;
             members =
                 tt;
@@ -91,7 +89,6 @@ block_judged = (
           right = record {
             value = record { at = 127; type = Unique true Int; seat = In (Level 0) };
             judged = refl;
-            is_taken = refl;
             operands = tt;
             members =
                 tt;
@@ -107,7 +104,7 @@ block_judged = (
               result = refl;
               object = tt;
               fitting = record {
-                accepted = record { value = record { at = 147; type = Int; seat = Nowhere }; judged = refl; is_taken = refl; operands = tt; members = tt };
+                accepted = record { value = record { at = 147; type = Int; seat = Nowhere }; judged = refl; operands = tt; members = tt };
                 converts = Integers refl refl;
               };
             },

@@ -14,7 +14,6 @@ use Rattle.source_typing.specs.Places.{variable}
 use Rattle.source_typing.specs.Scope.{Env, Value, block_entered, meant, next_region}
 use Rattle.source_typing.specs.Statements.{Chosen, chosen, clauses_fit, clause_scope, in_a_loop, in_a_switch}
 use Rattle.source_typing.specs.Tables.{What, Stored, Arrayed, Part, argument, has_beginning, part_in, parts_in}
-use Rattle.source_typing.specs.Taken.{Taken, taken, whole}
 use Rattle.source_typing.specs.Types.{StaticType, Void, Handle, Key, Thin, Union, Unique, is_testable, renamed, shape_of}
 use Rattle.source_typing.specs.Ways.{ways_of, ways_of_items}
 use Rattle.source_typing.specs.Verdicts.{Of}
@@ -22,15 +21,10 @@ use Rattle.type_proof.specs.Entries.{IsObjectType}
 use Rattle.type_proof.specs.Members.{HasStructMembers}
 use Rattle.source_typing.specs.Named.{TypeBelow}
 
--- the forms that safety is proved of, which are all, and may be more than a program is accepted with
-abbrev pub safe_forms : Taken
-safe_forms = whole
-
--- an expression of these forms that is in order, and what it is
+-- an expression that is in order, and what it is
 pub record Accepted (g : Env) (e : Expression) : Type 0 where
   pub value : Value
   pub judged : judge g e ≡ Of value
-  pub is_taken : taken safe_forms e ≡ e
   pub operands : ExpressionHasOperands e
   pub members : HasStructMembers g e
 

@@ -1,14 +1,11 @@
 -- The first fault of a program in which the rules before flow find none.
-use Rattle.std.proofs.Common.{◌≡◌, false, Option, Some, None, List, ◌++◌, append_assoc, sym, subst, ap, ap₂, ◌∙◌}
+use Rattle.std.proofs.Common.{◌≡◌, false, Option, Some, None, List, ◌++◌, sym, subst, ap, ap₂, ◌∙◌}
 use Rattle.cyc_tree.specs.Tree.{Program}
-use Rattle.source_typing.proofs.Inversion.{none_of_both}
-use Rattle.source_typing.proofs.TakenItems.{none_is}
+use Rattle.source_typing.proofs.Inversion.{none_is}
 use Rattle.source_typing.specs.Answers.{effect_fault, first_fault}
 use Rattle.source_typing.specs.Faults.{Fault, earliest}
 use Rattle.source_typing.specs.Left.{flow_faults}
 use Rattle.source_typing.specs.Programs.{typing_faults}
-use Rattle.source_typing.specs.Taken.{constant_forms, only_taken}
-use Rattle.accepted_programs.specs.Supported.{supported}
 use Rattle.check_faults.proofs.Earliest.{earliest_of_both, found_sooner}
 use Rattle.check_faults.specs.Faults.{fault_of, faults_of, first_of, sooner_found}
 use Rattle.check_faults.specs.declared.fault.Fault as code
@@ -18,21 +15,18 @@ use Rattle.unique_flow.specs.declared.fault.FlowFault.TheVariants as flow
 use Rattle.unique_flow.proofs.FlowStatements.{earliest_flow, program_flow}
 
 -- it is the earliest one of flow
-pub first_is_of_flow : (p : Program) → effect_fault supported p ≡ None → earliest (flow_faults (only_taken supported p)) ≡ first_fault supported p
+pub first_is_of_flow : (p : Program) → effect_fault p ≡ None → earliest (flow_faults p) ≡ first_fault p
 first_is_of_flow p none =
-    let forms = constant_forms supported p in
-    let typing = typing_faults false (only_taken supported p) in
-    let all = none_of_both forms typing (none_is (forms ++ typing) none) in
-    sym (ap₂ (λ (fs gs : List Fault). earliest (fs ++ (gs ++ flow_faults (only_taken supported p)))) all.0 all.1)
+    sym (ap (λ (fs : List Fault). earliest (fs ++ flow_faults p)) (none_is (typing_faults false p) none))
 
 -- and so is what is found, if there is one
-pub found_flow : (found : Option code.Fault) (p : Program) → faults_of found ≡ earliest (flow_faults (only_taken supported p))
+pub found_flow : (found : Option code.Fault) (p : Program) → faults_of found ≡ earliest (flow_faults p)
     → IsOfFlowIfSome (faults_of found)
 found_flow found p e =
-    subst IsOfFlowIfSome (sym e) (earliest_flow (flow_faults (only_taken supported p)) (program_flow (only_taken supported p)))
+    subst IsOfFlowIfSome (sym e) (earliest_flow (flow_faults p) (program_flow p))
 
 -- a fault as it is answered
-pub first_as : (w : FlowFault) (f : Fault) (p : Program) → IsAs w f → first_fault supported p ≡ Some f → IsFirstFault w p
+pub first_as : (w : FlowFault) (f : Fault) (p : Program) → IsAs w f → first_fault p ≡ Some f → IsFirstFault w p
 first_as (flow.Consumed at) f p same e = e ∙ ap (λ (g : Fault). Some g) same
 first_as (flow.Lent at) f p same e = e ∙ ap (λ (g : Fault). Some g) same
 first_as (flow.Copy at) f p same e = e ∙ ap (λ (g : Fault). Some g) same
@@ -41,16 +35,12 @@ first_as flow.Memory f p same e = absurd same
 -- ---- of a program with a fault of an earlier phase
 
 -- its first fault is that one or the earliest of flow, whichever is answered of the two
-first_of_both : (p : Program) → first_fault supported p ≡ first_of (effect_fault supported p) (earliest (flow_faults (only_taken supported p)))
-first_of_both p =
-    let forms = constant_forms supported p in
-    let typing = typing_faults false (only_taken supported p) in
-    let flow = flow_faults (only_taken supported p) in
-    ap (λ (fs : List Fault). earliest fs) (sym (append_assoc forms typing flow)) ∙ earliest_of_both (forms ++ typing) flow
+first_of_both : (p : Program) → first_fault p ≡ first_of (effect_fault p) (earliest (flow_faults p))
+first_of_both p = earliest_of_both (typing_faults false p) (flow_faults p)
 
 -- and so it is of those that are found
-pub first_is_sooner : (p : Program) (broken : code.Fault) (found : Option code.Fault) → effect_fault supported p ≡ Some (fault_of broken)
-    → faults_of found ≡ earliest (flow_faults (only_taken supported p)) → first_fault supported p ≡ faults_of (sooner_found (Some broken) found)
+pub first_is_sooner : (p : Program) (broken : code.Fault) (found : Option code.Fault) → effect_fault p ≡ Some (fault_of broken)
+    → faults_of found ≡ earliest (flow_faults p) → first_fault p ≡ faults_of (sooner_found (Some broken) found)
 first_is_sooner p broken found e f =
     first_of_both p ∙ sym (found_sooner (Some broken) found ∙ ap₂ (λ (a b : Option Fault). first_of a b) (sym e) f)
 

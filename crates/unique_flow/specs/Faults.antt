@@ -3,7 +3,6 @@ use Rattle.std.specs.Prelude.{None, Option, Some, true, ◌≡◌}
 use Rattle.cyc_tree.specs.Tree.{Program}
 use Rattle.source_typing.specs.Answers.{first_fault}
 use Rattle.source_typing.specs.Faults.{Fault, consumed_rule, copy_rule, fault, is_of_flow, lent_rule}
-use Rattle.accepted_programs.specs.Supported.{supported}
 use Rattle.unique_flow.specs.declared.fault.FlowFault.{FlowFault}
 use Rattle.unique_flow.specs.declared.fault.FlowFault.TheVariants as flow
 
@@ -16,9 +15,9 @@ IsAs flow.Memory f = ⊥
 
 -- It is the program's earliest fault by all rules, where it isn't want of memory.
 abbrev pub IsFirstFault : FlowFault → Program → Type 0
-IsFirstFault (flow.Consumed at) program = (first_fault supported program ≡ Some (fault consumed_rule at))
-IsFirstFault (flow.Lent at) program = (first_fault supported program ≡ Some (fault lent_rule at))
-IsFirstFault (flow.Copy at) program = (first_fault supported program ≡ Some (fault copy_rule at))
+IsFirstFault (flow.Consumed at) program = (first_fault program ≡ Some (fault consumed_rule at))
+IsFirstFault (flow.Lent at) program = (first_fault program ≡ Some (fault lent_rule at))
+IsFirstFault (flow.Copy at) program = (first_fault program ≡ Some (fault copy_rule at))
 IsFirstFault flow.Memory program = Unit {0}
 
 -- a fault, if there is one, is Consumed, Lent or Copy

@@ -1,10 +1,9 @@
 // The last of the checks: flow.
 
-ghost use Rattle.std.specs.Prelude.{◌≡◌, IfOk, IfErr, Some, true};
+ghost use Rattle.std.specs.Prelude.{◌≡◌, IfOk, IfErr, None, Some, true};
 ghost use Rattle.source_typing.specs.Answers.{effect_fault, first_fault};
 ghost use Rattle.source_typing.specs.Faults.{is_of_flow};
 ghost use Rattle.accepted_programs.specs.Accepted.{IsAccepted};
-ghost use Rattle.accepted_programs.specs.Supported.{supported};
 ghost use Rattle.check_faults.specs.Faults.{fault_of, faults_of, number_of};
 ghost use Rattle.unique_flow.specs.Faults.{IsAs, IsFirstFault, IsOfFlowIfSome};
 
@@ -14,16 +13,15 @@ use check_faults::{Fault, FaultKind, sooner};
 use cyc_tree::Program;
 use effect_check::Effected;
 use flow_check::flow_fault;
-use region_types::supported;
 use std::alloc::{AllocError, Global};
 
 /// The earliest fault of a program whose names, types, regions, effects and sizes have none: it is one of flow. Fails only where no host
 /// memory is left.
 fn first_of_flow(alloc: Global, effected: &Effected) -> Result<Option<Fault>, AllocError>
-    ensures first { IfOk result (λ f. faults_of f ≡ first_fault supported effected.now) }
+    ensures first { IfOk result (λ f. faults_of f ≡ first_fault effected.now) }
     ensures of_flow { IfOk result (λ f. IsOfFlowIfSome (faults_of f)) }
 {
-    flow_fault(alloc, supported(), effected.program())
+    flow_fault(alloc, effected.program())
 }
 
 /// A fault of flow as it is answered.
@@ -45,6 +43,15 @@ fn refused(fault: Fault) -> FlowFault
     }
 }
 
+/// A program in which no rule finds a fault. That it has operands is known of each program.
+fn accepted(program: Program) -> Checked
+    requires { first_fault program ≡ None }
+    ensures { result ≡ program }
+{
+    let _items = program.items();
+    Checked::new(program)
+}
+
 /// Looks at a program's flow. A program with a fault is refused with its earliest one, or for want of memory; one without a fault for
 /// want of memory alone.
 pub fn flow(alloc: Global, effected: Effected) -> Result<Checked, FlowFault>
@@ -56,7 +63,7 @@ pub fn flow(alloc: Global, effected: Effected) -> Result<Checked, FlowFault>
     ensures broken { IfErr result (λ fault. IsFirstFault fault effected) }
 {
     match first_of_flow(alloc, &effected) {
-        Ok(None) => Ok(Checked::new(effected.into_program())),
+        Ok(None) => Ok(accepted(effected.into_program())),
         Ok(Some(fault)) => Err(refused(fault)),
         Err(_) => Err(FlowFault::Memory),
     }
@@ -65,10 +72,10 @@ pub fn flow(alloc: Global, effected: Effected) -> Result<Checked, FlowFault>
 /// The earliest fault of a program by all rules, where this one is its earliest of names, types, regions, effects and sizes. Flow is the
 /// last phase, so a fault that is none of flow stays the first, wherever flow has one. Fails only where no host memory is left.
 pub fn first_broken(alloc: Global, program: &Program, broken: Fault) -> Result<Fault, AllocError>
-    requires { effect_fault supported program.now ≡ Some (fault_of broken) }
-    ensures { IfOk result (λ first. first_fault supported program.now ≡ Some (fault_of first)) }
+    requires { effect_fault program.now ≡ Some (fault_of broken) }
+    ensures { IfOk result (λ first. first_fault program.now ≡ Some (fault_of first)) }
 {
-    let flow = flow_fault(alloc, supported(), program)?;
+    let flow = flow_fault(alloc, program)?;
     match sooner(Some(broken), flow) {
         Some(first) => Ok(first),
         None => Ok(broken),

@@ -6,7 +6,6 @@ use Rattle.cyc_tree.specs.Places.{expression_place}
 use Rattle.cyc_tree.specs.Tree.{BlockItems, Clauses, Declare, Execute, Expression, MoreClauses, NoClauses, NoItems, Statement}
 use Rattle.type_proof.specs.Entries.{IsPlain, IsObjectType}
 use Rattle.type_proof.specs.Judged.{ClausesJudged, Condition, Exchanging, ItemsJudged, Returned, StatementJudged, on_union}
-use Rattle.accepted_programs.specs.Supported.{supported}
 use Rattle.source_typing.specs.Conversions.{converts}
 use Rattle.source_typing.specs.Declarations.{declare}
 use Rattle.source_typing.specs.Expressions.{judge}
@@ -15,19 +14,17 @@ use Rattle.source_typing.specs.Scope.{Env, Value, block_entered}
 use Rattle.source_typing.specs.Statements.{Chosen, clause_scope, clauses_faults, condition, condition_faults, in_a_loop}
 use Rattle.source_typing.specs.Statements.{in_a_switch, items_faults, returned, statement_faults}
 use Rattle.source_typing.specs.Named.{AllBelow}
-use Rattle.source_typing.specs.Taken.{clauses_taken, declaration_taken, items_taken, statement_taken, taken}
 use Rattle.source_typing.specs.Types.{Fat, Handle, Char, Int, Key, StaticType, Struct, Thin, Union, Unique, Unsigned, Void, is_testable}
 use Rattle.source_typing.specs.Verdicts.{Faulty, Of, Unjudged, Verdict, after, both, faults_of, if_fits}
 use Rattle.source_typing.specs.Ways.{ways_of}
-use Rattle.source_typing.proofs.Inversion.{none_of_both, test_is}
-use Rattle.source_typing.proofs.TakenExpressions.{after_clean}
+use Rattle.source_typing.proofs.Inversion.{after_clean, none_of_both, test_is}
 use Rattle.accepted_proof.specs.Good.{BodiesJudged, ExpressionsJudged, IsGood}
 use Rattle.accepted_proof.proofs.good.Scopes.{good_block, good_loop, good_switch}
 use Rattle.accepted_proof.proofs.good.Declarations.{converted_is, declaration_good, expression_good}
 use Rattle.accepted_proof.proofs.good.Switches.{ClauseClean, GoodPattern, GoodSwitch, SwitchClean, clause_clean, clauses_on, pattern_good, switch_clean}
 use Rattle.accepted_proof.proofs.good.Switches.{switch_good}
 use Rattle.accepted_proof.proofs.good.Keys.{key_operand}
-use Rattle.accepted_proof.proofs.good.Uniques.{ExchangeClean, exchange_clean, exchange_fits, exchange_taken, unique_operand}
+use Rattle.accepted_proof.proofs.good.Uniques.{ExchangeClean, exchange_clean, exchange_fits, unique_operand}
 use Rattle.source_typing.specs.Exchanges.{acts, exchanged}
 
 -- ---- conditions and results
@@ -87,21 +84,20 @@ nothing_returned g at _ h e = absurd h
 -- ---- statements
 
 module _ (expressions : ExpressionsJudged) where
-  condition_good : (e : Expression) (g : Env) → IsGood g → taken supported e ≡ e → ExpressionHasOperands e → condition_faults g e ≡ []
+  condition_good : (e : Expression) (g : Env) → IsGood g → ExpressionHasOperands e → condition_faults g e ≡ []
       → Condition g e
-  condition_good e g h t o p =
+  condition_good e g h o p =
       let at : ℕ = expression_place e in
-      let a = expression_good expressions e g h t o (after_clean (judge g e) (condition at) p) in
+      let a = expression_good expressions e g h o (after_clean (judge g e) (condition at) p) in
       let d : faults_of (after (Of a.accepted.value) (condition at)) ≡ [] = subst (λ z. faults_of (after z (condition at)) ≡ []) a.accepted.judged p in
       record { accepted = a.accepted; testable = tested_is (is_testable a.accepted.value.type) at a.accepted.value d }
 
-  return_good : (e : Expression) (g : Env) (at : ℕ) (r : StaticType) → IsPlain r → g.result ≡ Some r → IsGood g → taken supported e ≡ e
-      → ExpressionHasOperands e
+  return_good : (e : Expression) (g : Env) (at : ℕ) (r : StaticType) → IsPlain r → g.result ≡ Some r → IsGood g → ExpressionHasOperands e
       → returned g at g.result (Some (judge g e)) ≡ []
       → Returned g e
-  return_good e g at r k f h t o p =
+  return_good e g at r k f h o p =
       let q : returned g at (Some r) (Some (judge g e)) ≡ [] = subst (λ z. returned g at z (Some (judge g e)) ≡ []) f p in
-      let a = expression_good expressions e g h t o (returned_clean g at r (judge g e) k q) in
+      let a = expression_good expressions e g h o (returned_clean g at r (judge g e) k q) in
       let b = returned_object g at r a.accepted.value k (subst (λ z. returned g at (Some r) (Some z) ≡ []) a.accepted.judged q) in
       record {
         gives = r;
@@ -110,14 +106,14 @@ module _ (expressions : ExpressionsJudged) where
         fitting = record { accepted = a.accepted; converts = converted_is g a.accepted.value r b.1 };
       }
 
-  exchange_good : (a b : Expression) (g : Env) → IsGood g → (taken supported a ≡ a) × (taken supported b ≡ b)
+  exchange_good : (a b : Expression) (g : Env) → IsGood g
       → ExpressionHasOperands a × ExpressionHasOperands b
       → faults_of (both (judge g a) (judge g b) (exchanged (acts a ++ acts b))) ≡ []
       → Exchanging g a b
-  exchange_good a b g h t o p =
+  exchange_good a b g h o p =
       let z : ExchangeClean g a b = exchange_clean g a b p in
-      let l = expression_good expressions a g h t.0 o.0 z.left in
-      let u = expression_good expressions b g h t.1 o.1 z.right in
+      let l = expression_good expressions a g h o.0 z.left in
+      let u = expression_good expressions b g h o.1 z.right in
       let rule : Value → Value → Verdict Value = exchanged (acts a ++ acts b) in
       let q : faults_of (both (Of l.accepted.value) (judge g b) rule) ≡ [] = subst (λ v. faults_of (both v (judge g b) rule) ≡ []) l.accepted.judged p in
       let w : faults_of (both (Of l.accepted.value) (Of u.accepted.value) rule) ≡ [] =
@@ -127,88 +123,70 @@ module _ (expressions : ExpressionsJudged) where
 
   mutual
     pub statement_good : (x : Statement) (g : Env) (c : Bool) (r : StaticType) → IsPlain r → g.result ≡ Some r → IsGood g
-        → statement_taken supported x ≡ x
         → StatementHasOperands x
         → statement_faults g c x ≡ []
         → StatementJudged g c x
-    statement_good (Statement.Empty at) g c r k f h t o p = tt
-    statement_good (Statement.Block at items) g c r k f h t o p =
-        let i : items_taken supported items ≡ items = cc in items_good items (block_entered g) c r k f (good_block g h) i o p
-    statement_good (Statement.Run e) g c r k f h t o p =
-        let i : taken supported e ≡ e = cc in (expression_good expressions e g h i o p).accepted
-    statement_good (Statement.Exchange a b) g c r k f h t o p =
-        exchange_good a b g h (exchange_taken supported.unique (expression_place a) (taken supported a) (taken supported b) a b t) o p
-    statement_good (Statement.If at e x) g c r k f h t o p =
-        let i : taken supported e ≡ e = cc in
-        let j : statement_taken supported x ≡ x = cc in
+    statement_good (Statement.Empty at) g c r k f h o p = tt
+    statement_good (Statement.Block at items) g c r k f h o p =
+        items_good items (block_entered g) c r k f (good_block g h) o p
+    statement_good (Statement.Run e) g c r k f h o p =
+        (expression_good expressions e g h o p).accepted
+    statement_good (Statement.Exchange a b) g c r k f h o p =
+        exchange_good a b g h o p
+    statement_good (Statement.If at e x) g c r k f h o p =
         let z = none_of_both (condition_faults g e) (statement_faults g c x) p in
-        (condition_good e g h i o.0 z.0, statement_good x g c r k f h j o.1 z.1)
-    statement_good (Statement.IfElse at e x y) g c r k f h t o p =
-        let i : taken supported e ≡ e = cc in
-        let j : statement_taken supported x ≡ x = cc in
-        let l : statement_taken supported y ≡ y = cc in
+        (condition_good e g h o.0 z.0, statement_good x g c r k f h o.1 z.1)
+    statement_good (Statement.IfElse at e x y) g c r k f h o p =
         let z = none_of_both (condition_faults g e ++ statement_faults g c x) (statement_faults g c y) p in
         let w = none_of_both (condition_faults g e) (statement_faults g c x) z.0 in
-        (condition_good e g h i o.0 w.0, (statement_good x g c r k f h j o.1.0 w.1, statement_good y g c r k f h l o.1.1 z.1))
-    statement_good (Statement.While at e x) g c r k f h t o p =
-        let i : taken supported e ≡ e = cc in
-        let j : statement_taken supported x ≡ x = cc in
+        (condition_good e g h o.0 w.0, (statement_good x g c r k f h o.1.0 w.1, statement_good y g c r k f h o.1.1 z.1))
+    statement_good (Statement.While at e x) g c r k f h o p =
         let z = none_of_both (condition_faults g e) (statement_faults (in_a_loop g) c x) p in
-        (condition_good e g h i o.0 z.0, statement_good x (in_a_loop g) c r k f (good_loop g h) j o.1 z.1)
-    statement_good (Statement.Switch at e cs) g c r k f h t o p =
-        let i : taken supported e ≡ e = cc in
-        let j : clauses_taken supported cs ≡ cs = cc in
+        (condition_good e g h o.0 z.0, statement_good x (in_a_loop g) c r k f (good_loop g h) o.1 z.1)
+    statement_good (Statement.Switch at e cs) g c r k f h o p =
         let z : SwitchClean g c at e cs = switch_clean g c at e cs p in
-        let s : GoodSwitch g e cs = switch_good g at e cs (expression_good expressions e g h i o.0 z.place) z.own in (
+        let s : GoodSwitch g e cs = switch_good g at e cs (expression_good expressions e g h o.0 z.place) z.own in (
           s.switching,
-          clauses_good cs (in_a_switch g) c (on_union s.switching) r k f (good_switch g h) s.below j o.1
+          clauses_good cs (in_a_switch g) c (on_union s.switching) r k f (good_switch g h) s.below o.1
               (clauses_on g c at e cs s.switching z),
         )
-    statement_good (Statement.Break at) g c r k f h t o p = test_is (g.in_loop || g.in_switch) type_rule at p
-    statement_good (Statement.Continue at) g c r k f h t o p = test_is g.in_loop type_rule at p
-    statement_good (Statement.Return at None) g c r k f h t o p =
+    statement_good (Statement.Break at) g c r k f h o p = test_is (g.in_loop || g.in_switch) type_rule at p
+    statement_good (Statement.Continue at) g c r k f h o p = test_is g.in_loop type_rule at p
+    statement_good (Statement.Return at None) g c r k f h o p =
         f ∙ ap (λ z. Some z) (nothing_returned g at r k (subst (λ z. returned g at z None ≡ []) f p))
-    statement_good (Statement.Return at (Some e)) g c r k f h t o p =
-        let i : taken supported e ≡ e = cc in return_good e g at r k f h i o p
-    statement_good (Statement.FreeUnique at x) g c r k f h t o p = (unique_operand g x h p).held
-    statement_good (Statement.FreeKey at x) g c r k f h t o p = (key_operand g x h p).held
+    statement_good (Statement.Return at (Some e)) g c r k f h o p =
+        return_good e g at r k f h o p
+    statement_good (Statement.FreeUnique at x) g c r k f h o p = (unique_operand g x h p).held
+    statement_good (Statement.FreeKey at x) g c r k f h o p = (key_operand g x h p).held
 
-    pub items_good : (x : BlockItems) (g : Env) (c : Bool) (r : StaticType) → IsPlain r → g.result ≡ Some r → IsGood g → items_taken supported x ≡ x
-        → ItemsHaveOperands x
+    pub items_good : (x : BlockItems) (g : Env) (c : Bool) (r : StaticType) → IsPlain r → g.result ≡ Some r → IsGood g → ItemsHaveOperands x
         → items_faults g c x ≡ []
         → ItemsJudged g c x
-    items_good NoItems g c r k f h t o p = tt
-    items_good (Declare d others) g c r k f h t o p =
-        let i : declaration_taken supported d ≡ d = cc in
-        let j : items_taken supported others ≡ others = cc in
+    items_good NoItems g c r k f h o p = tt
+    items_good (Declare d others) g c r k f h o p =
         let z = none_of_both (declare g d).faults (items_faults (declare g d).scope c others) p in
-        let a = declaration_good expressions d g h i o.0 z.0 in
-        (a.judged, items_good others (declare g d).scope c r k (a.result ∙ f) a.good j o.1 z.1)
-    items_good (Execute x others) g c r k f h t o p =
-        let i : statement_taken supported x ≡ x = cc in
-        let j : items_taken supported others ≡ others = cc in
+        let a = declaration_good expressions d g h o.0 z.0 in
+        (a.judged, items_good others (declare g d).scope c r k (a.result ∙ f) a.good o.1 z.1)
+    items_good (Execute x others) g c r k f h o p =
         let d : Bool = c && (ways_of x).falls in
         let z = none_of_both (statement_faults g c x) (items_faults g d others) p in
-        (statement_good x g c r k f h i o.0 z.0, items_good others g d r k f h j o.1 z.1)
+        (statement_good x g c r k f h o.0 z.0, items_good others g d r k f h o.1 z.1)
 
     clauses_good : (x : Clauses) (g : Env) (c : Bool) (u : Chosen) (r : StaticType) → IsPlain r → g.result ≡ Some r → IsGood g
         → AllBelow g.regions.count u.regions
-        → clauses_taken supported x ≡ x
         → ClausesHaveOperands x
         → clauses_faults g c (Some u) x ≡ []
         → ClausesJudged g c u x
-    clauses_good NoClauses g c u r k f h b t o p = tt
-    clauses_good (MoreClauses at pattern body others) g c u r k f h b t o p =
-        let i : items_taken supported body ≡ body = cc in
-        let j : clauses_taken supported others ≡ others = cc in
+    clauses_good NoClauses g c u r k f h b o p = tt
+    clauses_good (MoreClauses at pattern body others) g c u r k f h b o p =
         let z : ClauseClean g c u pattern body others = clause_clean g c u at pattern body others p in
         let a : GoodPattern g u pattern = pattern_good g u pattern h b z.names in (
           z.falls,
           a.judged,
-          items_good body (clause_scope g (Some u) pattern) c r k (a.result ∙ f) a.good i o.0 z.body_clean,
-          clauses_good others g c u r k f h b j o.1 z.others_clean,
+          items_good body (clause_scope g (Some u) pattern) c r k (a.result ∙ f) a.good o.0 z.body_clean,
+          clauses_good others g c u r k f h b o.1 z.others_clean,
         )
 
   -- the body of each function in which the rules find no fault
   pub bodies_judged : BodiesJudged
-  bodies_judged items g gives h f k t o p = items_good items g true gives k f h t o p
+  bodies_judged items g gives h f k o p = items_good items g true gives k f h o p

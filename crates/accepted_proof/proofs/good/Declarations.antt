@@ -1,13 +1,11 @@
 -- A declaration without fault, where all is known of each name in scope: it is in order, and all is known after it.
-use Rattle.std.proofs.Common.{◌≡◌, ℕ, Bool, true, false, Option, Some, None, [], refl, sym, subst, ap, ◌∙◌, arith}
-use Rattle.std.specs.Prelude.{◌&&◌, ◌++◌}
-use Rattle.std.proofs.lemmas.Bool.{and_parts}
+use Rattle.std.proofs.Common.{◌≡◌, ℕ, true, false, Option, Some, None, [], sym, subst, ap, ◌∙◌, arith}
+use Rattle.std.specs.Prelude.{◌++◌}
 use Rattle.cyc_tree.specs.Operands.{DeclarationHasOperands, ExpressionHasOperands}
 use Rattle.cyc_tree.specs.Tree as tree
 use Rattle.cyc_tree.specs.Tree.{Expression, Initializer, TypeName}
 use Rattle.type_proof.proofs.statements.Lexical.{lexical, names_with, with_region_is}
-use Rattle.type_proof.specs.Judged.{Accepted, arrayed, extended, safe_forms}
-use Rattle.accepted_programs.specs.Supported.{supported}
+use Rattle.type_proof.specs.Judged.{Accepted, arrayed, extended}
 use Rattle.source_typing.specs.Conversions.{conversion, converts}
 use Rattle.source_typing.specs.Converts.{Converts}
 use Rattle.source_typing.specs.Declarations.{converted_to, declare, region_declared, set_faults, set_type, unset_type, what_after, what_of, with_region}
@@ -15,23 +13,14 @@ use Rattle.source_typing.specs.Expressions.{judge}
 use Rattle.source_typing.specs.Regions.{with_scope}
 use Rattle.source_typing.specs.Scope.{Env, Value, next_region, second, with_local}
 use Rattle.source_typing.specs.Tables.{Arrayed, Stored}
-use Rattle.source_typing.specs.Taken.{
-  declaration_taken,
-  declared_if,
-  initializer_taken,
-  taken,
-  takes_initializer,
-  takes_type,
-}
 use Rattle.source_typing.specs.Types.{Handle, StaticType}
 use Rattle.source_typing.specs.Verdicts.{Of, Verdict, faults_of}
 use Rattle.source_typing.proofs.Converting.{broken_is, conversion_is}
 use Rattle.source_typing.proofs.Inversion.{none_of_both}
-use Rattle.accepted_proof.specs.Good.{ExpressionsJudged, IsGood, IsGoodValue, IsStructTag, NamesStructs, Surely}
+use Rattle.accepted_proof.specs.Good.{ExpressionsJudged, IsGood, IsGoodValue, IsStructTag, NamesStructs}
 use Rattle.accepted_proof.proofs.kinds.Perhaps.{perhaps_is}
 use Rattle.accepted_proof.proofs.kinds.Types.{set_named, unset_named}
 use Rattle.accepted_proof.proofs.Sure.{surely_is}
-use Rattle.accepted_proof.proofs.Wider.{IsWithin, taken_within}
 use Rattle.accepted_proof.proofs.StructMembers.{struct_members}
 use Rattle.accepted_proof.proofs.good.Scopes.{good_array, good_local, good_region, one_more}
 use Rattle.accepted_proof.proofs.good.Uniques.{alias_good}
@@ -50,45 +39,20 @@ pub record GoodExpression (g : Env) (e : Expression) : Type 0 where
 pub converted_is : (g : Env) (v : Value) (t : StaticType) → converts g v t ≡ [] → Converts g.regions v.type t
 converted_is g v t e = conversion_is g.regions v.type t (broken_is v.at (conversion g.regions v.type t) e)
 
--- what is accepted is of forms that are proved safe
-supported_are_safe : IsWithin supported safe_forms
-supported_are_safe = record {
-  structs = λ e. cc;
-  pointers = λ e. cc;
-  regions = λ e. cc;
-  arrays = λ e. cc;
-  strings = λ e. cc;
-  filled = λ e. cc;
-  unions = λ e. cc;
-  unique = λ e. cc;
-}
-
 module _ (expressions : ExpressionsJudged) where
-  pub expression_good : (e : Expression) (g : Env) → IsGood g → taken supported e ≡ e → ExpressionHasOperands e → faults_of (judge g e) ≡ []
+  pub expression_good : (e : Expression) (g : Env) → IsGood g → ExpressionHasOperands e → faults_of (judge g e) ≡ []
       → GoodExpression g e
-  expression_good e g h t o p =
-      let s : Surely (λ v. IsGoodValue g v) (judge g e) = subst (λ z. Surely (λ v. IsGoodValue g v) (judge g z)) t (expressions e g h) in
-      let z = surely_is (λ v. IsGoodValue g v) (judge g e) s p in
+  expression_good e g h o p =
+      let z = surely_is (λ v. IsGoodValue g v) (judge g e) (expressions e g h) p in
       record {
         accepted = record {
           value = z.0;
           judged = z.1;
-          is_taken = taken_within supported safe_forms supported_are_safe e t;
           operands = o;
           members = struct_members e g h.kinds;
         };
         good = z.2;
       }
-
--- ---- what isn't taken is at fault
-
--- a local that isn't taken would be at fault
-pub local_taken : (b : Bool) (g : Env) (at : ℕ) (d e : tree.Declaration) → declared_if b at d ≡ e → (declare g e).faults ≡ [] → b ≡ true
-local_taken true g at d e p q = refl
-local_taken false g at d e p q = absurd (by (subst (λ z. (declare g z).faults ≡ []) (sym p) q))
-  where
-    by : (declare g (declared_if false at d)).faults ≡ [] → ⊥
-    by h = cc
 
 -- ---- locals
 
@@ -97,12 +61,11 @@ unset_kind : (g : Env) (t : TypeName) (count : Option ℕ) (u : StaticType) → 
 unset_kind g t count u h e =
     perhaps_is (λ z. NamesStructs (IsStructTag g.tables) z) (unset_type g t count) u (unset_named (IsStructTag g.tables) g t count h.kinds) e
 
-unset_declared : (g : Env) (t : TypeName) (x : tree.Name) → IsGood g → takes_type supported t ≡ true
-    → (declare g (tree.Local t x Initializer.Unset)).faults ≡ []
+unset_declared : (g : Env) (t : TypeName) (x : tree.Name) → IsGood g → (declare g (tree.Local t x Initializer.Unset)).faults ≡ []
     → GoodDeclaration g (tree.Local t x Initializer.Unset)
-unset_declared g t x h e p =
+unset_declared g t x h p =
     let f = none_of_both (faults_of (unset_type g t None)) (second g x) p in
-    let z = surely_is (λ u. IsLocalType g t false None u) (unset_type g t None) (unset_good g t None h e) f.0 in
+    let z = surely_is (λ u. IsLocalType g t false None u) (unset_type g t None) (unset_good g t None h) f.0 in
     let scope : (declare g (tree.Local t x Initializer.Unset)).scope ≡ extended g x z.0 =
     ap (λ v. with_local x (what_of g.frame None v) g) z.1 ∙ one_more x (Stored z.0 g.frame) g f.1 in
     record {
@@ -119,12 +82,11 @@ unset_declared g t x h e p =
     }
 
 -- an array
-array_declared : (g : Env) (t : TypeName) (x : tree.Name) (n : ℕ) → IsGood g → takes_type supported t ≡ true
-    → (declare g (tree.Local t x (Initializer.Elements n))).faults ≡ []
+array_declared : (g : Env) (t : TypeName) (x : tree.Name) (n : ℕ) → IsGood g → (declare g (tree.Local t x (Initializer.Elements n))).faults ≡ []
     → GoodDeclaration g (tree.Local t x (Initializer.Elements n))
-array_declared g t x n h e p =
+array_declared g t x n h p =
     let f = none_of_both (faults_of (unset_type g t (Some n))) (second g x) p in
-    let z = surely_is (λ u. IsLocalType g t false None u) (unset_type g t (Some n)) (unset_good g t (Some n) h e) f.0 in
+    let z = surely_is (λ u. IsLocalType g t false None u) (unset_type g t (Some n)) (unset_good g t (Some n) h) f.0 in
     let scope : (declare g (tree.Local t x (Initializer.Elements n))).scope ≡ arrayed g x z.0 =
     ap (λ v. with_local x (what_of g.frame (Some n) v) g) z.1 ∙ one_more x (Arrayed z.0 g.frame) g f.1 in
     record {
@@ -141,16 +103,16 @@ array_declared g t x n h e p =
     }
 
 -- a local whose initializer is in order
-set_declared : (g : Env) (t : TypeName) (x : tree.Name) (e : Expression) → IsGood g → takes_type supported t ≡ true → GoodExpression g e
+set_declared : (g : Env) (t : TypeName) (x : tree.Name) (e : Expression) → IsGood g → GoodExpression g e
     → set_faults g (judge g e) (set_type g t (judge g e)) ≡ []
     → second g x ≡ []
     → GoodDeclaration g (tree.Local t x (Initializer.Value e))
-set_declared g t x e h k a p q =
+set_declared g t x e h a p q =
     let v : Value = a.accepted.value in
     let f : set_faults g (Of v) (set_type g t (Of v)) ≡ [] = subst (λ w. set_faults g w (set_type g t w) ≡ []) a.accepted.judged p in
     let b = none_of_both (faults_of (set_type g t (Of v)) ++ []) (converted_to g (Of v) (set_type g t (Of v))) f in
     let c = none_of_both (faults_of (set_type g t (Of v))) [] b.0 in
-    let z = surely_is (λ u. IsLocalType g t true (Some v.type) u) (set_type g t (Of v)) (set_good g t v h a.good.type a.good.below k) c.0 in
+    let z = surely_is (λ u. IsLocalType g t true (Some v.type) u) (set_type g t (Of v)) (set_good g t v h a.good.type a.good.below) c.0 in
     let d : converts g v z.0 ≡ [] = subst (λ w. converted_to g (Of v) w ≡ []) z.1 b.1 in
     let kind : NamesStructs (IsStructTag g.tables) z.0 =
     perhaps_is (λ u. NamesStructs (IsStructTag g.tables) u) (set_type g t (Of v)) z.0 (set_named (IsStructTag g.tables) g t (Of v) h.kinds) z.1 in
@@ -193,35 +155,24 @@ region_good g at r x h p =
 -- ---- all declarations
 
 module _ (expressions : ExpressionsJudged) where
-  value_declared : (g : Env) (t : TypeName) (x : tree.Name) (e : Expression) → IsGood g → takes_type supported t ≡ true → taken supported e ≡ e
-      → ExpressionHasOperands e
+  value_declared : (g : Env) (t : TypeName) (x : tree.Name) (e : Expression) → IsGood g → ExpressionHasOperands e
       → (declare g (tree.Local t x (Initializer.Value e))).faults ≡ []
       → GoodDeclaration g (tree.Local t x (Initializer.Value e))
-  value_declared g t x e h k j o p =
+  value_declared g t x e h o p =
       let v : Verdict Value = judge g e in
       let a = none_of_both (set_faults g v (set_type g t v)) (second g x) p in
       let b = none_of_both (faults_of (set_type g t v) ++ faults_of v) (converted_to g v (set_type g t v)) a.0 in
       let c = none_of_both (faults_of (set_type g t v)) (faults_of v) b.0 in
-      set_declared g t x e h k (expression_good expressions e g h j o c.1) a.0 a.1
+      set_declared g t x e h (expression_good expressions e g h o c.1) a.0 a.1
 
-  pub declaration_good : (d : tree.Declaration) (g : Env) → IsGood g → declaration_taken supported d ≡ d → DeclarationHasOperands d
+  pub declaration_good : (d : tree.Declaration) (g : Env) → IsGood g → DeclarationHasOperands d
       → (declare g d).faults ≡ []
       → GoodDeclaration g d
-  declaration_good (tree.Region at r x) g h t o p = region_good g at r x h p
-  declaration_good (tree.Open at r x y) g h t o p = open_good g at r x y h p
-  declaration_good (tree.Alias at r u x y) g h t o p =
+  declaration_good (tree.Region at r x) g h o p = region_good g at r x h p
+  declaration_good (tree.Open at r x y) g h o p = open_good g at r x y h p
+  declaration_good (tree.Alias at r u x y) g h o p =
       let a = alias_good g h at r u x y p in record { judged = a.judged; good = a.good; result = a.result }
-  declaration_good (tree.NewKey at r x) g h t o p = key_good g at r x h p
-  declaration_good (tree.Local u x i) g h t o p =
-      let k = supported in
-      let b = local_taken (takes_type k u && takes_initializer k i) g u.at (tree.Local u x (initializer_taken k i)) (tree.Local u x i) t p in
-      let c = and_parts (takes_type k u) (takes_initializer k i) b in
-      by i c.0 c.1 o p (subst (λ z. declared_if z u.at (tree.Local u x (initializer_taken k i)) ≡ tree.Local u x i) b t)
-    where
-      by : (i : Initializer) → takes_type supported u ≡ true → takes_initializer supported i ≡ true → DeclarationHasOperands (tree.Local u x i)
-          → (declare g (tree.Local u x i)).faults ≡ []
-          → tree.Local u x (initializer_taken supported i) ≡ tree.Local u x i
-          → GoodDeclaration g (tree.Local u x i)
-      by Initializer.Unset k q o p t = unset_declared g u x h k p
-      by (Initializer.Elements n) k q o p t = array_declared g u x n h k p
-      by (Initializer.Value e) k q o p t = let j : taken supported e ≡ e = cc in value_declared g u x e h k j o p
+  declaration_good (tree.NewKey at r x) g h o p = key_good g at r x h p
+  declaration_good (tree.Local u x Initializer.Unset) g h o p = unset_declared g u x h p
+  declaration_good (tree.Local u x (Initializer.Elements n)) g h o p = array_declared g u x n h p
+  declaration_good (tree.Local u x (Initializer.Value e)) g h o p = value_declared g u x e h o p

@@ -1,6 +1,5 @@
--- Each expression of the forms that are taken is at fault or in order, where all is known of each name in scope.
-use Rattle.std.proofs.Common.{◌≡◌, ℕ, Bool, true, false, List, refl, sym, subst}
-use Rattle.std.specs.Prelude.{◌&&◌}
+-- Each expression is at fault or in order, where all is known of each name in scope.
+use Rattle.std.proofs.Common.{ℕ, Bool, true, false, List, refl}
 use Rattle.cyc_tree.specs.declared.expression.Operator.{Operator}
 use Rattle.cyc_tree.specs.Tree.{Array, Arrow, Dot, Expression, Expressions, Index, Links, Made, MoreExpressions, MoreLinks, Name, NoExpressions, NoLinks}
 use Rattle.cyc_tree.specs.Tree.{NoSuffixes, One, Suffixes}
@@ -15,13 +14,9 @@ use Rattle.source_typing.specs.Places.{arrow, assigned, grouped, indexed, member
 use Rattle.source_typing.specs.Regions.{TheHeap}
 use Rattle.source_typing.specs.Scope.{Env, Nowhere, Value, in_scope, meant, value}
 use Rattle.source_typing.specs.Named.{TypeBelow}
-use Rattle.source_typing.specs.Taken.{all_taken, are_linked, are_some, are_suffixed, if_taken, links_taken, made_taken, suffixes_taken, taken, takes_handle}
-use Rattle.source_typing.specs.Taken.{takes_made, takes_prefix, takes_suffixes}
-use Rattle.accepted_programs.specs.Supported.{supported}
 use Rattle.source_typing.specs.Types.{Char, Handle, Null}
 use Rattle.source_typing.specs.Verdicts.{Of, Verdict, after, both}
 use Rattle.cyc_tree.specs.Operands.{AreSuffixed}
-use Rattle.cyc_tree.specs.Places.{expression_place}
 use Rattle.type_proof.proofs.expressions.Fixed.{ValuesBelow}
 use Rattle.type_proof.proofs.expressions.Integers.{type_integer}
 use Rattle.accepted_proof.specs.Good.{ExpressionsJudged, IsGood, IsGoodValue, IsValueType, SeatBelow, Surely}
@@ -43,22 +38,11 @@ use Rattle.accepted_proof.proofs.good.Operators.{applied_judged, both_tested_jud
 use Rattle.accepted_proof.proofs.good.Places.{arrow_judged, assigned_judged, indexed_judged, member_judged, placed, prefixed_judged, valued, variable_judged}
 use Rattle.accepted_proof.proofs.StructMembers.{tables_good}
 use Rattle.accepted_proof.proofs.Sure.{surely_after, surely_also, surely_both}
-use Rattle.source_typing.proofs.TakenExpressions.{no_unique}
-
--- an expression of the forms that are taken
-abbrev kept : Expression → Expression
-kept e = taken supported e
 
 module _ (g : Env) (good : IsGood g) where
   -- an expression is at fault, or it is in order
   abbrev Judged : Expression → Type 0
   Judged e = Surely (λ v. IsGoodValue g v) (judge g e)
-
-  -- ---- forms that are not taken
-
-  if_kept : (b : Bool) (at : ℕ) (e : Expression) → Judged e → Judged (if_taken b at e)
-  if_kept true at e h = h
-  if_kept false at e h = tt
 
   -- ---- operands that are joined from the left
 
@@ -203,49 +187,15 @@ module _ (g : Env) (good : IsGood g) where
 
 -- ---- handles
 
-not_unique : (e : Expression) → is_unique_region e ≡ false → is_unique_region (kept e) ≡ false
-not_unique (Expression.Number at n suffix) h = refl
-not_unique (Expression.Character at byte) h = refl
-not_unique (Expression.Text at bytes) h = refl
-not_unique (Expression.Null at) h = refl
-not_unique (Expression.HeapRegion at) h = refl
-not_unique (Expression.UniqueRegion at) h = h
-not_unique (Expression.Variable x) h = refl
-not_unique (Expression.Call x es) h = refl
-not_unique (Expression.MakeUnion tag f e) h = no_unique supported.unions tag.at (Expression.MakeUnion tag f (kept e)) refl
-not_unique (Expression.NumElts at e) h = refl
-not_unique (Expression.Grouped at e) h = not_unique e h
-not_unique (Expression.Suffixed e es) h =
-    no_unique (are_suffixed es && takes_suffixes supported es) (expression_place e) (Expression.Suffixed (kept e) (suffixes_taken supported es)) refl
-not_unique (Expression.Prefixed at o e) h = no_unique (takes_prefix supported o) at (Expression.Prefixed at o (kept e)) refl
-not_unique (Expression.New at new) h = no_unique (takes_made supported new) at (Expression.New at (made_taken supported new)) refl
-not_unique (Expression.NewIn at e new) h =
-    no_unique (takes_handle supported (is_unique_region e) && takes_made supported new) at
-    (Expression.NewIn at (kept e) (made_taken supported new)) refl
-not_unique (Expression.Chain e es) h = no_unique (are_linked es) (expression_place e) (Expression.Chain (kept e) (links_taken supported es)) refl
-not_unique (Expression.AllOf e es) h = no_unique (are_some es) (expression_place e) (Expression.AllOf (kept e) (all_taken supported es)) refl
-not_unique (Expression.AnyOf e es) h = no_unique (are_some es) (expression_place e) (Expression.AnyOf (kept e) (all_taken supported es)) refl
-not_unique (Expression.Assign a b) h = refl
-
-still_unique : (e : Expression) → is_unique_region e ≡ true → is_unique_region (kept e) ≡ true
-still_unique (Expression.UniqueRegion at) h = refl
-still_unique (Expression.Grouped at e) h = still_unique e h
-still_unique _ h = absurd cc
-
 -- a making in the region of a handle, or in the unique one
-new_in : (g : Env) (good : IsGood g) (at : ℕ) (handle : Expression) (new : Made) → Judged g good (kept handle)
+new_in : (g : Env) (good : IsGood g) (at : ℕ) (handle : Expression) (new : Made) → Judged g good handle
     → ((goal : Verdict Goal) → Surely (λ x. IsGoal g x) goal → Surely (λ w. IsGoodValue g w) (judge_made_in g at goal new))
-    → Judged g good (if_taken (takes_handle supported (is_unique_region handle) && true) at (Expression.NewIn at (kept handle) new))
-new_in g good at handle new h k = by (is_unique_region handle) (not_unique handle) (still_unique handle)
+    → Judged g good (Expression.NewIn at handle new)
+new_in g good at handle new h k = by (is_unique_region handle)
   where
-    by : (b : Bool) → (b ≡ false → is_unique_region (kept handle) ≡ false) → (b ≡ true → is_unique_region (kept handle) ≡ true)
-        → Judged g good (if_taken (takes_handle supported b && true) at (Expression.NewIn at (kept handle) new))
-    by true n u =
-        if_kept g good (takes_handle supported true && true) at (Expression.NewIn at (kept handle) new)
-        (subst (λ c. Surely (λ w. IsGoodValue g w) (judge_made_in g at (goal_of c g (judge g (kept handle))) new)) (sym (u refl)) (k (Of ToUnique) tt))
-    by false n u =
-        subst (λ c. Surely (λ w. IsGoodValue g w) (judge_made_in g at (goal_of c g (judge g (kept handle))) new)) (sym (n refl))
-        (k (goal_of false g (judge g (kept handle))) (handle_good g (kept handle) h))
+    by : (b : Bool) → Surely (λ w. IsGoodValue g w) (judge_made_in g at (goal_of b g (judge g handle)) new)
+    by true = k (Of ToUnique) tt
+    by false = k (goal_of false g (judge g handle)) (handle_good g handle h)
 
 -- an operand, by its type alone
 known_operand : (g : Env) (v : Verdict Value) → Surely (λ w. IsGoodValue g w) v → Surely (λ w. IsKnownOperand g w) v
@@ -254,15 +204,14 @@ known_operand g v h = surely_also (λ w. IsGoodValue g w) (λ w. IsKnownOperand 
 -- ---- expressions
 
 mutual
-  pub expression_judged : (e : Expression) (g : Env) (good : IsGood g) → Judged g good (kept e)
+  pub expression_judged : (e : Expression) (g : Env) (good : IsGood g) → Judged g good e
   expression_judged (Expression.Number at n suffix) g good =
       surely_also (λ v. IsGoodResult g.regions.count v) (λ v. IsGoodValue g v) (value at (number_typed n suffix))
       (integer_judged g.regions.count at (number_typed n suffix) (type_integer (number_type n suffix))) (valued g)
   expression_judged (Expression.Character at byte) g good =
       valued g (record { at = at; type = Char; seat = Nowhere }) (record { type = tt; below = tt; nowhere = refl })
   expression_judged (Expression.Text at bytes) g good =
-      if_kept g good supported.strings at (Expression.Text at bytes)
-      (surely_also (λ v. IsGoodResult g.regions.count v) (λ v. IsGoodValue g v) (string at bytes) (string_judged g.regions.count at bytes) (valued g))
+      surely_also (λ v. IsGoodResult g.regions.count v) (λ v. IsGoodValue g v) (string at bytes) (string_judged g.regions.count at bytes) (valued g)
   expression_judged (Expression.Null at) g good =
       valued g (record { at = at; type = Null; seat = Nowhere }) (record { type = tt; below = tt; nowhere = refl })
   expression_judged (Expression.HeapRegion at) g good =
@@ -270,82 +219,75 @@ mutual
   expression_judged (Expression.UniqueRegion at) g good = tt
   expression_judged (Expression.Variable x) g good = variable_good g good x
   expression_judged (Expression.Call x es) g good =
-      call_good g good x (all_taken supported es) (arguments_good g good (all_taken supported es) (each_judged es g good))
+      call_good g good x es (arguments_good g good es (each_judged es g good))
   expression_judged (Expression.MakeUnion tag f e) g good =
-      if_kept g good supported.unions tag.at (Expression.MakeUnion tag f (kept e)) (union_good g good tag f (kept e) (expression_judged e g good))
+      union_good g good tag f e (expression_judged e g good)
   expression_judged (Expression.NumElts at e) g good =
-      if_kept g good supported.arrays at (Expression.NumElts at (kept e))
-      (surely_after (λ v. IsGoodValue g v) (λ v. IsGoodValue g v) (judge g (kept e)) (counted at) (expression_judged e g good)
-      (λ a h. surely_also (λ v. IsGoodResult g.regions.count v) (λ v. IsGoodValue g v) (counted at a) (counted_judged g.regions.count at a) (valued g)))
+      surely_after (λ v. IsGoodValue g v) (λ v. IsGoodValue g v) (judge g e) (counted at) (expression_judged e g good)
+      (λ a h. surely_also (λ v. IsGoodResult g.regions.count v) (λ v. IsGoodValue g v) (counted at a) (counted_judged g.regions.count at a) (valued g))
   expression_judged (Expression.Grouped at e) g good =
-      surely_after (λ v. IsGoodValue g v) (λ v. IsGoodValue g v) (judge g (kept e)) (grouped at) (expression_judged e g good)
+      surely_after (λ v. IsGoodValue g v) (λ v. IsGoodValue g v) (judge g e) (grouped at) (expression_judged e g good)
       (λ a h. record { type = h.type; below = h.below; seat = h.seat; object = h.object })
-  expression_judged (Expression.Suffixed e NoSuffixes) g good = tt
+  expression_judged (Expression.Suffixed e NoSuffixes) g good = expression_judged e g good
   expression_judged (Expression.Suffixed e (Index index others)) g good =
-      if_kept g good (takes_suffixes supported (Index index others)) (expression_place e)
-      (Expression.Suffixed (kept e) (suffixes_taken supported (Index index others)))
-      (suffixed_judged g good (kept e) (suffixes_taken supported (Index index others)) tt (expression_judged e g good)
-      (expression_judged index g good, each_suffixed others g good))
+      suffixed_judged g good e (Index index others) tt (expression_judged e g good)
+      (expression_judged index g good, each_suffixed others g good)
   expression_judged (Expression.Suffixed e (Dot f others)) g good =
-      if_kept g good (takes_suffixes supported (Dot f others)) (expression_place e) (Expression.Suffixed (kept e) (suffixes_taken supported (Dot f others)))
-      (suffixed_judged g good (kept e) (suffixes_taken supported (Dot f others)) tt (expression_judged e g good) (each_suffixed others g good))
+      suffixed_judged g good e (Dot f others) tt (expression_judged e g good) (each_suffixed others g good)
   expression_judged (Expression.Suffixed e (Arrow f others)) g good =
-      if_kept g good (takes_suffixes supported (Arrow f others)) (expression_place e)
-      (Expression.Suffixed (kept e) (suffixes_taken supported (Arrow f others)))
-      (suffixed_judged g good (kept e) (suffixes_taken supported (Arrow f others)) tt (expression_judged e g good) (each_suffixed others g good))
+      suffixed_judged g good e (Arrow f others) tt (expression_judged e g good) (each_suffixed others g good)
   expression_judged (Expression.Prefixed at o e) g good =
-      if_kept g good (takes_prefix supported o) at (Expression.Prefixed at o (kept e))
-      (surely_after (λ v. IsGoodValue g v) (λ v. IsGoodValue g v) (judge g (kept e)) (prefixed g at o) (expression_judged e g good)
-      (λ a h. prefixed_judged g at o a h))
-  expression_judged (Expression.New at (One e)) g good = made_there g at (To TheHeap) (judge g (kept e)) (expression_judged e g good) tt
+      surely_after (λ v. IsGoodValue g v) (λ v. IsGoodValue g v) (judge g e) (prefixed g at o) (expression_judged e g good)
+      (λ a h. prefixed_judged g at o a h)
+  expression_judged (Expression.New at (One e)) g good = made_there g at (To TheHeap) (judge g e) (expression_judged e g good) tt
   expression_judged (Expression.New at (Array x c e)) g good =
       let inner : Env = with_counter x g in
-      array_there g at (To TheHeap) (both (judge g (kept c)) (judge inner (kept e)) (elements at))
-      (elements_good g at (judge g (kept c)) (judge inner (kept e)) (known_operand g (judge g (kept c)) (expression_judged c g good))
-      (known_operand inner (judge inner (kept e)) (expression_judged e inner (good_counter x g good)))) tt
+      array_there g at (To TheHeap) (both (judge g c) (judge inner e) (elements at))
+      (elements_good g at (judge g c) (judge inner e) (known_operand g (judge g c) (expression_judged c g good))
+      (known_operand inner (judge inner e) (expression_judged e inner (good_counter x g good)))) tt
   expression_judged (Expression.NewIn at handle (One e)) g good =
-      new_in g good at handle (One (kept e)) (expression_judged handle g good)
-      (λ goal l. made_good g at goal (kept e) l (λ y b. as_outside y (expression_judged e (inside (Of y) g) (good_inside y g b good))))
+      new_in g good at handle (One e) (expression_judged handle g good)
+      (λ goal l. made_good g at goal e l (λ y b. as_outside y (expression_judged e (inside (Of y) g) (good_inside y g b good))))
     where
       outside : (y : Goal) (v : Value) → IsGoodValue (inside (Of y) g) v → IsGoodValue g v
       outside y v h = record { type = h.type; below = h.below; seat = h.seat; object = h.object }
 
-      as_outside : (y : Goal) → Surely (λ v. IsGoodValue (inside (Of y) g) v) (judge (inside (Of y) g) (kept e))
-          → Surely (λ v. IsGoodValue g v) (judge (inside (Of y) g) (kept e))
-      as_outside y h = surely_also (λ v. IsGoodValue (inside (Of y) g) v) (λ v. IsGoodValue g v) (judge (inside (Of y) g) (kept e)) h (outside y)
+      as_outside : (y : Goal) → Surely (λ v. IsGoodValue (inside (Of y) g) v) (judge (inside (Of y) g) e)
+          → Surely (λ v. IsGoodValue g v) (judge (inside (Of y) g) e)
+      as_outside y h = surely_also (λ v. IsGoodValue (inside (Of y) g) v) (λ v. IsGoodValue g v) (judge (inside (Of y) g) e) h (outside y)
   expression_judged (Expression.NewIn at handle (Array x c e)) g good =
-      new_in g good at handle (Array x (kept c) (kept e)) (expression_judged handle g good)
-      (λ goal l. array_good g at goal x (kept c) (kept e) l (λ y b.
+      new_in g good at handle (Array x c e) (expression_judged handle g good)
+      (λ goal l. array_good g at goal x c e l (λ y b.
       let within : Env = inside (Of y) g in
       let inner : Env = with_counter x within in
       let good_within : IsGood within = good_inside y g b good in
-      elements_good g at (judge within (kept c)) (judge inner (kept e))
-      (known_operand within (judge within (kept c)) (expression_judged c within good_within))
-      (known_operand inner (judge inner (kept e)) (expression_judged e inner (good_counter x within good_within)))))
-  expression_judged (Expression.Chain e NoLinks) g good = tt
+      elements_good g at (judge within c) (judge inner e)
+      (known_operand within (judge within c) (expression_judged c within good_within))
+      (known_operand inner (judge inner e) (expression_judged e inner (good_counter x within good_within)))))
+  expression_judged (Expression.Chain e NoLinks) g good = expression_judged e g good
   expression_judged (Expression.Chain e (MoreLinks o y es)) g good =
-      chain_good g good (kept e) o (kept y) (links_taken supported es) (expression_judged e g good) (each_linked (MoreLinks o y es) g good)
-  expression_judged (Expression.AllOf e NoExpressions) g good = tt
+      chain_good g good e o y es (expression_judged e g good) (each_linked (MoreLinks o y es) g good)
+  expression_judged (Expression.AllOf e NoExpressions) g good = expression_judged e g good
   expression_judged (Expression.AllOf e (MoreExpressions y es)) g good =
-      tests_joined g good (kept e) (kept y) (all_taken supported es) (expression_judged e g good) (each_judged (MoreExpressions y es) g good)
-  expression_judged (Expression.AnyOf e NoExpressions) g good = tt
+      tests_joined g good e y es (expression_judged e g good) (each_judged (MoreExpressions y es) g good)
+  expression_judged (Expression.AnyOf e NoExpressions) g good = expression_judged e g good
   expression_judged (Expression.AnyOf e (MoreExpressions y es)) g good =
-      tests_joined g good (kept e) (kept y) (all_taken supported es) (expression_judged e g good) (each_judged (MoreExpressions y es) g good)
+      tests_joined g good e y es (expression_judged e g good) (each_judged (MoreExpressions y es) g good)
   expression_judged (Expression.Assign a b) g good =
-      surely_both (λ w. IsGoodValue g w) (λ w. IsGoodValue g w) (λ w. IsGoodValue g w) (judge g (kept a)) (judge g (kept b)) (assigned g)
+      surely_both (λ w. IsGoodValue g w) (λ w. IsGoodValue g w) (λ w. IsGoodValue g w) (judge g a) (judge g b) (assigned g)
       (expression_judged a g good) (expression_judged b g good) (λ u v c d. assigned_judged g u v c)
 
-  each_judged : (es : Expressions) (g : Env) (good : IsGood g) → AllJudged g good (all_taken supported es)
+  each_judged : (es : Expressions) (g : Env) (good : IsGood g) → AllJudged g good es
   each_judged NoExpressions g good = tt
   each_judged (MoreExpressions e es) g good = (expression_judged e g good, each_judged es g good)
 
-  each_suffixed : (es : Suffixes) (g : Env) (good : IsGood g) → SuffixesJudged g good (suffixes_taken supported es)
+  each_suffixed : (es : Suffixes) (g : Env) (good : IsGood g) → SuffixesJudged g good es
   each_suffixed NoSuffixes g good = tt
   each_suffixed (Index index es) g good = (expression_judged index g good, each_suffixed es g good)
   each_suffixed (Dot f es) g good = each_suffixed es g good
   each_suffixed (Arrow f es) g good = each_suffixed es g good
 
-  each_linked : (es : Links) (g : Env) (good : IsGood g) → LinksJudged g good (links_taken supported es)
+  each_linked : (es : Links) (g : Env) (good : IsGood g) → LinksJudged g good es
   each_linked NoLinks g good = tt
   each_linked (MoreLinks o e es) g good = (expression_judged e g good, each_linked es g good)
 

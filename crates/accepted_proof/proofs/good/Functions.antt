@@ -11,7 +11,6 @@ use Rattle.source_meaning.specs.Shapes.{Part, has_tag, part_of}
 use Rattle.source_meaning.specs.Steps.{World}
 use Rattle.type_proof.specs.Entries.{AreObjects, Function}
 use Rattle.type_proof.specs.Judged.{ItemsJudged, extended}
-use Rattle.accepted_programs.specs.Supported.{supported}
 use Rattle.source_typing.specs.Named.{AllBelow, BoundsBelow, TypeBelow, TypesBelow}
 use Rattle.type_proof.specs.Programs.{FunctionJudged, name_alone, with_all}
 use Rattle.source_typing.specs.Faults.{name_rule, own_after, test, type_rule}
@@ -22,7 +21,6 @@ use Rattle.source_typing.specs.Scope.{Env, at_item, is_second, with_local}
 use Rattle.source_typing.specs.Statements.{items_faults}
 use Rattle.source_typing.specs.Tables.{Arrayed, Counter, Entry, OfBuiltin, OfFunction, OfOther, OfTag, OfValue, Signature, Stored, Tables, Unknown, find}
 use Rattle.source_typing.specs.Tags.{is_named, repeated}
-use Rattle.source_typing.specs.Taken.{function_taken}
 use Rattle.source_typing.specs.Types.{Int, StaticType, Void, is_void}
 use Rattle.source_typing.specs.Ways.{ways_of_items}
 use Rattle.source_typing.proofs.Inversion.{none_of_both, own_is, test_is}
@@ -133,17 +131,17 @@ pub record FunctionGood (g : Tables) (i : ℕ) (f : tree.Function) : Type 0 wher
   pub flow : body_flow (with_all (map part_of f.parameters) head.signature.types (function_scope false g i (head_of false g f))) f ≡ []
 
 module _ (bodies : BodiesJudged) where
-  pub function_good : (g : Tables) (i : ℕ) (f : tree.Function) → AllGood 0 g → KindsKnown g → function_taken supported f ≡ f → ItemsHaveOperands f.body
+  pub function_good : (g : Tables) (i : ℕ) (f : tree.Function) → AllGood 0 g → KindsKnown g → ItemsHaveOperands f.body
       → function_faults false g i f ≡ [] → body_flow (body_scope false g i f (head_of false g f)) f ≡ []
       → FunctionGood g i f
-  function_good g i f a kinds t o p flow =
+  function_good g i f a kinds o p flow =
       let h : Head = head_of false g f in
       let s : Env = body_scope false g i f h in
       let q : (h.faults ≡ []) × (own_after (test (not (end_reached f h)) type_rule f.end) (items_faults s true f.body) ≡ []) =
       none_of_both h.faults (own_after (test (not (end_reached f h)) type_rule f.end) (items_faults s true f.body)) p in
       let b : (test (not (end_reached f h)) type_rule f.end ≡ []) × (items_faults s true f.body ≡ []) =
       own_is (test (not (end_reached f h)) type_rule f.end) (items_faults s true f.body) q.1 in
-      let k : HeadGood g f = head_good g f (good_tags 0 g a) t q.0 in
+      let k : HeadGood g f = head_good g f (good_tags 0 g a) q.0 in
       let inside : Env = function_scope false g i h in
       let all : Env = with_all (map part_of f.parameters) k.signature.types inside in
       let same : s ≡ all =
@@ -158,7 +156,7 @@ module _ (bodies : BodiesJudged) where
         clean = q.0;
         head = k;
         body = bodies f.body all k.signature.gives scope (all_result (map part_of f.parameters) k.signature.types inside ∙ k.signature.result)
-            k.signature.plain (ap (λ (z : tree.Function). z.body) t) o (subst (λ (z : Env). items_faults z true f.body ≡ []) same b.1);
+            k.signature.plain o (subst (λ (z : Env). items_faults z true f.body ≡ []) same b.1);
         end = not-true (end_reached f h) (test_is (not (end_reached f h)) type_rule f.end b.0);
         faults = subst (λ (z : Env). items_faults z true f.body ≡ []) same b.1;
         flow = subst (λ (z : Env). body_flow z f ≡ []) same flow;

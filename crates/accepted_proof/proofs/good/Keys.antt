@@ -17,8 +17,7 @@ use Rattle.source_typing.specs.Scope.{Env, Value, in_scope, meant, next_region, 
 use Rattle.source_typing.specs.Tables.{Stored}
 use Rattle.source_typing.specs.Types.{Handle, Key, StaticType, is_key}
 use Rattle.source_typing.specs.Verdicts.{Faulty, Of, Unjudged, Verdict, after, faults_of, if_fits, unless_faulty}
-use Rattle.source_typing.proofs.Inversion.{none_of_both}
-use Rattle.source_typing.proofs.TakenExpressions.{after_clean}
+use Rattle.source_typing.proofs.Inversion.{after_clean, none_of_both}
 use Rattle.accepted_proof.specs.Good.{IsGood, IsGoodValue, Surely}
 use Rattle.accepted_proof.proofs.Sure.{surely_is}
 use Rattle.accepted_proof.proofs.good.Names.{found_good}

@@ -1,4 +1,4 @@
--- The type of a local that is taken, where it has no fault: an object's, whose region names are in scope, with the shape that is written. A missing region is
+-- The type of a local, where it has no fault: an object's, whose region names are in scope, with the shape that is written. A missing region is
 -- that of its initializer, or the heap.
 use Rattle.std.proofs.Common.{◌≡◌, ℕ, Bool, true, false, Option, Some, None, List, [], ◌∷◌, refl, sym, subst, ap, ◌∙◌}
 use Rattle.std.specs.Prelude.{◌&&◌, ◌||◌, ◌++◌, bytes_eq, if◌then◌else◌, is_none, map}
@@ -19,8 +19,6 @@ use Rattle.source_typing.specs.Missing.{unique_with}
 use Rattle.source_typing.specs.Regions.{Region, TheHeap}
 use Rattle.source_typing.specs.Scope.{Env, Value, in_scope}
 use Rattle.source_typing.specs.Tables.{has_beginning, or_heap}
-use Rattle.source_typing.specs.Taken.{takes_type}
-use Rattle.accepted_programs.specs.Supported.{supported}
 use Rattle.source_typing.specs.Types.{Handle, Char, Fat, Int, Key, PartialType, StaticType, Struct, Thin, Union, Unique, Unsigned, Void, shape_of}
 use Rattle.source_typing.specs.Verdicts.{Of, after, if_fits}
 use Rattle.source_typing.specs.Written.{Found, Is, IsUnique, Missing, Spot, any_missing, base_spots, spot}
@@ -247,9 +245,8 @@ local_good g of at count set s p (WritesNothing v e) k =
 -- ---- types of locals
 
 -- a local, or an array of so many elements
-pub unset_good : (g : Env) (t : TypeName) (count : Option ℕ) → IsGood g → takes_type supported t ≡ true
-    → Surely (λ u. IsLocalType g t false None u) (unset_type g t count)
-unset_good g t count h e =
+pub unset_good : (g : Env) (t : TypeName) (count : Option ℕ) → IsGood g → Surely (λ u. IsLocalType g t false None u) (unset_type g t count)
+unset_good g t count h =
     surely_after (λ p. IsWritten true g.regions.count t p) (λ u. IsLocalType g t false None u) (type_in_scope g t) (local_type g t.at count false None)
     (scope_written g.regions.count (in_scope g) g.names t (good_tags g.regions.count (in_scope g) h.names) h.regions)
     (λ p w. local_good g t t.at count false None p w tt)
@@ -316,9 +313,9 @@ from_good g of false v p e k w =
       begins = h.begins;
     })
 
-pub set_good : (g : Env) (t : TypeName) (v : Value) → IsGood g → IsValueType v.type → TypeBelow g.regions.count v.type → takes_type supported t ≡ true
+pub set_good : (g : Env) (t : TypeName) (v : Value) → IsGood g → IsValueType v.type → TypeBelow g.regions.count v.type
     → Surely (λ u. IsLocalType g t true (Some v.type) u) (set_type g t (Of v))
-set_good g t v h k b e =
+set_good g t v h k b =
     surely_after (λ p. IsWritten true g.regions.count t p) (λ u. IsLocalType g t true (Some v.type) u) (type_in_scope g t)
     (taken_from g t.at (misses_region g t) (Of v))
     (scope_written g.regions.count (in_scope g) g.names t (good_tags g.regions.count (in_scope g) h.names) h.regions)

@@ -5,7 +5,8 @@ use Rattle.cyc_tree.specs.Tree as tree
 use Rattle.cyc_tree.specs.Tree.{Item, Program}
 use Rattle.type_proof.specs.Entries.{IsObjectType}
 use Rattle.source_typing.specs.Named.{TypeBelow}
-use Rattle.source_typing.specs.Answers.{program_faults, rule_faults}
+use Rattle.accepted_programs.specs.Accepted.{IsAccepted}
+use Rattle.accepted_programs.proofs.Accepted.{no_faults}
 use Rattle.source_typing.specs.Declarations.{what_of}
 use Rattle.source_typing.specs.Functions.{Head, function_faults, head_of}
 use Rattle.source_typing.specs.Globals.{count_of, global_faults}
@@ -15,40 +16,20 @@ use Rattle.source_typing.specs.Programs.{size_faults, tables_of, typing_faults}
 use Rattle.source_typing.specs.Regions.{TheHeap}
 use Rattle.source_typing.specs.Scope.{at_item}
 use Rattle.source_typing.specs.Tables.{Entry, Named, OfOther, OfValue, Tables}
-use Rattle.source_typing.specs.Taken.{Taken, constant_forms, function_taken, item_forms, item_taken, only_taken}
-use Rattle.accepted_programs.specs.Supported.{supported}
 use Rattle.source_typing.specs.Types.{StaticType}
 use Rattle.source_typing.specs.Verdicts.{Of}
 use Rattle.source_typing.proofs.Inversion.{none_of_both}
-use Rattle.source_typing.proofs.TakenItems.{program_is_taken}
 use Rattle.accepted_proof.specs.Good.{AllGood, IsGoodEntry}
 use Rattle.accepted_proof.proofs.AlignedTables.{AreAligned, global_faults_same, same_tags}
 use Rattle.accepted_proof.proofs.Globals.{GlobalGood, global_good}
 use Rattle.accepted_proof.proofs.good.Types.{KnowsTags}
-use Rattle.accepted_proof.proofs.Heads.{HeadGood, body_head_clean, head_good, head_same}
+use Rattle.accepted_proof.proofs.Heads.{body_head_clean, head_good, head_same}
 use Rattle.accepted_proof.proofs.Named.{AreNamed, TagKnown}
 
 -- ---- the faults of a program
 
--- where the rules on the forms that are taken find no fault, all rules find none in the program as it is
-pub no_typing_faults : (k : Taken) (p : Program) → program_faults k p ≡ [] → typing_faults false p ≡ []
-no_typing_faults k p e =
-    let a : (constant_forms k p ≡ []) × (rule_faults (only_taken k p) ≡ []) =
-    none_of_both (constant_forms k p) (rule_faults (only_taken k p)) e in
-    let b : rule_faults p ≡ [] = subst (λ z. rule_faults z ≡ []) (program_is_taken k p e) a.1 in
-    (none_of_both (typing_faults false p) (flow_faults p) b).0
-
-pub no_flow_faults : (k : Taken) (p : Program) → program_faults k p ≡ [] → flow_faults p ≡ []
-no_flow_faults k p e =
-    let a : (constant_forms k p ≡ []) × (rule_faults (only_taken k p) ≡ []) =
-    none_of_both (constant_forms k p) (rule_faults (only_taken k p)) e in
-    let b : rule_faults p ≡ [] = subst (λ z. rule_faults z ≡ []) (program_is_taken k p e) a.1 in
-    (none_of_both (typing_faults false p) (flow_faults p) b).1
-
 -- what is at fault nowhere: its tags, its names, its items, `main`, and its sizes
-pub record IsClean (k : Taken) (p : Program) : Type 0 where
-  pub taken : only_taken k p ≡ p
-  pub forms : constant_forms k p ≡ []
+pub record IsClean (p : Program) : Type 0 where
   pub tags : all_tag_faults (judged_tags p) ≡ []
   pub names : second_names (codes "getchar" ∷ codes "putchar" ∷ []) p ≡ []
   pub items : items_from false (tables_of false p) 0 p ≡ []
@@ -56,42 +37,32 @@ pub record IsClean (k : Taken) (p : Program) : Type 0 where
   pub sizes : size_faults false (tables_of false p) p ≡ []
   pub flow : flow_faults p ≡ []
 
-pub is_clean_program : (k : Taken) (p : Program) → program_faults k p ≡ [] → IsClean k p
-is_clean_program k p e =
+-- no rule on types, and none on flow
+no_rule : (p : Program) → IsAccepted p → (typing_faults false p ≡ []) × (flow_faults p ≡ [])
+no_rule p accepted = none_of_both (typing_faults false p) (flow_faults p) (no_faults p accepted)
+
+pub no_typing_faults : (p : Program) → IsAccepted p → typing_faults false p ≡ []
+no_typing_faults p accepted = (no_rule p accepted).0
+
+pub is_clean_program : (p : Program) → IsAccepted p → IsClean p
+is_clean_program p accepted =
     let g : Tables = tables_of false p in
     let seconds = second_names (codes "getchar" ∷ codes "putchar" ∷ []) p in
     let a : (all_tag_faults (judged_tags p) ≡ []) × (faults_with false g p ≡ []) =
-    none_of_both (all_tag_faults (judged_tags p)) (faults_with false g p) (no_typing_faults k p e) in
+    none_of_both (all_tag_faults (judged_tags p)) (faults_with false g p) (no_typing_faults p accepted) in
     let b = none_of_both ((seconds ++ items_from false g 0 p) ++ main_found p) (size_faults false g p) a.1 in
     let c = none_of_both (seconds ++ items_from false g 0 p) (main_found p) b.0 in
     let d = none_of_both seconds (items_from false g 0 p) c.0 in
-    record {
-      taken = program_is_taken k p e;
-      forms = (none_of_both (constant_forms k p) (rule_faults (only_taken k p)) e).0;
-      tags = a.0;
-      names = d.0;
-      items = d.1;
-      main = c.1;
-      sizes = b.1;
-      flow = no_flow_faults k p e;
-    }
+    record { tags = a.0; names = d.0; items = d.1; main = c.1; sizes = b.1; flow = (no_rule p accepted).1 }
 
 -- ---- heads and globals, where tags alone are known
-
--- a head without fault
-pub record HeadKnown (h : Tables) (f : tree.Function) : Type 0 where
-  pub is_taken : function_taken supported f ≡ f
-  pub clean : (head_of false h f).faults ≡ []
-
-pub known_good : (h : Tables) (f : tree.Function) → KnowsTags h → HeadKnown h f → HeadGood h f
-known_good h f tags k = head_good h f tags k.is_taken k.clean
 
 -- what the tables are made of
 abbrev pub IsHeaded : Tables → ℕ → Judged → Item → Type 0
 IsHeaded h i j (tree.StructItem s) = TagKnown false s j.entry
 IsHeaded h i j (tree.UnionItem s) = TagKnown true s j.entry
 IsHeaded h i j (tree.GlobalItem x) = (j.entry ≡ named x.name OfOther) × GlobalGood h i x
-IsHeaded h i j (tree.FunctionItem f) = (j.entry ≡ named f.name OfOther) × HeadKnown h f
+IsHeaded h i j (tree.FunctionItem f) = (j.entry ≡ named f.name OfOther) × ((head_of false h f).faults ≡ [])
 
 abbrev pub AreHeaded : Tables → ℕ → List Judged → List Item → Type 0
 AreHeaded h i [] [] = Unit {0}
@@ -101,31 +72,24 @@ AreHeaded h i (j ∷ js) [] = ⊥
 
 -- The program's own tables `g` have the same tags as `h`: what has no fault by them has none where tags alone are known.
 pub all_headed : (g h : Tables) (i : ℕ) (js : List Judged) (is : List Item) → KnowsTags h → AreAligned g h → AreNamed js is
-    → only_taken supported is ≡ is
-    → constant_forms supported is ≡ [] → items_from false g i is ≡ [] → AreHeaded h i js is
-all_headed g h i [] [] tags s n t f p = tt
-all_headed g h i [] (x ∷ is) tags s n t f p = absurd n
-all_headed g h i (j ∷ js) [] tags s n t f p = absurd n
-all_headed g h i (j ∷ js) (tree.StructItem x ∷ is) tags s n t f p =
-    let b : only_taken supported is ≡ is = cc in (n.0, all_headed g h (suc i) js is tags s n.1 b f p)
-all_headed g h i (j ∷ js) (tree.UnionItem x ∷ is) tags s n t f p =
-    let b : only_taken supported is ≡ is = cc in (n.0, all_headed g h (suc i) js is tags s n.1 b f p)
-all_headed g h i (j ∷ js) (tree.GlobalItem x ∷ is) tags s n t f p =
-    let a : item_taken supported (tree.GlobalItem x) ≡ tree.GlobalItem x = cc in
-    let b : only_taken supported is ≡ is = cc in
-    let c : (item_forms supported (tree.GlobalItem x) ≡ []) × (constant_forms supported is ≡ []) =
-    none_of_both (item_forms supported (tree.GlobalItem x)) (constant_forms supported is) f in
+    → items_from false g i is ≡ [] → AreHeaded h i js is
+all_headed g h i [] [] tags s n p = tt
+all_headed g h i [] (x ∷ is) tags s n p = absurd n
+all_headed g h i (j ∷ js) [] tags s n p = absurd n
+all_headed g h i (j ∷ js) (tree.StructItem x ∷ is) tags s n p =
+    (n.0, all_headed g h (suc i) js is tags s n.1 p)
+all_headed g h i (j ∷ js) (tree.UnionItem x ∷ is) tags s n p =
+    (n.0, all_headed g h (suc i) js is tags s n.1 p)
+all_headed g h i (j ∷ js) (tree.GlobalItem x ∷ is) tags s n p =
     let d : (global_faults (at_item false g i) x ≡ []) × (items_from false g (suc i) is ≡ []) =
     none_of_both (global_faults (at_item false g i) x) (items_from false g (suc i) is) p in
-    ((n.0, global_good h i x tags a c.0 (sym (global_faults_same g h s i x) ∙ d.0)), all_headed g h (suc i) js is tags s n.1 b c.1 d.1)
-all_headed g h i (j ∷ js) (tree.FunctionItem x ∷ is) tags s n t f p =
-    let a : function_taken supported x ≡ x = cc in
-    let b : only_taken supported is ≡ is = cc in
+    ((n.0, global_good h i x tags (sym (global_faults_same g h s i x) ∙ d.0)), all_headed g h (suc i) js is tags s n.1 d.1)
+all_headed g h i (j ∷ js) (tree.FunctionItem x ∷ is) tags s n p =
     let d : (function_faults false g i x ≡ []) × (items_from false g (suc i) is ≡ []) =
     none_of_both (function_faults false g i x) (items_from false g (suc i) is) p in
     let e : (head_of false h x).faults ≡ [] =
     subst (λ (z : Head). z.faults ≡ []) (head_same false g h x (same_tags g h s)) (body_head_clean g i x d.0) in
-    ((n.0, record { is_taken = a; clean = e }), all_headed g h (suc i) js is tags s n.1 b f d.1)
+    ((n.0, e), all_headed g h (suc i) js is tags s n.1 d.1)
 
 -- ---- the tables
 
@@ -146,7 +110,7 @@ entries_good h i (j ∷ js) (tree.GlobalItem x ∷ is) tags k =
     let a : IsGoodEntry 0 (OfValue (what_of TheHeap (count_of x.initial) (Of k.0.1.type))) =
     global_means (count_of x.initial) k.0.1.type k.0.1.good.object k.0.1.good.below in
     (subst (λ (e : Entry). IsGoodEntry 0 e) (sym k.0.1.entry) a, entries_good h (suc i) js is tags k.1)
-entries_good h i (j ∷ js) (tree.FunctionItem f ∷ is) tags k = ((known_good h f tags k.0.1).signature, entries_good h (suc i) js is tags k.1)
+entries_good h i (j ∷ js) (tree.FunctionItem f ∷ is) tags k = ((head_good h f tags k.0.1).signature, entries_good h (suc i) js is tags k.1)
 
 pub tables_good : (h : Tables) (js : List Judged) (p : Program) → KnowsTags h → AreHeaded h 0 js p → AllGood 0 (builtins (entries_with false h 0 js p))
 tables_good h js p tags k = (tt, (tt, entries_good h 0 js p tags k))

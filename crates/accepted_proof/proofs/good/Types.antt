@@ -119,7 +119,7 @@ key_written left_open n at place r (p ∷ ps) (f ∷ x ∷ fs) h =
     subst (λ o. Surely (λ z. IsWritten left_open n (record { at = at; base = tree.Key r; pointers = p ∷ ps }) z) (type_built place o))
     (sym (no_pointer ps fs)) tt
 
--- a type that is taken, where a region in scope is found for each argument and pointer, or a missing or the unique one
+-- a type, where a region in scope is found for each argument and pointer, or a missing or the unique one
 pub written_good : (left_open : Bool) (n : ℕ) (g : Tables) (t : TypeName) (fs : List Found) (bad : List Fault) → KnowsTags g
     → (bad ≡ [] → AreAllFound left_open n (length (base_spots g t.base)) t.pointers fs)
     → Surely (λ p. IsWritten left_open n t p) (written_with g t (fs, bad))

@@ -2,7 +2,7 @@
 use Rattle.std.proofs.Common.{◌≡◌, ℕ, Bool, true, false, Option, Some, None, List, [], ◌∷◌, refl, sym, subst, ap, ◌∙◌, arith}
 use Rattle.std.specs.Prelude.{◌+◌, ◌++◌}
 use Rattle.cyc_tree.specs.Tree as tree
-use Rattle.cyc_tree.specs.Tree.{Expression, Pointer, Statement, TypeName}
+use Rattle.cyc_tree.specs.Tree.{Expression, TypeName}
 use Rattle.source_meaning.specs.Shapes as shapes
 use Rattle.type_proof.proofs.statements.AliasScope.{aliasing, with_name_is}
 use Rattle.type_proof.proofs.statements.Exchanged.{same_is}
@@ -21,11 +21,9 @@ use Rattle.source_typing.specs.Places.{variable}
 use Rattle.source_typing.specs.Regions.{with_name}
 use Rattle.source_typing.specs.Scope.{Env, Value, in_scope, meant, next_region, second, with_local}
 use Rattle.source_typing.specs.Tables.{Stored, or_heap}
-use Rattle.source_typing.specs.Taken.{statement_if}
 use Rattle.source_typing.specs.Types.{Key, PartialType, StaticType, Thin, Unique, Void, is_same, is_unique, shape_of}
 use Rattle.source_typing.specs.Verdicts.{Faulty, Of, Unjudged, Verdict, after, both, faults_of, if_fits, unless_faulty}
-use Rattle.source_typing.proofs.Inversion.{none_of_both, own_is, test_is}
-use Rattle.source_typing.proofs.TakenExpressions.{after_clean}
+use Rattle.source_typing.proofs.Inversion.{after_clean, none_of_both, own_is, test_is}
 use Rattle.accepted_proof.specs.Good.{IsGood, IsGoodValue, IsStructTag, IsValueType, NamesStructs, Surely}
 use Rattle.accepted_proof.proofs.kinds.Expressions.{expression_named}
 use Rattle.accepted_proof.proofs.kinds.Perhaps.{perhaps_is}
@@ -214,11 +212,3 @@ exchange_fits a b v w e =
     by : (fs : List Fault) → faults_of (unless_faulty fs (Of v)) ≡ [] → fs ≡ []
     by [] e = refl
     by (f ∷ fs) e = absurd cc
-
--- ---- forms
-
--- an exchange that is taken has taken places
-pub exchange_taken : (b : Bool) (at : ℕ) (c d x y : Expression) → statement_if b at (Statement.Exchange c d) ≡ Statement.Exchange x y
-    → (c ≡ x) × (d ≡ y)
-exchange_taken true at c d x y e = let i : c ≡ x = cc in let j : d ≡ y = cc in (i, j)
-exchange_taken false at c d x y e = absurd cc

@@ -1,7 +1,6 @@
 -- Declarations without fault, where all is known of each name in scope: lowering takes them.
 use Rattle.std.proofs.Common.{◌≡◌, ◌⊎◌, ℕ, Bool, true, false, inl, inr, Some, None, List, [], ◌∷◌, refl, sym, subst, ap, ◌∙◌}
-use Rattle.std.specs.Prelude.{◌&&◌, ◌++◌}
-use Rattle.std.proofs.lemmas.Bool.{and_parts}
+use Rattle.std.specs.Prelude.{◌++◌}
 use Rattle.cyc_tree.specs.Tree as tree
 use Rattle.cyc_tree.specs.Tree.{Expression, Initializer}
 use Rattle.cyc_tree.specs.Tree.{TypeName}
@@ -13,20 +12,16 @@ use Rattle.source_meaning.specs.Shapes as shapes
 use Rattle.source_meaning.specs.Shapes.{ArrayShape, Shape, settled, settled_by, written}
 use Rattle.source_meaning.specs.Steps.{World}
 use Rattle.type_proof.specs.Judged.{AliasOpened, DeclarationJudged, KeyDeclared, KeyOpened, LocalArray, LocalSet, LocalUnset, RegionOpened}
-use Rattle.accepted_programs.specs.Supported.{supported}
 use Rattle.source_typing.specs.Converts.{Converts}
 use Rattle.source_typing.specs.Declarations.{converted_to, declare, local_type, misses_region, set_faults, set_type, taken_from, unset_type, with_region}
 use Rattle.source_typing.specs.Expressions.{judge}
 use Rattle.source_typing.specs.Extents.{size_of}
 use Rattle.source_typing.specs.Regions.{Region, Regions, opened, with_name, with_scope}
 use Rattle.source_typing.specs.Scope.{Env, Value, in_scope, next_region, second}
-use Rattle.source_typing.specs.Taken.{declaration_taken, declared_if, initializer_taken, taken}
-use Rattle.source_typing.specs.Taken.{takes_initializer, takes_type}
 use Rattle.source_typing.specs.Types.{Handle, Key, StaticType, Struct, Thin, Union, Unique, shape_of}
 use Rattle.source_typing.specs.Verdicts.{after, faults_of}
 use Rattle.source_typing.specs.Written.{all_found, spots_of}
 use Rattle.source_typing.proofs.Inversion.{none_of_both}
-use Rattle.accepted_proof.proofs.good.Declarations.{local_taken}
 use Rattle.accepted_proof.proofs.Known.{IsKnown, IsKnownValue, IsWhole, IsWord, converts_whole, converts_word, word_shape}
 use Rattle.accepted_proof.proofs.lowered.Calls.{whole_taken, word_or_whole}
 use Rattle.accepted_proof.proofs.lowered.Expressions.{taken_is}
@@ -96,36 +91,36 @@ module _ (w : World) where
     pub scope : IsKnownScope w (names_behind w names index d) (declare g d).scope
     pub result : (declare g d).scope.result ≡ g.result
 
-  unset_takes : (names : List Named) (index : ℕ) (g : Env) (u : TypeName) (x : tree.Name) → IsKnownScope w names g → takes_type supported u ≡ true
-      → LocalUnset g u x → (declare g (tree.Local u x Initializer.Unset)).faults ≡ [] → DeclarationTaken names index g (tree.Local u x Initializer.Unset)
-  unset_takes names index g u x scope e j p =
+  unset_takes : (names : List Named) (index : ℕ) (g : Env) (u : TypeName) (x : tree.Name) → IsKnownScope w names g → LocalUnset g u x
+      → (declare g (tree.Local u x Initializer.Unset)).faults ≡ [] → DeclarationTaken names index g (tree.Local u x Initializer.Unset)
+  unset_takes names index g u x scope j p =
       let f = none_of_both (faults_of (unset_type g u None)) (second g x) p in
       let there : BaseThere w u.base =
       base_there w (in_scope g) u (all_found g.names (spots_of (in_scope g) u)) (λ v. after v (local_type g u.at None false None))
       (scope_tags w names g scope) (scope_sound w names g scope) (once_keeps (local_type g u.at None false None)) f.0 in
       record {
         takes = (
-          object_type w u j.type e there j.object j.shape,
+          object_type w u j.type there j.object j.shape,
           subst (λ (s : Shape). HasBeginning s) (sym j.shape) (begins_first g.tables j.type j.object j.begins),
         );
         scope = subst (λ (s : Env). IsKnownScope w (named_here x.text (settled (written u)) index ∷ names) s) (sym j.scope)
             (scope_local w names g x j.type (settled (written u)) index (stands_same (settled (written u)) (shape_of j.type) j.shape)
-            (written_known w u j.type e there j.object j.shape) scope);
+            (written_known w u j.type there j.object j.shape) scope);
         result = ap (λ (s : Env). s.result) j.scope;
       }
 
-  array_takes : (names : List Named) (index : ℕ) (g : Env) (u : TypeName) (x : tree.Name) (n : ℕ) → IsKnownScope w names g → takes_type supported u ≡ true
-      → LocalArray g u x n → (declare g (tree.Local u x (Initializer.Elements n))).faults ≡ []
+  array_takes : (names : List Named) (index : ℕ) (g : Env) (u : TypeName) (x : tree.Name) (n : ℕ) → IsKnownScope w names g → LocalArray g u x n
+      → (declare g (tree.Local u x (Initializer.Elements n))).faults ≡ []
       → DeclarationTaken names index g (tree.Local u x (Initializer.Elements n))
-  array_takes names index g u x n scope e j p =
+  array_takes names index g u x n scope j p =
       let f = none_of_both (faults_of (unset_type g u (Some n))) (second g x) p in
       let there : BaseThere w u.base =
       base_there w (in_scope g) u (all_found g.names (spots_of (in_scope g) u)) (λ v. after v (local_type g u.at (Some n) false None))
       (scope_tags w names g scope) (scope_sound w names g scope) (once_keeps (local_type g u.at (Some n) false None)) f.0 in
-      let known : IsKnown w (shape_of j.type) = written_known w u j.type e there j.object j.shape in
+      let known : IsKnown w (shape_of j.type) = written_known w u j.type there j.object j.shape in
       record {
         takes = (
-          object_type w u j.type e there j.object j.shape,
+          object_type w u j.type there j.object j.shape,
           (
             count_few n (size_of g.tables j.type) (scope.sizes j.type known) (local_few g u x n j.type f.1 j.scope),
             subst (λ (s : Shape). HasBeginning s) (sym j.shape) (begins_first g.tables j.type j.object j.begins),
@@ -137,10 +132,10 @@ module _ (w : World) where
       }
 
   set_takes : (names : List Named) (index : ℕ) (g : Env) (u : TypeName) (x : tree.Name) (e : Expression) → IsKnownScope w names g
-      → takes_type supported u ≡ true → taken supported e ≡ e → LocalSet g u x e
+      → LocalSet g u x e
       → (declare g (tree.Local u x (Initializer.Value e))).faults ≡ []
       → DeclarationTaken names index g (tree.Local u x (Initializer.Value e))
-  set_takes names index g u x e scope q t j p =
+  set_takes names index g u x e scope j p =
       let v : Value = j.fitting.accepted.value in
       let a = none_of_both (set_faults g (judge g e) (set_type g u (judge g e))) (second g x) p in
       let b = none_of_both (faults_of (set_type g u (judge g e)) ++ faults_of (judge g e)) (converted_to g (judge g e) (set_type g u (judge g e))) a.0 in
@@ -148,8 +143,8 @@ module _ (w : World) where
       let there : BaseThere w u.base =
       base_there w (in_scope g) u (all_found g.names (spots_of (in_scope g) u)) (λ z. after z (taken_from g u.at (misses_region g u) (judge g e)))
       (scope_tags w names g scope) (scope_sound w names g scope) (once_keeps (taken_from g u.at (misses_region g u) (judge g e))) c.0 in
-      let k : IsTaken w names e v = taken_is w names g scope e v t j.fitting.accepted.judged in
-      let known : IsKnown w (shape_of j.type) = settled_known w u (shape_of v.type) j.type q there j.object j.shape in
+      let k : IsTaken w names e v = taken_is w names g scope e v j.fitting.accepted.operands j.fitting.accepted.judged in
+      let known : IsKnown w (shape_of j.type) = settled_known w u (shape_of v.type) j.type there j.object j.shape in
       let own : Shape = settled_by (written u) (static_shape w names e) in
       let shape : StandsAs own (shape_of j.type) =
       stands_to own (settled_by (written u) (shape_of v.type)) (shape_of j.type)
@@ -233,24 +228,16 @@ module _ (w : World) where
         result = ap (λ (s : Env). s.result) j.scope ∙ result_kept r (with_name true) g;
       }
 
-  pub declaration_takes : (d : tree.Declaration) (names : List Named) (index : ℕ) (g : Env) → IsKnownScope w names g → declaration_taken supported d ≡ d
-      → DeclarationJudged g d → (declare g d).faults ≡ [] → DeclarationTaken names index g d
-  declaration_takes (tree.Region at r x) names index g scope t j p = region_takes names index g at r x scope j
-  declaration_takes (tree.Open at r x y) names index g scope t j p =
+  pub declaration_takes : (d : tree.Declaration) (names : List Named) (index : ℕ) (g : Env) → IsKnownScope w names g → DeclarationJudged g d
+      → (declare g d).faults ≡ [] → DeclarationTaken names index g d
+  declaration_takes (tree.Region at r x) names index g scope j p = region_takes names index g at r x scope j
+  declaration_takes (tree.Open at r x y) names index g scope j p =
       open_takes names index g at r x y scope j
-      (taken_is w names g scope (Expression.Variable y) j.operand.value refl j.operand.judged)
-  declaration_takes (tree.Alias at r u x y) names index g scope t j p =
+      (taken_is w names g scope (Expression.Variable y) j.operand.value tt j.operand.judged)
+  declaration_takes (tree.Alias at r u x y) names index g scope j p =
       alias_takes names index g at r u x y scope j
-      (taken_is w names g scope (Expression.Variable y) j.operand.value refl j.operand.judged)
-  declaration_takes (tree.NewKey at r x) names index g scope t j p = new_key_takes names index g at r x scope j
-  declaration_takes (tree.Local u x i) names index g scope t j p =
-      let k = supported in
-      let b = local_taken (takes_type k u && takes_initializer k i) g u.at (tree.Local u x (initializer_taken k i)) (tree.Local u x i) t p in
-      let c = and_parts (takes_type k u) (takes_initializer k i) b in
-      by i c.0 j p (subst (λ z. declared_if z u.at (tree.Local u x (initializer_taken k i)) ≡ tree.Local u x i) b t)
-    where
-      by : (i : Initializer) → takes_type supported u ≡ true → DeclarationJudged g (tree.Local u x i) → (declare g (tree.Local u x i)).faults ≡ []
-          → tree.Local u x (initializer_taken supported i) ≡ tree.Local u x i → DeclarationTaken names index g (tree.Local u x i)
-      by Initializer.Unset q j p t = unset_takes names index g u x scope q j p
-      by (Initializer.Elements n) q j p t = array_takes names index g u x n scope q j p
-      by (Initializer.Value e) q j p t = let i : taken supported e ≡ e = cc in set_takes names index g u x e scope q i j p
+      (taken_is w names g scope (Expression.Variable y) j.operand.value tt j.operand.judged)
+  declaration_takes (tree.NewKey at r x) names index g scope j p = new_key_takes names index g at r x scope j
+  declaration_takes (tree.Local u x Initializer.Unset) names index g scope j p = unset_takes names index g u x scope j p
+  declaration_takes (tree.Local u x (Initializer.Elements n)) names index g scope j p = array_takes names index g u x n scope j p
+  declaration_takes (tree.Local u x (Initializer.Value e)) names index g scope j p = set_takes names index g u x e scope j p

@@ -1,7 +1,7 @@
--- Each expression of the forms that are taken that was judged is taken by lowering, where all is known of each name in scope.
+-- Each expression that was judged is taken by lowering, where all is known of each name in scope.
 use Rattle.std.proofs.Common.{◌≡◌, ℕ, Bool, true, false, Option, Some, None, List, [], ◌∷◌, refl, sym, subst, ap, ◌∙◌}
-use Rattle.std.specs.Prelude.{◌&&◌, length, nat_lt}
-use Rattle.cyc_tree.specs.Places.{expression_place}
+use Rattle.std.specs.Prelude.{length, nat_lt}
+use Rattle.cyc_tree.specs.Operands.{AllHaveOperands, AreSuffixed, ExpressionHasOperands, LinksHaveOperands, SuffixesHaveOperands}
 use Rattle.cyc_tree.specs.Tree.{Array, Arrow, Dot, Expression, Expressions, Index, Links, MoreExpressions, MoreLinks, Name, NoExpressions, NoLinks, NoSuffixes}
 use Rattle.cyc_tree.specs.Tree.{One, Suffixes}
 use Rattle.source_lowering.specs.Lowerable.{IsOperandShape, Takes}
@@ -21,8 +21,6 @@ use Rattle.source_typing.specs.Places.{grouped, variable}
 use Rattle.source_typing.specs.Regions.{TheHeap}
 use Rattle.source_typing.specs.Scope.{Env, In, Value, meant}
 use Rattle.source_typing.specs.Tables.{Arrayed, Counter, Entry, OfBuiltin, OfFunction, OfOther, OfTag, OfValue, Stored, Unknown}
-use Rattle.source_typing.specs.Taken.{all_taken, are_suffixed, if_taken, links_taken, suffixes_taken, taken, takes_handle, takes_suffixes}
-use Rattle.accepted_programs.specs.Supported.{supported}
 use Rattle.source_typing.specs.Types.{Char, Fat, Handle, Null, StaticType, Unsigned, integer_type, shape_of}
 use Rattle.source_typing.specs.Verdicts.{Of, Verdict, both, other_kind}
 use Rattle.source_typing.proofs.Inversion.{after_is, assign_is, both_is, call_is, goal_is, links_first, of_is, prefix_is, suffixes_first, tests_first}
@@ -65,44 +63,12 @@ fat_word : (t : StaticType) → is_fat t ≡ true → IsWord t
 fat_word (Fat r t) e = tt
 fat_word _ e = absurd cc
 
--- a form with suffixes that is taken has some
-some_suffix : (es : Suffixes) → are_suffixed es && takes_suffixes supported es ≡ true → es ≡ NoSuffixes → ⊥
-some_suffix NoSuffixes q z = cc
-some_suffix (Rattle.cyc_tree.specs.Tree.Index x others) q z = cc
-some_suffix (Rattle.cyc_tree.specs.Tree.Dot f others) q z = cc
-some_suffix (Rattle.cyc_tree.specs.Tree.Arrow f others) q z = cc
-
-suffixes_kept : (e : Expression) (es : Suffixes) (b : Bool) → are_suffixed es && takes_suffixes supported es ≡ b
-    → if_taken b (expression_place e) (Expression.Suffixed (taken supported e) (suffixes_taken supported es)) ≡ Expression.Suffixed e es
-    → b ≡ true
-suffixes_kept e es true q t = refl
-suffixes_kept e es false q t = absurd cc
-
--- a making in the region of a handle that is taken, or in the unique region
-record HandleKept (h e : Expression) : Type 0 where
-  handle : taken supported h ≡ h
-  value : taken supported e ≡ e
-
-handle_kept : (at : ℕ) (h e : Expression) (b : Bool)
-    → if_taken (takes_handle supported b && true) at (Expression.NewIn at (taken supported h) (One (taken supported e)))
-    ≡ Expression.NewIn at h (One e) → HandleKept h e
-handle_kept at h e true t = let i : taken supported h ≡ h = cc in let j : taken supported e ≡ e = cc in record { handle = i; value = j }
-handle_kept at h e false t = let i : taken supported h ≡ h = cc in let j : taken supported e ≡ e = cc in record { handle = i; value = j }
-
-record ArrayKept (h n e : Expression) : Type 0 where
-  handle : taken supported h ≡ h
-  count : taken supported n ≡ n
-  value : taken supported e ≡ e
-
-array_kept : (at : ℕ) (h : Expression) (x : Name) (n e : Expression) (b : Bool)
-    → if_taken (takes_handle supported b && true) at (Expression.NewIn at (taken supported h) (Array x (taken supported n) (taken supported e)))
-    ≡ Expression.NewIn at h (Array x n e) → ArrayKept h n e
-array_kept at h x n e true t =
-    let i : taken supported h ≡ h = cc in let j : taken supported n ≡ n = cc in let k : taken supported e ≡ e = cc in
-    record { handle = i; count = j; value = k }
-array_kept at h x n e false t =
-    let i : taken supported h ≡ h = cc in let j : taken supported n ≡ n = cc in let k : taken supported e ≡ e = cc in
-    record { handle = i; count = j; value = k }
+-- a form with suffixes has some
+some_suffix : (es : Suffixes) → AreSuffixed es → es ≡ NoSuffixes → ⊥
+some_suffix NoSuffixes own z = own
+some_suffix (Index x others) own z = cc
+some_suffix (Dot f others) own z = cc
+some_suffix (Arrow f others) own z = cc
 
 module _ (w : World) (names : List Named) (g : Env) (scope : IsKnownScope w names g) where
   abbrev Is : Expression → Value → Type 0
@@ -187,171 +153,130 @@ module _ (w : World) (names : List Named) (g : Env) (scope : IsKnownScope w name
 
 module _ (w : World) where
   mutual
-    pub taken_is : (names : List Named) (g : Env) (scope : IsKnownScope w names g) (e : Expression) (v : Value) → taken supported e ≡ e → judge g e ≡ Of v
+    pub taken_is : (names : List Named) (g : Env) (scope : IsKnownScope w names g) (e : Expression) (v : Value) → ExpressionHasOperands e → judge g e ≡ Of v
         → IsTaken w names e v
-    taken_is names g scope (Expression.Number at n suffix) v t p =
+    taken_is names g scope (Expression.Number at n suffix) v own p =
         let i : IntegerType = number_type n suffix in
         let d : Valued v (integer_type i) = value_of at (integer_type i) v p in
         taken_word w names (Expression.Number at n suffix) v (integer_type i) d.type (no_place v d.seat) (number_word i) (number_known w i)
         (record { takes = tt; shape = stands_same (integer_shape i) (shape_of (integer_type i)) (number_shape i) }) (λ z. z)
-    taken_is names g scope (Expression.Character at byte) v t p =
+    taken_is names g scope (Expression.Character at byte) v own p =
         let d : Valued v Char = value_of at Char v p in
         taken_word w names (Expression.Character at byte) v Char d.type (no_place v d.seat) tt tt (record { takes = tt; shape = Exactly }) (λ z. z)
-    taken_is names g scope (Expression.Text at bytes) v t p =
+    taken_is names g scope (Expression.Text at bytes) v own p =
         let d : Valued v (Fat TheHeap Char) = text_valued at v (nat_lt (length bytes) 4096) p in
         taken_word w names (Expression.Text at bytes) v (Fat TheHeap Char) d.type (no_place v d.seat) tt tt (record { takes = tt; shape = Exactly }) (λ z. z)
-    taken_is names g scope (Expression.Null at) v t p =
+    taken_is names g scope (Expression.Null at) v own p =
         let d : Valued v Null = value_of at Null v p in
         taken_word w names (Expression.Null at) v Null d.type (no_place v d.seat) tt tt (record { takes = tt; shape = Exactly }) (λ z. z)
-    taken_is names g scope (Expression.HeapRegion at) v t p =
+    taken_is names g scope (Expression.HeapRegion at) v own p =
         let d : Valued v (Handle TheHeap) = value_of at (Handle TheHeap) v p in
         taken_word w names (Expression.HeapRegion at) v (Handle TheHeap) d.type (no_place v d.seat) tt tt (record { takes = tt; shape = Exactly }) (λ z. z)
-    taken_is names g scope (Expression.UniqueRegion at) v t p = absurd cc
-    taken_is names g scope (Expression.Variable x) v t p = variable_taken w names g scope x (meant g x.text) v refl p
-    taken_is names g scope (Expression.Call x es) v t p =
-        let i : all_taken supported es ≡ es = cc in
+    taken_is names g scope (Expression.UniqueRegion at) v own p = absurd cc
+    taken_is names g scope (Expression.Variable x) v own p = variable_taken w names g scope x (meant g x.text) v refl p
+    taken_is names g scope (Expression.Call x es) v own p =
         let z = call_is g x es v p in
-        call_taken w names g x es (meant g x.text) z.0 z.1 v (λ e q. scope.entries x.text e q) z.2 (all_are names g scope es z.1 i z.3) z.4
-    taken_is names g scope (Expression.MakeUnion tag f e) v t p =
-        let i : taken supported e ≡ e = cc in
+        call_taken w names g x es (meant g x.text) z.0 z.1 v (λ e q. scope.entries x.text e q) z.2 (all_are names g scope es z.1 own z.3) z.4
+    taken_is names g scope (Expression.MakeUnion tag f e) v own p =
         let z = both_is (union_tag tag f (meant g tag.text)) (judge g e) (union_made g tag.at) v p in
-        union_taken w names g tag f e (meant g tag.text) z.0 z.1 v (λ d q. scope.entries tag.text d q) z.2 (taken_is names g scope e z.1 i z.3) z.4
-    taken_is names g scope (Expression.NumElts at e) v t p =
-        let i : taken supported e ≡ e = cc in
+        union_taken w names g tag f e (meant g tag.text) z.0 z.1 v (λ d q. scope.entries tag.text d q) z.2 (taken_is names g scope e z.1 own z.3) z.4
+    taken_is names g scope (Expression.NumElts at e) v own p =
         let z = after_is (judge g e) (counted at) v p in
         let r = counted_is at z.0 v z.2 in
-        let k : TakenWord w names e z.0.type = word_is w names z.0.type e (fat_word z.0.type r.0) (taken_is names g scope e z.0 i z.1).value in
+        let k : TakenWord w names e z.0.type = word_is w names z.0.type e (fat_word z.0.type r.0) (taken_is names g scope e z.0 own z.1).value in
         taken_word w names (Expression.NumElts at e) v Unsigned r.1 (no_place v (fits_seat (is_fat z.0.type) at at Unsigned v z.2)) tt tt
         (record { takes = k.takes; shape = Exactly }) (λ y. y)
-    taken_is names g scope (Expression.Grouped at e) v t p =
-        let i : taken supported e ≡ e = cc in
+    taken_is names g scope (Expression.Grouped at e) v own p =
         let z = after_is (judge g e) (grouped at) v p in
         subst (λ (y : Value). IsTaken w names (Expression.Grouped at e) y) (of_is (record { at = at; type = z.0.type; seat = z.0.seat }) v z.2)
-        (taken_grouped w names at e z.0 (taken_is names g scope e z.0 i z.1))
-    taken_is names g scope (Expression.Suffixed e es) v t p =
-        let kept : Expression = Expression.Suffixed (taken supported e) (suffixes_taken supported es) in
-        let q : are_suffixed es && takes_suffixes supported es ≡ true =
-        suffixes_kept e es (are_suffixed es && takes_suffixes supported es) refl t in
-        let u : if_taken true (expression_place e) kept ≡ Expression.Suffixed e es =
-        subst (λ b. if_taken b (expression_place e) kept ≡ Expression.Suffixed e es) q t in
-        let i : taken supported e ≡ e = cc in
+        (taken_grouped w names at e z.0 (taken_is names g scope e z.0 own z.1))
+    taken_is names g scope (Expression.Suffixed e es) v own p =
         let z = suffixes_first g (judge g e) es v p in
-        let j : suffixes_taken supported es ≡ es = cc in
-        suffixed_taken w names g scope e es z.0 v (taken_is names g scope e z.0 i z.1) (indices_are names g scope es j)
-        (subst (λ (y : Verdict Value). judge_suffixes g y es ≡ Of v) z.1 p) (some_suffix es q)
-    taken_is names g scope (Expression.Prefixed at o e) v t p =
-        let i : taken supported e ≡ e = by o t in
+        suffixed_taken w names g scope e es z.0 v (taken_is names g scope e z.0 own.1.0 z.1) (indices_are names g scope es own.1.1)
+        (subst (λ (y : Verdict Value). judge_suffixes g y es ≡ Of v) z.1 p) (some_suffix es own.0)
+    taken_is names g scope (Expression.Prefixed at o e) v own p =
         let z = prefix_is g at o e v p in
-        prefixed_taken w names g at o e z.0 v (taken_is names g scope e z.0 i z.1) z.2
-      where
-        by : (o : Rattle.cyc_tree.specs.declared.expression.Prefix.Prefix) → taken supported (Expression.Prefixed at o e) ≡ Expression.Prefixed at o e
-            → taken supported e ≡ e
-        by Rattle.cyc_tree.specs.declared.expression.Prefix.TheVariants.Negate t = cc
-        by Rattle.cyc_tree.specs.declared.expression.Prefix.TheVariants.Complement t = cc
-        by Rattle.cyc_tree.specs.declared.expression.Prefix.TheVariants.Not t = cc
-        by Rattle.cyc_tree.specs.declared.expression.Prefix.TheVariants.Dereference t = cc
-        by Rattle.cyc_tree.specs.declared.expression.Prefix.TheVariants.AddressOf t = cc
-    taken_is names g scope (Expression.New at (One e)) v t p =
-        let i : taken supported e ≡ e = cc in
+        prefixed_taken w names g at o e z.0 v (taken_is names g scope e z.0 own z.1) z.2
+    taken_is names g scope (Expression.New at (One e)) v own p =
         let z = goal_is at (Of (To TheHeap)) (judge g e) (made at) v p in
-        making_taken w names (Expression.New at (One e)) at TheHeap e z.1 v (taken_is names g scope e z.1 i z.3)
+        making_taken w names (Expression.New at (One e)) at TheHeap e z.1 v (taken_is names g scope e z.1 own z.3)
         (subst (λ (y : Goal). made at y z.1 ≡ Of v) (sym (of_is (To TheHeap) z.0 z.2)) z.4) (λ y. y) refl (λ y. y)
-    taken_is names g scope (Expression.New at (Array x n e)) v t p =
-        let i : taken supported n ≡ n = cc in
-        let j : taken supported e ≡ e = cc in
+    taken_is names g scope (Expression.New at (Array x n e)) v own p =
         let inner : Env = with_counter x g in
         let z = goal_is at (Of (To TheHeap)) (both (judge g n) (judge inner e) (elements at)) (array_made at) v p in
         let y = both_is (judge g n) (judge inner e) (elements at) z.1 z.3 in
-        array_taken w names (Expression.New at (Array x n e)) at TheHeap x n e y.0 y.1 z.1 v (taken_is names g scope n y.0 i y.2)
-        (λ m. taken_is (number_named x.text m ∷ names) inner (scope_counter w names g x m scope) e y.1 j y.3) y.4
+        array_taken w names (Expression.New at (Array x n e)) at TheHeap x n e y.0 y.1 z.1 v (taken_is names g scope n y.0 own.0 y.2)
+        (λ m. taken_is (number_named x.text m ∷ names) inner (scope_counter w names g x m scope) e y.1 own.1 y.3) y.4
         (subst (λ (q : Goal). array_made at q z.1 ≡ Of v) (sym (of_is (To TheHeap) z.0 z.2)) z.4) (λ q. q) refl (λ q. q)
-    taken_is names g scope (Expression.NewIn at h (One e)) v t p =
-        let own : HandleKept h e = handle_kept at h e (is_unique_region h) t in
+    taken_is names g scope (Expression.NewIn at h (One e)) v own p =
         let goal : Verdict Goal = goal_of (is_unique_region h) g (judge g h) in
         let z = goal_is at goal (judge (inside goal g) e) (made at) v p in
-        made_in_taken w names g scope at h e (is_unique_region h) refl z.0 z.1 v z.2 (λ y q. taken_is names g scope h y own.handle q)
-        (taken_is names (inside goal g) (scope_inside w names goal g scope) e z.1 own.value z.3) z.4
-    taken_is names g scope (Expression.NewIn at h (Array x n e)) v t p =
-        let own : ArrayKept h n e = array_kept at h x n e (is_unique_region h) t in
+        made_in_taken w names g scope at h e (is_unique_region h) refl z.0 z.1 v z.2 (λ y q. taken_is names g scope h y own.0 q)
+        (taken_is names (inside goal g) (scope_inside w names goal g scope) e z.1 own.1 z.3) z.4
+    taken_is names g scope (Expression.NewIn at h (Array x n e)) v own p =
         let goal : Verdict Goal = goal_of (is_unique_region h) g (judge g h) in
         let within : Env = inside goal g in
         let inner : Env = with_counter x within in
         let known : IsKnownScope w names within = scope_inside w names goal g scope in
         let z = goal_is at goal (both (judge within n) (judge inner e) (elements at)) (array_made at) v p in
         let u = both_is (judge within n) (judge inner e) (elements at) z.1 z.3 in
-        array_in_taken w names g scope at h x n e (is_unique_region h) z.0 u.0 u.1 z.1 v z.2 (λ y q. taken_is names g scope h y own.handle q)
-        (taken_is names within known n u.0 own.count u.2)
-        (λ m. taken_is (number_named x.text m ∷ names) inner (scope_counter w names within x m known) e u.1 own.value u.3) u.4 z.4
-    taken_is names g scope (Expression.Chain e NoLinks) v t p = absurd cc
-    taken_is names g scope (Expression.Chain e (MoreLinks o y es)) v t p =
-        let i : taken supported e ≡ e = cc in
-        let j : links_taken supported (MoreLinks o y es) ≡ MoreLinks o y es = cc in
+        array_in_taken w names g scope at h x n e (is_unique_region h) z.0 u.0 u.1 z.1 v z.2 (λ y q. taken_is names g scope h y own.0 q)
+        (taken_is names within known n u.0 own.1.0 u.2)
+        (λ m. taken_is (number_named x.text m ∷ names) inner (scope_counter w names within x m known) e u.1 own.1.1 u.3) u.4 z.4
+    taken_is names g scope (Expression.Chain e NoLinks) v own p = absurd own.0
+    taken_is names g scope (Expression.Chain e (MoreLinks o y es)) v own p =
         let f = links_first g (judge g e) (MoreLinks o y es) v p in
-        let h : IsTaken w names e f.0 = taken_is names g scope e f.0 i f.1 in
+        let h : IsTaken w names e f.0 = taken_is names g scope e f.0 own.1.0 f.1 in
         links_whole w names g scope e (MoreLinks o y es) f.0 v h
-        (links_are names g scope (MoreLinks o y es) (judge g e) v j (λ x q. known_first w names g scope f.0 x e h (sym f.1 ∙ q)) p) f.1
-    taken_is names g scope (Expression.AllOf e NoExpressions) v t p = absurd cc
-    taken_is names g scope (Expression.AllOf e (MoreExpressions y es)) v t p =
-        let i : taken supported e ≡ e = cc in
-        let j : all_taken supported (MoreExpressions y es) ≡ MoreExpressions y es = cc in
+        (links_are names g scope (MoreLinks o y es) (judge g e) v own.1.1 (λ x q. known_first w names g scope f.0 x e h (sym f.1 ∙ q)) p) f.1
+    taken_is names g scope (Expression.AllOf e NoExpressions) v own p = absurd own.0
+    taken_is names g scope (Expression.AllOf e (MoreExpressions y es)) v own p =
         let f = tests_first g (judge g e) (MoreExpressions y es) v p in
-        tests_whole w names g scope (Expression.AllOf e (MoreExpressions y es)) e (MoreExpressions y es) f.0 v (taken_is names g scope e f.0 i f.1)
-        (tests_are names g scope (MoreExpressions y es) (judge g e) v j p) f.1 (λ z. record { takes = z; shape = Exactly }) (λ z. z)
-    taken_is names g scope (Expression.AnyOf e NoExpressions) v t p = absurd cc
-    taken_is names g scope (Expression.AnyOf e (MoreExpressions y es)) v t p =
-        let i : taken supported e ≡ e = cc in
-        let j : all_taken supported (MoreExpressions y es) ≡ MoreExpressions y es = cc in
+        tests_whole w names g scope (Expression.AllOf e (MoreExpressions y es)) e (MoreExpressions y es) f.0 v (taken_is names g scope e f.0 own.1.0 f.1)
+        (tests_are names g scope (MoreExpressions y es) (judge g e) v own.1.1 p) f.1 (λ z. record { takes = z; shape = Exactly }) (λ z. z)
+    taken_is names g scope (Expression.AnyOf e NoExpressions) v own p = absurd own.0
+    taken_is names g scope (Expression.AnyOf e (MoreExpressions y es)) v own p =
         let f = tests_first g (judge g e) (MoreExpressions y es) v p in
-        tests_whole w names g scope (Expression.AnyOf e (MoreExpressions y es)) e (MoreExpressions y es) f.0 v (taken_is names g scope e f.0 i f.1)
-        (tests_are names g scope (MoreExpressions y es) (judge g e) v j p) f.1 (λ z. record { takes = z; shape = Exactly }) (λ z. z)
-    taken_is names g scope (Expression.Assign to from) v t p =
-        let i : taken supported to ≡ to = cc in
-        let j : taken supported from ≡ from = cc in
+        tests_whole w names g scope (Expression.AnyOf e (MoreExpressions y es)) e (MoreExpressions y es) f.0 v (taken_is names g scope e f.0 own.1.0 f.1)
+        (tests_are names g scope (MoreExpressions y es) (judge g e) v own.1.1 p) f.1 (λ z. record { takes = z; shape = Exactly }) (λ z. z)
+    taken_is names g scope (Expression.Assign to from) v own p =
         let z = assign_is g to from v p in
-        assign_taken w names g to from z.0 z.1 v (taken_is names g scope to z.0 i z.2) (taken_is names g scope from z.1 j z.3) z.4
+        assign_taken w names g to from z.0 z.1 v (taken_is names g scope to z.0 own.0 z.2) (taken_is names g scope from z.1 own.1 z.3) z.4
 
-    indices_are : (names : List Named) (g : Env) (scope : IsKnownScope w names g) (es : Suffixes) → suffixes_taken supported es ≡ es
+    indices_are : (names : List Named) (g : Env) (scope : IsKnownScope w names g) (es : Suffixes) → SuffixesHaveOperands es
         → IndicesTaken w names g scope es
-    indices_are names g scope NoSuffixes t = tt
-    indices_are names g scope (Index e es) t =
-        let i : taken supported e ≡ e = cc in
-        let j : suffixes_taken supported es ≡ es = cc in
-        (λ b q. taken_is names g scope e b i q, indices_are names g scope es j)
-    indices_are names g scope (Dot f es) t = let j : suffixes_taken supported es ≡ es = cc in indices_are names g scope es j
-    indices_are names g scope (Arrow f es) t = let j : suffixes_taken supported es ≡ es = cc in indices_are names g scope es j
+    indices_are names g scope NoSuffixes own = tt
+    indices_are names g scope (Index e es) own =
+        (λ b q. taken_is names g scope e b own.0 q, indices_are names g scope es own.1)
+    indices_are names g scope (Dot f es) own = indices_are names g scope es own
+    indices_are names g scope (Arrow f es) own = indices_are names g scope es own
 
-    all_are : (names : List Named) (g : Env) (scope : IsKnownScope w names g) (es : Expressions) (vs : List Value) → all_taken supported es ≡ es
+    all_are : (names : List Named) (g : Env) (scope : IsKnownScope w names g) (es : Expressions) (vs : List Value) → AllHaveOperands es
         → judge_all g es ≡ Of vs → AllTaken w names es vs
-    all_are names g scope NoExpressions vs t p = subst (λ (ys : List Value). AllTaken w names NoExpressions ys) (of_is [] vs p) tt
-    all_are names g scope (MoreExpressions e es) vs t p =
-        let i : taken supported e ≡ e = cc in
-        let j : all_taken supported es ≡ es = cc in
+    all_are names g scope NoExpressions vs own p = subst (λ (ys : List Value). AllTaken w names NoExpressions ys) (of_is [] vs p) tt
+    all_are names g scope (MoreExpressions e es) vs own p =
         let z = both_is (judge g e) (judge_all g es) more vs p in
         subst (λ (ys : List Value). AllTaken w names (MoreExpressions e es) ys) (of_is (z.0 ∷ z.1) vs z.4)
-        (taken_is names g scope e z.0 i z.2, all_are names g scope es z.1 j z.3)
+        (taken_is names g scope e z.0 own.0 z.2, all_are names g scope es z.1 own.1 z.3)
 
-    tests_are : (names : List Named) (g : Env) (scope : IsKnownScope w names g) (es : Expressions) (a : Verdict Value) (v : Value) → all_taken supported es ≡ es
+    tests_are : (names : List Named) (g : Env) (scope : IsKnownScope w names g) (es : Expressions) (a : Verdict Value) (v : Value) → AllHaveOperands es
         → judge_tests g a es ≡ Of v → AreTested w names g scope es a v
-    tests_are names g scope NoExpressions a v t p = p
-    tests_are names g scope (MoreExpressions e es) a v t p =
-        let i : taken supported e ≡ e = cc in
-        let j : all_taken supported es ≡ es = cc in
+    tests_are names g scope NoExpressions a v own p = p
+    tests_are names g scope (MoreExpressions e es) a v own p =
         let b : Verdict Value = both a (judge g e) tested_both in
         let z = tests_first g b es v p in
         let y = both_is a (judge g e) tested_both z.0 z.1 in
-        tested_more w names g scope e es a y.0 y.1 z.0 v y.2 (taken_is names g scope e y.1 i y.3) y.4 z.1 (tests_are names g scope es b v j p)
+        tested_more w names g scope e es a y.0 y.1 z.0 v y.2 (taken_is names g scope e y.1 own.0 y.3) y.4 z.1 (tests_are names g scope es b v own.1 p)
 
-    links_are : (names : List Named) (g : Env) (scope : IsKnownScope w names g) (es : Links) (a : Verdict Value) (v : Value) → links_taken supported es ≡ es
+    links_are : (names : List Named) (g : Env) (scope : IsKnownScope w names g) (es : Links) (a : Verdict Value) (v : Value) → LinksHaveOperands es
         → ((x : Value) → a ≡ Of x → IsKnownValue w x.type)
         → judge_links g a es ≡ Of v → AreLinked w names g scope es a v
-    links_are names g scope NoLinks a v t n p = p
-    links_are names g scope (MoreLinks o e es) a v t n p =
-        let i : taken supported e ≡ e = cc in
-        let j : links_taken supported es ≡ es = cc in
+    links_are names g scope NoLinks a v own n p = p
+    links_are names g scope (MoreLinks o e es) a v own n p =
         let b : Verdict Value = both a (judge g e) (applied g o) in
         let z = links_first g b es v p in
         let y = both_is a (judge g e) (applied g o) z.0 z.1 in
         let k : IsKnownValue w z.0.type = (are_joined w g o y.0.type y.1.type z.0.type
         (applied_to_is g o y.0.at y.0.type y.1.type z.0 y.4) (n y.0 y.2)).known in
-        linked_more w names g scope o e es a y.0 y.1 z.0 v y.2 (n y.0 y.2) (taken_is names g scope e y.1 i y.3) y.4 z.1
-        (links_are names g scope es b v j (λ x q. subst (λ (u : Value). IsKnownValue w u.type) (of_is z.0 x (sym z.1 ∙ q)) k) p)
+        linked_more w names g scope o e es a y.0 y.1 z.0 v y.2 (n y.0 y.2) (taken_is names g scope e y.1 own.0 y.3) y.4 z.1
+        (links_are names g scope es b v own.1 (λ x q. subst (λ (u : Value). IsKnownValue w u.type) (of_is z.0 x (sym z.1 ∙ q)) k) p)

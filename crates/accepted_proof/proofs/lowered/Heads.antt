@@ -16,17 +16,14 @@ use Rattle.source_typing.specs.Globals.{count_of, fitting_global, foreign_names,
 use Rattle.source_typing.specs.Scope.{Env, at_item}
 use Rattle.source_typing.specs.Tables.{Tables}
 use Rattle.source_typing.specs.Tags.{settled_alone}
-use Rattle.source_typing.specs.Taken.{function_taken, item_forms, item_taken, takes_type}
-use Rattle.accepted_programs.specs.Supported.{supported}
 use Rattle.source_typing.specs.Types.{Char, Fat, Handle, Int, Key, Null, StaticType, Struct, Thin, Union, Unique, Unsigned, Void, is_void, shape_of}
 use Rattle.source_typing.specs.Verdicts.{Faulty, Of, Unjudged, Verdict, after, faults_of, if_fits, known}
 use Rattle.source_typing.specs.Written.{RegionNamed, all_found, spots_of}
 use Rattle.source_typing.proofs.Inversion.{after_is, none_of_both, of_is}
 use Rattle.accepted_proof.proofs.Constants.{IsFew}
-use Rattle.accepted_proof.proofs.Globals.{GlobalGood, GlobalTaken, global_taken}
+use Rattle.accepted_proof.proofs.Globals.{GlobalGood}
 use Rattle.accepted_proof.proofs.good.Functions.{FunctionGood, all_result}
-use Rattle.accepted_proof.proofs.MemberTypes.{AreMembersTaken}
-use Rattle.accepted_proof.proofs.Heads.{HeadClean, HeadGood, HeadTaken, head_clean, head_taken}
+use Rattle.accepted_proof.proofs.Heads.{HeadClean, HeadGood, head_clean}
 use Rattle.accepted_proof.proofs.Known.{IsKnown, IsWord, known_object}
 use Rattle.accepted_proof.proofs.lowered.Bodies.{items_takes}
 use Rattle.accepted_proof.proofs.lowered.Forms.{AreKnown, AreWords, IsGiven, IsKnownScope}
@@ -75,13 +72,13 @@ module _ (w : World) (g : Tables) (tags : TagsThere w g) (sound : AreSound g) wh
     pub words : AreWords ts
     pub known : AreKnown w ts
 
-  parameters_lowered : (vs : Variables) (ms : List tree.Member) (ts : List StaticType) → AreMembersTaken supported ms
-      → all_faults (read_parameters g vs ms).types ≡ [] → map known (read_parameters g vs ms).types ≡ map (λ (t : StaticType). Some t) ts
+  parameters_lowered : (vs : Variables) (ms : List tree.Member) (ts : List StaticType) → all_faults (read_parameters g vs ms).types ≡ []
+      → map known (read_parameters g vs ms).types ≡ map (λ (t : StaticType). Some t) ts
       → part_shapes (map part_of ms) ≡ map (λ (t : StaticType). shape_of t) ts → AreObjects ts → ParametersLowered ms ts
-  parameters_lowered vs [] [] k p q s o = record { takes = tt; words = tt; known = tt }
-  parameters_lowered vs [] (t ∷ ts) k p q s o = absurd cc
-  parameters_lowered vs (m ∷ ms) [] k p q s o = absurd cc
-  parameters_lowered vs (m ∷ ms) (t ∷ ts) k p q s o =
+  parameters_lowered vs [] [] p q s o = record { takes = tt; words = tt; known = tt }
+  parameters_lowered vs [] (t ∷ ts) p q s o = absurd cc
+  parameters_lowered vs (m ∷ ms) [] p q s o = absurd cc
+  parameters_lowered vs (m ∷ ms) (t ∷ ts) p q s o =
       let all : AllSpotted = take_spots vs (spots_of g m.of) in
       let v : Verdict StaticType = parameter_type g m.of all in
       let z = none_of_both (faults_of v) (all_faults (read_parameters g all.after_all ms).types) p in
@@ -95,11 +92,11 @@ module _ (w : World) (g : Tables) (tags : TagsThere w g) (sound : AreSound g) wh
       let a = after_is (after (types.written_with g m.of (all.found, all.faults)) (settled_alone m.of.at)) (if_parameter m.of.at) t (known_is v t is) in
       let f : Fits (fits_parameter a.0) a.0 t = fits_is (fits_parameter a.0) m.of.at a.0 t a.2 in
       let word : IsWord t = parameter_word t (subst (λ (y : StaticType). fits_parameter y ≡ true) f.same f.fits) in
-      let r : ParametersLowered ms ts = parameters_lowered all.after_all ms ts k.1 z.1 others shapes o.1 in
+      let r : ParametersLowered ms ts = parameters_lowered all.after_all ms ts z.1 others shapes o.1 in
       record {
-        takes = (word_type w m.of t k.0 there o.0 word shape, r.takes);
+        takes = (word_type w m.of t there o.0 word shape, r.takes);
         words = (word, r.words);
-        known = (written_known w m.of t k.0 there o.0 shape, r.known);
+        known = (written_known w m.of t there o.0 shape, r.known);
       }
 
   -- ---- results
@@ -122,17 +119,17 @@ module _ (w : World) (g : Tables) (tags : TagsThere w g) (sound : AreSound g) wh
     pub takes : TakesResult t
     pub given : IsGiven w u
 
-  result_lowered : (names : List RegionNamed) (t : TypeName) (u : StaticType) → takes_type supported t ≡ true → result_type g names t ≡ Of u → IsPlain u
+  result_lowered : (names : List RegionNamed) (t : TypeName) (u : StaticType) → result_type g names t ≡ Of u → IsPlain u
       → settled (written t) ≡ shape_of u → ResultLowered t u
-  result_lowered names t u e q o s =
+  result_lowered names t u q o s =
       let there : BaseThere w t.base =
       base_there w g t (all_found names (spots_of g t)) (λ z. after (after z (settled_alone t.at)) (if_result t.at)) tags sound
       (twice_keeps (settled_alone t.at) (if_result t.at)) (ap (λ (v : Verdict StaticType). faults_of v) q) in
       let a = after_is (after (types.written g names t) (settled_alone t.at)) (if_result t.at) u q in
       let f : Fits (is_void a.0 || fits_parameter a.0) a.0 u = fits_is (is_void a.0 || fits_parameter a.0) t.at a.0 u a.2 in
       let given : IsGiven w u =
-      given_is u (subst (λ (y : StaticType). is_void y || fits_parameter y ≡ true) f.same f.fits) o (λ x. written_known w t u e there x s) in
-      record { takes = result_takes w t u e there o given s; given = given }
+      given_is u (subst (λ (y : StaticType). is_void y || fits_parameter y ≡ true) f.same f.fits) o (λ x. written_known w t u there x s) in
+      record { takes = result_takes w t u there o given s; given = given }
 
   -- ---- heads
 
@@ -140,30 +137,28 @@ module _ (w : World) (g : Tables) (tags : TagsThere w g) (sound : AreSound g) wh
     pub parameters : ParametersLowered f.parameters k.signature.types
     pub result : ResultLowered f.result k.signature.gives
 
-  pub head_lowered : (f : tree.Function) (k : HeadGood g f) → function_taken supported f ≡ f → (head_of false g f).faults ≡ [] → HeadLowered f k
-  head_lowered f k t p =
+  pub head_lowered : (f : tree.Function) (k : HeadGood g f) → (head_of false g f).faults ≡ [] → HeadLowered f k
+  head_lowered f k p =
       let ps : Parameters = read_parameters g (variables [] 0) f.parameters in
       let r : Verdict StaticType = result_type g ps.variables_after.names f.result in
       let c : HeadClean g f ps r = head_clean g f p in
-      let h : HeadTaken supported f = head_taken supported g f t p in
       record {
-        parameters = parameters_lowered (variables [] 0) f.parameters k.signature.types h.parameters c.parameters k.signature.parameters k.shapes
+        parameters = parameters_lowered (variables [] 0) f.parameters k.signature.types c.parameters k.signature.parameters k.shapes
             k.signature.objects;
-        result = result_lowered ps.variables_after.names f.result k.signature.gives h.result (known_is r k.signature.gives k.signature.result)
+        result = result_lowered ps.variables_after.names f.result k.signature.gives (known_is r k.signature.gives k.signature.result)
             k.signature.plain k.result.shape;
       }
 
 -- ---- functions
 
 pub function_lowered : (w : World) (g : Tables) (i : ℕ) (f : tree.Function) (k : FunctionGood g i f) → TagsThere w g → AreSound g
-    → function_taken supported f ≡ f
     → IsKnownScope w [] (function_scope false g i (head_of false g f)) → TakesFunction w f
-function_lowered w g i f k tags sound t scope =
-    let h : HeadLowered w g tags sound f k.head = head_lowered w g tags sound f k.head t k.clean in
+function_lowered w g i f k tags sound scope =
+    let h : HeadLowered w g tags sound f k.head = head_lowered w g tags sound f k.head k.clean in
     let inside : Env = function_scope false g i (head_of false g f) in
     record {
       result = h.result.takes;
-      main = λ e. int_written f.result (head_taken supported g f t k.clean).result
+      main = λ e. int_written f.result
           (k.head.result.shape ∙ ap (λ (u : StaticType). shape_of u) (k.head.main_gives e));
       parameters = h.parameters.takes;
       body = subst (λ (s : Shape). TakesItems w s (parameter_names (map part_of f.parameters) 0 []) (length (map part_of f.parameters)) f.body)
@@ -172,19 +167,15 @@ function_lowered w g i f k tags sound t scope =
           (with_all (map part_of f.parameters) k.head.signature.types inside) true
           (all_result (map part_of f.parameters) k.head.signature.types inside ∙ k.head.signature.result)
           (scope_all w (map part_of f.parameters) k.head.signature.types 0 [] inside k.head.shapes h.parameters.known scope)
-          (ap (λ (z : tree.Function). z.body) t) k.body k.faults);
+          k.body k.faults);
     }
 
 -- ---- globals
 
 -- by the program's tables `g` it has no fault, and `h` are those by which its type was read
 module _ (w : World) (g h : Tables) (i : ℕ) (x : tree.Global) (k : GlobalGood h i x) (tags : TagsThere w g) (sound : AreSound g)
-    (t : item_taken supported (tree.GlobalItem x) ≡ tree.GlobalItem x) (f : item_forms supported (tree.GlobalItem x) ≡ [])
     (p : global_faults (at_item false g i) x ≡ [])
   where
-    taken : GlobalTaken supported x
-    taken = global_taken supported (at_item false g i) x t f p
-
     there : BaseThere w x.of.base
     there =
         let s : Env = at_item false g i in
@@ -195,7 +186,7 @@ module _ (w : World) (g h : Tables) (i : ℕ) (x : tree.Global) (k : GlobalGood 
         (twice_keeps (settled_alone x.of.at) (fitting_global s x.of.at (count_of x.initial) (has_none names))) q.0
 
     pub global_known : IsKnown w (shape_of k.type)
-    global_known = written_known w x.of k.type taken.type there k.good.object k.good.shape
+    global_known = written_known w x.of k.type there k.good.object k.good.shape
 
     -- an array has few elements, since it has as many bytes by its meaning as by the rules
     few : AreStructs w.unions w.structs → IsSized w g i (tree.GlobalItem x) → IsFew x.initial
@@ -206,7 +197,7 @@ module _ (w : World) (g h : Tables) (i : ℕ) (x : tree.Global) (k : GlobalGood 
 
     pub global_lowered : AreStructs w.unions w.structs → IsSized w g i (tree.GlobalItem x) → TakesItem w (tree.GlobalItem x)
     global_lowered structs sized = (
-      object_type w x.of k.type taken.type there k.good.object k.good.shape,
+      object_type w x.of k.type there k.good.object k.good.shape,
       subst (λ (s : Shape). TakesGlobal s x.initial) (sym k.good.shape)
           (k.initial.taken (begins_first h k.type k.good.object k.begins) (few structs sized)),
     )

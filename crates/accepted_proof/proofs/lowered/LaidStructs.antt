@@ -19,7 +19,6 @@ use Rattle.source_typing.specs.Programs.{Judged, builtins, entries, first_from, 
 use Rattle.source_typing.specs.Scope.{Env}
 use Rattle.source_typing.specs.Tables.{Entry, Named, OfBuiltin, OfFunction, OfOther, OfTag, OfValue, Part, Tables, find}
 use Rattle.source_typing.specs.Tags.{member_faults, member_fitting, member_type, settled_alone, tag_parts, tag_scope}
-use Rattle.accepted_programs.specs.Supported.{supported}
 use Rattle.source_typing.specs.Types.{Char, Fat, Handle, Int, Key, StaticType, Struct, Thin, Union, Unique, Unsigned, shape_of}
 use Rattle.source_typing.specs.Verdicts.{after, faults_of}
 use Rattle.source_typing.specs.Written.{all_found, spots_of}
@@ -28,10 +27,10 @@ use Rattle.source_typing.proofs.Inversion.{none_of_both}
 use Rattle.accepted_proof.proofs.good.Types.{KnowsTags}
 use Rattle.accepted_proof.proofs.HeadTags.{MeanAlike, TablesAlike, found_alike}
 use Rattle.accepted_proof.proofs.lowered.Types.{IsReached, TagThere, TagsThere, base_there, known_sound, reached_target, twice_keeps, type_reached}
-use Rattle.accepted_proof.proofs.MemberTypes.{AreMembersTaken, MembersGood, members_are_taken}
+use Rattle.accepted_proof.proofs.MemberTypes.{MembersGood}
 use Rattle.accepted_proof.proofs.lowered.StructSizes.{AllLaidTypes, AreOnce, MeasuredAlike, UnionsAlike, later_passed, layouts_both, same_parts, struct_small}
 use Rattle.accepted_proof.proofs.lowered.StructSizes.{structs_alike, structs_are, union_passed, unions_are}
-use Rattle.accepted_proof.proofs.TagOrder.{StructTaken, TagClean, builtins_alike}
+use Rattle.accepted_proof.proofs.TagOrder.{TagClean, builtins_alike}
 
 -- ---- what members lead to
 
@@ -45,15 +44,15 @@ AllReached w [] = Unit {0}
 AllReached w (l ∷ ls) = PartsReached w l.parts × AllReached w ls
 
 pub members_reached : (w : World) (g : Env) (union : Bool) (ms : List tree.Member) → TagsThere w g.tables → KnowsTags g.tables
-    → AreMembersTaken supported ms → member_faults g union ms ≡ [] → PartsReached w (map part_of ms)
-members_reached w g union [] tags known e p = tt
-members_reached w g union (m ∷ ms) tags known e p =
+    → member_faults g union ms ≡ [] → PartsReached w (map part_of ms)
+members_reached w g union [] tags known p = tt
+members_reached w g union (m ∷ ms) tags known p =
     let z = none_of_both (faults_of (member_type g union m.of)) (member_faults g union ms) p in (
-      type_reached w m.of e.0
+      type_reached w m.of
           (base_there w g.tables m.of (all_found g.names (spots_of g.tables m.of))
           (λ v. after (after v (settled_alone m.of.at)) (member_fitting g union m.of.at)) tags (known_sound g.tables known)
           (twice_keeps (settled_alone m.of.at) (member_fitting g union m.of.at)) z.0),
-      members_reached w g union ms tags known e.1 z.1,
+      members_reached w g union ms tags known z.1,
     )
 
 -- tags of the same names are the program's too
@@ -208,15 +207,15 @@ module _ (w : World) (b h T : Tables) (i : ℕ) (done : List Judged) (is : List 
         ∙ (later_passed (layouts_of true g) found h i (tree.StructItem s ∷ is) seen tag names (declared tag e)
         ∙ structs_alike T ds us (layouts_of true g) w.unions found out order laid same tag)
 
-    pub struct_laid : StructTaken supported s → KnowsTags g → ((x : List ℕ) → declares ds x ≡ true → is_seen seen x ≡ true)
+    pub struct_laid : AreSomeMembers s.members → KnowsTags g → ((x : List ℕ) → declares ds x ≡ true → is_seen seen x ≡ true)
         → ((x : List ℕ) → declares us x ≡ true → is_seen seen x ≡ true) → AreLaidOut T ds found → AreInOrder ds → AllLaidTypes us ds
         → declares ds s.tag.text ≡ false → TagClean g i false s → MembersGood (length s.regions) (tag_scope g i s) false ds us s.members
         → StructsLaid w us (entries done) found → StructsLaid w us (entries (done ++ judged_tag g i (tree.StructItem s) ∷ [])) (layout_of s ∷ found)
-    struct_laid taken known declared unions out order laid new clean ms l = record {
+    struct_laid has_members known declared unions out order laid new clean ms l = record {
       in_order = (
         record {
           new = tags_declared T ds found s.tag.text out ∙ new;
-          some = has_member s.members taken.some;
+          some = has_member s.members has_members;
           members = members_objects w ds found (tag_parts g i false s) (map part_of s.members) ms.types (λ x. tags_declared T ds found x out) ms.members
               ms.typed reached;
           small = struct_small g i s ds us w.unions found ms.types clean.sized ms.members ms.typed ms.laid same
@@ -243,4 +242,4 @@ module _ (w : World) (b h T : Tables) (i : ℕ) (done : List Judged) (is : List 
         reached : PartsReached w (map part_of s.members)
         reached =
             members_reached w (tag_scope g i s) false s.members tags known
-            (members_are_taken supported (tag_scope g i s) false s.members taken.members clean.members) clean.members
+            clean.members

@@ -1,4 +1,4 @@
--- Lowering takes each program of integers, pointers, structs, unions, arrays, strings, the heap and lexical regions in which the rules find no fault.
+-- Lowering takes each program that is accepted.
 use Rattle.std.proofs.Common.{◌≡◌, ℕ, ◌≤◌, suc, false, List, [], ◌∷◌, subst}
 use Rattle.cyc_tree.specs.Tree as tree
 use Rattle.cyc_tree.specs.Tree.{Item, Program}
@@ -7,15 +7,13 @@ use Rattle.source_meaning.specs.Programs.{unions_of, world_of}
 use Rattle.source_meaning.specs.Shapes.{Layout}
 use Rattle.source_meaning.specs.Steps.{World}
 use Rattle.type_proof.specs.Programs.{ProgramJudged}
-use Rattle.source_typing.specs.Answers.{program_faults}
+use Rattle.accepted_programs.specs.Accepted.{IsAccepted}
 use Rattle.source_typing.specs.Functions.{function_faults, function_scope, head_of}
 use Rattle.source_typing.specs.Globals.{global_faults}
 use Rattle.source_typing.specs.Programs.{Judged, builtins, entries, items_from, judged_tags, tables_of}
 use Rattle.source_typing.specs.Scope.{at_item}
 use Rattle.source_typing.specs.Tables.{Tables}
-use Rattle.source_typing.specs.Taken.{constant_forms, function_taken, item_forms, item_taken, only_taken}
 use Rattle.source_typing.specs.Types.{shape_of}
-use Rattle.accepted_programs.specs.Supported.{supported}
 use Rattle.source_typing.proofs.Inversion.{none_of_both}
 use Rattle.accepted_proof.specs.Good.{BodiesJudged}
 use Rattle.accepted_proof.specs.Laws.{AcceptedAreLowerable}
@@ -38,53 +36,48 @@ use Rattle.accepted_proof.proofs.TagOutcomes.{HaveValues}
 
 all_lowered : (w : World) (g h : Tables) (i : ℕ) (js : List Judged) (is : List Item) → TagsThere w g → AreSound g → AreStructs w.unions w.structs
     → ((i : ℕ) (f : tree.Function) → IsKnownScope w [] (function_scope false g i (head_of false g f))) → AllKnown g h i js is
-    → AreSized w g i is → only_taken supported is ≡ is → constant_forms supported is ≡ [] → items_from false g i is ≡ [] → TakesProgram w is
-all_lowered w g h i [] [] tags sound structs scope k z t f p = tt
-all_lowered w g h i [] (x ∷ is) tags sound structs scope k z t f p = absurd k
-all_lowered w g h i (j ∷ js) [] tags sound structs scope k z t f p = tt
-all_lowered w g h i (j ∷ js) (tree.StructItem s ∷ is) tags sound structs scope k z t f p =
-    let b : only_taken supported is ≡ is = cc in (tt, all_lowered w g h (suc i) js is tags sound structs scope k.1 z.1 b f p)
-all_lowered w g h i (j ∷ js) (tree.UnionItem s ∷ is) tags sound structs scope k z t f p =
-    let b : only_taken supported is ≡ is = cc in (tt, all_lowered w g h (suc i) js is tags sound structs scope k.1 z.1 b f p)
-all_lowered w g h i (j ∷ js) (tree.GlobalItem x ∷ is) tags sound structs scope k z t f p =
-    let a : item_taken supported (tree.GlobalItem x) ≡ tree.GlobalItem x = cc in
-    let b : only_taken supported is ≡ is = cc in
-    let c = none_of_both (item_forms supported (tree.GlobalItem x)) (constant_forms supported is) f in
+    → AreSized w g i is → items_from false g i is ≡ [] → TakesProgram w is
+all_lowered w g h i [] [] tags sound structs scope k z p = tt
+all_lowered w g h i [] (x ∷ is) tags sound structs scope k z p = absurd k
+all_lowered w g h i (j ∷ js) [] tags sound structs scope k z p = tt
+all_lowered w g h i (j ∷ js) (tree.StructItem s ∷ is) tags sound structs scope k z p =
+    (tt, all_lowered w g h (suc i) js is tags sound structs scope k.1 z.1 p)
+all_lowered w g h i (j ∷ js) (tree.UnionItem s ∷ is) tags sound structs scope k z p =
+    (tt, all_lowered w g h (suc i) js is tags sound structs scope k.1 z.1 p)
+all_lowered w g h i (j ∷ js) (tree.GlobalItem x ∷ is) tags sound structs scope k z p =
     let d = none_of_both (global_faults (at_item false g i) x) (items_from false g (suc i) is) p in
-    (global_lowered w g h i x k.0.1 tags sound a c.0 d.0 structs z.0, all_lowered w g h (suc i) js is tags sound structs scope k.1 z.1 b c.1 d.1)
-all_lowered w g h i (j ∷ js) (tree.FunctionItem x ∷ is) tags sound structs scope k z t f p =
-    let a : function_taken supported x ≡ x = cc in
-    let b : only_taken supported is ≡ is = cc in
+    (global_lowered w g h i x k.0.1 tags sound d.0 structs z.0, all_lowered w g h (suc i) js is tags sound structs scope k.1 z.1 d.1)
+all_lowered w g h i (j ∷ js) (tree.FunctionItem x ∷ is) tags sound structs scope k z p =
     let d = none_of_both (function_faults false g i x) (items_from false g (suc i) is) p in
-    (function_lowered w g i x k.0.good tags sound a (scope i x), all_lowered w g h (suc i) js is tags sound structs scope k.1 z.1 b f d.1)
+    (function_lowered w g i x k.0.good tags sound (scope i x), all_lowered w g h (suc i) js is tags sound structs scope k.1 z.1 d.1)
 
 -- ---- a program
 
-module _ (bodies : BodiesJudged) (p : Program) (e : program_faults supported p ≡ []) where
+module _ (bodies : BodiesJudged) (p : Program) (accepted : IsAccepted p) where
   abbrev tables : Tables
   tables = tables_of false p
 
-  clean : IsClean supported p
-  clean = is_clean_program supported p e
+  clean : IsClean p
+  clean = is_clean_program p accepted
 
   found : StructsFound p
-  found = programs.found bodies p e
+  found = programs.found bodies p accepted
 
   judged : ProgramJudged p tables
-  judged = programs.judged bodies p e
+  judged = programs.judged bodies p accepted
 
   known : AllKnown tables (builtins (entries (judged_tags p))) 0 (judged_tags p) p
-  known = programs.known bodies p e
+  known = programs.known bodies p accepted
 
   sound : AreSound tables
-  sound = known_sound tables (good_tags 0 tables (programs.good bodies p e))
+  sound = known_sound tables (good_tags 0 tables (programs.good bodies p accepted))
 
   types : AllTypesKnown (world_of p) tables
   types = (
     tt,
     (
       tt,
-      types_known (world_of p) tables (builtins (entries (judged_tags p))) 0 (judged_tags p) p found.there sound known clean.taken clean.forms clean.items,
+      types_known (world_of p) tables (builtins (entries (judged_tags p))) 0 (judged_tags p) p found.there sound known clean.items,
     ),
   )
 
@@ -100,8 +93,8 @@ module _ (bodies : BodiesJudged) (p : Program) (e : program_faults supported p �
   -- the rules measure its globals as they are laid out
   pub sized : AreSized (world_of p) tables 0 p
   sized =
-      globals_sized (world_of p) tables found.layouts found.union_layouts 0 p (good_tags 0 tables (programs.good bodies p e))
-      clean.taken clean.forms clean.items
+      globals_sized (world_of p) tables found.layouts found.union_layouts 0 p (good_tags 0 tables (programs.good bodies p accepted))
+      clean.items
 
   -- unions whose members a word counts
   all_unions : (ls : List Layout) → HaveValues ls → HaveFewMembers ls → AreUnions ls
@@ -111,7 +104,7 @@ module _ (bodies : BodiesJudged) (p : Program) (e : program_faults supported p �
   pub lowerable : HaveFewMembers (unions_of p) → IsLowerable p
   lowerable few = record {
     items = all_lowered (world_of p) tables (builtins (entries (judged_tags p))) 0 (judged_tags p) p found.there sound found.lowered.0 scope known sized
-        clean.taken clean.forms clean.items;
+        clean.items;
     unions = all_unions (world_of p).unions found.values.0 few;
     structs = found.lowered.0;
     strings = strings_short tables p clean.names clean.sizes;
@@ -121,7 +114,7 @@ module _ (bodies : BodiesJudged) (p : Program) (e : program_faults supported p �
 
 module _ (bodies : BodiesJudged) where
   pub programs_lowerable : AcceptedAreLowerable
-  programs_lowerable p e few = lowerable bodies p e few
+  programs_lowerable p accepted few = lowerable bodies p accepted few
 
-  pub programs_sized : (p : Program) → program_faults supported p ≡ [] → AreSized (world_of p) (tables_of false p) 0 p
-  programs_sized p e = sized bodies p e
+  pub programs_sized : (p : Program) → IsAccepted p → AreSized (world_of p) (tables_of false p) 0 p
+  programs_sized p accepted = sized bodies p accepted

@@ -1,4 +1,5 @@
--- A scope in which all is known of each name stays one: after a local, where a block, a loop or an element begins, and with a function's parameters.
+-- A scope in which all is known of each name stays one: after a local, where a block, a loop or an element begins, where a region begins or is opened, and
+-- with a function's parameters.
 use Rattle.std.proofs.Common.{◌≡◌, ℕ, suc, Bool, true, false, Option, Some, List, [], ◌∷◌, refl, subst, ap, ◌∙◌}
 use Rattle.std.specs.Prelude.{bytes_eq, if◌then◌else◌, map}
 use Rattle.cyc_tree.specs.Tree as tree

@@ -14,8 +14,6 @@ use Rattle.source_typing.specs.Globals.{count_of, global_faults, global_size, gl
 use Rattle.source_typing.specs.Programs.{items_from}
 use Rattle.source_typing.specs.Scope.{Env, at_item}
 use Rattle.source_typing.specs.Tables.{Tables}
-use Rattle.source_typing.specs.Taken.{constant_forms, item_forms, item_taken, only_taken}
-use Rattle.accepted_programs.specs.Supported.{supported}
 use Rattle.source_typing.proofs.Inversion.{none_of_both}
 use Rattle.source_typing.specs.Types.{StaticType, shape_of}
 use Rattle.accepted_proof.proofs.Globals.{GlobalGood, counted_shape, global_good, shape_here, size_by_entry}
@@ -87,19 +85,14 @@ module _ (w : World) (g : Tables) (structs : layouts_of false g ≡ w.structs) (
       ∙ (counted_sized (count_of x.initial) h.type
       ∙ sym (size_by_entry s x h.type (global_faults s x) (count_of x.initial) (global_type s x) h.entry))
 
-  pub globals_sized : (i : ℕ) (is : List Item) → KnowsTags g → only_taken supported is ≡ is → constant_forms supported is ≡ []
-      → items_from false g i is ≡ []
+  pub globals_sized : (i : ℕ) (is : List Item) → KnowsTags g → items_from false g i is ≡ []
       → AreSized w g i is
-  globals_sized i [] tags t f p = tt
-  globals_sized i (tree.StructItem s ∷ is) tags t f p = let b : only_taken supported is ≡ is = cc in (tt, globals_sized (suc i) is tags b f p)
-  globals_sized i (tree.UnionItem s ∷ is) tags t f p = let b : only_taken supported is ≡ is = cc in (tt, globals_sized (suc i) is tags b f p)
-  globals_sized i (tree.GlobalItem x ∷ is) tags t f p =
-      let a : item_taken supported (tree.GlobalItem x) ≡ tree.GlobalItem x = cc in
-      let b : only_taken supported is ≡ is = cc in
-      let c = none_of_both (item_forms supported (tree.GlobalItem x)) (constant_forms supported is) f in
+  globals_sized i [] tags p = tt
+  globals_sized i (tree.StructItem s ∷ is) tags p = (tt, globals_sized (suc i) is tags p)
+  globals_sized i (tree.UnionItem s ∷ is) tags p = (tt, globals_sized (suc i) is tags p)
+  globals_sized i (tree.GlobalItem x ∷ is) tags p =
       let d = none_of_both (global_faults (at_item false g i) x) (items_from false g (suc i) is) p in
-      (global_sized i x (global_good g i x tags a c.0 d.0), globals_sized (suc i) is tags b c.1 d.1)
-  globals_sized i (tree.FunctionItem x ∷ is) tags t f p =
-      let b : only_taken supported is ≡ is = cc in
+      (global_sized i x (global_good g i x tags d.0), globals_sized (suc i) is tags d.1)
+  globals_sized i (tree.FunctionItem x ∷ is) tags p =
       let d = none_of_both (function_faults false g i x) (items_from false g (suc i) is) p in
-      (tt, globals_sized (suc i) is tags b f d.1)
+      (tt, globals_sized (suc i) is tags d.1)

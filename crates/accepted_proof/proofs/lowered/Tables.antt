@@ -25,8 +25,6 @@ use Rattle.source_typing.specs.Scope.{at_item}
 use Rattle.source_typing.specs.Tables.{Arrayed, Counter, Entry, Named, OfBuiltin, OfFunction, OfOther, OfTag}
 use Rattle.source_typing.specs.Tables.{OfValue, Part, Signature, Stored, Tables, Tag, Unknown}
 use Rattle.source_typing.specs.Tables.{as_tag, find, part_in, parts_in, parts_of_tag}
-use Rattle.source_typing.specs.Taken.{constant_forms, function_taken, item_forms, item_taken, only_taken}
-use Rattle.accepted_programs.specs.Supported.{supported}
 use Rattle.source_typing.specs.Types.{StaticType, Struct, Union, Void, shape_of}
 use Rattle.source_typing.specs.Verdicts.{Of}
 use Rattle.source_typing.proofs.Inversion.{none_of_both}
@@ -67,29 +65,22 @@ global_typed w (Some n) t k = k
 
 -- `g` are the program's tables, and `h` those by which its heads and globals were read
 pub types_known : (w : World) (g h : Tables) (i : ℕ) (js : List Judged) (is : List Item) → TagsThere w g → AreSound g → AllKnown g h i js is
-    → only_taken supported is ≡ is → constant_forms supported is ≡ [] → items_from false g i is ≡ []
+    → items_from false g i is ≡ []
     → AllTypesKnown w (entries_with false h i js is)
-types_known w g h i [] is tags sound k t f p = tt
-types_known w g h i (j ∷ js) [] tags sound k t f p = tt
-types_known w g h i (j ∷ js) (tree.StructItem s ∷ is) tags sound k t f p =
-    let b : only_taken supported is ≡ is = cc in
-    (subst (λ (n : Named). TypesKnown w n.entry) (sym k.0.is) tt, types_known w g h (suc i) js is tags sound k.1 b f p)
-types_known w g h i (j ∷ js) (tree.UnionItem s ∷ is) tags sound k t f p =
-    let b : only_taken supported is ≡ is = cc in
-    (subst (λ (n : Named). TypesKnown w n.entry) (sym k.0.is) tt, types_known w g h (suc i) js is tags sound k.1 b f p)
-types_known w g h i (j ∷ js) (tree.GlobalItem x ∷ is) tags sound k t f p =
-    let a : item_taken supported (tree.GlobalItem x) ≡ tree.GlobalItem x = cc in
-    let b : only_taken supported is ≡ is = cc in
-    let c = none_of_both (item_forms supported (tree.GlobalItem x)) (constant_forms supported is) f in
+types_known w g h i [] is tags sound k p = tt
+types_known w g h i (j ∷ js) [] tags sound k p = tt
+types_known w g h i (j ∷ js) (tree.StructItem s ∷ is) tags sound k p =
+    (subst (λ (n : Named). TypesKnown w n.entry) (sym k.0.is) tt, types_known w g h (suc i) js is tags sound k.1 p)
+types_known w g h i (j ∷ js) (tree.UnionItem s ∷ is) tags sound k p =
+    (subst (λ (n : Named). TypesKnown w n.entry) (sym k.0.is) tt, types_known w g h (suc i) js is tags sound k.1 p)
+types_known w g h i (j ∷ js) (tree.GlobalItem x ∷ is) tags sound k p =
     let d = none_of_both (global_faults (at_item false g i) x) (items_from false g (suc i) is) p in
     let a : TypesKnown w (OfValue (what_of TheHeap (count_of x.initial) (Of k.0.1.type))) =
-    global_typed w (count_of x.initial) k.0.1.type (global_known w g h i x k.0.1 tags sound a c.0 d.0) in
-    (subst (λ (e : Entry). TypesKnown w e) (sym k.0.1.entry) a, types_known w g h (suc i) js is tags sound k.1 b c.1 d.1)
-types_known w g h i (j ∷ js) (tree.FunctionItem x ∷ is) tags sound k t f p =
-    let a : function_taken supported x ≡ x = cc in
-    let b : only_taken supported is ≡ is = cc in
+    global_typed w (count_of x.initial) k.0.1.type (global_known w g h i x k.0.1 tags sound d.0) in
+    (subst (λ (e : Entry). TypesKnown w e) (sym k.0.1.entry) a, types_known w g h (suc i) js is tags sound k.1 d.1)
+types_known w g h i (j ∷ js) (tree.FunctionItem x ∷ is) tags sound k p =
     let d = none_of_both (function_faults false g i x) (items_from false g (suc i) is) p in
-    let u : HeadLowered w g tags sound x k.0.good.head = head_lowered w g tags sound x k.0.good.head a k.0.good.clean in
+    let u : HeadLowered w g tags sound x k.0.good.head = head_lowered w g tags sound x k.0.good.head k.0.good.clean in
     let s : SignatureKnown w (head_of false g x).signature =
     record {
       types = k.0.good.head.signature.types;
@@ -99,7 +90,7 @@ types_known w g h i (j ∷ js) (tree.FunctionItem x ∷ is) tags sound k t f p =
       result = k.0.good.head.signature.result;
       given = u.result.given;
     } in
-    (subst (λ (z : Head). SignatureKnown w z.signature) k.0.same s, types_known w g h (suc i) js is tags sound k.1 b f d.1)
+    (subst (λ (z : Head). SignatureKnown w z.signature) k.0.same s, types_known w g h (suc i) js is tags sound k.1 d.1)
 
 found_types : (w : World) (g : Tables) (x : List ℕ) (e : Entry) → AllTypesKnown w g → find g x ≡ Some e → TypesKnown w e
 found_types w [] x e k q = absurd cc

@@ -1,6 +1,5 @@
--- A type that is taken, whose tag is one of the program's: each struct in its shape is one too, and lowering takes the type.
+-- A type whose tag is one of the program's: each struct in its shape is one too, and lowering takes the type.
 use Rattle.std.proofs.Common.{◌≡◌, ℕ, Bool, true, false, Option, Some, None, List, [], ◌∷◌, refl, sym, subst}
-use Rattle.std.proofs.lemmas.Bool.{and_parts}
 use Rattle.cyc_tree.specs.declared.name.Sign.{Sign}
 use Rattle.cyc_tree.specs.declared.name.Sign.TheVariants as sign
 use Rattle.cyc_tree.specs.Tree as tree
@@ -36,8 +35,6 @@ use Rattle.source_meaning.specs.Steps.{World}
 use Rattle.type_proof.specs.Entries.{IsObjectType, IsPlain}
 use Rattle.source_typing.specs.Faults.{Fault}
 use Rattle.source_typing.specs.Tables.{Entry, OfBuiltin, OfFunction, OfOther, OfTag, OfValue, Tables, Tag, find, has_beginning}
-use Rattle.source_typing.specs.Taken.{takes_base, takes_pointers, takes_type}
-use Rattle.accepted_programs.specs.Supported.{supported}
 use Rattle.source_typing.specs.Types.{Char, Fat, Handle, Int, Key, PartialType, StaticType, Struct, Thin, Union, Unique, Unsigned, Void, same_bool, shape_of}
 use Rattle.source_typing.specs.Verdicts.{Faulty, Verdict, after, faults_of}
 use Rattle.source_typing.specs.Written.{Found, if_sound, of_kind, tag_of, written_on, written_with}
@@ -166,26 +163,25 @@ module _ (w : World) where
   all_reached [] s h = h
   all_reached (p ∷ ps) s h = all_reached ps (signed_shape p.sign (owner_of p.region) s) (signed_reached p.sign p.region s h)
 
-  -- what is written of a type that is taken
-  pub type_reached : (t : TypeName) → takes_type supported t ≡ true → BaseThere w t.base → IsReached w (settled (written t))
-  type_reached t e h =
-      let a = and_parts (takes_base supported t.base) (takes_pointers supported t.pointers) e in
-      all_reached t.pointers (base_shape t.base) (by t.base a.0 h)
+  -- what is written of a type
+  pub type_reached : (t : TypeName) → BaseThere w t.base → IsReached w (settled (written t))
+  type_reached t h =
+      all_reached t.pointers (base_shape t.base) (by t.base h)
     where
-      by : (b : tree.Base) → takes_base supported b ≡ true → BaseThere w b → IsReached w (settled (base_shape b))
-      by tree.Int q h = tt
-      by tree.Unsigned q h = tt
-      by tree.Char q h = tt
-      by tree.Void q h = tt
-      by (tree.Struct tag rs) q h = h
-      by (tree.Union tag rs) q h = h
-      by (tree.Handle r) q h = tt
-      by (tree.Key r) q h = tt
+      by : (b : tree.Base) → BaseThere w b → IsReached w (settled (base_shape b))
+      by tree.Int h = tt
+      by tree.Unsigned h = tt
+      by tree.Char h = tt
+      by tree.Void h = tt
+      by (tree.Struct tag rs) h = h
+      by (tree.Union tag rs) h = h
+      by (tree.Handle r) h = tt
+      by (tree.Key r) h = tt
 
   -- and of an object's
-  pub written_known : (t : TypeName) (u : StaticType) → takes_type supported t ≡ true → BaseThere w t.base → IsObjectType u
+  pub written_known : (t : TypeName) (u : StaticType) → BaseThere w t.base → IsObjectType u
       → settled (written t) ≡ shape_of u → IsKnown w (shape_of u)
-  written_known t u e h o s = reached_known w u o (subst (λ z. IsReached w z) s (type_reached t e h))
+  written_known t u h o s = reached_known w u o (subst (λ z. IsReached w z) s (type_reached t h))
 
   -- an initializer's type says no more than which pointers are unique
   reached_by : (s from : Shape) → IsReached w (settled s) → IsReached w (settled_by s from)
@@ -206,9 +202,9 @@ module _ (w : World) where
   known_by (FatShape s) _ h = h
   known_by _ from h = h
 
-  pub settled_known : (t : TypeName) (from : Shape) (u : StaticType) → takes_type supported t ≡ true → BaseThere w t.base → IsObjectType u
+  pub settled_known : (t : TypeName) (from : Shape) (u : StaticType) → BaseThere w t.base → IsObjectType u
       → settled_by (written t) from ≡ shape_of u → IsKnown w (shape_of u)
-  settled_known t from u e h o s = reached_known w u o (subst (λ z. IsReached w z) s (reached_by (written t) from (type_reached t e h)))
+  settled_known t from u h o s = reached_known w u o (subst (λ z. IsReached w z) s (reached_by (written t) from (type_reached t h)))
 
   -- ---- types as lowering takes them
 
@@ -244,9 +240,9 @@ module _ (w : World) where
   }
 
   -- the type of a variable
-  pub object_type : (t : TypeName) (u : StaticType) → takes_type supported t ≡ true → BaseThere w t.base → IsObjectType u
+  pub object_type : (t : TypeName) (u : StaticType) → BaseThere w t.base → IsObjectType u
       → settled (written t) ≡ shape_of u → lowering.IsObjectType w.unions w.structs t
-  object_type t u e h o s = known_type t (subst (λ z. IsKnown w z) (sym s) (written_known t u e h o s))
+  object_type t u h o s = known_type t (subst (λ z. IsKnown w z) (sym s) (written_known t u h o s))
 
   -- that of a variable with an initializer
   pub settled_type : (t : TypeName) (from : Shape) (u : StaticType) → IsKnown w (shape_of u) → settled_by (written t) from ≡ shape_of u
@@ -254,10 +250,10 @@ module _ (w : World) where
   settled_type t from u k s = known_type t (known_by (written t) from (subst (λ z. IsKnown w z) (sym s) k))
 
   -- that of a parameter
-  pub word_type : (t : TypeName) (u : StaticType) → takes_type supported t ≡ true → BaseThere w t.base → IsObjectType u → IsWord u
+  pub word_type : (t : TypeName) (u : StaticType) → BaseThere w t.base → IsObjectType u → IsWord u
       → settled (written t) ≡ shape_of u → lowering.IsWordType t
-  word_type t u e h o i s =
-      let k : lowering.IsObjectType w.unions w.structs t = object_type t u e h o s in
+  word_type t u h o i s =
+      let k : lowering.IsObjectType w.unions w.structs t = object_type t u h o s in
       record { base = k.base; word = subst (λ z. IsOperandShape z) (sym s) (word_shape u i) }
 
 -- ---- `void` and `int`
@@ -277,53 +273,53 @@ no_int (ThinShape b o s) h e = cc
 no_int (FatShape s) h e = cc
 no_int _ h e = h
 
-void_written : (t : TypeName) → takes_type supported t ≡ true → settled (written t) ≡ VoidShape → IsVoidType t
-void_written t e s =
-    by t.base t.pointers (and_parts (takes_base supported t.base) (takes_pointers supported t.pointers) e).0 s
+void_written : (t : TypeName) → settled (written t) ≡ VoidShape → IsVoidType t
+void_written t s =
+    by t.base t.pointers s
   where
-    by : (b : tree.Base) (ps : List Pointer) → takes_base supported b ≡ true
-        → settled (written (record { at = t.at; base = b; pointers = ps })) ≡ VoidShape → IsVoidType (record { at = t.at; base = b; pointers = ps })
-    by b (p ∷ ps) q s = absurd (no_void (pointed (p ∷ ps) (base_shape b)) (pointers_shape p ps b) s)
-    by tree.Void [] q s = record { pointers = refl; base = tt }
-    by tree.Int [] q s = absurd cc
-    by tree.Unsigned [] q s = absurd cc
-    by tree.Char [] q s = absurd cc
-    by (tree.Struct tag rs) [] q s = absurd cc
-    by (tree.Union tag rs) [] q s = absurd cc
-    by (tree.Handle r) [] q s = absurd cc
-    by (tree.Key r) [] q s = absurd cc
+    by : (b : tree.Base) (ps : List Pointer) → settled (written (record { at = t.at; base = b; pointers = ps })) ≡ VoidShape
+        → IsVoidType (record { at = t.at; base = b; pointers = ps })
+    by b (p ∷ ps) s = absurd (no_void (pointed (p ∷ ps) (base_shape b)) (pointers_shape p ps b) s)
+    by tree.Void [] s = record { pointers = refl; base = tt }
+    by tree.Int [] s = absurd cc
+    by tree.Unsigned [] s = absurd cc
+    by tree.Char [] s = absurd cc
+    by (tree.Struct tag rs) [] s = absurd cc
+    by (tree.Union tag rs) [] s = absurd cc
+    by (tree.Handle r) [] s = absurd cc
+    by (tree.Key r) [] s = absurd cc
 
-pub int_written : (t : TypeName) → takes_type supported t ≡ true → settled (written t) ≡ IntShape → IsIntType t
-int_written t e s =
-    by t.base t.pointers (and_parts (takes_base supported t.base) (takes_pointers supported t.pointers) e).0 s
+pub int_written : (t : TypeName) → settled (written t) ≡ IntShape → IsIntType t
+int_written t s =
+    by t.base t.pointers s
   where
-    by : (b : tree.Base) (ps : List Pointer) → takes_base supported b ≡ true
-        → settled (written (record { at = t.at; base = b; pointers = ps })) ≡ IntShape → IsIntType (record { at = t.at; base = b; pointers = ps })
-    by b (p ∷ ps) q s = absurd (no_int (pointed (p ∷ ps) (base_shape b)) (pointers_shape p ps b) s)
-    by tree.Int [] q s = record { pointers = refl; base = refl }
-    by tree.Void [] q s = absurd cc
-    by tree.Unsigned [] q s = absurd cc
-    by tree.Char [] q s = absurd cc
-    by (tree.Struct tag rs) [] q s = absurd cc
-    by (tree.Union tag rs) [] q s = absurd cc
-    by (tree.Handle r) [] q s = absurd cc
-    by (tree.Key r) [] q s = absurd cc
+    by : (b : tree.Base) (ps : List Pointer) → settled (written (record { at = t.at; base = b; pointers = ps })) ≡ IntShape
+        → IsIntType (record { at = t.at; base = b; pointers = ps })
+    by b (p ∷ ps) s = absurd (no_int (pointed (p ∷ ps) (base_shape b)) (pointers_shape p ps b) s)
+    by tree.Int [] s = record { pointers = refl; base = refl }
+    by tree.Void [] s = absurd cc
+    by tree.Unsigned [] s = absurd cc
+    by tree.Char [] s = absurd cc
+    by (tree.Struct tag rs) [] s = absurd cc
+    by (tree.Union tag rs) [] s = absurd cc
+    by (tree.Handle r) [] s = absurd cc
+    by (tree.Key r) [] s = absurd cc
 
 -- the type of a result
-pub result_takes : (w : World) (t : TypeName) (u : StaticType) → takes_type supported t ≡ true → BaseThere w t.base → IsPlain u
+pub result_takes : (w : World) (t : TypeName) (u : StaticType) → BaseThere w t.base → IsPlain u
     → IsGiven w u → settled (written t) ≡ shape_of u → TakesResult t
-result_takes w t Void e h o i s = GivesNothing (void_written t e s)
-result_takes w t Int e h o i s = GivesWord (word_type w t Int e h o i.0 s)
-result_takes w t Unsigned e h o i s = GivesWord (word_type w t Unsigned e h o i.0 s)
-result_takes w t Char e h o i s = GivesWord (word_type w t Char e h o i.0 s)
-result_takes w t (Thin b r u) e h o i s = GivesWord (word_type w t (Thin b r u) e h o i.0 s)
-result_takes w t (Fat r u) e h o i s = GivesWord (word_type w t (Fat r u) e h o i.0 s)
-result_takes w t (Unique b u) e h o i s = GivesWord (word_type w t (Unique b u) e h o i.0 s)
-result_takes w t (Struct tag rs) e h o i s = absurd i.0
-result_takes w t (Union tag rs) e h o i s = absurd i.0
-result_takes w t (Handle r) e h o i s = GivesWord (word_type w t (Handle r) e h o i.0 s)
-result_takes w t (Key r) e h o i s = GivesWord (word_type w t (Key r) e h o i.0 s)
-result_takes w t _ e h o i s = absurd o
+result_takes w t Void h o i s = GivesNothing (void_written t s)
+result_takes w t Int h o i s = GivesWord (word_type w t Int h o i.0 s)
+result_takes w t Unsigned h o i s = GivesWord (word_type w t Unsigned h o i.0 s)
+result_takes w t Char h o i s = GivesWord (word_type w t Char h o i.0 s)
+result_takes w t (Thin b r u) h o i s = GivesWord (word_type w t (Thin b r u) h o i.0 s)
+result_takes w t (Fat r u) h o i s = GivesWord (word_type w t (Fat r u) h o i.0 s)
+result_takes w t (Unique b u) h o i s = GivesWord (word_type w t (Unique b u) h o i.0 s)
+result_takes w t (Struct tag rs) h o i s = absurd i.0
+result_takes w t (Union tag rs) h o i s = absurd i.0
+result_takes w t (Handle r) h o i s = GivesWord (word_type w t (Handle r) h o i.0 s)
+result_takes w t (Key r) h o i s = GivesWord (word_type w t (Key r) h o i.0 s)
+result_takes w t _ h o i s = absurd o
 
 -- ---- beginnings
 

@@ -9,7 +9,6 @@ use Rattle.cyc_tree.specs.Tree.{Declare, Execute, Expression, Initializer, MoreE
 use Rattle.cyc_words.specs.Events.{SourceEnding}
 use Rattle.source_meaning.specs.Programs.{source}
 use Rattle.source_typing.specs.Answers.{program_faults}
-use Rattle.accepted_programs.specs.Supported.{supported}
 
 abbrev named : ℕ → List ℕ → tree.Name
 named at x = record { at = at; text = x }
@@ -63,7 +62,7 @@ with_a_region =
     })
     ∷ []
 
-no_fault_with_regions : program_faults supported with_a_region ≡ []
+no_fault_with_regions : program_faults with_a_region ≡ []
 no_fault_with_regions = refl
 
 its_ending : (source with_a_region [] 9).ending ≡ SourceEnding.Ended 7

@@ -10,7 +10,6 @@ use Rattle.cyc_words.specs.Events.{SourceEnding}
 use Rattle.source_meaning.specs.Programs.{source}
 use Rattle.source_typing.specs.Answers.{first_fault, program_faults}
 use Rattle.source_typing.specs.Faults.{fault, type_rule}
-use Rattle.source_typing.specs.Taken.{region_structures}
 
 abbrev name_at : ℕ → tree.Name → tree.Name
 name_at at x = record x { at = at }
@@ -80,7 +79,7 @@ copied =
     })
     ∷ []
 
-no_faults : program_faults region_structures copied ≡ []
+no_faults : program_faults copied ≡ []
 no_faults = refl
 
 -- it ends with 7: what x points to is x, which has become y
@@ -152,7 +151,7 @@ parametrized =
     })
     ∷ []
 
-no_fault_with_a_parameter : program_faults region_structures parametrized ≡ []
+no_fault_with_a_parameter : program_faults parametrized ≡ []
 no_fault_with_a_parameter = refl
 
 its_last_value : (source parametrized [] 9).ending ≡ SourceEnding.Ended 7
@@ -194,14 +193,14 @@ of_itself =
     tree.GlobalItem (record { of = to_tag 0 (codes "x"); name = record { at = 10; text = codes "x" }; initial = tree.Initial.Unset })
     ∷ tree.FunctionItem (calling (codes "x")) ∷ []
 
-no_tag_of_itself : first_fault region_structures of_itself ≡ Some (fault type_rule 7)
+no_tag_of_itself : first_fault of_itself ≡ Some (fault type_rule 7)
 no_tag_of_itself = refl
 
 -- int f(struct f *p) { return 0; } and main calls f
 abbrev taking_itself : Program
 taking_itself = tree.FunctionItem (taking 0 (codes "f") (codes "f")) ∷ tree.FunctionItem (calling (codes "f")) ∷ []
 
-no_tag_taking_itself : first_fault region_structures taking_itself ≡ Some (fault type_rule 13)
+no_tag_taking_itself : first_fault taking_itself ≡ Some (fault type_rule 13)
 no_tag_taking_itself = refl
 
 -- two functions that name each other
@@ -209,5 +208,5 @@ abbrev taking_each_other : Program
 taking_each_other =
     tree.FunctionItem (taking 0 (codes "f") (codes "g")) ∷ tree.FunctionItem (taking 40 (codes "g") (codes "f")) ∷ tree.FunctionItem (calling (codes "f")) ∷ []
 
-no_tag_each_other : first_fault region_structures taking_each_other ≡ Some (fault type_rule 13)
+no_tag_each_other : first_fault taking_each_other ≡ Some (fault type_rule 13)
 no_tag_each_other = refl

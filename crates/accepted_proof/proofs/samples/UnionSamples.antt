@@ -11,7 +11,6 @@ use Rattle.cyc_words.specs.Events.{SourceEnding}
 use Rattle.source_meaning.specs.Programs.{source}
 use Rattle.source_typing.specs.Answers.{first_fault, program_faults}
 use Rattle.source_typing.specs.Faults.{fault, type_rule}
-use Rattle.accepted_programs.specs.Supported.{supported}
 
 abbrev named : ℕ → List ℕ → tree.Name
 named at x = record { at = at; text = x }
@@ -84,7 +83,7 @@ switched_by clauses =
 abbrev both : Program
 both = switched_by (of_number (of_pointer NoClauses))
 
-no_faults : program_faults supported both ≡ []
+no_faults : program_faults both ≡ []
 no_faults = refl
 
 its_ending : (source both [] 9).ending ≡ SourceEnding.Ended 7
@@ -94,12 +93,12 @@ its_ending = refl
 abbrev with_default : Program
 with_default = switched_by (of_pointer (MoreClauses 132 Default (Execute (Statement.Return 134 (Some (Expression.Number 136 1 false))) NoItems) NoClauses))
 
-no_faults_with_default : program_faults supported with_default ≡ []
+no_faults_with_default : program_faults with_default ≡ []
 no_faults_with_default = refl
 
 its_ending_with_default : (source with_default [] 9).ending ≡ SourceEnding.Ended 5
 its_ending_with_default = refl
 
 -- a member that no clause names
-one_left_out : first_fault supported (switched_by (of_number NoClauses)) ≡ Some (fault type_rule 72)
+one_left_out : first_fault (switched_by (of_number NoClauses)) ≡ Some (fault type_rule 72)
 one_left_out = refl

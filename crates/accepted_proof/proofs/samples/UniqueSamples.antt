@@ -1,4 +1,5 @@
--- Programs with unique pointers in which the rules find no fault: one that lends, exchanges and frees them, and one with `&` in a unique block where nothing gets.
+-- Programs with unique pointers in which the rules find no fault: one that lends, exchanges and frees them, and one with `&` in a unique block where nothing
+-- gets.
 use Rattle.std.proofs.Common.{◌≡◌, None, Some, [], ◌∷◌, refl}
 use Rattle.cyc_tree.specs.declared.expression.Operator.TheVariants.{Add}
 use Rattle.cyc_tree.specs.declared.expression.Prefix.TheVariants.{AddressOf, Dereference}
@@ -11,7 +12,6 @@ use Rattle.source_meaning.specs.Programs.{source}
 use Rattle.source_meaning.proofs.Trees.{function, named, number, pointer, typed, variable, ◌▸◌, ◌▹◌}
 use Rattle.source_typing.specs.Answers.{first_fault, program_faults}
 use Rattle.source_typing.specs.Faults.{copy_rule, fault}
-use Rattle.accepted_programs.specs.Supported.{supported}
 
 -- int *`U, int *`r, and int *, which takes its region from an initializer
 abbrev unique : TypeName
@@ -67,7 +67,7 @@ blocks =
     NoItems)
     ∷ []
 
-blocks_have_no_faults : program_faults supported blocks ≡ []
+blocks_have_no_faults : program_faults blocks ≡ []
 blocks_have_no_faults = refl
 
 blocks_end : (source blocks [] 30).ending ≡ SourceEnding.Ended 8
@@ -91,12 +91,12 @@ nothing_gets_there = main (
     second_way)
     ∷ []
 
-none_where_nothing_gets : program_faults supported nothing_gets_there ≡ []
+none_where_nothing_gets : program_faults nothing_gets_there ≡ []
 none_where_nothing_gets = refl
 
 -- and where something does
 abbrev gets_there : Program
 gets_there = main ((tree.Local unique (named "x") (Initializer.Value (made (number 1)))) ▹ second_way) ∷ []
 
-copied_there : first_fault supported gets_there ≡ Some (fault copy_rule 70)
+copied_there : first_fault gets_there ≡ Some (fault copy_rule 70)
 copied_there = refl

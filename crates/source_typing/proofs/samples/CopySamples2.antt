@@ -6,13 +6,12 @@ use Rattle.cyc_tree.specs.Tree.{Expression, NoExpressions, MoreExpressions, NoSu
 use Rattle.source_meaning.proofs.Trees.{pointer}
 use Rattle.source_typing.specs.Faults.{fault, type_rule}
 use Rattle.source_typing.specs.Answers.{first_fault}
-use Rattle.source_typing.specs.Taken.{whole}
 use Rattle.source_typing.proofs.samples.SampleTrees.{name_at, type_at, int_at, number, variable_at, returns, member, structure, routine, main_at}
 
 -- no call stands in the places of an exchange
 -- struct B { int *`U p; int x; }; struct B @g(struct B *`U b) { ufree(b); return new B(NULL, 2); } int main() { struct B *`U b = rnew(unique_region) B(NULL,
 -- 1); b->p :=: g(b)->p; return 0; }
-copy_flow_35 : first_fault whole
+copy_flow_35 : first_fault
     ((tree.StructItem (structure 0 (name_at 7 "B") [] ((member (type_at 11 tree.Int ((pointer sign.Nullable (Some (tree.Unique 16))) ∷ [])) (name_at 19 "p")) ∷
     (member (int_at 22) (name_at 26 "x")) ∷ []))) ∷ (tree.FunctionItem (routine (type_at 32 (tree.Struct (name_at 39 "B") []) ((pointer sign.NotNull None) ∷
     [])) (name_at 42 "g") ((member (type_at 44 (tree.Struct (name_at 51 "B") []) ((pointer sign.Nullable (Some (tree.Unique 54))) ∷ [])) (name_at 57 "b")) ∷

@@ -8,11 +8,10 @@ use Rattle.cyc_tree.specs.Tree.{Expression, NoExpressions, MoreExpressions, NoLi
 use Rattle.source_meaning.proofs.Trees.{pointer}
 use Rattle.source_typing.specs.Faults.{fault, region_rule, lent_rule}
 use Rattle.source_typing.specs.Answers.{first_fault}
-use Rattle.source_typing.specs.Taken.{whole}
 use Rattle.source_typing.proofs.samples.SampleTrees.{name_at, region_at, type_at, int_at, number, variable_at, returns, member, routine, main_at}
 
 -- int main() { int @`U p = rnew(unique_region) 4; { let alias<`r> int @`r x = p; int @`r y = x; *y = *x + 1; ufree(p); } return *p; }
-lent_flow_1 : first_fault whole
+lent_flow_1 : first_fault
     ((main_at 0 (Declare (tree.Local (type_at 13 tree.Int ((pointer sign.NotNull (Some (tree.Unique 18))) ∷ [])) (name_at 21 "p") (Initializer.Value
     (Expression.NewIn 25 (Expression.UniqueRegion 30) (One (number 45 4))))) (Execute (Statement.Block 48 (Declare (tree.Alias 50 (region_at 60 "r") (type_at
     64 tree.Int ((pointer sign.NotNull (Some (region_at 69 "r"))) ∷ [])) (name_at 72 "x") (name_at 76 "p")) (Declare (tree.Local (type_at 79 tree.Int
@@ -24,7 +23,7 @@ lent_flow_1 : first_fault whole
 lent_flow_1 = refl
 
 -- int main() { int @`U p = rnew(unique_region) 4; { let alias<`r> int @`r x = p; int @`r y = x; *y = *x + 1; } return *p; }
-lent_flow_2 : first_fault whole
+lent_flow_2 : first_fault
     ((main_at 0 (Declare (tree.Local (type_at 13 tree.Int ((pointer sign.NotNull (Some (tree.Unique 18))) ∷ [])) (name_at 21 "p") (Initializer.Value
     (Expression.NewIn 25 (Expression.UniqueRegion 30) (One (number 45 4))))) (Execute (Statement.Block 48 (Declare (tree.Alias 50 (region_at 60 "r") (type_at
     64 tree.Int ((pointer sign.NotNull (Some (region_at 69 "r"))) ∷ [])) (name_at 72 "x") (name_at 76 "p")) (Declare (tree.Local (type_at 79 tree.Int
@@ -36,7 +35,7 @@ lent_flow_2 : first_fault whole
 lent_flow_2 = refl
 
 -- int main() { int *`U p = NULL; { let alias<`r> int *`r x = p; p = NULL; } return 0; }
-lent_flow_3 : first_fault whole
+lent_flow_3 : first_fault
     ((main_at 0 (Declare (tree.Local (type_at 13 tree.Int ((pointer sign.Nullable (Some (tree.Unique 18))) ∷ [])) (name_at 21 "p") (Initializer.Value
     (Expression.Null 25))) (Execute (Statement.Block 31 (Declare (tree.Alias 33 (region_at 43 "r") (type_at 47 tree.Int ((pointer sign.Nullable (Some
     (region_at 52 "r"))) ∷ [])) (name_at 55 "x") (name_at 59 "p")) (Execute (Statement.Run (Expression.Assign (variable_at 62 "p") (Expression.Null 66)))
@@ -45,7 +44,7 @@ lent_flow_3 : first_fault whole
 lent_flow_3 = refl
 
 -- int main() { int *`U p = NULL; { let alias<`r> int *`r x = p; if (p == NULL) ; } return 0; }
-lent_flow_4 : first_fault whole
+lent_flow_4 : first_fault
     ((main_at 0 (Declare (tree.Local (type_at 13 tree.Int ((pointer sign.Nullable (Some (tree.Unique 18))) ∷ [])) (name_at 21 "p") (Initializer.Value
     (Expression.Null 25))) (Execute (Statement.Block 31 (Declare (tree.Alias 33 (region_at 43 "r") (type_at 47 tree.Int ((pointer sign.Nullable (Some
     (region_at 52 "r"))) ∷ [])) (name_at 55 "x") (name_at 59 "p")) (Execute (Statement.If 62 (Expression.Chain (variable_at 66 "p") (MoreLinks Equal
@@ -54,7 +53,7 @@ lent_flow_4 : first_fault whole
 lent_flow_4 = refl
 
 -- int main() { int *`U p = NULL; int *`U q = NULL; { let alias<`r> int *`r x = p; q :=: p; } return 0; }
-lent_flow_5 : first_fault whole
+lent_flow_5 : first_fault
     ((main_at 0 (Declare (tree.Local (type_at 13 tree.Int ((pointer sign.Nullable (Some (tree.Unique 18))) ∷ [])) (name_at 21 "p") (Initializer.Value
     (Expression.Null 25))) (Declare (tree.Local (type_at 31 tree.Int ((pointer sign.Nullable (Some (tree.Unique 36))) ∷ [])) (name_at 39 "q")
     (Initializer.Value (Expression.Null 43))) (Execute (Statement.Block 49 (Declare (tree.Alias 51 (region_at 61 "r") (type_at 65 tree.Int ((pointer
@@ -64,7 +63,7 @@ lent_flow_5 : first_fault whole
 lent_flow_5 = refl
 
 -- int main() { int *`U p = NULL; { let alias<`r> int *`r x = p; int *`U q = p; } return 0; }
-lent_flow_6 : first_fault whole
+lent_flow_6 : first_fault
     ((main_at 0 (Declare (tree.Local (type_at 13 tree.Int ((pointer sign.Nullable (Some (tree.Unique 18))) ∷ [])) (name_at 21 "p") (Initializer.Value
     (Expression.Null 25))) (Execute (Statement.Block 31 (Declare (tree.Alias 33 (region_at 43 "r") (type_at 47 tree.Int ((pointer sign.Nullable (Some
     (region_at 52 "r"))) ∷ [])) (name_at 55 "x") (name_at 59 "p")) (Declare (tree.Local (type_at 62 tree.Int ((pointer sign.Nullable (Some (tree.Unique 67)))
@@ -73,7 +72,7 @@ lent_flow_6 : first_fault whole
 lent_flow_6 = refl
 
 -- int main() { int *`U p = NULL; let alias<`r> int *`r x = p; { let alias<`s> int *`s y = p; } return 0; }
-lent_flow_7 : first_fault whole
+lent_flow_7 : first_fault
     ((main_at 0 (Declare (tree.Local (type_at 13 tree.Int ((pointer sign.Nullable (Some (tree.Unique 18))) ∷ [])) (name_at 21 "p") (Initializer.Value
     (Expression.Null 25))) (Declare (tree.Alias 31 (region_at 41 "r") (type_at 45 tree.Int ((pointer sign.Nullable (Some (region_at 50 "r"))) ∷ [])) (name_at
     53 "x") (name_at 57 "p")) (Execute (Statement.Block 60 (Declare (tree.Alias 62 (region_at 72 "s") (type_at 76 tree.Int ((pointer sign.Nullable (Some
@@ -82,7 +81,7 @@ lent_flow_7 : first_fault whole
 lent_flow_7 = refl
 
 -- int main() { int *`U p = NULL; { let alias<`r> int *`r x = p; } { let alias<`r> int *`r x = p; } ufree(p); return 0; }
-lent_flow_8 : first_fault whole
+lent_flow_8 : first_fault
     ((main_at 0 (Declare (tree.Local (type_at 13 tree.Int ((pointer sign.Nullable (Some (tree.Unique 18))) ∷ [])) (name_at 21 "p") (Initializer.Value
     (Expression.Null 25))) (Execute (Statement.Block 31 (Declare (tree.Alias 33 (region_at 43 "r") (type_at 47 tree.Int ((pointer sign.Nullable (Some
     (region_at 52 "r"))) ∷ [])) (name_at 55 "x") (name_at 59 "p")) NoItems)) (Execute (Statement.Block 64 (Declare (tree.Alias 66 (region_at 76 "r") (type_at
@@ -93,7 +92,7 @@ lent_flow_8 = refl
 
 -- a loan ends when the block is left in any way
 -- int main() { int *`U p = NULL; while (1) { let alias<`r> int *`r x = p; break; } ufree(p); return 0; }
-lent_flow_9 : first_fault whole
+lent_flow_9 : first_fault
     ((main_at 0 (Declare (tree.Local (type_at 13 tree.Int ((pointer sign.Nullable (Some (tree.Unique 18))) ∷ [])) (name_at 21 "p") (Initializer.Value
     (Expression.Null 25))) (Execute (Statement.While 31 (number 38 1) (Statement.Block 41 (Declare (tree.Alias 43 (region_at 53 "r") (type_at 57 tree.Int
     ((pointer sign.Nullable (Some (region_at 62 "r"))) ∷ [])) (name_at 65 "x") (name_at 69 "p")) (Execute (Statement.Break 72) NoItems)))) (Execute
@@ -102,7 +101,7 @@ lent_flow_9 : first_fault whole
 lent_flow_9 = refl
 
 -- int main() { int *`U p = NULL; int n = 2; while (n) { n = n - 1; let alias<`r> int *`r x = p; continue; } ufree(p); return 0; }
-lent_flow_10 : first_fault whole
+lent_flow_10 : first_fault
     ((main_at 0 (Declare (tree.Local (type_at 13 tree.Int ((pointer sign.Nullable (Some (tree.Unique 18))) ∷ [])) (name_at 21 "p") (Initializer.Value
     (Expression.Null 25))) (Declare (tree.Local (int_at 31) (name_at 35 "n") (Initializer.Value (number 39 2))) (Execute (Statement.While 42 (variable_at 49
     "n") (Statement.Block 52 (Execute (Statement.Run (Expression.Assign (variable_at 54 "n") (Expression.Chain (variable_at 58 "n") (MoreLinks Subtract
@@ -113,7 +112,7 @@ lent_flow_10 : first_fault whole
 lent_flow_10 = refl
 
 -- int main() { let NewDynamicRegion{<`r> k} = new_ukey(); int *`r p = NULL; { region<`r> h = open(k); p = rnew(h) 5; free_ukey(k); } free_ukey(k); return 0; }
-lent_flow_11 : first_fault whole
+lent_flow_11 : first_fault
     ((main_at 0 (Declare (tree.NewKey 13 (region_at 35 "r") (name_at 39 "k")) (Declare (tree.Local (type_at 56 tree.Int ((pointer sign.Nullable (Some
     (region_at 61 "r"))) ∷ [])) (name_at 64 "p") (Initializer.Value (Expression.Null 68))) (Execute (Statement.Block 74 (Declare (tree.Open 76 (region_at 83
     "r") (name_at 87 "h") (name_at 96 "k")) (Execute (Statement.Run (Expression.Assign (variable_at 100 "p") (Expression.NewIn 104 (variable_at 109 "h") (One
@@ -124,7 +123,7 @@ lent_flow_11 = refl
 
 -- int main() { let NewDynamicRegion{<`r> k} = new_ukey(); int *`r p = NULL; { region<`r> h = open(k); p = rnew(h) 5; } free_ukey(k); int *`r q = new 6; if (q
 -- == NULL) return 1; return 0; }
-lent_flow_12 : first_fault whole
+lent_flow_12 : first_fault
     ((main_at 0 (Declare (tree.NewKey 13 (region_at 35 "r") (name_at 39 "k")) (Declare (tree.Local (type_at 56 tree.Int ((pointer sign.Nullable (Some
     (region_at 61 "r"))) ∷ [])) (name_at 64 "p") (Initializer.Value (Expression.Null 68))) (Execute (Statement.Block 74 (Declare (tree.Open 76 (region_at 83
     "r") (name_at 87 "h") (name_at 96 "k")) (Execute (Statement.Run (Expression.Assign (variable_at 100 "p") (Expression.NewIn 104 (variable_at 109 "h") (One
@@ -136,7 +135,7 @@ lent_flow_12 : first_fault whole
 lent_flow_12 = refl
 
 -- int main() { let NewDynamicRegion{<`r> k} = new_ukey(); { region<`r> h = open(k); region<`r> g = open(k); } return 0; }
-lent_flow_13 : first_fault whole
+lent_flow_13 : first_fault
     ((main_at 0 (Declare (tree.NewKey 13 (region_at 35 "r") (name_at 39 "k")) (Execute (Statement.Block 56 (Declare (tree.Open 58 (region_at 65 "r") (name_at
     69 "h") (name_at 78 "k")) (Declare (tree.Open 82 (region_at 89 "r") (name_at 93 "g") (name_at 102 "k")) NoItems))) (Execute (returns 108 (number 115 0))
     NoItems))) 118) ∷ [])
@@ -144,7 +143,7 @@ lent_flow_13 : first_fault whole
 lent_flow_13 = refl
 
 -- void f(uregion_key_t<`r> k) { free_ukey(k); } int main() { let NewDynamicRegion{<`r> k} = new_ukey(); { region<`r> h = open(k); f(k); } return 0; }
-lent_flow_14 : first_fault whole
+lent_flow_14 : first_fault
     ((tree.FunctionItem (routine (type_at 0 tree.Void []) (name_at 5 "f") ((member (type_at 7 (tree.Key (region_at 21 "r")) []) (name_at 25 "k")) ∷ []) None []
     (Execute (Statement.FreeKey 30 (name_at 40 "k")) NoItems) 44)) ∷ (main_at 46 (Declare (tree.NewKey 59 (region_at 81 "r") (name_at 85 "k")) (Execute
     (Statement.Block 102 (Declare (tree.Open 104 (region_at 111 "r") (name_at 115 "h") (name_at 124 "k")) (Execute (Statement.Run (Expression.Call (name_at
@@ -153,7 +152,7 @@ lent_flow_14 : first_fault whole
 lent_flow_14 = refl
 
 -- int main() { let NewDynamicRegion{<`r> k} = new_ukey(); { region<`r> h = open(k); } { region<`r> h = open(k); } free_ukey(k); return 0; }
-lent_flow_15 : first_fault whole
+lent_flow_15 : first_fault
     ((main_at 0 (Declare (tree.NewKey 13 (region_at 35 "r") (name_at 39 "k")) (Execute (Statement.Block 56 (Declare (tree.Open 58 (region_at 65 "r") (name_at
     69 "h") (name_at 78 "k")) NoItems)) (Execute (Statement.Block 84 (Declare (tree.Open 86 (region_at 93 "r") (name_at 97 "h") (name_at 106 "k")) NoItems))
     (Execute (Statement.FreeKey 112 (name_at 122 "k")) (Execute (returns 126 (number 133 0)) NoItems))))) 136) ∷ [])
@@ -163,7 +162,7 @@ lent_flow_15 = refl
 -- a dynamic region is live while it is open
 -- int main() { let NewDynamicRegion{<`r> k} = new_ukey(); int *`r p = NULL; { region<`r> h = open(k); p = rnew(h) 5; } free_ukey(k); int *`r q = new 6; if (q
 -- == NULL) return 1; if (q == p) return 2; return 0; }
-lent_flow_16 : first_fault whole
+lent_flow_16 : first_fault
     ((main_at 0 (Declare (tree.NewKey 13 (region_at 35 "r") (name_at 39 "k")) (Declare (tree.Local (type_at 56 tree.Int ((pointer sign.Nullable (Some
     (region_at 61 "r"))) ∷ [])) (name_at 64 "p") (Initializer.Value (Expression.Null 68))) (Execute (Statement.Block 74 (Declare (tree.Open 76 (region_at 83
     "r") (name_at 87 "h") (name_at 96 "k")) (Execute (Statement.Run (Expression.Assign (variable_at 100 "p") (Expression.NewIn 104 (variable_at 109 "h") (One

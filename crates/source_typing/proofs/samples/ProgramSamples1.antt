@@ -10,12 +10,11 @@ use Rattle.cyc_tree.specs.Tree.{Statement, NoItems, Declare, Execute, NoClauses,
 use Rattle.source_meaning.proofs.Trees.{pointer}
 use Rattle.source_typing.specs.Faults.{fault, name_rule, type_rule, region_rule, outlives_rule, effect_rule}
 use Rattle.source_typing.specs.Answers.{first_fault}
-use Rattle.source_typing.specs.Taken.{whole}
 use Rattle.source_typing.proofs.samples.SampleTrees.{name_at, region_at, type_at, int_at, number, variable_at, returns, member, structure, global, bound}
 use Rattle.source_typing.proofs.samples.SampleTrees.{routine, main_at, main_returns}
 
 -- int main() { region<`a> g; int *`a x = rnew(g) 1; region<`b> h; int *`b y = rnew(h) 2; y = x; x = y; return 0; }
-program_1 : first_fault whole
+program_1 : first_fault
     ((main_at 0 (Declare (tree.Region 13 (region_at 20 "a") (name_at 24 "g")) (Declare (tree.Local (type_at 27 tree.Int ((pointer sign.Nullable (Some
     (region_at 32 "a"))) ∷ [])) (name_at 35 "x") (Initializer.Value (Expression.NewIn 39 (variable_at 44 "g") (One (number 47 1))))) (Declare (tree.Region 50
     (region_at 57 "b") (name_at 61 "h")) (Declare (tree.Local (type_at 64 tree.Int ((pointer sign.Nullable (Some (region_at 69 "b"))) ∷ [])) (name_at 72 "y")
@@ -26,7 +25,7 @@ program_1 : first_fault whole
 program_1 = refl
 
 -- int main() { region<`a> g; int *`a x = rnew(g) 1; region<`b> h; int *`b y = rnew(h) 2; y = x; return 0; }
-program_2 : first_fault whole
+program_2 : first_fault
     ((main_at 0 (Declare (tree.Region 13 (region_at 20 "a") (name_at 24 "g")) (Declare (tree.Local (type_at 27 tree.Int ((pointer sign.Nullable (Some
     (region_at 32 "a"))) ∷ [])) (name_at 35 "x") (Initializer.Value (Expression.NewIn 39 (variable_at 44 "g") (One (number 47 1))))) (Declare (tree.Region 50
     (region_at 57 "b") (name_at 61 "h")) (Declare (tree.Local (type_at 64 tree.Int ((pointer sign.Nullable (Some (region_at 69 "b"))) ∷ [])) (name_at 72 "y")
@@ -36,7 +35,7 @@ program_2 : first_fault whole
 program_2 = refl
 
 -- @tagged union U { int a; char b; }; int main() { union U x = U.b('z'); switch (x) { case {.a = v}: return 1; case {.b = c}: putchar(c); break; } return 0; }
-program_3 : first_fault whole
+program_3 : first_fault
     ((tree.UnionItem (structure 0 (name_at 14 "U") [] ((member (int_at 18) (name_at 22 "a")) ∷ (member (type_at 25 tree.Char []) (name_at 30 "b")) ∷ []))) ∷
     (main_at 36 (Declare (tree.Local (type_at 49 (tree.Union (name_at 55 "U") []) []) (name_at 57 "x") (Initializer.Value (Expression.MakeUnion (name_at 61
     "U") (name_at 63 "b") (Expression.Character 65 122)))) (Execute (Statement.Switch 71 (variable_at 79 "x") (MoreClauses 84 (Case (name_at 91 "a") (name_at
@@ -47,7 +46,7 @@ program_3 : first_fault whole
 program_3 = refl
 
 -- @tagged union U { int a; char b; }; int main() { union U x = U.b('z'); switch (x) { case {.a = v}: return 1; } return 0; }
-program_4 : first_fault whole
+program_4 : first_fault
     ((tree.UnionItem (structure 0 (name_at 14 "U") [] ((member (int_at 18) (name_at 22 "a")) ∷ (member (type_at 25 tree.Char []) (name_at 30 "b")) ∷ []))) ∷
     (main_at 36 (Declare (tree.Local (type_at 49 (tree.Union (name_at 55 "U") []) []) (name_at 57 "x") (Initializer.Value (Expression.MakeUnion (name_at 61
     "U") (name_at 63 "b") (Expression.Character 65 122)))) (Execute (Statement.Switch 71 (variable_at 79 "x") (MoreClauses 84 (Case (name_at 91 "a") (name_at
@@ -56,7 +55,7 @@ program_4 : first_fault whole
 program_4 = refl
 
 -- int main() { int y = 1; int *p = &y; { int x = 2; p = &x; } return *p; }
-program_5 : first_fault whole
+program_5 : first_fault
     ((main_at 0 (Declare (tree.Local (int_at 13) (name_at 17 "y") (Initializer.Value (number 21 1))) (Declare (tree.Local (type_at 24 tree.Int ((pointer
     sign.Nullable None) ∷ [])) (name_at 29 "p") (Initializer.Value (Expression.Prefixed 33 AddressOf (variable_at 34 "y")))) (Execute (Statement.Block 37
     (Declare (tree.Local (int_at 39) (name_at 43 "x") (Initializer.Value (number 47 2))) (Execute (Statement.Run (Expression.Assign (variable_at 50 "p")
@@ -66,7 +65,7 @@ program_5 : first_fault whole
 program_5 = refl
 
 -- int main() { int y = 1; int *p = &y; { int x = 2; } return *p; }
-program_6 : first_fault whole
+program_6 : first_fault
     ((main_at 0 (Declare (tree.Local (int_at 13) (name_at 17 "y") (Initializer.Value (number 21 1))) (Declare (tree.Local (type_at 24 tree.Int ((pointer
     sign.Nullable None) ∷ [])) (name_at 29 "p") (Initializer.Value (Expression.Prefixed 33 AddressOf (variable_at 34 "y")))) (Execute (Statement.Block 37
     (Declare (tree.Local (int_at 39) (name_at 43 "x") (Initializer.Value (number 47 2))) NoItems)) (Execute (returns 52 (Expression.Prefixed 59 Dereference
@@ -75,7 +74,7 @@ program_6 : first_fault whole
 program_6 = refl
 
 -- int g(int *`a p) { return *p; } int f(int *`b p; {}) { return g(p); } int main() { int x = 5; return f(&x); }
-program_7 : first_fault whole
+program_7 : first_fault
     ((tree.FunctionItem (routine (int_at 0) (name_at 4 "g") ((member (type_at 6 tree.Int ((pointer sign.Nullable (Some (region_at 11 "a"))) ∷ [])) (name_at 14
     "p")) ∷ []) None [] (Execute (returns 19 (Expression.Prefixed 26 Dereference (variable_at 27 "p"))) NoItems) 30)) ∷ (tree.FunctionItem (routine (int_at
     32) (name_at 36 "f") ((member (type_at 38 tree.Int ((pointer sign.Nullable (Some (region_at 43 "b"))) ∷ [])) (name_at 46 "p")) ∷ []) (Some []) [] (Execute
@@ -86,7 +85,7 @@ program_7 : first_fault whole
 program_7 = refl
 
 -- int g(int *`a p) { return *p; } int f(int *`b p) { return g(p); } int main() { int x = 5; return f(&x); }
-program_8 : first_fault whole
+program_8 : first_fault
     ((tree.FunctionItem (routine (int_at 0) (name_at 4 "g") ((member (type_at 6 tree.Int ((pointer sign.Nullable (Some (region_at 11 "a"))) ∷ [])) (name_at 14
     "p")) ∷ []) None [] (Execute (returns 19 (Expression.Prefixed 26 Dereference (variable_at 27 "p"))) NoItems) 30)) ∷ (tree.FunctionItem (routine (int_at
     32) (name_at 36 "f") ((member (type_at 38 tree.Int ((pointer sign.Nullable (Some (region_at 43 "b"))) ∷ [])) (name_at 46 "p")) ∷ []) None [] (Execute
@@ -97,7 +96,7 @@ program_8 : first_fault whole
 program_8 = refl
 
 -- int f(int *`a p, int *`b q : `a > `b) { q = p; return *q; } int main() { int x = 1; region<`r> h; int *`r y = rnew(h) 2; return f(y, &x); }
-program_9 : first_fault whole
+program_9 : first_fault
     ((tree.FunctionItem (routine (int_at 0) (name_at 4 "f") ((member (type_at 6 tree.Int ((pointer sign.Nullable (Some (region_at 11 "a"))) ∷ [])) (name_at 14
     "p")) ∷ (member (type_at 17 tree.Int ((pointer sign.Nullable (Some (region_at 22 "b"))) ∷ [])) (name_at 25 "q")) ∷ []) None ((bound (region_at 29 "a")
     (region_at 34 "b")) ∷ []) (Execute (Statement.Run (Expression.Assign (variable_at 40 "q") (variable_at 44 "p"))) (Execute (returns 47 (Expression.Prefixed
@@ -110,7 +109,7 @@ program_9 : first_fault whole
 program_9 = refl
 
 -- int f(int *`a p, int *`b q : `a > `b) { q = p; return *q; } int main() { int x = 1; region<`r> h; int *`r y = rnew(h) 2; return f(&x, y); }
-program_10 : first_fault whole
+program_10 : first_fault
     ((tree.FunctionItem (routine (int_at 0) (name_at 4 "f") ((member (type_at 6 tree.Int ((pointer sign.Nullable (Some (region_at 11 "a"))) ∷ [])) (name_at 14
     "p")) ∷ (member (type_at 17 tree.Int ((pointer sign.Nullable (Some (region_at 22 "b"))) ∷ [])) (name_at 25 "q")) ∷ []) None ((bound (region_at 29 "a")
     (region_at 34 "b")) ∷ []) (Execute (Statement.Run (Expression.Assign (variable_at 40 "q") (variable_at 44 "p"))) (Execute (returns 47 (Expression.Prefixed
@@ -123,7 +122,7 @@ program_10 : first_fault whole
 program_10 = refl
 
 -- int main() { char ? s = "ab"; s[putchar('1') - '0'] = putchar('c'); putchar(s[1]); putchar('0' + numelts(s)); return s[3]; }
-program_11 : first_fault whole
+program_11 : first_fault
     ((main_at 0 (Declare (tree.Local (type_at 13 tree.Char ((pointer sign.Fat None) ∷ [])) (name_at 20 "s") (Initializer.Value (Expression.Text 24 (codes
     "ab")))) (Execute (Statement.Run (Expression.Assign (Expression.Suffixed (variable_at 30 "s") (Index (Expression.Chain (Expression.Call (name_at 32
     "putchar") (MoreExpressions (Expression.Character 40 49) NoExpressions)) (MoreLinks Subtract (Expression.Character 47 48) NoLinks)) NoSuffixes))
@@ -136,7 +135,7 @@ program_11 : first_fault whole
 program_11 = refl
 
 -- int main() { region<`r> h; int ?`r p = rnew(h) {for i < 0 : 1}; if (p == NULL) return 9; return *p; }
-program_12 : first_fault whole
+program_12 : first_fault
     ((main_at 0 (Declare (tree.Region 13 (region_at 20 "r") (name_at 24 "h")) (Declare (tree.Local (type_at 27 tree.Int ((pointer sign.Fat (Some (region_at 32
     "r"))) ∷ [])) (name_at 35 "p") (Initializer.Value (Expression.NewIn 39 (variable_at 44 "h") (Array (name_at 52 "i") (number 56 0) (number 60 1)))))
     (Execute (Statement.If 64 (Expression.Chain (variable_at 68 "p") (MoreLinks Equal (Expression.Null 73) NoLinks)) (returns 79 (number 86 9))) (Execute
@@ -145,7 +144,7 @@ program_12 : first_fault whole
 program_12 = refl
 
 -- int main() { int a[3]; int ? p = a; p = p + 3; return a[3]; }
-program_13 : first_fault whole
+program_13 : first_fault
     ((main_at 0 (Declare (tree.Local (int_at 13) (name_at 17 "a") (Initializer.Elements 3)) (Declare (tree.Local (type_at 23 tree.Int ((pointer sign.Fat None)
     ∷ [])) (name_at 29 "p") (Initializer.Value (variable_at 33 "a"))) (Execute (Statement.Run (Expression.Assign (variable_at 36 "p") (Expression.Chain
     (variable_at 40 "p") (MoreLinks Add (number 44 3) NoLinks)))) (Execute (Statement.Return 47 (Some (Expression.Suffixed (variable_at 54 "a") (Index (number
@@ -154,7 +153,7 @@ program_13 : first_fault whole
 program_13 = refl
 
 -- struct P { int x; int y; }; void f(struct P *p) { p->y = p->x + 1; } int main() { struct P a; a.x = 4; f(&a); return a.y; }
-program_14 : first_fault whole
+program_14 : first_fault
     ((tree.StructItem (structure 0 (name_at 7 "P") [] ((member (int_at 11) (name_at 15 "x")) ∷ (member (int_at 18) (name_at 22 "y")) ∷ []))) ∷
     (tree.FunctionItem (routine (type_at 28 tree.Void []) (name_at 33 "f") ((member (type_at 35 (tree.Struct (name_at 42 "P") []) ((pointer sign.Nullable
     None) ∷ [])) (name_at 45 "p")) ∷ []) None [] (Execute (Statement.Run (Expression.Assign (Expression.Suffixed (variable_at 50 "p") (Arrow (name_at 53 "y")
@@ -167,21 +166,21 @@ program_14 : first_fault whole
 program_14 = refl
 
 -- int x; int y;
-program_15 : first_fault whole
+program_15 : first_fault
     ((tree.GlobalItem (global (int_at 0) (name_at 4 "x") Initial.Unset)) ∷ (tree.GlobalItem (global (int_at 7) (name_at 11 "y") Initial.Unset)) ∷ [])
     ≡ Some (fault name_rule 4294967295)
 program_15 = refl
 
 -- a use of a name whose declaration is at fault is not judged
 -- int main() { return g(); } void g;
-program_16 : first_fault whole
+program_16 : first_fault
     ((main_at 0 (Execute (returns 13 (Expression.Call (name_at 20 "g") NoExpressions)) NoItems) 25) ∷ (tree.GlobalItem (global (type_at 27 tree.Void [])
     (name_at 32 "g") Initial.Unset)) ∷ [])
     ≡ Some (fault type_rule 27)
 program_16 = refl
 
 -- int main() { return f(1); } int f(int x, int x) { return x; }
-program_17 : first_fault whole
+program_17 : first_fault
     ((main_at 0 (Execute (Statement.Return 13 (Some (Expression.Call (name_at 20 "f") (MoreExpressions (number 22 1) NoExpressions)))) NoItems) 26) ∷
     (tree.FunctionItem (routine (int_at 28) (name_at 32 "f") ((member (int_at 34) (name_at 38 "x")) ∷ (member (int_at 41) (name_at 45 "x")) ∷ []) None []
     (Execute (returns 50 (variable_at 57 "x")) NoItems) 60)) ∷ [])
@@ -189,7 +188,7 @@ program_17 : first_fault whole
 program_17 = refl
 
 -- struct S { int a; int a; }; int main() { return S; }
-program_18 : first_fault whole
+program_18 : first_fault
     ((tree.StructItem (structure 0 (name_at 7 "S") [] ((member (int_at 11) (name_at 15 "a")) ∷ (member (int_at 18) (name_at 22 "a")) ∷ []))) ∷ (main_at 28
     (Execute (returns 41 (variable_at 48 "S")) NoItems) 51) ∷ [])
     ≡ Some (fault name_rule 22)
@@ -197,7 +196,7 @@ program_18 = refl
 
 -- tags that misuse each other: in the order of the text
 -- struct A<`r> { struct B<`H> *p; }; struct B { struct A<`H, `H> *p; }; int main() { return 0; }
-program_19 : first_fault whole
+program_19 : first_fault
     ((tree.StructItem (structure 0 (name_at 7 "A") ((region_at 9 "r") ∷ []) ((member (type_at 15 (tree.Struct (name_at 22 "B") ((tree.Heap 24) ∷ [])) ((pointer
     sign.Nullable None) ∷ [])) (name_at 29 "p")) ∷ []))) ∷ (tree.StructItem (structure 35 (name_at 42 "B") [] ((member (type_at 46 (tree.Struct (name_at 53
     "A") ((tree.Heap 55) ∷ (tree.Heap 59) ∷ [])) ((pointer sign.Nullable None) ∷ [])) (name_at 64 "p")) ∷ []))) ∷ (main_returns 70) ∷ [])
@@ -205,7 +204,7 @@ program_19 : first_fault whole
 program_19 = refl
 
 -- struct S { struct S s; }; int main() { return 0; }
-program_20 : first_fault whole
+program_20 : first_fault
     ((tree.StructItem (structure 0 (name_at 7 "S") [] ((member (type_at 11 (tree.Struct (name_at 18 "S") []) []) (name_at 20 "s")) ∷ []))) ∷ (main_returns 26)
     ∷ [])
     ≡ Some (fault type_rule 11)
@@ -213,7 +212,7 @@ program_20 = refl
 
 -- the later tag is at fault by its own, so its use is not judged
 -- struct A { struct B<`H, `H> *p; }; struct B<`r> { void x; }; int main() { return 0; }
-program_21 : first_fault whole
+program_21 : first_fault
     ((tree.StructItem (structure 0 (name_at 7 "A") [] ((member (type_at 11 (tree.Struct (name_at 18 "B") ((tree.Heap 20) ∷ (tree.Heap 24) ∷ [])) ((pointer
     sign.Nullable None) ∷ [])) (name_at 29 "p")) ∷ []))) ∷ (tree.StructItem (structure 35 (name_at 42 "B") ((region_at 44 "r") ∷ []) ((member (type_at 50
     tree.Void []) (name_at 55 "x")) ∷ []))) ∷ (main_returns 61) ∷ [])
@@ -221,7 +220,7 @@ program_21 : first_fault whole
 program_21 = refl
 
 -- struct A { struct B<`H> *p; }; struct B { struct C *q; }; int main() { return 0; }
-program_22 : first_fault whole
+program_22 : first_fault
     ((tree.StructItem (structure 0 (name_at 7 "A") [] ((member (type_at 11 (tree.Struct (name_at 18 "B") ((tree.Heap 20) ∷ [])) ((pointer sign.Nullable None) ∷
     [])) (name_at 25 "p")) ∷ []))) ∷ (tree.StructItem (structure 31 (name_at 38 "B") [] ((member (type_at 42 (tree.Struct (name_at 49 "C") []) ((pointer
     sign.Nullable None) ∷ [])) (name_at 52 "q")) ∷ []))) ∷ (main_returns 58) ∷ [])
@@ -229,7 +228,7 @@ program_22 : first_fault whole
 program_22 = refl
 
 -- struct A { struct B<`H> *p; }; struct B { struct A *q; }; int main() { return 0; }
-program_23 : first_fault whole
+program_23 : first_fault
     ((tree.StructItem (structure 0 (name_at 7 "A") [] ((member (type_at 11 (tree.Struct (name_at 18 "B") ((tree.Heap 20) ∷ [])) ((pointer sign.Nullable None) ∷
     [])) (name_at 25 "p")) ∷ []))) ∷ (tree.StructItem (structure 31 (name_at 38 "B") [] ((member (type_at 42 (tree.Struct (name_at 49 "A") []) ((pointer
     sign.Nullable None) ∷ [])) (name_at 52 "q")) ∷ []))) ∷ (main_returns 58) ∷ [])
@@ -237,21 +236,21 @@ program_23 : first_fault whole
 program_23 = refl
 
 -- struct A { union B *p; }; struct B { int x; }; int main() { return 0; }
-program_24 : first_fault whole
+program_24 : first_fault
     ((tree.StructItem (structure 0 (name_at 7 "A") [] ((member (type_at 11 (tree.Union (name_at 17 "B") []) ((pointer sign.Nullable None) ∷ [])) (name_at 20
     "p")) ∷ []))) ∷ (tree.StructItem (structure 26 (name_at 33 "B") [] ((member (int_at 37) (name_at 41 "x")) ∷ []))) ∷ (main_returns 47) ∷ [])
     ≡ Some (fault type_rule 17)
 program_24 = refl
 
 -- struct A { struct B b; }; struct B { int x; }; int main() { return 0; }
-program_25 : first_fault whole
+program_25 : first_fault
     ((tree.StructItem (structure 0 (name_at 7 "A") [] ((member (type_at 11 (tree.Struct (name_at 18 "B") []) []) (name_at 20 "b")) ∷ []))) ∷ (tree.StructItem
     (structure 26 (name_at 33 "B") [] ((member (int_at 37) (name_at 41 "x")) ∷ []))) ∷ (main_returns 47) ∷ [])
     ≡ Some (fault type_rule 11)
 program_25 = refl
 
 -- struct A { struct B *b; }; struct B { struct A a; }; int main() { return 0; }
-program_26 : first_fault whole
+program_26 : first_fault
     ((tree.StructItem (structure 0 (name_at 7 "A") [] ((member (type_at 11 (tree.Struct (name_at 18 "B") []) ((pointer sign.Nullable None) ∷ [])) (name_at 21
     "b")) ∷ []))) ∷ (tree.StructItem (structure 27 (name_at 34 "B") [] ((member (type_at 38 (tree.Struct (name_at 45 "A") []) []) (name_at 47 "a")) ∷ []))) ∷
     (main_returns 53) ∷ [])
@@ -260,7 +259,7 @@ program_26 = refl
 
 -- a local hides a tag
 -- struct S { int x; }; int main() { int S; struct S *p = NULL; return 0; }
-program_27 : first_fault whole
+program_27 : first_fault
     ((tree.StructItem (structure 0 (name_at 7 "S") [] ((member (int_at 11) (name_at 15 "x")) ∷ []))) ∷ (main_at 21 (Declare (tree.Local (int_at 34) (name_at 38
     "S") Initializer.Unset) (Declare (tree.Local (type_at 41 (tree.Struct (name_at 48 "S") []) ((pointer sign.Nullable None) ∷ [])) (name_at 51 "p")
     (Initializer.Value (Expression.Null 55))) (Execute (returns 61 (number 68 0)) NoItems))) 71) ∷ [])
@@ -268,14 +267,14 @@ program_27 : first_fault whole
 program_27 = refl
 
 -- int f(uregion_key_t<`r> k; {`r}) { return 0; } int main() { return 0; }
-program_28 : first_fault whole
+program_28 : first_fault
     ((tree.FunctionItem (routine (int_at 0) (name_at 4 "f") ((member (type_at 6 (tree.Key (region_at 20 "r")) []) (name_at 24 "k")) ∷ []) (Some ((region_at 28
     "r") ∷ [])) [] (Execute (returns 35 (number 42 0)) NoItems) 45)) ∷ (main_returns 47) ∷ [])
     ≡ Some (fault effect_rule 28)
 program_28 = refl
 
 -- struct P { int x; }; int f(struct P *`b p) { int x = *p; return 0; } int main() { return 0; }
-program_29 : first_fault whole
+program_29 : first_fault
     ((tree.StructItem (structure 0 (name_at 7 "P") [] ((member (int_at 11) (name_at 15 "x")) ∷ []))) ∷ (tree.FunctionItem (routine (int_at 21) (name_at 25 "f")
     ((member (type_at 27 (tree.Struct (name_at 34 "P") []) ((pointer sign.Nullable (Some (region_at 37 "b"))) ∷ [])) (name_at 40 "p")) ∷ []) None [] (Declare
     (tree.Local (int_at 45) (name_at 49 "x") (Initializer.Value (Expression.Prefixed 53 Dereference (variable_at 54 "p")))) (Execute (returns 57 (number 64
@@ -284,28 +283,28 @@ program_29 : first_fault whole
 program_29 = refl
 
 -- int main(void *x) { return 0; }
-program_30 : first_fault whole
+program_30 : first_fault
     ((tree.FunctionItem (routine (int_at 0) (name_at 4 "main") ((member (type_at 9 tree.Void ((pointer sign.Nullable None) ∷ [])) (name_at 15 "x")) ∷ []) None
     [] (Execute (returns 20 (number 27 0)) NoItems) 30)) ∷ [])
     ≡ Some (fault type_rule 9)
 program_30 = refl
 
 -- int main(int x) { return x; }
-program_31 : first_fault whole
+program_31 : first_fault
     ((tree.FunctionItem (routine (int_at 0) (name_at 4 "main") ((member (int_at 9) (name_at 13 "x")) ∷ []) None [] (Execute (returns 18 (variable_at 25 "x"))
     NoItems) 28)) ∷ [])
     ≡ Some (fault type_rule 4)
 program_31 = refl
 
 -- int main(; {}) { }
-program_32 : first_fault whole
+program_32 : first_fault
     ((tree.FunctionItem (routine (int_at 0) (name_at 4 "main") [] (Some []) [] NoItems 17)) ∷ [])
     ≡ None
 program_32 = refl
 
 -- a missing region of an initializer that is not judged
 -- int main() { int *p = f(1); char c = p; return 0; } int *f(int x, int x) { return NULL; }
-program_33 : first_fault whole
+program_33 : first_fault
     ((main_at 0 (Declare (tree.Local (type_at 13 tree.Int ((pointer sign.Nullable None) ∷ [])) (name_at 18 "p") (Initializer.Value (Expression.Call (name_at 22
     "f") (MoreExpressions (number 24 1) NoExpressions)))) (Declare (tree.Local (type_at 28 tree.Char []) (name_at 33 "c") (Initializer.Value (variable_at 37
     "p"))) (Execute (returns 40 (number 47 0)) NoItems))) 50) ∷ (tree.FunctionItem (routine (type_at 52 tree.Int ((pointer sign.Nullable None) ∷ [])) (name_at
@@ -316,7 +315,7 @@ program_33 = refl
 
 -- its uses are judged where the type is known without
 -- int main() { int y = f(1); *y; return 0; } int f(int x, int x) { return 1; }
-program_34 : first_fault whole
+program_34 : first_fault
     ((main_at 0 (Declare (tree.Local (int_at 13) (name_at 17 "y") (Initializer.Value (Expression.Call (name_at 21 "f") (MoreExpressions (number 23 1)
     NoExpressions)))) (Execute (Statement.Run (Expression.Prefixed 27 Dereference (variable_at 28 "y"))) (Execute (returns 31 (number 38 0)) NoItems))) 41) ∷
     (tree.FunctionItem (routine (int_at 43) (name_at 47 "f") ((member (int_at 49) (name_at 53 "x")) ∷ (member (int_at 56) (name_at 60 "x")) ∷ []) None []

@@ -8,12 +8,11 @@ use Rattle.cyc_tree.specs.Tree.{MoreClauses, Constant, Initial}
 use Rattle.source_meaning.proofs.Trees.{pointer}
 use Rattle.source_typing.specs.Faults.{fault, type_rule, region_rule, effect_rule}
 use Rattle.source_typing.specs.Answers.{first_fault}
-use Rattle.source_typing.specs.Taken.{whole}
 use Rattle.source_typing.proofs.samples.SampleTrees.{name_at, region_at, type_at, int_at, number, variable_at, returns, member, structure, global, routine}
 use Rattle.source_typing.proofs.samples.SampleTrees.{main_at, main_returns}
 
 -- int f() { return *x; } int x = NULL; int main() { return 0; }
-program_35 : first_fault whole
+program_35 : first_fault
     ((tree.FunctionItem (routine (int_at 0) (name_at 4 "f") [] None [] (Execute (returns 10 (Expression.Prefixed 17 Dereference (variable_at 18 "x"))) NoItems)
     21)) ∷ (tree.GlobalItem (global (int_at 23) (name_at 27 "x") (Initial.Given (Constant.Null 31)))) ∷ (main_returns 37) ∷ [])
     ≡ Some (fault type_rule 31)
@@ -21,7 +20,7 @@ program_35 = refl
 
 -- a clause that is not reachable
 -- @tagged union U { int a; char b; }; int main() { union U x = U.a(1); return 0; switch (x) { default: ; } }
-program_36 : first_fault whole
+program_36 : first_fault
     ((tree.UnionItem (structure 0 (name_at 14 "U") [] ((member (int_at 18) (name_at 22 "a")) ∷ (member (type_at 25 tree.Char []) (name_at 30 "b")) ∷ []))) ∷
     (main_at 36 (Declare (tree.Local (type_at 49 (tree.Union (name_at 55 "U") []) []) (name_at 57 "x") (Initializer.Value (Expression.MakeUnion (name_at 61
     "U") (name_at 63 "a") (number 65 1)))) (Execute (returns 69 (number 76 0)) (Execute (Statement.Switch 79 (variable_at 87 "x") (MoreClauses 92 Default
@@ -31,7 +30,7 @@ program_36 = refl
 
 -- the leftmost region first
 -- int f(int *`r *`r p) { return 0; } int main() { int x; int *p = &x; return f(new p); }
-program_37 : first_fault whole
+program_37 : first_fault
     ((tree.FunctionItem (routine (int_at 0) (name_at 4 "f") ((member (type_at 6 tree.Int ((pointer sign.Nullable (Some (region_at 11 "r"))) ∷ (pointer
     sign.Nullable (Some (region_at 15 "r"))) ∷ [])) (name_at 18 "p")) ∷ []) None [] (Execute (returns 23 (number 30 0)) NoItems) 33)) ∷ (main_at 35 (Declare
     (tree.Local (int_at 48) (name_at 52 "x") Initializer.Unset) (Declare (tree.Local (type_at 55 tree.Int ((pointer sign.Nullable None) ∷ [])) (name_at 60
@@ -42,7 +41,7 @@ program_37 = refl
 
 -- `NULL` fixes no region
 -- int f(int *`r p, int *`r q) { return 0; } int main() { int x; *f(NULL, &x); return 0; }
-program_38 : first_fault whole
+program_38 : first_fault
     ((tree.FunctionItem (routine (int_at 0) (name_at 4 "f") ((member (type_at 6 tree.Int ((pointer sign.Nullable (Some (region_at 11 "r"))) ∷ [])) (name_at 14
     "p")) ∷ (member (type_at 17 tree.Int ((pointer sign.Nullable (Some (region_at 22 "r"))) ∷ [])) (name_at 25 "q")) ∷ []) None [] (Execute (returns 30
     (number 37 0)) NoItems) 40)) ∷ (main_at 42 (Declare (tree.Local (int_at 55) (name_at 59 "x") Initializer.Unset) (Execute (Statement.Run
@@ -53,7 +52,7 @@ program_38 = refl
 
 -- the effect of the call has a closed dynamic region
 -- int g(int *`a p) { return 0; } int main() { let NewDynamicRegion{<`r> k} = new_ukey(); int *`r p = NULL; return g(p); }
-program_39 : first_fault whole
+program_39 : first_fault
     ((tree.FunctionItem (routine (int_at 0) (name_at 4 "g") ((member (type_at 6 tree.Int ((pointer sign.Nullable (Some (region_at 11 "a"))) ∷ [])) (name_at 14
     "p")) ∷ []) None [] (Execute (returns 19 (number 26 0)) NoItems) 29)) ∷ (main_at 31 (Declare (tree.NewKey 44 (region_at 66 "r") (name_at 70 "k")) (Declare
     (tree.Local (type_at 87 tree.Int ((pointer sign.Nullable (Some (region_at 92 "r"))) ∷ [])) (name_at 95 "p") (Initializer.Value (Expression.Null 99)))
@@ -63,7 +62,7 @@ program_39 = refl
 
 -- int g(int *`a p) { return 0; } int main() { let NewDynamicRegion{<`r> k} = new_ukey(); int *`r p = NULL; { region<`r> h = open(k); g(p); } free_ukey(k);
 -- return 0; }
-program_40 : first_fault whole
+program_40 : first_fault
     ((tree.FunctionItem (routine (int_at 0) (name_at 4 "g") ((member (type_at 6 tree.Int ((pointer sign.Nullable (Some (region_at 11 "a"))) ∷ [])) (name_at 14
     "p")) ∷ []) None [] (Execute (returns 19 (number 26 0)) NoItems) 29)) ∷ (main_at 31 (Declare (tree.NewKey 44 (region_at 66 "r") (name_at 70 "k")) (Declare
     (tree.Local (type_at 87 tree.Int ((pointer sign.Nullable (Some (region_at 92 "r"))) ∷ [])) (name_at 95 "p") (Initializer.Value (Expression.Null 99)))
@@ -76,7 +75,7 @@ program_40 = refl
 -- the region of a key parameter is not in the effect
 -- int g(uregion_key_t<`a> k, int *`a p) { free_ukey(k); return 0; } int main() { let NewDynamicRegion{<`r> k} = new_ukey(); int *`r p = NULL; return g(k, p);
 -- }
-program_41 : first_fault whole
+program_41 : first_fault
     ((tree.FunctionItem (routine (int_at 0) (name_at 4 "g") ((member (type_at 6 (tree.Key (region_at 20 "a")) []) (name_at 24 "k")) ∷ (member (type_at 27
     tree.Int ((pointer sign.Nullable (Some (region_at 32 "a"))) ∷ [])) (name_at 35 "p")) ∷ []) None [] (Execute (Statement.FreeKey 40 (name_at 50 "k"))
     (Execute (returns 54 (number 61 0)) NoItems)) 64)) ∷ (main_at 66 (Declare (tree.NewKey 79 (region_at 101 "r") (name_at 105 "k")) (Declare (tree.Local
@@ -87,7 +86,7 @@ program_41 : first_fault whole
 program_41 = refl
 
 -- int g(uregion_key_t<`a> k, int *`a p) { free_ukey(k); return *p; } int main() { return 0; }
-program_42 : first_fault whole
+program_42 : first_fault
     ((tree.FunctionItem (routine (int_at 0) (name_at 4 "g") ((member (type_at 6 (tree.Key (region_at 20 "a")) []) (name_at 24 "k")) ∷ (member (type_at 27
     tree.Int ((pointer sign.Nullable (Some (region_at 32 "a"))) ∷ [])) (name_at 35 "p")) ∷ []) None [] (Execute (Statement.FreeKey 40 (name_at 50 "k"))
     (Execute (returns 54 (Expression.Prefixed 61 Dereference (variable_at 62 "p"))) NoItems)) 65)) ∷ (main_returns 67) ∷ [])

@@ -9,7 +9,6 @@ use Rattle.source_typing.specs.Faults.{Fault, fault, size_rule}
 use Rattle.source_typing.specs.Scope.{at_item}
 use Rattle.source_typing.specs.Globals.{item_statics, total_faults}
 use Rattle.source_typing.specs.Answers.{first_fault}
-use Rattle.source_typing.specs.Taken.{whole}
 use Rattle.source_typing.proofs.samples.SampleTrees.{name_at, type_at, int_at, number, returns, global, main_at, main_returns}
 
 -- So many arrays of 4,096 bytes, 20 bytes of text for each, the first one last. Each has a name of its own.
@@ -18,11 +17,11 @@ arrays zero = []
 arrays (suc n) = arrays n ++ tree.GlobalItem (global (int_at (n * 20)) (record { at = n * 20 + 4; text = n ∷ [] }) (Initial.Elements 1024)) ∷ []
 
 -- 256 arrays are 1,048,576 bytes
-total_fits : first_fault whole (arrays 256 ++ main_returns 6000 ∷ []) ≡ None
+total_fits : first_fault (arrays 256 ++ main_returns 6000 ∷ []) ≡ None
 total_fits = refl
 
 -- one more passes the limit, at its first token
-total_passed : first_fault whole (arrays 257 ++ main_returns 6000 ∷ []) ≡ Some (fault size_rule 5120)
+total_passed : first_fault (arrays 257 ++ main_returns 6000 ∷ []) ≡ Some (fault size_rule 5120)
 total_passed = refl
 
 -- the faults of an item after 1,048,544 bytes, which leave 32

@@ -1,9 +1,9 @@
--- What is known where an expression is judged, which forms are taken, and what prefixes denote.
-use Rattle.std.proofs.Common.{◌≡◌, ℕ, Bool, true, false, Some, List, [], ◌∷◌, refl, ◌∙◌, ap}
+-- What is known where an expression is judged, and what prefixes denote.
+use Rattle.std.proofs.Common.{◌≡◌, ℕ, true, false, Some, List, [], ◌∷◌, refl, ◌∙◌, ap}
 use Rattle.std.specs.Prelude.{◌&&◌, not, ◌++◌, ◌^◌, ◌-◌}
 use Rattle.cyc_tree.specs.Operands.{AreSome}
 use Rattle.cyc_tree.specs.Tree as tree
-use Rattle.cyc_tree.specs.Tree.{Expression, Expressions, NoExpressions, MoreExpressions, Suffixes, Made}
+use Rattle.cyc_tree.specs.Tree.{Expression, Expressions, NoExpressions, MoreExpressions}
 use Rattle.cyc_tree.specs.declared.expression.Operator.TheVariants.{Subtract, BitXor}
 use Rattle.cyc_tree.specs.declared.expression.Prefix.{Prefix}
 use Rattle.cyc_tree.specs.declared.expression.Prefix.TheVariants as prefix
@@ -20,13 +20,11 @@ use Rattle.source_typing.specs.Operators.{applied_to}
 use Rattle.source_typing.specs.Places as places
 use Rattle.source_typing.specs.Scope.{Env, Enclosing, Value, Seat, Nowhere, In, InBlock, value, meant}
 use Rattle.source_typing.specs.Tables.{OfFunction, Signature, find}
-use Rattle.source_typing.specs.Taken.{taken, if_taken, takes_prefix}
 use Rattle.source_typing.specs.Types.{StaticType, Int, is_integer, is_testable, is_unique, integer_type}
 use Rattle.source_typing.specs.Flow.{use_of, use_all}
 use Rattle.source_typing.specs.Moves.{Use, nothing, prefixed_use, is_moved, is_unique_value, in_block}
 use Rattle.source_typing.specs.States.{States, Passed, passed}
 use Rattle.type_proof.specs.Flat.{Tables}
-use Rattle.type_proof.specs.Judged.{safe_forms}
 use Rattle.type_proof.proofs.invariant.Layouts.{Structs}
 use Rattle.type_proof.proofs.invariant.Names.{NameOf}
 use Rattle.type_proof.proofs.invariant.Scenes.{Binds}
@@ -40,19 +38,6 @@ use Rattle.type_proof.proofs.expressions.WordRules.{Valued, fitted}
 use Rattle.type_proof.proofs.expressions.Forms.{Denotes, uncopied_type, whole_is}
 use Rattle.type_proof.proofs.expressions.Contents.{denotes_contents, denotes_address}
 use Rattle.type_proof.proofs.expressions.Applied.{denotes_signed, denotes_tested, denotes_tells}
-
--- ---- which forms there are
-
--- makings that are taken, and their parts
-pub new_taken : (b : Bool) (at : ℕ) (m new : Made) → if_taken b at (Expression.New at m) ≡ Expression.New at new → (b ≡ true) × (m ≡ new)
-new_taken true at m new p = (refl, cc)
-new_taken false at m new p = absurd cc
-
-pub new_in_taken : (c b : Bool) (at : ℕ) (y x : Expression) (m new : Made)
-    → if_taken (c && b) at (Expression.NewIn at y m) ≡ Expression.NewIn at x new → (b ≡ true) × (y ≡ x) × (m ≡ new)
-new_in_taken true true at y x m new p = (refl, cc, cc)
-new_in_taken true false at y x m new p = absurd cc
-new_in_taken false b at y x m new p = absurd cc
 
 -- the unique region is looked at without a word
 pub unique_used : (g : Env) (e : Expression) → is_unique_region e ≡ true → (s : States) → (use_of g e).look s ≡ nothing s
@@ -75,23 +60,6 @@ unique_used g (Expression.Chain e es) h s = absurd cc
 unique_used g (Expression.AllOf e es) h s = absurd cc
 unique_used g (Expression.AnyOf e es) h s = absurd cc
 unique_used g (Expression.Assign to from) h s = absurd cc
-
--- a prefix that is taken, and its operand
-pub prefix_taken : (at : ℕ) (o : Prefix) (e : Expression)
-    → if_taken (takes_prefix safe_forms o) at (Expression.Prefixed at o (taken safe_forms e)) ≡ Expression.Prefixed at o e
-    → (takes_prefix safe_forms o ≡ true) × (taken safe_forms e ≡ e)
-prefix_taken at prefix.Negate e p = (refl, cc)
-prefix_taken at prefix.Not e p = (refl, cc)
-prefix_taken at prefix.Complement e p = (refl, cc)
-prefix_taken at prefix.Dereference e p = (refl, cc)
-prefix_taken at prefix.AddressOf e p = (refl, cc)
-
--- suffixes that are taken, and what they stand behind
-pub suffixed_taken : (c b : Bool) (at : ℕ) (y x : Expression) (zs es : Suffixes) → if_taken (c && b) at (Expression.Suffixed y zs) ≡ Expression.Suffixed x es
-    → (b ≡ true) × (y ≡ x) × (zs ≡ es)
-suffixed_taken true true at y x zs es p = (refl, cc, cc)
-suffixed_taken true false at y x zs es p = absurd cc
-suffixed_taken false b at y x zs es p = absurd cc
 
 -- ---- what arguments do to the states
 
@@ -135,35 +103,34 @@ module _ (n : ℕ) (d : Tables) (g : Env) (scope : Scope) (f : NameOf → Region
     pub some : AreSome es → (is_testable a.type ≡ true) × Valued v Int
 
   -- a prefix
-  pub prefixed_sound : (i : Enclosing) (at : ℕ) (p : Prefix) (e : Sense) (a v : Value) (u : Use) (y : Verdict Value) → takes_prefix safe_forms p ≡ true
-      → y ≡ Of a → Denotes n d g scope f b low a u e
+  pub prefixed_sound : (i : Enclosing) (at : ℕ) (p : Prefix) (e : Sense) (a v : Value) (u : Use) (y : Verdict Value) → y ≡ Of a → Denotes n d g scope f b low a u e
       → rules.prefixed (within i g) at p a ≡ Of v → Denotes n d g scope f b low v (prefixed_use (within i g) at p y u) (calls.prefixed scope.world p e)
-  prefixed_sound i at prefix.Negate e a v u y k same h j = denotes_signed n d g scope f b low i setting.strict Subtract at 0 a v u e by h j
+  prefixed_sound i at prefix.Negate e a v u y same h j = denotes_signed n d g scope f b low i setting.strict Subtract at 0 a v u e by h j
     where
       by : (s : IntegerType) → applied_to (within i g) Subtract at Int (integer_type s)
           ≡ after (if_fits (is_integer (integer_type s)) at (rules.promoted (integer_type s))) (value at)
       by AsInt = refl
       by AsUnsigned = refl
       by AsChar = refl
-  prefixed_sound i at prefix.Complement e a v u y k same h j = denotes_signed n d g scope f b low i setting.strict BitXor at (2 ^ 32 - 1) a v u e by h j
+  prefixed_sound i at prefix.Complement e a v u y same h j = denotes_signed n d g scope f b low i setting.strict BitXor at (2 ^ 32 - 1) a v u e by h j
     where
       by : (s : IntegerType) → applied_to (within i g) BitXor at Int (integer_type s)
           ≡ after (if_fits (is_integer (integer_type s)) at (rules.promoted (integer_type s))) (value at)
       by AsInt = refl
       by AsUnsigned = refl
       by AsChar = refl
-  prefixed_sound i at prefix.Not e a v u y k same h j =
+  prefixed_sound i at prefix.Not e a v u y same h j =
       let r : (is_testable a.type ≡ true) × Valued v Int = fitted (is_testable a.type) at at Int v j in
       denotes_tested n d g scope f b low v u.look (inverted (truth e)) r.1
       (λ s z. tells_not n d g scope f b low s (u.look s).states (truth e) (denotes_tells n d g scope f b low a u e h r.0 s z))
-  prefixed_sound i at prefix.Dereference e a v u y k same h j =
+  prefixed_sound i at prefix.Dereference e a v u y same h j =
       denotes_contents n d g scope f b low i setting.strict setting.structs at at
       (is_moved (within i g) (after y (places.contents (within i g) at)))
       (is_unique_value y && not u.whole) a v u e
       (uncopied_type (within i g) (after y (places.contents (within i g) at)) v
       (ap (λ (q : Verdict Value). after q (places.contents (within i g) at)) same ∙ j))
       (λ q c t z. whole_is (is_unique_value y) u.whole (ap is_unique_value same ∙ ap is_unique z) q) h j
-  prefixed_sound i at prefix.AddressOf e a v u y k same h j = denotes_address n d g scope f b low at at (in_block y) a v u e
+  prefixed_sound i at prefix.AddressOf e a v u y same h j = denotes_address n d g scope f b low at at (in_block y) a v u e
       (λ z. ap in_block same ∙ block_is a.at a.type a.seat z) h j
     where
       block_is : (place : ℕ) (t : StaticType) (s : Seat) → s ≡ InBlock → in_block (Of (record { at = place; type = t; seat = s })) ≡ true

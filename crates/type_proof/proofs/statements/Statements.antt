@@ -54,7 +54,7 @@ module _ (n : ℕ) (d : Tables) (world : World) (tables : typing.Tables) (invoke
     plain = h.plain;
     functions = h.functions;
     strict = h.strict;
-  }) e g.enclosing a.value still (subst (λ (i : Enclosing). EnclosingBelow g.regions.count i) (sym h.inside) tt) a.is_taken a.operands a.members
+  }) e g.enclosing a.value still (subst (λ (i : Enclosing). EnclosingBelow g.regions.count i) (sym h.inside) tt) a.operands a.members
       (subst (λ (y : World). AreFound y.strings (expression_strings e)) (sym h.world_is) found) a.judged
 
   pub denotes : (g : Env) (scope : Scope) (f : NameOf → Region) (e : Expression) → Surrounds d world tables g scope f gives → (a : Accepted g e)

@@ -5,9 +5,7 @@ use Rattle.cyc_types.specs.declared.region.RegionId.TheVariants.{Level}
 use Rattle.source_typing.specs.Faults.{earliest}
 use Rattle.source_typing.specs.Functions.{body_scope, function_scope, with_parameters}
 use Rattle.source_typing.specs.Statements.{items_faults}
-use Rattle.source_typing.specs.Taken.{function_taken, items_taken}
 use Rattle.check_faults.specs.Faults.{faults_of}
-use Rattle.check_faults.specs.Taken.{taken_of}
 use Rattle.check_statements.specs.Contexts.{StandsIn}
 use Rattle.check_statements.specs.declared.context.Context.{Context}
 use Rattle.check_functions.specs.Bodies.{code_names, types_of}
@@ -19,8 +17,7 @@ returns c g h known is =
     let head = c.args.head in
     let lenient = c.args.lenient in
     let i = c.args.item in
-    let k = taken_of c.args.names.taken in
-    let f = function_taken k (function_tree c.args.function.now) in
+    let f = function_tree c.args.function.now in
     let d : Context = record { result = c.known_type.result; frame = Level c.count.result; item = i; in_loop = false; in_switch = false } in
     let ns = c.into_names-known.result in
     let s = c.in_ok-scope.scope in
@@ -29,15 +26,12 @@ returns c g h known is =
     stands head f h is lenient g i s c.in_ok-scope.ensures.alone d ns (c.in_ok-scope.ensures.known g i f h known is)
     c.into_names-known.ensures c.known_type.ensures (ap Level c.count.ensures) refl refl refl in
     let declared =
-    c.in_ok-declare_parameters.ensures.stands ns (function_scope lenient g i h) f.parameters
+    c.in_ok-declare_parameters.ensures ns (function_scope lenient g i h) f.parameters
     (ap (λ ps. code_names ps) c.as_slice.ensures.value ∙ is.named) begun in
     let inside =
     at_body head f h is lenient g i s c.in_ok-scope.ensures.alone d ns t
     (subst (λ ps. StandsIn d ns 0 t (with_parameters f.parameters (types_of ps) (function_scope lenient g i h))) c.as_slice.ensures.value declared) in
-    let same_taken = c.in_ok-declare_parameters.ensures.taken ∙ c.in_ok-scope.ensures.taken in
     subst (λ b. IfOk c.items_fault.result
-    (λ found. faults_of found ≡ earliest (items_faults (body_scope lenient g i f h) true (items_taken k (items_of (map item_tree b))))))
+    (λ found. faults_of found ≡ earliest (items_faults (body_scope lenient g i f h) true (items_of (map item_tree b)))))
     c.deref.ensures.value
-    (subst (λ n. IfOk c.items_fault.result (λ found. faults_of found
-    ≡ earliest (items_faults (body_scope lenient g i f h) true (items_taken (taken_of n) (items_of (map item_tree c.deref.result.now))))))
-    same_taken (c.items_fault.ensures.fault (body_scope lenient g i f h) inside))
+    (c.items_fault.ensures.fault (body_scope lenient g i f h) inside)

@@ -1,4 +1,4 @@
-use Rattle.std.proofs.Common.{take, subst, sym, ◌∙◌}
+use Rattle.std.proofs.Common.{take, subst, sym}
 use Rattle.source_typing.specs.Functions.{with_parameters}
 use Rattle.check_statements.specs.Contexts.{StandsIn}
 use Rattle.check_functions.specs.Bodies.{types_of}
@@ -6,17 +6,14 @@ use Rattle.check_functions.proofs.Parameters.{all_parameters, next_parameter}
 use Rattle.check_functions.proofs.body.declare_parameters.Goals as goal
 
 pub each-preserved : goal.each-preserved
-each-preserved c = record {
-  stands = λ ns g ms e h.
-      let ps = c.args.parameters.now in
-      let i = c.each.parameter-index in
-      let r = next_parameter i ps ms g c.parameter-item.result c.each-test.true c.parameter-item.is e in
-      subst (λ k. StandsIn c.args.context ns 0 c.declare_parameter.new.scope k) (sym r.2)
-      (c.in_ok-declare_parameter.ensures.stands ns (with_parameters (take i ms) (types_of (take i ps)) g) r.0.name r.1 (c.each.invariant.stands ns g ms e h));
-  taken = c.in_ok-declare_parameter.ensures.taken ∙ c.each.invariant.taken;
-}
+each-preserved c ns g ms e h =
+    let ps = c.args.parameters.now in
+    let i = c.each.parameter-index in
+    let r = next_parameter i ps ms g c.parameter-item.result c.each-test.true c.parameter-item.is e in
+    subst (λ k. StandsIn c.args.context ns 0 c.declare_parameter.new.scope k) (sym r.2)
+    (c.in_ok-declare_parameter.ensures.stands ns (with_parameters (take i ms) (types_of (take i ps)) g) r.0.name r.1 (c.each.invariant ns g ms e h))
 
-pub returns-clause-stands : goal.returns-clause-stands
-returns-clause-stands c ns g ms e h =
+pub returns : goal.returns
+returns c ns g ms e h =
     subst (λ k. StandsIn c.args.context ns 0 c.each.scope k) (all_parameters c.each.parameter-index c.args.parameters.now ms g c.each-test.false e)
-    (c.each.invariant.stands ns g ms e h)
+    (c.each.invariant ns g ms e h)

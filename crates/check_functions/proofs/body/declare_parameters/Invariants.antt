@@ -9,8 +9,6 @@ use Rattle.check_functions.proofs.body.declare_parameters.Given as goal
 
 -- those so far are declared
 abbrev pub invariant-each : goal.invariant-each
-invariant-each l = record {
-  stands : (ns : List RegionNamed) (g : Env) (ms : List Member) → code_names l.parameters ≡ names_of ms → StandsIn l.context ns 0 l.initial.scope g
-      → StandsIn l.context ns 0 l.scope (with_parameters (take l.parameter-index ms) (types_of (take l.parameter-index l.parameters)) g);
-  taken : l.scope.taken ≡ l.initial.scope.taken;
-}
+invariant-each l =
+    (ns : List RegionNamed) (g : Env) (ms : List Member) → code_names l.parameters ≡ names_of ms → StandsIn l.context ns 0 l.initial.scope g
+    → StandsIn l.context ns 0 l.scope (with_parameters (take l.parameter-index ms) (types_of (take l.parameter-index l.parameters)) g)

@@ -13,7 +13,6 @@ returns-clause-known c g i f h known is =
     let s : Scope = record {
       globals = names.globals;
       tables = names.tables;
-      taken = names.taken;
       locals = c.new.result;
       regions = c.begin_block.new.self;
       lenient = c.args.lenient;

@@ -4,9 +4,7 @@ use Rattle.cyc_tree.specs.View.{function_tree}
 use Rattle.source_typing.specs.Faults.{test, type_rule}
 use Rattle.source_typing.specs.Functions.{body_scope, end_reached, head_of}
 use Rattle.source_typing.specs.Statements.{items_faults}
-use Rattle.source_typing.specs.Taken.{function_taken}
 use Rattle.check_faults.specs.Faults.{faults_of}
-use Rattle.check_faults.specs.Taken.{taken_of}
 use Rattle.check_functions.proofs.Bodies.{function_found}
 use Rattle.check_functions.proofs.body.function_fault.Goals as goal
 
@@ -14,8 +12,7 @@ pub returns : goal.returns
 returns c g known =
     let lenient = c.args.lenient in
     let i = c.args.item in
-    let k = c.args.names.taken in
-    let f = function_taken (taken_of k) (function_tree c.args.function.now) in
+    let f = function_tree c.args.function.now in
     let h = head_of lenient g f in
     let is = c.in_ok-head.ensures g known.tag_names in
     ap faults_of c.sooner.ensures

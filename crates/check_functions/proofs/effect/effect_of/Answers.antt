@@ -1,6 +1,6 @@
-use Rattle.std.proofs.Common.{ap, map, refl, subst, ◌∙◌}
+use Rattle.std.proofs.Common.{ap, map, refl, subst, sym, ◌∙◌}
 use Rattle.std.specs.Prelude.{None, Option}
-use Rattle.cyc_tree.specs.View.{region_tree}
+use Rattle.cyc_tree.specs.View.{effect_tree, region_tree}
 use Rattle.cyc_types.specs.Regions.{region_of, regions_of}
 use Rattle.cyc_types.specs.declared.region.RegionId.{RegionId}
 use Rattle.source_typing.specs.Functions.{effect_of, effect_region, levels_but}
@@ -13,15 +13,16 @@ pub returns-in_ok-used-in-Some : goal.returns-in_ok-used-in-Some
 returns-in_ok-used-in-Some c =
     let keys = regions_of c.args.keys.now in
     let lenient = c.args.lenient in
-    let rs = map region_tree c.in-Some.regions.now in
     let u = c.in_ok-used-in-Some.used in
-    subst (λ (e : Option _). IsUsed region_of (effect_of lenient c.args.variables.now keys e) u) c.in-Some.ensures
-    (subst (λ ns. IsUsed region_of (map (effect_region lenient ns keys) rs) u) c.names.ensures c.in_ok-used-in-Some.ensures)
+    subst (λ (e : Option _). IsUsed region_of (effect_of lenient c.args.variables.now keys (effect_tree e)) u) (sym c.in-Some.is)
+    (subst (λ rs. IsUsed region_of (map (effect_region lenient c.args.variables.now.names keys) (map region_tree rs)) u) c.as_slice-written.ensures
+    (subst (λ ns. IsUsed region_of (map (effect_region lenient ns keys) (map region_tree c.as_slice-written.result.now)) u) c.names.ensures
+    c.in_ok-used-in-Some.ensures))
 
 pub returns-in_ok-known-in-None : goal.returns-in_ok-known-in-None
 returns-in_ok-known-in-None c =
     let keys = regions_of c.args.keys.now in
     let vs = c.args.variables.now in
     let u : Used RegionId = record { known = c.in_ok-known-in-None.known; fault = None } in
-    subst (λ (e : Option _). IsUsed region_of (effect_of c.args.lenient vs keys e) u) c.in-None.ensures
+    subst (λ (e : Option _). IsUsed region_of (effect_of c.args.lenient vs keys (effect_tree e)) u) (sym c.in-None.is)
     (levels_used keys vs.count u (c.in_ok-known-in-None.ensures ∙ ap (levels_but keys) c.count.ensures) refl)

@@ -3,9 +3,7 @@ use Rattle.cyc_tree.specs.View.{bound_tree, function_tree}
 use Rattle.cyc_types.specs.Regions.{regions_of}
 use Rattle.check_regions.specs.Fields.{pair_of}
 use Rattle.source_typing.specs.Functions.{bounds_of, result_type}
-use Rattle.source_typing.specs.Taken.{bounds_if, function_taken}
 use Rattle.check_faults.specs.Faults.{faults_of}
-use Rattle.check_faults.specs.Taken.{taken_of}
 use Rattle.check_faults.specs.Verdicts.{shortened}
 use Rattle.check_functions.proofs.Heads.{head_is}
 use Rattle.check_functions.specs.Bodies.{types_of}
@@ -17,17 +15,15 @@ pub returns : goal.returns
 returns c g tags =
     let lenient = c.args.lenient in
     let f = function_tree c.args.function.now in
-    let k = c.args.taken in
-    let t = function_taken (taken_of k) f in
-    let bounds = subst (λ ns. IsUsed pair_of (bounds_of ns t.bounds) c.in_ok-bounds.bounds) c.names-names.ensures
-    (subst (λ bs. IsUsed pair_of (bounds_of c.names-names.result.now (bounds_if k.regions (map bound_tree bs))) c.in_ok-bounds.bounds) c.deref.ensures
+    let bounds = subst (λ ns. IsUsed pair_of (bounds_of ns f.bounds) c.in_ok-bounds.bounds) c.names-names.ensures
+    (subst (λ bs. IsUsed pair_of (bounds_of c.names-names.result.now (map bound_tree bs)) c.in_ok-bounds.bounds) c.deref.ensures
     c.in_ok-bounds.ensures) in
     let ps = c.in_ok-parameters.parameters.items.items in
     let ks = regions_of c.as_slice-2.result.now in
     let keys : ks ≡ keys_of (types_of ps) =
     ap (λ rs. regions_of rs) c.as_slice-2.ensures.value ∙ c.in_ok-keys.ensures ∙ ap (λ qs. keys_of (types_of qs)) c.as_slice.ensures.value in
-    head_is k lenient g f _ c.in_ok-effect.effect c.in_ok-bounds.bounds ks keys (c.in_ok-parameters.ensures g tags)
-    (c.in_ok-result.ensures g (c.tag_of_type-tag.ensures g tags) ∙ ap (λ ns. shortened (result_type g ns t.result)) c.names-names.ensures)
+    head_is lenient g f _ c.in_ok-effect.effect c.in_ok-bounds.bounds ks keys (c.in_ok-parameters.ensures g tags)
+    (c.in_ok-result.ensures g (c.tag_of_type-tag.ensures g tags) ∙ ap (λ ns. shortened (result_type g ns f.result)) c.names-names.ensures)
     c.in_ok-effect.ensures refl bounds refl
     (λ v ms vs us e h used. c.in_ok-fault.ensures v ms vs us e (subst (λ ps. AreParameters ps ms vs) (sym c.deref-2.ensures.value) h)
     (ap faults_of c.sooner-used.ensures ∙ used))

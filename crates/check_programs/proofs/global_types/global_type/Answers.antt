@@ -1,15 +1,12 @@
 use Rattle.std.proofs.Common.{◌≡◌, ap, sym, ◌∙◌}
-use Rattle.std.specs.Prelude.{Bool, if◌then◌else◌}
 use Rattle.std.proofs.lemmas.Result.{IfOk-at_ok}
 use Rattle.cyc_tree.specs.View.{type_tree}
 use Rattle.cyc_tree.specs.Tree as tree
 use Rattle.source_typing.specs.Globals.{fitting_global}
 use Rattle.source_typing.specs.Scope.{at_item}
 use Rattle.source_typing.specs.Tags.{settled_alone}
-use Rattle.source_typing.specs.Taken.{refused_type, takes_type, type_taken}
 use Rattle.source_typing.specs.Verdicts.{after}
 use Rattle.source_typing.specs.Written.{written}
-use Rattle.check_faults.specs.Taken.{taken_of}
 use Rattle.check_faults.specs.Verdicts.{short_of, shortened}
 use Rattle.check_types.specs.Written.{partial_type}
 use Rattle.check_programs.proofs.GlobalTypes.{global_typed}
@@ -17,17 +14,16 @@ use Rattle.check_programs.specs.Globals.{foreign_in, names_none, type_spots}
 use Rattle.check_programs.proofs.global_types.global_type.Goals as goal
 
 pub returns : goal.returns
-returns c lenient g x known is taken counted =
+returns c lenient g x known is counted =
     let s = c.args.structs in
-    let k = taken_of s.taken in
     let t = type_tree c.args.of.now in
     let count = c.args.count in
     let names = c.in_ok-names.names in
     let item = at_item lenient g c.args.item in
     let b = c.names_none-is_unnamed.result in
-    let same : type_taken k t ≡ x.of = ap (λ (b : Bool). if b then t else refused_type t.at) (sym (ap (λ u. takes_type k u) is) ∙ taken) ∙ sym is in
+    let same : t ≡ x.of = sym is in
     let tag = c.tag_of_type-tag.ensures g known.names in
-    let w = written g names (type_taken k t) in
+    let w = written g names t in
     c.fitting.ensures lenient g (after w (settled_alone t.at)) known
     (c.in_ok-settled.ensures w (IfOk-at_ok (λ o. short_of partial_type o ≡ shortened w) c.in_ok-found.was (c.written_in.ensures g tag)))
     ∙ ap (λ u. shortened (after (after (written g names u) (settled_alone t.at)) (fitting_global item t.at count b))) same

@@ -15,7 +15,7 @@ each-preserved c =
     let k = c.each.item-index in
     reached_next s l (program_tree all) c.each.index c.in_ok-index.index (program_item_tree c.item-item.result) (program_tree (drop (k + 1) all))
     c.each.names c.add.new.self c.as_slice.result.now c.in_ok-meaning.meaning c.in_ok-add.field-0 c.in_ok-index.ensures
-    (c.as_slice.ensures.value ∙ ap (λ n. n.text) c.item_name.ensures.plain) c.in_ok-add.ensures.is_new c.in_ok-add.ensures.names
+    (c.as_slice.ensures.value ∙ ap (λ n. n.text) c.item_name.ensures) c.in_ok-add.ensures.is_new c.in_ok-add.ensures.names
     c.in_ok-meaning.ensures
     (subst (λ r. Reached s l (program_tree all) c.each.index (program_tree r) c.each.names)
     (drop_more all k c.item-item.result c.each-test.true ∙ ap (λ y. y ∷ drop (k + 1) all) (sym c.item-item.is)) c.each.invariant)

@@ -3,28 +3,25 @@ use Rattle.cyc_tree.specs.View.{program_item_tree, program_tree}
 use Rattle.cyc_tree.specs.declared.item.Item as code_item
 use Rattle.source_typing.specs.Faults.{earliest}
 use Rattle.source_typing.specs.Programs.{item_faults, items_from}
-use Rattle.source_typing.specs.Taken.{item_taken, only_taken}
 use Rattle.check_faults.specs.Faults.{faults_of, first_of}
-use Rattle.check_faults.specs.Taken.{taken_of}
 use Rattle.check_programs.proofs.Items.{next_found}
 use Rattle.check_programs.proofs.program.items_fault.Goals as goal
 
 pub each-preserved : goal.each-preserved
 each-preserved c g known =
-    let taken = taken_of c.args.names.taken in
     let k = c.each.item-index in
     let i = c.each.index in
     let items = c.args.items.now in
     let lenient = c.args.lenient in
     let fault = c.in_ok-item_fault.field-0 in
     let one : suc i ≡ i + 1 = omega arith in
-    let before = λ (l : List code_item.Item). items_from lenient g i (only_taken taken (program_tree l)) in
-    let after = λ (l : List code_item.Item). items_from lenient g (i + 1) (only_taken taken (program_tree l)) in
-    let this = item_taken taken (program_item_tree c.item-item.result) in
-    ap (λ n. first_of (faults_of c.sooner-found.result) (earliest (items_from lenient g n (only_taken taken (program_tree (drop (k + 1) items))))))
+    let before = λ (l : List code_item.Item). items_from lenient g i (program_tree l) in
+    let after = λ (l : List code_item.Item). items_from lenient g (i + 1) (program_tree l) in
+    let this = program_item_tree c.item-item.result in
+    ap (λ n. first_of (faults_of c.sooner-found.result) (earliest (items_from lenient g n (program_tree (drop (k + 1) items)))))
     c.in_ok-index.ensures
     ∙ ap (λ o. first_of (faults_of o) (earliest (after (drop (k + 1) items)))) c.sooner-found.ensures
     ∙ next_found before after (item_faults lenient g i this) items k c.item-item.result c.each.found fault c.each-test.true c.item-item.is
     (c.in_ok-item_fault.ensures g known)
-    (ap (λ n. item_faults lenient g i this ++ items_from lenient g n (only_taken taken (program_tree (drop (k + 1) items)))) one)
+    (ap (λ n. item_faults lenient g i this ++ items_from lenient g n (program_tree (drop (k + 1) items))) one)
     ∙ c.each.invariant g known

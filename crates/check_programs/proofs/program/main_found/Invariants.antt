@@ -1,9 +1,8 @@
 use Rattle.std.proofs.Common.{◌≡◌, drop}
 use Rattle.cyc_tree.specs.View.{program_tree}
 use Rattle.source_typing.specs.Programs.{main_found}
-use Rattle.source_typing.specs.Taken.{Taken, only_taken}
 use Rattle.check_programs.proofs.program.main_found.Given as goal
 
 -- none of the items so far is `main`
 abbrev pub invariant-each : goal.invariant-each
-invariant-each l = (k : Taken) → main_found (only_taken k (program_tree (drop l.item-index l.items))) ≡ main_found (only_taken k (program_tree l.items))
+invariant-each l = main_found (program_tree (drop l.item-index l.items)) ≡ main_found (program_tree l.items)

@@ -4,34 +4,27 @@ use Rattle.cyc_tree.specs.View.{program_tree}
 use Rattle.cyc_tree.specs.Tree.{Program}
 use Rattle.source_typing.specs.Faults.{earliest}
 use Rattle.source_typing.specs.Programs.{all_tag_faults, items_from, judged_tags, main_found, second_names, size_faults, tables_of, typing_faults}
-use Rattle.source_typing.specs.Taken.{constant_forms, only_taken}
-use Rattle.check_faults.specs.Taken.{taken_of}
 use Rattle.check_programs.proofs.Items.{both_found}
 use Rattle.check_programs.proofs.TagTables.{knows_all}
 use Rattle.check_programs.proofs.program.program_fault.Goals as goal
 
 pub returns : goal.returns
 returns c =
-    let k = taken_of c.args.taken in
     let p = program_tree c.items-items.result.now in
     let l = c.args.lenient in
-    let all = only_taken k p in
-    let g = tables_of l all in
-    let seconds = second_names (codes "getchar" ∷ codes "putchar" ∷ []) all in
-    let bodies = items_from l g 0 all in
-    let two = both_found c.sooner.result c.in_ok-seconds.seconds c.in_ok-bodies.bodies seconds bodies c.sooner.ensures (c.in_ok-seconds.ensures k)
+    let g = tables_of l p in
+    let seconds = second_names (codes "getchar" ∷ codes "putchar" ∷ []) p in
+    let bodies = items_from l g 0 p in
+    let two = both_found c.sooner.result c.in_ok-seconds.seconds c.in_ok-bodies.bodies seconds bodies c.sooner.ensures c.in_ok-seconds.ensures
     (c.in_ok-bodies.ensures (record { names = c.in_ok-tags.ensures.names; tables = c.in_ok-tags.ensures.tables }))
     in
-    let three = both_found c.sooner-found.result c.sooner.result c.main_found.result (seconds ++ bodies) (main_found all) c.sooner-found.ensures two
-    (c.main_found.ensures k)
+    let three = both_found c.sooner-found.result c.sooner.result c.main_found.result (seconds ++ bodies) (main_found p) c.sooner-found.ensures two
+    c.main_found.ensures
     in
-    let four = both_found c.sooner-2.result c.sooner-found.result c.in_ok-sizes.sizes (seconds ++ bodies ++ main_found all) (size_faults l g all)
+    let four = both_found c.sooner-2.result c.sooner-found.result c.in_ok-sizes.sizes (seconds ++ bodies ++ main_found p) (size_faults l g p)
     c.sooner-2.ensures three
-    (c.in_ok-sizes.ensures l g (knows_all _ l all (record { names = c.in_ok-tags.ensures.names; tables = c.in_ok-tags.ensures.tables })))
+    (c.in_ok-sizes.ensures l g (knows_all _ l p (record { names = c.in_ok-tags.ensures.names; tables = c.in_ok-tags.ensures.tables })))
     in
-    let five = both_found c.sooner-rest.result c.in_ok-tags.tags.fault c.sooner-2.result (all_tag_faults (judged_tags all))
-    (seconds ++ bodies ++ main_found all ++ size_faults l g all) c.sooner-rest.ensures c.in_ok-tags.ensures.fault four
-    in
-    both_found c.sooner-3.result c.forms_fault.result c.sooner-rest.result (constant_forms k p) (typing_faults l all)
-    c.sooner-3.ensures c.forms_fault.ensures five
-    ∙ ap (λ (q : Program). earliest (constant_forms k q ++ typing_faults l (only_taken k q))) c.items-items.ensures
+    both_found c.sooner-3.result c.in_ok-tags.tags.fault c.sooner-2.result (all_tag_faults (judged_tags p))
+    (seconds ++ bodies ++ main_found p ++ size_faults l g p) c.sooner-3.ensures c.in_ok-tags.ensures.fault four
+    ∙ ap (λ (q : Program). earliest (typing_faults l q)) c.items-items.ensures.same

@@ -3,49 +3,41 @@ use Rattle.std.specs.Prelude.{None, true}
 use Rattle.cyc_tree.specs.View.{name_tree, region_tree, type_tree}
 use Rattle.cyc_types.specs.Types.{static_type}
 use Rattle.check_operators.specs.Values.{value_of}
-use Rattle.source_typing.proofs.TakenWhole.{type_whole}
 use Rattle.source_typing.specs.Declarations.{alias_type, operand, region_declared, type_in_scope, type_of_alias, what_of}
 use Rattle.source_typing.specs.Regions.{with_name}
 use Rattle.source_typing.specs.Scope.{in_scope, next_region}
 use Rattle.source_typing.specs.Tables.{Tables}
-use Rattle.source_typing.specs.Taken.{type_taken}
 use Rattle.source_typing.specs.Types.{is_unique}
 use Rattle.source_typing.specs.Verdicts as verdict
-use Rattle.source_typing.specs.Written.{any_missing, spots_of, written}
+use Rattle.source_typing.specs.Written.{written}
 use Rattle.check_faults.specs.Faults.{faults_of}
-use Rattle.check_faults.specs.Taken.{taken_of}
 use Rattle.check_faults.specs.Verdicts.{shortened}
 use Rattle.check_scopes.specs.Means.{WhatIs}
-use Rattle.check_statements.specs.Contexts.{StandsIn}
 use Rattle.check_statements.specs.Declaring.{alias_scope}
 use Rattle.check_statements.proofs.Aliases.{begun_tables}
 use Rattle.check_statements.proofs.Answered.{fault_is}
 use Rattle.check_statements.proofs.Blocks.{two_found}
-use Rattle.check_statements.proofs.Declaring.{alias_matches, named_scope}
 use Rattle.check_statements.proofs.RegionScopes.{begun_stands}
 use Rattle.check_statements.proofs.alias.own_alias.Goals as goal
 
 pub returns-clause-judged : goal.returns-clause-judged
-returns-clause-judged c = λ g x known suits.
+returns-clause-judged c = λ g at x known suits.
     let s = c.args.scope.now in
     let a = c.args.alias in
     let r = region_tree a.region.now in
     let t = type_tree a.of.now in
     let p = name_tree a.source.now in
-    let all = taken_of c.whole-all.result in
     let v = operand g p is_unique in
     let inside = alias_scope g r in
     let u = type_of_alias g inside t p in
     let w = type_in_scope inside t in
     let source = c.in_ok-source.ensures g known in
     let tag = c.local_tag-tag.ensures g known in
-    let as_is = ap (λ n. type_taken n t) c.whole-all.ensures ∙ type_whole t in
     let is_written =
     c.in_ok-written.ensures (in_scope g) tag
-    ∙ ap (λ ns. shortened (written (in_scope g) ns (type_taken all t))) (c.in_ok-next.ensures.named g (with_name true) known suits.names)
-    ∙ ap (λ y. shortened (written (in_scope g) inside.names y)) as_is
+    ∙ ap (λ ns. shortened (written (in_scope g) ns t)) (c.in_ok-next.ensures.named g (with_name true) known suits.names)
     ∙ ap (λ (ts : Tables). shortened (written ts inside.names t)) (sym (begun_tables g r (with_name true))) in
-    let misses = c.misses_region_in-misses_region.ensures (in_scope g) tag ∙ ap (λ y. any_missing (spots_of (in_scope g) y)) as_is in
+    let misses = c.misses_region_in-misses_region.ensures (in_scope g) tag in
     let of =
     c.in_ok-of.ensures w v is_written source
     ∙ ap (λ q. shortened (verdict.after w (alias_type t.at q c.misses_region_in-misses_region.result v))) (c.in_ok-next.ensures.next g known)
@@ -57,20 +49,18 @@ returns-clause-judged c = λ g x known suits.
     let fault =
     two_found c.sooner.result c.fault-2.result c.sooner-fault.result (fs ++ verdict.faults_of v) (verdict.faults_of u) c.sooner-fault.ensures
     (two_found c.in_ok-next.next.fault c.fault.result c.sooner.result fs (verdict.faults_of v) c.sooner.ensures named_fault source_fault) type_fault in
-    alias_matches s.taken.unique a.at r x g c.if-not-scope.false t p _ record {
+    record {
       fault = fault;
       what = subst (λ q. WhatIs (what_of q None u) c.what_of.result) suits.frame (c.what_of.ensures u of);
     }
 
 pub returns-clause-stands : goal.returns-clause-stands
-returns-clause-stands c = λ g x outer h.
+returns-clause-stands c = λ g at x outer h.
     let s = c.args.scope.now in
     let a = c.args.alias in
     let r = region_tree a.region.now in
     let names = c.next_named.new.names in
     let rs = c.begin_name.new.self in
-    subst (StandsIn c.args.context names outer (record s { regions = rs }))
-    (named_scope s.taken.unique a.at r x g c.if-not-scope.false (type_tree a.of.now) (name_tree a.source.now))
-    (begun_stands c.args.context c.args.names.now names outer s g rs h r (with_name true) (c.in_ok-begin_name.ensures.by_the_rules g.regions
+    begun_stands c.args.context c.args.names.now names outer s g rs h r (with_name true) (c.in_ok-begin_name.ensures.by_the_rules g.regions
     h.known.regions) refl
-    (c.in_ok-next.ensures.named g (with_name true) h.known h.suits.names))
+    (c.in_ok-next.ensures.named g (with_name true) h.known h.suits.names)

@@ -3,15 +3,13 @@ use Rattle.std.specs.Prelude.{None}
 use Rattle.cyc_tree.specs.View.{expression_tree, type_tree}
 use Rattle.source_typing.specs.Declarations.{set_faults, set_type, what_after, what_of}
 use Rattle.source_typing.specs.Expressions.{judge}
-use Rattle.source_typing.specs.Taken.{taken, type_taken}
-use Rattle.check_faults.specs.Taken.{taken_of}
 use Rattle.check_statements.specs.Declaring.{Matches}
 use Rattle.check_statements.proofs.local.set.Goals as goal
 
 pub returns : goal.returns
 returns c g known suits =
-    let v = judge g (taken (taken_of c.args.scope.now.taken) (expression_tree c.args.initial.now)) in
-    let t = set_type g (type_taken (taken_of c.args.scope.now.taken) (type_tree c.args.of.now)) v in
+    let v = judge g (expression_tree c.args.initial.now) in
+    let t = set_type g (type_tree c.args.of.now) v in
     let fs = set_faults g v t in
     let value = c.in_ok-value.ensures g known in
     let of = c.in_ok-found.ensures g v known suits value in

@@ -3,10 +3,8 @@ use Rattle.cyc_tree.specs.View.{type_tree}
 use Rattle.cyc_types.specs.Regions.{region_of}
 use Rattle.cyc_types.specs.Types.{static_type}
 use Rattle.source_typing.specs.Declarations.{unset_type, what_of}
-use Rattle.source_typing.specs.Taken.{type_taken}
 use Rattle.source_typing.specs.Verdicts as verdict
 use Rattle.check_faults.specs.Faults.{faults_of}
-use Rattle.check_faults.specs.Taken.{taken_of}
 use Rattle.check_faults.specs.Verdicts.{fault_in}
 use Rattle.check_faults.proofs.Shortened.{fault_same}
 use Rattle.check_statements.specs.Declaring.{Matches}
@@ -17,7 +15,7 @@ use Rattle.check_statements.proofs.local.unset.Goals as goal
 pub returns : goal.returns
 returns c g known suits =
     let count = c.args.count in
-    let t = unset_type g (type_taken (taken_of c.args.scope.now.taken) (type_tree c.args.of.now)) count in
+    let t = unset_type g (type_tree c.args.of.now) count in
     let fs = verdict.faults_of t in
     let r = c.judged_as.result in
     let judged = c.in_ok-found.ensures g known suits in

@@ -1,6 +1,6 @@
 use Rattle.std.proofs.Common.{◌≡◌, ◌≤◌, ◌+◌, IfOk, List, ap, arith, drop, length, map, subst, sym, ◌∙◌, ◌++◌, ℕ}
 use Rattle.std.specs.Prelude.{option_map, ◌&&◌, ◌||◌}
-use Rattle.cyc_tree.specs.View.{OneClause, clause_tree, clauses_of, expression_tree, item_tree, items_of, name_tree, pattern_tree, statement_tree}
+use Rattle.cyc_tree.specs.View.{OneClause, clause_tree, clauses_of, expression_tree, item_tree, items_of, pattern_tree, statement_tree}
 use Rattle.cyc_tree.specs.declared.statement.BlockItem.{BlockItem}
 use Rattle.cyc_tree.specs.declared.statement.Clause.{Clause}
 use Rattle.cyc_tree.proofs.PartForms.{clause_parts}
@@ -13,11 +13,9 @@ use Rattle.source_typing.specs.Regions.{Level}
 use Rattle.source_typing.specs.Scope.{block_entered}
 use Rattle.source_typing.specs.Statements.{chosen, clause_scope, clauses_faults, condition_faults, in_a_loop}
 use Rattle.source_typing.specs.Statements.{in_a_switch, items_faults, returned, statement_faults, switched}
-use Rattle.source_typing.specs.Taken.{clauses_taken, items_taken, statement_taken, taken}
 use Rattle.source_typing.specs.Verdicts as verdict
 use Rattle.check_faults.specs.Faults as found
 use Rattle.check_faults.specs.Faults.{faults_of}
-use Rattle.check_faults.specs.Taken.{taken_of}
 use Rattle.check_scopes.specs.Changes.{left}
 use Rattle.check_scopes.specs.Knows.{Knows}
 use Rattle.check_scopes.specs.Locals.{dropped_to}
@@ -27,15 +25,13 @@ use Rattle.check_regions.specs.Scopes.{Scoped, first_of}
 use Rattle.check_regions.specs.declared.scope.RegionMark.{RegionMark}
 use Rattle.check_statements.specs.Contexts.{StandsIn, Suits, kept_to}
 use Rattle.check_statements.specs.Leaving.{item_falls}
-use Rattle.check_statements.specs.Switching.{chosen_in, clause_faults, one_clause_taken}
+use Rattle.check_statements.specs.Switching.{chosen_in, clause_faults}
 use Rattle.check_statements.proofs.Blocks.{
   Going,
   all_kept,
   begun_longer,
   block_left,
   block_stands,
-  free_key_faults,
-  free_unique_faults,
   goes_on,
   item_faults,
   left_is,
@@ -52,7 +48,7 @@ use Rattle.check_statements.proofs.Blocks.{
   switch_suits,
   two_found,
 }
-use Rattle.check_statements.proofs.Clauses.{clause_goes_on, switch_faults, taken_clauses}
+use Rattle.check_statements.proofs.Clauses.{clause_goes_on, clause_trees}
 use Rattle.check_statements.proofs.statement.+statement.Goals as goal
 use Rattle.check_statements.proofs.statement.+statement.Goals.{items_fault-in-Declare+in_ok-fault-in-Declare, items_fault-in-Execute+in_ok-fault-in-Execute}
 
@@ -111,7 +107,6 @@ pub clause_fault-returns-clause-fault : goal.clause_fault-returns-clause-fault
 clause_fault-returns-clause-fault t c = λ g h suits around.
     let s = c.args.scope.now in
     let ns = c.args.names.now in
-    let k = taken_of s.taken in
     let u = option_map chosen_in c.args.chosen in
     let clause = c.args.clause.now in
     let p = pattern_tree clause.pattern in
@@ -120,7 +115,6 @@ clause_fault-returns-clause-fault t c = λ g h suits around.
     let outer : ℕ = length s.locals in
     let bound = c.bind.new.scope in
     let frame = c.in_ok-frame.ensures ∙ ap Level c.names.ensures in
-    let same : bound.taken ≡ s.taken = ap (λ (x : Scope). x.taken) (c.in_ok-bind.ensures.left 0 (mark_of s.regions) (grind arith)) in
     let begins = block_stands c.args.context ns s g c.begin_block.new.self c.in_ok-frame.frame outer h suits around c.in_ok-begin_block.ensures.begun frame
     (grind arith) in
     let binds = c.in_ok-bind.ensures.stands context ns g begins (frame ∙ ap Level h.regions.count) in
@@ -128,15 +122,14 @@ clause_fault-returns-clause-fault t c = λ g h suits around.
     (subst (λ n. StandsIn context ns n bound (clause_scope g u p)) (sym c.len-outer.ensures) binds) in
     let inside =
     c.in_ok-found.ensures.fault (clause_scope g u p) stands
-    ∙ ap (λ (is : List BlockItem). earliest (items_faults (clause_scope g u p) reached (items_taken (taken_of bound.taken) (items_of (map item_tree is)))))
+    ∙ ap (λ (is : List BlockItem). earliest (items_faults (clause_scope g u p) reached (items_of (map item_tree is))))
     c.deref.ensures.value
-    ∙ ap (λ n. earliest (items_faults (clause_scope g u p) reached (items_taken (taken_of n) (items_of (map item_tree clause.body.items))))) same
-    ∙ ap (λ (o : OneClause). earliest (items_faults (clause_scope g u o.pattern) reached (items_taken k o.body))) (sym (clause_parts clause)) in
+    ∙ ap (λ (o : OneClause). earliest (items_faults (clause_scope g u o.pattern) reached o.body)) (sym (clause_parts clause)) in
     let result = c.clause_found.result in
     subst (λ (z : Scope). HasTags z.tables.now g.tables
-    → faults_of c.in_ok-found.found ≡ earliest (items_faults (clause_scope g u (one_clause_taken (taken_of z.taken) (clause_tree clause)).pattern) reached
-    (one_clause_taken (taken_of z.taken) (clause_tree clause)).body)
-    → faults_of result ≡ earliest (clause_faults g reached u (one_clause_taken (taken_of z.taken) (clause_tree clause))))
+    → faults_of c.in_ok-found.found ≡ earliest (items_faults (clause_scope g u (clause_tree clause).pattern) reached
+    (clause_tree clause).body)
+    → faults_of result ≡ earliest (clause_faults g reached u (clause_tree clause)))
     (clause_fault-returns-clause-scope t c) (c.clause_found.ensures g) h.tags inside
 
 pub clause_fault-returns-clause-kept : goal.clause_fault-returns-clause-kept
@@ -146,7 +139,6 @@ clause_fault-returns-clause-kept t c =
 
 pub clauses_fault-each-preserved : goal.clauses_fault-each-preserved
 clauses_fault-each-preserved t c =
-    let all = c.args.scope.now in
     let clause = c.clause-item.result in
     let u = option_map chosen_in c.args.chosen in
     let same = c.in_ok-fault.ensures.scope ∙ c.each.invariant.scope in
@@ -157,54 +149,49 @@ clauses_fault-each-preserved t c =
       each = λ g h suits around.
           let known = subst (λ s. Knows s g) (sym c.each.invariant.scope) h in
           let fitting = subst (λ ns. Suits c.args.context ns g) (sym c.each.invariant.names) suits in
-          subst (λ o. found.first_of (faults_of o) (earliest (clauses_faults g c.args.reached u (taken_clauses (taken_of all.taken)
-          (drop (c.each.clause-index + 1) c.args.clauses.now))))
-          ≡ earliest (clauses_faults g c.args.reached u (taken_clauses (taken_of all.taken) c.args.clauses.now))) (sym c.sooner-found.ensures)
-          (clause_goes_on (taken_of all.taken) g c.args.reached u c.each.found c.in_ok-fault.fault c.args.clauses.now c.each.clause-index clause
-          (earliest (clauses_faults g c.args.reached u (taken_clauses (taken_of all.taken) c.args.clauses.now))) c.each-test.true c.clause-item.is
+          subst (λ o. found.first_of (faults_of o) (earliest (clauses_faults g c.args.reached u (clause_trees (drop (c.each.clause-index + 1)
+          c.args.clauses.now))))
+          ≡ earliest (clauses_faults g c.args.reached u (clause_trees c.args.clauses.now))) (sym c.sooner-found.ensures)
+          (clause_goes_on g c.args.reached u c.each.found c.in_ok-fault.fault c.args.clauses.now c.each.clause-index clause
+          (earliest (clauses_faults g c.args.reached u (clause_trees c.args.clauses.now))) c.each-test.true c.clause-item.is
           (c.each.invariant.each g h suits around)
-          (c.in_ok-fault.ensures.fault g known fitting around
-          ∙ ap (λ (s : Scope). earliest (clause_faults g c.args.reached u (one_clause_taken (taken_of s.taken) (clause_tree clause)))) c.each.invariant.scope));
+          (c.in_ok-fault.ensures.fault g known fitting around));
     }
 
 -- ---- items
 
 pub items_fault-each-preserved : goal.items_fault-each-preserved
 items_fault-each-preserved t c =
-    let k = taken_of c.args.scope.now.taken in
-    let here = taken_of c.each.scope.taken in
     let item = c.item-item.result in
     let context = c.args.context in
     let outer = c.args.outer in
     let names = c.each.names in
     let later = c.match-item.names in
     let all = c.args.scope.now in
-    let same_taken : c.each.scope.taken ≡ all.taken =
-    ap (λ (s : Scope). s.taken) (c.each.invariant.left 0 (mark_of all.regions) (grind arith) (grind arith) (grind arith)) in
     let reached = c.each.reached in
     let own : (g : _) → StandsIn context names outer c.each.scope g
-    → faults_of c.match-item.fault ≡ earliest (item_faults here g reached (item_tree item)) =
+    → faults_of c.match-item.fault ≡ earliest (item_faults g reached (item_tree item)) =
     elim c.match-item.branch [
       | items_fault-in-Declare+in_ok-fault-in-Declare w ↦ λ g h. ap (λ o. faults_of o) w.fault-is ∙ w.in_ok-fault-in-Declare.ensures.fault g h
-          ∙ ap (λ i. earliest (item_faults here g reached i)) (sym (declare_tree w.in-Declare.declaration) ∙ ap item_tree (sym w.in-Declare.is))
+          ∙ ap (λ i. earliest (item_faults g reached i)) (sym (declare_tree w.in-Declare.declaration) ∙ ap item_tree (sym w.in-Declare.is))
       | items_fault-in-Execute+in_ok-fault-in-Execute w ↦ λ g h. ap (λ o. faults_of o) w.fault-is
           ∙ w.in_ok-fault-in-Execute.ensures.fault g h.known h.suits h.block.around
-          ∙ ap (λ i. earliest (item_faults here g reached i)) (sym (execute_tree w.in-Execute.statement) ∙ ap item_tree (sym w.in-Execute.is))
+          ∙ ap (λ i. earliest (item_faults g reached i)) (sym (execute_tree w.in-Execute.statement) ∙ ap item_tree (sym w.in-Execute.is))
     ] in
     let stands : (g : _) → StandsIn context names outer c.each.scope g
-    → StandsIn context later outer c.match-item.scope (scope_behind here g (item_tree item)) =
+    → StandsIn context later outer c.match-item.scope (scope_behind g (item_tree item)) =
     elim c.match-item.branch [
-      | items_fault-in-Declare+in_ok-fault-in-Declare w ↦ λ g h. subst (λ s. StandsIn context later outer s (scope_behind here g (item_tree item)))
+      | items_fault-in-Declare+in_ok-fault-in-Declare w ↦ λ g h. subst (λ s. StandsIn context later outer s (scope_behind g (item_tree item)))
           (sym w.scope-is)
-          (subst (λ ns. StandsIn context ns outer w.declare.new.scope (scope_behind here g (item_tree item))) (sym w.names-is)
-          (subst (λ i. StandsIn context w.declare.new.names outer w.declare.new.scope (scope_behind here g i))
+          (subst (λ ns. StandsIn context ns outer w.declare.new.scope (scope_behind g (item_tree item))) (sym w.names-is)
+          (subst (λ i. StandsIn context w.declare.new.names outer w.declare.new.scope (scope_behind g i))
           (sym (declare_tree w.in-Declare.declaration) ∙ ap item_tree (sym w.in-Declare.is))
           (w.in_ok-fault-in-Declare.ensures.known g h)))
-      | items_fault-in-Execute+in_ok-fault-in-Execute w ↦ λ g h. subst (λ s. StandsIn context later outer s (scope_behind here g (item_tree item)))
+      | items_fault-in-Execute+in_ok-fault-in-Execute w ↦ λ g h. subst (λ s. StandsIn context later outer s (scope_behind g (item_tree item)))
           (sym (w.scope-is ∙ w.in_ok-fault-in-Execute.ensures.scope))
-          (subst (λ ns. StandsIn context ns outer c.each.scope (scope_behind here g (item_tree item)))
+          (subst (λ ns. StandsIn context ns outer c.each.scope (scope_behind g (item_tree item)))
           (sym (w.names-is ∙ w.in_ok-fault-in-Execute.ensures.kept))
-          (subst (λ i. StandsIn context names outer c.each.scope (scope_behind here g i))
+          (subst (λ i. StandsIn context names outer c.each.scope (scope_behind g i))
           (sym (execute_tree w.in-Execute.statement) ∙ ap item_tree (sym w.in-Execute.is)) h))
     ] in
     let leaves = c.each.invariant.left (length all.locals) (mark_of all.regions) (grind arith) (grind arith) (grind arith) in
@@ -225,22 +212,16 @@ items_fault-each-preserved t c =
       | items_fault-in-Declare+in_ok-fault-in-Declare w ↦ λ count l. ap (kept_to count) w.names-is ∙ w.in_ok-fault-in-Declare.ensures.kept count l
       | items_fault-in-Execute+in_ok-fault-in-Execute w ↦ λ count l. ap (kept_to count) (w.names-is ∙ w.in_ok-fault-in-Execute.ensures.kept)
     ] in
-    let unchanged = same 0 (mark_of c.each.scope.regions) (grind arith) (grind arith) (grind arith) in
-    let taken_after : c.match-item.scope.taken ≡ all.taken = ap (λ (s : Scope). s.taken) unchanged ∙ same_taken in
-    let reaches = c.reached_after-reached.ensures ∙ ap (λ n. reached && item_falls (taken_of n) (item_tree item)) taken_after in
     let rest = map item_tree (drop (c.each.item-index + 1) c.args.items.now) in
     record {
       each = λ g h.
           let going = c.each.invariant.each g h in
-          let found = earliest (items_faults g c.args.reached (items_taken k (items_of (map item_tree c.args.items.now)))) in
-          subst (λ b. Going k context later outer c.match-item.scope b c.sooner-found.result rest found) (sym reaches)
-          (subst (λ o. Going k context later outer c.match-item.scope (reached && item_falls k (item_tree item)) o rest found) (sym c.sooner-found.ensures)
-          (goes_on k context names later outer c.each.scope c.match-item.scope reached c.each.found c.match-item.fault c.args.items.now c.each.item-index item
+          let found = earliest (items_faults g c.args.reached (items_of (map item_tree c.args.items.now))) in
+          subst (λ b. Going context later outer c.match-item.scope b c.sooner-found.result rest found) (sym c.reached_after-reached.ensures)
+          (subst (λ o. Going context later outer c.match-item.scope (reached && item_falls (item_tree item)) o rest found) (sym c.sooner-found.ensures)
+          (goes_on context names later outer c.each.scope c.match-item.scope reached c.each.found c.match-item.fault c.args.items.now c.each.item-index item
           found c.each-test.true c.item-item.is going
-          (subst (λ n. faults_of c.match-item.fault ≡ earliest (item_faults (taken_of n) going.env reached (item_tree item))) same_taken
-          (own going.env going.stands))
-          (subst (λ n. StandsIn context later outer c.match-item.scope (scope_behind (taken_of n) going.env (item_tree item))) same_taken
-          (stands going.env going.stands))));
+          (own going.env going.stands) (stands going.env going.stands)));
       left = λ count mark l m o. same count mark (grind (arith, l, longer)) (grind (arith, m, more)) (grind (arith, o, opened))
           ∙ c.each.invariant.left count mark l m o;
       kept = λ count l. kept count (grind (arith, l, larger)) ∙ c.each.invariant.kept count l;
@@ -251,100 +232,85 @@ items_fault-each-preserved t c =
 pub statement_fault-returns-in-Block-clause-fault : goal.statement_fault-returns-in-Block-clause-fault
 statement_fault-returns-in-Block-clause-fault t c = λ g h suits around.
     let reached = c.args.reached in
-    let k = taken_of c.args.scope.now.taken in
-    subst (λ s. IfOk c.block_fault.result (λ f. faults_of f ≡ earliest (statement_faults g reached (statement_taken k s))))
+    subst (λ s. IfOk c.block_fault.result (λ f. faults_of f ≡ earliest (statement_faults g reached s)))
     (sym (ap statement_tree c.in-Block.is ∙ block_tree c.in-Block.field-0 c.in-Block.items))
     (subst (λ is. IfOk c.block_fault.result (λ f. faults_of f
-    ≡ earliest (items_faults (block_entered g) reached (items_taken k (items_of (map item_tree is))))))
+    ≡ earliest (items_faults (block_entered g) reached (items_of (map item_tree is)))))
     c.deref.ensures.value (c.block_fault.ensures.fault g h suits around))
 
 pub statement_fault-returns-in_ok-second-in-If-clause-fault : goal.statement_fault-returns-in_ok-second-in-If-clause-fault
 statement_fault-returns-in_ok-second-in-If-clause-fault t c = λ g h suits around.
     let reached = c.args.reached in
-    let k = taken_of c.args.scope.now.taken in
-    two_found c.in_ok-first-in-If.first c.in_ok-second-in-If.second c.sooner.result (condition_faults g (taken k (expression_tree c.in-If.condition)))
-    (statement_faults g reached (statement_taken k (statement_tree c.in-If.body.value))) c.sooner.ensures (c.in_ok-first-in-If.ensures g h)
+    two_found c.in_ok-first-in-If.first c.in_ok-second-in-If.second c.sooner.result (condition_faults g (expression_tree c.in-If.condition))
+    (statement_faults g reached (statement_tree c.in-If.body.value)) c.sooner.ensures (c.in_ok-first-in-If.ensures g h)
     (c.in_ok-second-in-If.ensures.fault g h suits around
-    ∙ ap (λ b. earliest (statement_faults g reached (statement_taken k (statement_tree b)))) c.deref-in-If.ensures)
-    ∙ ap (λ s. earliest (statement_faults g reached (statement_taken k s)))
+    ∙ ap (λ b. earliest (statement_faults g reached (statement_tree b))) c.deref-in-If.ensures)
+    ∙ ap (λ s. earliest (statement_faults g reached s))
     (sym (ap statement_tree c.in-If.is ∙ if_tree c.in-If.field-0 c.in-If.condition c.in-If.body))
 
 pub statement_fault-returns-in_ok-third-in-IfElse-clause-fault : goal.statement_fault-returns-in_ok-third-in-IfElse-clause-fault
 statement_fault-returns-in_ok-third-in-IfElse-clause-fault t c = λ g h suits around.
     let reached = c.args.reached in
-    let k = taken_of c.args.scope.now.taken in
-    let test = condition_faults g (taken k (expression_tree c.in-IfElse.condition)) in
-    let body = statement_faults g reached (statement_taken k (statement_tree c.in-IfElse.body.value)) in
-    let otherwise = statement_faults g reached (statement_taken k (statement_tree c.in-IfElse.otherwise.value)) in
+    let test = condition_faults g (expression_tree c.in-IfElse.condition) in
+    let body = statement_faults g reached (statement_tree c.in-IfElse.body.value) in
+    let otherwise = statement_faults g reached (statement_tree c.in-IfElse.otherwise.value) in
     let second = c.in_ok-second-in-IfElse.ensures.fault g h suits around
-    ∙ ap (λ b. earliest (statement_faults g reached (statement_taken k (statement_tree b)))) c.deref-in-IfElse.ensures in
+    ∙ ap (λ b. earliest (statement_faults g reached (statement_tree b))) c.deref-in-IfElse.ensures in
     let known = subst (λ s. Knows s g) (sym c.in_ok-second-in-IfElse.ensures.scope) h in
-    let second_taken = ap (λ (s : Scope). s.taken) c.in_ok-second-in-IfElse.ensures.scope in
     let same = subst (λ ns. Suits c.args.context ns g) (sym c.in_ok-second-in-IfElse.ensures.kept) suits in
     let third = c.in_ok-third-in-IfElse.ensures.fault g known same around
-    ∙ ap (λ n. earliest (statement_faults g reached (statement_taken (taken_of n) (statement_tree c.deref-in-IfElse-2.result.now)))) second_taken
-    ∙ ap (λ b. earliest (statement_faults g reached (statement_taken k (statement_tree b)))) c.deref-in-IfElse-2.ensures in
+    ∙ ap (λ b. earliest (statement_faults g reached (statement_tree b))) c.deref-in-IfElse-2.ensures in
     two_found c.sooner-in-IfElse.result c.in_ok-third-in-IfElse.third c.sooner-in-IfElse-2.result (test ++ body) otherwise c.sooner-in-IfElse-2.ensures
     (two_found c.in_ok-first-in-IfElse.first c.in_ok-second-in-IfElse.second c.sooner-in-IfElse.result test body c.sooner-in-IfElse.ensures
     (c.in_ok-first-in-IfElse.ensures g h) second) third
-    ∙ ap (λ s. earliest (statement_faults g reached (statement_taken k s)))
+    ∙ ap (λ s. earliest (statement_faults g reached s))
     (sym (ap statement_tree c.in-IfElse.is ∙ if_else_tree c.in-IfElse.field-0 c.in-IfElse.condition c.in-IfElse.body c.in-IfElse.otherwise))
 
 pub statement_fault-returns-in_ok-second-in-While-clause-fault : goal.statement_fault-returns-in_ok-second-in-While-clause-fault
 statement_fault-returns-in_ok-second-in-While-clause-fault t c = λ g h suits around.
     let reached = c.args.reached in
-    let k = taken_of c.args.scope.now.taken in
     two_found c.in_ok-first-in-While.first c.in_ok-second-in-While.second c.sooner-in-While.result
-    (condition_faults g (taken k (expression_tree c.in-While.condition)))
-    (statement_faults (in_a_loop g) reached (statement_taken k (statement_tree c.in-While.body.value))) c.sooner-in-While.ensures
+    (condition_faults g (expression_tree c.in-While.condition))
+    (statement_faults (in_a_loop g) reached (statement_tree c.in-While.body.value)) c.sooner-in-While.ensures
     (c.in_ok-first-in-While.ensures g h)
     (c.in_ok-second-in-While.ensures.fault (in_a_loop g) (loop_known c.args.scope.now g h)
     (loop_suits c.args.context c.looping.result c.args.names.now g suits c.looping.ensures) around
-    ∙ ap (λ b. earliest (statement_faults (in_a_loop g) reached (statement_taken k (statement_tree b)))) c.deref-in-While.ensures)
-    ∙ ap (λ s. earliest (statement_faults g reached (statement_taken k s)))
+    ∙ ap (λ b. earliest (statement_faults (in_a_loop g) reached (statement_tree b))) c.deref-in-While.ensures)
+    ∙ ap (λ s. earliest (statement_faults g reached s))
     (sym (ap statement_tree c.in-While.is ∙ while_tree c.in-While.field-0 c.in-While.condition c.in-While.body))
 
 pub statement_fault-returns-in-Exchange-clause-fault : goal.statement_fault-returns-in-Exchange-clause-fault
 statement_fault-returns-in-Exchange-clause-fault t c = λ g h suits around.
-    let k = taken_of c.args.scope.now.taken in
     let x = c.in-Exchange in
-    subst (λ s. IfOk c.exchange_taken.result (λ f. faults_of f ≡ earliest (statement_faults g c.args.reached (statement_taken k s))))
-    (sym (ap statement_tree x.is ∙ exchange_tree x.left x.right)) (c.exchange_taken.ensures g c.args.reached h)
+    subst (λ s. IfOk c.exchange_fault.result (λ f. faults_of f ≡ earliest (statement_faults g c.args.reached s)))
+    (sym (ap statement_tree x.is ∙ exchange_tree x.left x.right)) (c.exchange_fault.ensures g h)
 
 pub statement_fault-returns-in-Break-clause-fault : goal.statement_fault-returns-in-Break-clause-fault
 statement_fault-returns-in-Break-clause-fault t c = λ g h suits around.
-    let k = taken_of c.args.scope.now.taken in
     let x = c.in-Break in
-    c.unless-in-Break.ensures
+    c.unless.ensures
     ∙ ap (λ b. earliest (test b type_rule x.at))
     (c.can_break.ensures ∙ ap (λ b. b || c.args.context.in_switch) suits.in_loop ∙ ap (λ b. g.in_loop || b) suits.in_switch)
-    ∙ ap (λ s. earliest (statement_faults g c.args.reached (statement_taken k s))) (sym (ap statement_tree x.is ∙ break_tree x.at))
+    ∙ ap (λ s. earliest (statement_faults g c.args.reached s)) (sym (ap statement_tree x.is ∙ break_tree x.at))
 
 pub statement_fault-returns-in-FreeUnique-clause-fault : goal.statement_fault-returns-in-FreeUnique-clause-fault
 statement_fault-returns-in-FreeUnique-clause-fault t c = λ g h suits around.
-    let k = taken_of c.args.scope.now.taken in
     let x = c.in-FreeUnique in
-    subst (λ fs. IfOk c.free_taken.result (λ f. faults_of f ≡ earliest fs))
-    (free_unique_faults k g c.args.reached x.at (name_tree x.pointer)
-    ∙ ap (λ s. statement_faults g c.args.reached (statement_taken k s)) (sym (ap statement_tree x.is ∙ free_unique_tree x.at x.pointer)))
-    (c.free_taken.ensures g h)
+    subst (λ s. IfOk c.operand_fault.result (λ f. faults_of f ≡ earliest (statement_faults g c.args.reached s)))
+    (sym (ap statement_tree x.is ∙ free_unique_tree x.field-0 x.pointer)) (c.operand_fault.ensures g h)
 
 pub statement_fault-returns-in-FreeKey-clause-fault : goal.statement_fault-returns-in-FreeKey-clause-fault
 statement_fault-returns-in-FreeKey-clause-fault t c = λ g h suits around.
-    let k = taken_of c.args.scope.now.taken in
     let x = c.in-FreeKey in
-    subst (λ fs. IfOk c.free_taken-in-FreeKey.result (λ f. faults_of f ≡ earliest fs))
-    (free_key_faults k g c.args.reached x.at (name_tree x.key)
-    ∙ ap (λ s. statement_faults g c.args.reached (statement_taken k s)) (sym (ap statement_tree x.is ∙ free_key_tree x.at x.key)))
-    (c.free_taken-in-FreeKey.ensures g h)
+    subst (λ s. IfOk c.operand_fault-in-FreeKey.result (λ f. faults_of f ≡ earliest (statement_faults g c.args.reached s)))
+    (sym (ap statement_tree x.is ∙ free_key_tree x.field-0 x.key)) (c.operand_fault-in-FreeKey.ensures g h)
 
 pub statement_fault-returns-in_ok-inside-in-Switch-clause-fault : goal.statement_fault-returns-in_ok-inside-in-Switch-clause-fault
 statement_fault-returns-in_ok-inside-in-Switch-clause-fault t c = λ g h suits around.
     let s = c.args.scope.now in
-    let k = taken_of s.taken in
     let reached = c.args.reached in
     let x = c.in-Switch in
-    let v = judge g (taken k (expression_tree x.place)) in
+    let v = judge g (expression_tree x.place) in
     let cs = clauses_of (map clause_tree x.clauses.items) in
     let place = c.in_ok-place-in-Switch.ensures g h in
     let union = c.union_of.ensures v place in
@@ -352,23 +318,21 @@ statement_fault-returns-in_ok-inside-in-Switch-clause-fault t c = λ g h suits a
     c.in_ok-inside-in-Switch.ensures.fault (in_a_switch g) (switch_known s g h)
     (switch_suits c.args.context c.switching.result c.args.names.now g suits c.switching.ensures) around
     ∙ ap (λ (l : List Clause). earliest (clauses_faults (in_a_switch g) reached (option_map chosen_in c.union_of.result)
-    (clauses_taken k (clauses_of (map clause_tree l))))) c.deref-in-Switch.ensures.value
-    ∙ ap (λ u. earliest (clauses_faults (in_a_switch g) reached u (clauses_taken k cs))) union in
-    let parts = clauses_faults (in_a_switch g) reached (chosen v) (clauses_taken k cs) in
+    (clauses_of (map clause_tree l)))) c.deref-in-Switch.ensures.value
+    ∙ ap (λ u. earliest (clauses_faults (in_a_switch g) reached u cs)) union in
+    let parts = clauses_faults (in_a_switch g) reached (chosen v) cs in
     c.switch_fault.ensures g v parts
     (subst (λ (z : Scope). HasTags z.tables.now g.tables) (sym c.in_ok-inside-in-Switch.ensures.scope) h.tags) place inside
     ∙ ap (λ (l : List Clause). earliest (own_after (verdict.faults_of (verdict.after v (switched g x.at (clauses_of (map clause_tree l)))))
     (verdict.faults_of v ++ parts))) c.deref-in-Switch-2.ensures.value
-    ∙ switch_faults k g reached x.at (expression_tree x.place) cs c.if-not-scope.false
-    ∙ ap (λ s. earliest (statement_faults g reached (statement_taken k s))) (sym (ap statement_tree x.is ∙ switch_tree x.at x.place x.clauses))
+    ∙ ap (λ s. earliest (statement_faults g reached s)) (sym (ap statement_tree x.is ∙ switch_tree x.at x.place x.clauses))
 
 pub statement_fault-returns-in-Return-clause-fault : goal.statement_fault-returns-in-Return-clause-fault
 statement_fault-returns-in-Return-clause-fault t c = λ g h suits around.
     let reached = c.args.reached in
-    let k = taken_of c.args.scope.now.taken in
     let r = c.in-Return in
     subst (λ fs. IfOk c.return_fault.result (λ f. faults_of f ≡ earliest fs))
-    (ap (λ o. returned g r.at o (option_map (λ e. judge g (taken k (expression_tree e))) r.value)) suits.result
-    ∙ sym (return_faults k g reached r.at r.value)
-    ∙ ap (λ s. statement_faults g reached (statement_taken k s)) (sym (ap statement_tree r.is ∙ return_tree r.at r.value)))
+    (ap (λ o. returned g r.at o (option_map (λ e. judge g (expression_tree e)) r.value)) suits.result
+    ∙ sym (return_faults g reached r.at r.value)
+    ∙ ap (λ s. statement_faults g reached s) (sym (ap statement_tree r.is ∙ return_tree r.at r.value)))
     (c.return_fault.ensures g h)

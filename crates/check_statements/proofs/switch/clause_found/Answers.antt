@@ -5,8 +5,7 @@ use Rattle.cyc_tree.specs.View.{OneClause, clause_tree}
 use Rattle.source_typing.specs.Faults.{earliest, test, type_rule}
 use Rattle.source_typing.specs.Statements.{clause_names, clause_scope, items_faults}
 use Rattle.source_typing.specs.Ways.{ways_of_items}
-use Rattle.check_faults.specs.Taken.{taken_of}
-use Rattle.check_statements.specs.Switching.{chosen_in, one_clause_taken}
+use Rattle.check_statements.specs.Switching.{chosen_in}
 use Rattle.check_statements.proofs.Blocks.{two_found}
 use Rattle.check_statements.proofs.switch.clause_found.Goals as goal
 
@@ -14,7 +13,7 @@ pub returns : goal.returns
 returns c = λ g tags inside.
     let reached = c.args.reached in
     let u = option_map chosen_in c.args.chosen in
-    let o = one_clause_taken (taken_of c.args.scope.now.taken) (clause_tree c.args.clause.now) in
+    let o = clause_tree c.args.clause.now in
     let names = clause_names g u o.pattern in
     let body = items_faults (clause_scope g u o.pattern) reached o.body in
     let pattern = c.pattern_fault-pattern.ensures g tags

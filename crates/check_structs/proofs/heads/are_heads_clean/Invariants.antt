@@ -4,8 +4,6 @@ use Rattle.cyc_tree.specs.View.{member_tree}
 use Rattle.source_typing.specs.Faults.{is_clean}
 use Rattle.source_typing.specs.Tables.{Tables}
 use Rattle.source_typing.specs.Tags.{head_faults}
-use Rattle.source_typing.specs.Taken.{members_taken}
-use Rattle.check_faults.specs.Taken.{taken_of}
 use Rattle.check_structs.specs.FirstKnown.{AreHeads}
 use Rattle.check_structs.specs.Members.{scoped}
 use Rattle.check_structs.proofs.heads.are_heads_clean.Given as goal
@@ -13,5 +11,5 @@ use Rattle.check_structs.proofs.heads.are_heads_clean.Given as goal
 -- those so far and the rest are all of them
 abbrev pub invariant-each : goal.invariant-each
 invariant-each l = (g : Tables) (i : ℕ) → AreHeads l.tags.own.now l.tags.regions l.tags.others.now g
-    → (l.clean && is_clean (head_faults (scoped g i l.names) l.is_union (members_taken (taken_of l.taken) (map member_tree (drop l.member-index l.members)))))
-    ≡ is_clean (head_faults (scoped g i l.names) l.is_union (members_taken (taken_of l.taken) (map member_tree l.members)))
+    → (l.clean && is_clean (head_faults (scoped g i l.names) l.is_union (map member_tree (drop l.member-index l.members))))
+    ≡ is_clean (head_faults (scoped g i l.names) l.is_union (map member_tree l.members))

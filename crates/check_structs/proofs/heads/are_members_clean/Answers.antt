@@ -3,22 +3,17 @@ use Rattle.std.specs.Prelude.{◌&&◌}
 use Rattle.cyc_tree.specs.View.{member_tree}
 use Rattle.source_typing.specs.Faults.{earliest, is_clean}
 use Rattle.source_typing.specs.Tags.{head_faults, repeated}
-use Rattle.source_typing.specs.Taken.{members_taken}
-use Rattle.check_faults.specs.Taken.{taken_of}
 use Rattle.check_structs.proofs.HeadTypes.{clean_none, clean_of_both, none_told}
-use Rattle.check_structs.proofs.Members.{repeated_taken}
 use Rattle.check_structs.specs.Members.{scoped}
 use Rattle.check_structs.proofs.heads.are_members_clean.Goals as goal
 
 pub returns : goal.returns
 returns c g i heads =
-    let k = taken_of c.args.taken in
     let ms = map member_tree c.args.members.now in
-    let all = head_faults (scoped g i c.args.names.now) c.args.is_union (members_taken k ms) in
+    let all = head_faults (scoped g i c.args.names.now) c.args.is_union ms in
     c.are_both.ensures
     ∙ ap (λ b. b && c.is_none.result) (c.in_ok-clean.ensures g i heads)
     ∙ ap (λ b. is_clean all && b)
     (none_told c.in_ok-second.second c.is_none.result c.is_none.ensures
-    ∙ clean_none c.in_ok-second.second (repeated [] (members_taken k ms))
-    (c.in_ok-second.ensures ∙ ap earliest (sym (repeated_taken k ms))))
-    ∙ sym (clean_of_both all (repeated [] (members_taken k ms)))
+    ∙ clean_none c.in_ok-second.second (repeated [] ms) c.in_ok-second.ensures)
+    ∙ sym (clean_of_both all (repeated [] ms))

@@ -5,9 +5,7 @@ use Rattle.cyc_types.specs.Tags.{members_of}
 use Rattle.source_typing.specs.Faults.{earliest}
 use Rattle.source_typing.specs.Tables.{Tables}
 use Rattle.source_typing.specs.Tags.{member_faults, parts_by}
-use Rattle.source_typing.specs.Taken.{members_taken}
 use Rattle.check_faults.specs.Faults.{faults_of, first_of}
-use Rattle.check_faults.specs.Taken.{taken_of}
 use Rattle.check_structs.specs.Members.{scoped}
 use Rattle.check_structs.specs.Tags.{StandsAt}
 use Rattle.check_structs.proofs.structure.judged_members.Given as goal
@@ -16,8 +14,8 @@ use Rattle.check_structs.proofs.structure.judged_members.Given as goal
 abbrev pub invariant-each : goal.invariant-each
 invariant-each l = (g : Tables) (i : ℕ) → StandsAt l.known.judged.now l.known.first.now (tables_of l.known.tables.now) i g →
     (members_of l.judged.members.items
-    ++ parts_by (scoped g i l.names) l.is_union (members_taken (taken_of l.taken) (map member_tree (drop l.member-index l.members)))
-    ≡ parts_by (scoped g i l.names) l.is_union (members_taken (taken_of l.taken) (map member_tree l.members)))
+    ++ parts_by (scoped g i l.names) l.is_union (map member_tree (drop l.member-index l.members))
+    ≡ parts_by (scoped g i l.names) l.is_union (map member_tree l.members))
     × (first_of (faults_of l.judged.fault)
-    (earliest (member_faults (scoped g i l.names) l.is_union (members_taken (taken_of l.taken) (map member_tree (drop l.member-index l.members)))))
-    ≡ earliest (member_faults (scoped g i l.names) l.is_union (members_taken (taken_of l.taken) (map member_tree l.members))))
+    (earliest (member_faults (scoped g i l.names) l.is_union (map member_tree (drop l.member-index l.members))))
+    ≡ earliest (member_faults (scoped g i l.names) l.is_union (map member_tree l.members)))

@@ -1,8 +1,6 @@
 use Rattle.cyc_tree.specs.View.{program_tree}
 use Rattle.cyc_types.proofs.FirstTags.{has_first}
 use Rattle.source_typing.specs.Programs.{builtins, entries, judged_tags}
-use Rattle.source_typing.specs.Taken.{only_taken}
-use Rattle.check_faults.specs.Taken.{taken_of}
 use Rattle.check_structs.proofs.tags.judged_tags.Goals as goal
 
 pub judged_items-requires : goal.judged_items-requires
@@ -10,5 +8,5 @@ judged_items-requires c = record { first = c.in_ok-first.ensures c.in_ok-bare.en
 
 pub returns-clause-tables : goal.returns-clause-tables
 returns-clause-tables c =
-    has_first c.in_ok-done.done.tables (builtins (entries (judged_tags (only_taken (taken_of c.args.taken) (program_tree c.args.items.now)))))
+    has_first c.in_ok-done.done.tables (builtins (entries (judged_tags (program_tree c.args.items.now))))
     c.in_ok-done.ensures.are.tables

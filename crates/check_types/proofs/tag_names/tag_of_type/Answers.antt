@@ -1,6 +1,5 @@
 use Rattle.std.proofs.Common.{◌≡◌, List, ap, subst, sym, ℕ, ◌∙◌}
 use Rattle.cyc_tree.specs.View.{name_tree, type_tree}
-use Rattle.check_faults.specs.Taken.{taken_of}
 use Rattle.check_types.specs.Naming.{tag_named}
 use Rattle.check_types.specs.Tagged.{IsNamed}
 use Rattle.check_types.specs.declared.tagged.TagName.{TagName}
@@ -12,8 +11,8 @@ returns-in-Some c g named =
     let x = name_tree c.in-Some.name.now in
     let is : tag_named c.args.names.now x.text ≡ c.of.result =
     ap (λ (y : List ℕ). tag_named c.args.names.now y) (sym c.deref.ensures.value) ∙ sym c.of.ensures in
-    tag_means (taken_of c.args.taken) g (type_tree c.args.of.now) c.of.result x (sym c.in-Some.ensures)
+    tag_means g (type_tree c.args.of.now) c.of.result x (sym c.in-Some.ensures)
     (subst (λ (n : TagName). IsNamed g x.text n) is (named x.text))
 
 pub returns-in-None : goal.returns-in-None
-returns-in-None c g named = tag_of_none (taken_of c.args.taken) g (type_tree c.args.of.now) _ (sym c.in-None.ensures)
+returns-in-None c g named = tag_of_none g (type_tree c.args.of.now) _ (sym c.in-None.ensures)

@@ -1,5 +1,5 @@
-use Rattle.cyc_meaning.proofs.Agreeing.{is_never_stuck}
+use Rattle.lower_checks.proofs.Joined.{never_stuck}
 use Rattle.cyc_meaning.proofs.laws.never_stuck.Goals as goal
 
 pub returns : goal.returns
-returns c = is_never_stuck c.args.checked.now c.program.ensures.accepted
+returns c = never_stuck c.args.checked.now c.program.ensures.accepted

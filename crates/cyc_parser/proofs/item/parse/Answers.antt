@@ -6,10 +6,18 @@ use Rattle.cyc_tree.specs.Depths.{nesting, nesting_limit}
 use Rattle.cyc_tree.specs.View.{program_item_tree}
 use Rattle.source_grammar.specs.Phrases.{Tokens}
 use Rattle.source_grammar.specs.Grammar.{IsProgram}
+use Rattle.source_grammar.proofs.Operands.{has_operands}
 use Rattle.cyc_parser.specs.Reader.{Fails}
 use Rattle.cyc_parser.specs.ReadPrograms.{program}
 use Rattle.cyc_parser.proofs.WholePrograms.{is_found, is_nested, is_only, is_refused_for, is_refused_program}
 use Rattle.cyc_parser.proofs.item.parse.Goals as goal
+
+pub new-requires : goal.new-requires
+new-requires c =
+    let tokens = map token_tree c.args.tokens.now in
+    let read = ap (program nesting_limit) (sym c.new-cursor.ensures) ∙ c.in_ok-items.ensures in
+    let items = map program_item_tree c.in_ok-items.items.items in
+    has_operands items tokens (is_found tokens items c.items.new.cursor read)
 
 pub returns-in-Ok-clause-found : goal.returns-in-Ok-clause-found
 returns-in-Ok-clause-found c =

@@ -2,8 +2,6 @@ use Rattle.std.proofs.Common.{ap, subst, sym, ◌∙◌}
 use Rattle.cyc_tree.specs.View.{declaration_tree, name_tree}
 use Rattle.flow_summaries.specs.Statements.{exits_within}
 use Rattle.source_typing.specs.Declarations.{declare}
-use Rattle.source_typing.specs.Taken.{declaration_taken}
-use Rattle.check_faults.specs.Taken.{taken_of}
 use Rattle.flow_effects.specs.Passed.{added_of}
 use Rattle.flow_effects.specs.Steps.{lent_if, passed_if}
 use Rattle.flow_check.specs.Declarations.{Adds, loan_before}
@@ -14,13 +12,12 @@ use Rattle.flow_check.proofs.declared.declared.Goals as goal
 pub returns-clause-before : goal.returns-clause-before
 returns-clause-before c g rest h =
     let s = c.args.scope.now in
-    let it = declaration_tree c.args.declaration.now in
-    let d = declaration_taken (taken_of s.taken) it in
+    let d = declaration_tree c.args.declaration.now in
     let inside = (declare g d).scope in
     let known = c.in_ok-declare.ensures.known g h.stands in
     let locals = c.in_ok-declare.ensures.locals g h.stands h.locals in
     let x = name_tree c.local.result.now in
-    let adds = adds_declared s.taken g it x c.local.ensures in
+    let adds = adds_declared g d x c.local.ensures in
     let around = c.len-around.ensures ∙ sym (same_count s.locals g.locals h.locals) in
     let named = subst (λ y. Adds y g.locals inside.locals) (sym c.deref.ensures.value) adds in
     let begins = c.begun-begun.ensures g inside around named known.known locals in

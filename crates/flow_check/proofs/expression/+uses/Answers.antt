@@ -1,4 +1,4 @@
-use Rattle.std.proofs.Common.{Bool, IfOk, List, [], ap, ap₂, arith, drop, false, length, map, not, refl, subst, sym, true, ◌+◌, ◌∙◌, ◌≡◌, ℕ}
+use Rattle.std.proofs.Common.{IfOk, List, [], ap, ap₂, arith, drop, false, length, map, not, refl, subst, sym, ◌≤◌, ◌+◌, ◌∙◌, ◌≡◌, ℕ}
 use Rattle.std.specs.Prelude.{bytes_eq, ◌&&◌, ◌||◌}
 use Rattle.std.proofs.lemmas.List.{drop_all}
 use Rattle.cyc_tree.proofs.Forms.{all_of_tree, any_of_tree, assign_tree, call_tree, chain_tree, character_tree, grouped_tree, heap_region_tree}
@@ -8,7 +8,7 @@ use Rattle.cyc_tree.proofs.PartForms.{array_tree, arrow_tree, dot_tree, index_tr
 use Rattle.cyc_tree.specs.Tree.{Expression}
 use Rattle.cyc_tree.specs.View.{OneSuffix, expression_tree, expressions_of, link_tree, links_of, made_tree, name_tree, suffix_tree, suffixes_of}
 use Rattle.cyc_tree.specs.declared.expression.Suffix.{Suffix}
-use Rattle.flow_summaries.specs.Expressions.{uses_of}
+use Rattle.flow_summaries.specs.Expressions.{uses_made, uses_of}
 use Rattle.flow_summaries.specs.Passages.{copied_if, in_turn, in_turn_or_not, repeated, unchanged}
 use Rattle.flow_summaries.specs.Uses.{uses_as_place, uses_as_value}
 use Rattle.source_meaning.specs.Expressions.{is_unique_region}
@@ -17,24 +17,20 @@ use Rattle.source_typing.specs.Making.{enclosed, inside, with_counter}
 use Rattle.source_typing.specs.Operators.{prefixed}
 use Rattle.source_typing.specs.Places.{contents, indexed}
 use Rattle.source_typing.specs.Scope.{Value}
-use Rattle.source_typing.specs.Taken.{all_taken, are_linked, are_some, are_suffixed, links_taken, taken, takes_handle, takes_suffixes}
-use Rattle.check_faults.specs.Taken.{taken_of}
 use Rattle.check_faults.specs.Verdicts.{Short, short_after, short_both, short_of, shortened}
 use Rattle.check_operators.specs.Goals.{goal_in}
 use Rattle.check_operators.specs.Values.{value_of}
 use Rattle.check_expressions.specs.Enclosings.{enclosing_of}
 use Rattle.check_expressions.proofs.Forms.{judged}
 use Rattle.check_expressions.proofs.Makings.{enclosed_is, goal_is, handle_goal}
-use Rattle.check_expressions.proofs.SuffixForms.{takes_all}
 use Rattle.check_expressions.specs.Goals.{enclosed_short}
 use Rattle.check_expressions.specs.Suffixes.{short_suffix}
 use Rattle.check_expressions.specs.Within.{is_counter}
 use Rattle.flow_effects.specs.Passed.{passage_of}
 use Rattle.flow_effects.specs.Used.{IsUsed}
 use Rattle.flow_effects.specs.declared.used.Usage.TheVariants as usage
-use Rattle.flow_check.proofs.Forms.{all_of_idle, all_of_uses, any_as_all, array_idle, array_made, call_uses, chain_idle, chain_uses, counted_idle}
-use Rattle.flow_check.proofs.Forms.{counted_uses, does, heap_idle, made_if, new_idle, new_in_idle, new_in_uses, new_uses, null_idle, prefixed_taken}
-use Rattle.flow_check.proofs.Forms.{suffixed_idle, suffixed_uses, text_idle, told, union_idle, union_uses}
+use Rattle.flow_check.proofs.Forms.{call_uses, chain_alone, chain_uses, does, some_suffixes, suffixed_alone, suffixed_uses, tested_alone}
+use Rattle.flow_check.proofs.Forms.{tested_length, tests_joined, told}
 use Rattle.flow_check.proofs.PrefixUses.{address_shortly, contents_shortly, look_alone}
 use Rattle.flow_check.proofs.Steps.{all_step, links_step, tests_step}
 use Rattle.flow_check.proofs.SuffixUses.{after_arrow, after_dot, after_first, after_index, after_next, looked_is}
@@ -47,374 +43,302 @@ use Rattle.flow_check.proofs.expression.+uses.Goals as goal
 
 pub uses-returns-in-Number : goal.uses-returns-in-Number
 uses-returns-in-Number t c = λ g h.
-    let k = taken_of c.args.scope.now.taken in
-    does k g c.args.how c.idle.result c.args.expression.now (Expression.Number c.in-Number.field-0 c.in-Number.field-1 c.in-Number.field-2) (uses_as_value unchanged)
+    does g c.args.how c.idle.result c.args.expression.now (Expression.Number c.in-Number.field-0 c.in-Number.field-1 c.in-Number.field-2) (uses_as_value unchanged)
     (ap (λ e. expression_tree e) c.in-Number.is ∙ number_tree c.in-Number.field-0 c.in-Number.field-1 c.in-Number.field-2) refl (c.idle.ensures c.args.how)
 
 pub uses-returns-in-Character : goal.uses-returns-in-Character
 uses-returns-in-Character t c = λ g h.
-    let k = taken_of c.args.scope.now.taken in
-    does k g c.args.how c.idle-in-Character.result c.args.expression.now (Expression.Character c.in-Character.field-0 c.in-Character.field-1) (uses_as_value unchanged)
+    does g c.args.how c.idle-in-Character.result c.args.expression.now (Expression.Character c.in-Character.field-0 c.in-Character.field-1) (uses_as_value unchanged)
     (ap (λ e. expression_tree e) c.in-Character.is ∙ character_tree c.in-Character.field-0 c.in-Character.field-1) refl (c.idle-in-Character.ensures c.args.how)
 
 pub uses-returns-in-Text : goal.uses-returns-in-Text
 uses-returns-in-Text t c = λ g h.
-    let k = taken_of c.args.scope.now.taken in
-    does k g c.args.how c.idle-in-Text.result c.args.expression.now (Expression.Text c.in-Text.field-0 c.in-Text.field-1.items) (uses_as_value unchanged)
-    (ap (λ e. expression_tree e) c.in-Text.is ∙ text_tree c.in-Text.field-0 c.in-Text.field-1) (text_idle k g c.in-Text.field-0 c.in-Text.field-1.items) (c.idle-in-Text.ensures c.args.how)
+    does g c.args.how c.idle-in-Text.result c.args.expression.now (Expression.Text c.in-Text.field-0 c.in-Text.field-1.items) (uses_as_value unchanged)
+    (ap (λ e. expression_tree e) c.in-Text.is ∙ text_tree c.in-Text.field-0 c.in-Text.field-1) refl (c.idle-in-Text.ensures c.args.how)
 
 pub uses-returns-in-Null : goal.uses-returns-in-Null
 uses-returns-in-Null t c = λ g h.
-    let k = taken_of c.args.scope.now.taken in
-    does k g c.args.how c.idle-in-Null.result c.args.expression.now (Expression.Null c.in-Null.field-0) (uses_as_value unchanged)
-    (ap (λ e. expression_tree e) c.in-Null.is ∙ null_tree c.in-Null.field-0) (null_idle k g c.in-Null.field-0) (c.idle-in-Null.ensures c.args.how)
+    does g c.args.how c.idle-in-Null.result c.args.expression.now (Expression.Null c.in-Null.field-0) (uses_as_value unchanged)
+    (ap (λ e. expression_tree e) c.in-Null.is ∙ null_tree c.in-Null.field-0) refl (c.idle-in-Null.ensures c.args.how)
 
 pub uses-returns-in-HeapRegion : goal.uses-returns-in-HeapRegion
 uses-returns-in-HeapRegion t c = λ g h.
-    let k = taken_of c.args.scope.now.taken in
-    does k g c.args.how c.idle-in-HeapRegion.result c.args.expression.now (Expression.HeapRegion c.in-HeapRegion.field-0) (uses_as_value unchanged)
-    (ap (λ e. expression_tree e) c.in-HeapRegion.is ∙ heap_region_tree c.in-HeapRegion.field-0) (heap_idle k g c.in-HeapRegion.field-0) (c.idle-in-HeapRegion.ensures c.args.how)
+    does g c.args.how c.idle-in-HeapRegion.result c.args.expression.now (Expression.HeapRegion c.in-HeapRegion.field-0) (uses_as_value unchanged)
+    (ap (λ e. expression_tree e) c.in-HeapRegion.is ∙ heap_region_tree c.in-HeapRegion.field-0) refl (c.idle-in-HeapRegion.ensures c.args.how)
 
 pub uses-returns-in-UniqueRegion : goal.uses-returns-in-UniqueRegion
 uses-returns-in-UniqueRegion t c = λ g h.
-    let k = taken_of c.args.scope.now.taken in
-    does k g c.args.how c.idle-in-UniqueRegion.result c.args.expression.now (Expression.UniqueRegion c.in-UniqueRegion.field-0) (uses_as_value unchanged)
+    does g c.args.how c.idle-in-UniqueRegion.result c.args.expression.now (Expression.UniqueRegion c.in-UniqueRegion.field-0) (uses_as_value unchanged)
     (ap (λ e. expression_tree e) c.in-UniqueRegion.is ∙ unique_region_tree c.in-UniqueRegion.field-0) refl (c.idle-in-UniqueRegion.ensures c.args.how)
 
 -- ---- forms with parts
 
 pub uses-returns-in-Variable : goal.uses-returns-in-Variable
 uses-returns-in-Variable t c = λ g h.
-    let k = taken_of c.args.scope.now.taken in
-    told k g c.args.how c.uses_of_name.result c.args.expression.now (Expression.Variable (name_tree c.in-Variable.name))
+    told g c.args.how c.uses_of_name.result c.args.expression.now (Expression.Variable (name_tree c.in-Variable.name))
     (uses_of g (Expression.Variable (name_tree c.in-Variable.name)))
     (ap (λ e. expression_tree e) c.in-Variable.is ∙ variable_tree c.in-Variable.name) refl (c.uses_of_name.ensures g h)
 
 pub uses-returns-in_ok-passed-in-Call : goal.uses-returns-in_ok-passed-in-Call
 uses-returns-in_ok-passed-in-Call t c = λ g h.
-    let k = taken_of c.args.scope.now.taken in
     let x = name_tree c.in-Call.field-0 in
     let es = c.in-Call.arguments.items in
-    let all = all_taken k (expressions_of (map expression_tree es)) in
-    let passes : passage_of c.in_ok-passed-in-Call.passed ≡ passed_all g unchanged (all_taken k (expressions_of (map expression_tree es))) =
-    subst (λ xs. passage_of c.in_ok-passed-in-Call.passed ≡ passed_all g unchanged (all_taken k (expressions_of (map expression_tree xs)))) c.deref.ensures.value
+    let all = expressions_of (map expression_tree es) in
+    let passes : passage_of c.in_ok-passed-in-Call.passed ≡ passed_all g unchanged (expressions_of (map expression_tree es)) =
+    subst (λ xs. passage_of c.in_ok-passed-in-Call.passed ≡ passed_all g unchanged (expressions_of (map expression_tree xs))) c.deref.ensures.value
     (c.in_ok-passed-in-Call.ensures g h) in
-    does k g c.args.how c.value.result c.args.expression.now (Expression.Call x (expressions_of (map expression_tree es)))
+    does g c.args.how c.value.result c.args.expression.now (Expression.Call x (expressions_of (map expression_tree es)))
     (uses_as_value (passed_all g unchanged all))
-    (ap (λ e. expression_tree e) c.in-Call.is ∙ call_tree c.in-Call.field-0 c.in-Call.arguments) (call_uses k g x (expressions_of (map expression_tree es)))
+    (ap (λ e. expression_tree e) c.in-Call.is ∙ call_tree c.in-Call.field-0 c.in-Call.arguments) (call_uses g x (expressions_of (map expression_tree es)))
     (c.value.ensures c.args.how (passed_all g unchanged all) passes)
 
 pub uses-returns-in_ok-value-in-MakeUnion : goal.uses-returns-in_ok-value-in-MakeUnion
 uses-returns-in_ok-value-in-MakeUnion t c = λ g h.
-    let k = taken_of c.args.scope.now.taken in
     let tag = name_tree c.in-MakeUnion.field-0 in
     let field = name_tree c.in-MakeUnion.field-1 in
     let e = expression_tree c.in-MakeUnion.value.value in
-    let passes : passage_of c.in_ok-value-in-MakeUnion.value.passed ≡ (uses_of g (taken k e)).value =
-    subst (λ x. passage_of c.in_ok-value-in-MakeUnion.value.passed ≡ (uses_of g (taken k (expression_tree x))).value) c.deref-in-MakeUnion.ensures
+    let passes : passage_of c.in_ok-value-in-MakeUnion.value.passed ≡ (uses_of g e).value =
+    subst (λ x. passage_of c.in_ok-value-in-MakeUnion.value.passed ≡ (uses_of g (expression_tree x)).value) c.deref-in-MakeUnion.ensures
     (c.in_ok-value-in-MakeUnion.ensures g h).passed in
-    does k g c.args.how c.value-in-MakeUnion.result c.args.expression.now (Expression.MakeUnion tag field e) (uses_as_value (uses_of g (taken k e)).value)
-    (ap (λ e. expression_tree e) c.in-MakeUnion.is ∙ make_union_tree c.in-MakeUnion.field-0 c.in-MakeUnion.field-1 c.in-MakeUnion.value)
-    (union_uses k g tag field e c.if-not-scope.false)
-    (c.value-in-MakeUnion.ensures c.args.how (uses_of g (taken k e)).value passes)
+    does g c.args.how c.value-in-MakeUnion.result c.args.expression.now (Expression.MakeUnion tag field e) (uses_as_value (uses_of g e).value)
+    (ap (λ e. expression_tree e) c.in-MakeUnion.is ∙ make_union_tree c.in-MakeUnion.field-0 c.in-MakeUnion.field-1 c.in-MakeUnion.value) refl
+    (c.value-in-MakeUnion.ensures c.args.how (uses_of g e).value passes)
 
 pub uses-returns-in_ok-operand-in-NumElts : goal.uses-returns-in_ok-operand-in-NumElts
 uses-returns-in_ok-operand-in-NumElts t c = λ g h.
-    let k = taken_of c.args.scope.now.taken in
     let e = expression_tree c.in-NumElts.operand.value in
-    let passes : passage_of c.in_ok-operand-in-NumElts.operand.passed ≡ (uses_of g (taken k e)).look =
-    subst (λ x. passage_of c.in_ok-operand-in-NumElts.operand.passed ≡ (uses_of g (taken k (expression_tree x))).look) c.deref-in-NumElts.ensures
+    let passes : passage_of c.in_ok-operand-in-NumElts.operand.passed ≡ (uses_of g e).look =
+    subst (λ x. passage_of c.in_ok-operand-in-NumElts.operand.passed ≡ (uses_of g (expression_tree x)).look) c.deref-in-NumElts.ensures
     (c.in_ok-operand-in-NumElts.ensures g h).passed in
-    does k g c.args.how c.value-in-NumElts.result c.args.expression.now (Expression.NumElts c.in-NumElts.field-0 e) (uses_as_value (uses_of g (taken k e)).look)
-    (ap (λ e. expression_tree e) c.in-NumElts.is ∙ num_elts_tree c.in-NumElts.field-0 c.in-NumElts.operand)
-    (counted_uses k g c.in-NumElts.field-0 e c.if-not-scope-2.false)
-    (c.value-in-NumElts.ensures c.args.how (uses_of g (taken k e)).look passes)
+    does g c.args.how c.value-in-NumElts.result c.args.expression.now (Expression.NumElts c.in-NumElts.field-0 e) (uses_as_value (uses_of g e).look)
+    (ap (λ e. expression_tree e) c.in-NumElts.is ∙ num_elts_tree c.in-NumElts.field-0 c.in-NumElts.operand) refl
+    (c.value-in-NumElts.ensures c.args.how (uses_of g e).look passes)
 
 pub uses-returns-in-Grouped : goal.uses-returns-in-Grouped
 uses-returns-in-Grouped t c = λ g h.
-    let k = taken_of c.args.scope.now.taken in
     let e = expression_tree c.in-Grouped.inner.value in
-    told k g c.args.how c.uses-in-Grouped.result c.args.expression.now (Expression.Grouped c.in-Grouped.field-0 e) (uses_of g (taken k e))
+    told g c.args.how c.uses-in-Grouped.result c.args.expression.now (Expression.Grouped c.in-Grouped.field-0 e) (uses_of g e)
     (ap (λ e. expression_tree e) c.in-Grouped.is ∙ grouped_tree c.in-Grouped.field-0 c.in-Grouped.inner) refl
-    (subst (λ x. IfOk c.uses-in-Grouped.result (IsUsed c.args.how (uses_of g (taken k (expression_tree x))))) c.deref-in-Grouped.ensures
+    (subst (λ x. IfOk c.uses-in-Grouped.result (IsUsed c.args.how (uses_of g (expression_tree x)))) c.deref-in-Grouped.ensures
     (c.uses-in-Grouped.ensures g h))
-
-first_true : (a b : Bool) → (a && b) ≡ true → a ≡ true
-first_true true b h = refl
-first_true false b h = absurd cc
 
 pub uses-returns-in_ok-used-in-Suffixed : goal.uses-returns-in_ok-used-in-Suffixed
 uses-returns-in_ok-used-in-Suffixed t c = λ g h.
-    let takes = c.args.scope.now.taken in
-    let k = taken_of takes in
     let e = expression_tree c.in-Suffixed.primary.value in
     let xs = c.in-Suffixed.suffixes.items in
     let does_it = λ (s : Short Value) (ys : List Suffix). IfOk c.suffixed.result
-    (IsUsed c.args.how (all_short_uses k g s (uses_of g (taken k e)) (map suffix_tree ys))) in
-    let takes_them : takes_all takes xs ≡ true =
-    ap (takes_all takes) (sym c.deref-in-Suffixed.ensures.value) ∙ sym c.takes_suffixes.ensures ∙ c.if-not-takes_suffixes.false in
-    let known : short_of value_of c.in_ok-judged-in-Suffixed.judged ≡ judged takes g c.in-Suffixed.primary.value =
-    c.in_ok-judged-in-Suffixed.ensures g h.scope ∙ ap (λ x. judged takes g x) c.deref-in-Suffixed-2.ensures in
-    let used : IsUsed usage.Look (uses_of g (taken k e)) c.in_ok-used-in-Suffixed.used =
-    subst (λ x. IsUsed usage.Look (uses_of g (taken k (expression_tree x))) c.in_ok-used-in-Suffixed.used) c.deref-in-Suffixed-3.ensures
+    (IsUsed c.args.how (all_short_uses g s (uses_of g e) (map suffix_tree ys))) in
+    let known : short_of value_of c.in_ok-judged-in-Suffixed.judged ≡ judged g c.in-Suffixed.primary.value =
+    c.in_ok-judged-in-Suffixed.ensures g h.scope ∙ ap (λ x. judged g x) c.deref-in-Suffixed.ensures in
+    let used : IsUsed usage.Look (uses_of g e) c.in_ok-used-in-Suffixed.used =
+    subst (λ x. IsUsed usage.Look (uses_of g (expression_tree x)) c.in_ok-used-in-Suffixed.used) c.deref-in-Suffixed-2.ensures
     (c.in_ok-used-in-Suffixed.ensures g h) in
-    let some : are_suffixed (suffixes_of (map suffix_tree c.deref-in-Suffixed-4.result.now)) ≡ true =
-    ap (λ ys. are_suffixed (suffixes_of (map suffix_tree ys))) c.deref-in-Suffixed-4.ensures.value
-    ∙ first_true (are_suffixed (suffixes_of (map suffix_tree xs))) (takes_suffixes k (suffixes_of (map suffix_tree xs))) takes_them in
-    told k g c.args.how c.suffixed.result c.args.expression.now (Expression.Suffixed e (suffixes_of (map suffix_tree xs)))
-    (all_short_uses k g (judged takes g c.in-Suffixed.primary.value) (uses_of g (taken k e)) (map suffix_tree xs))
+    let some : 1 ≤ length c.deref-in-Suffixed-3.result.now =
+    subst (λ ys. 1 ≤ length ys) (sym c.deref-in-Suffixed-3.ensures.value)
+    (some_suffixes xs (tested_length c.in-Suffixed.suffixes c.is_empty.result c.is_empty.ensures ∙ c.if-is_empty.false)) in
+    told g c.args.how c.suffixed.result c.args.expression.now (Expression.Suffixed e (suffixes_of (map suffix_tree xs)))
+    (all_short_uses g (judged g c.in-Suffixed.primary.value) (uses_of g e) (map suffix_tree xs))
     (ap (λ e. expression_tree e) c.in-Suffixed.is ∙ suffixed_tree c.in-Suffixed.primary c.in-Suffixed.suffixes)
-    (suffixed_uses k g e (map suffix_tree xs) takes_them)
+    (suffixed_uses g e (map suffix_tree xs))
     (subst (λ s. does_it s xs) known
-    (subst (λ ys. does_it (short_of value_of c.in_ok-judged-in-Suffixed.judged) ys) c.deref-in-Suffixed-4.ensures.value
-    (c.suffixed.ensures g (uses_of g (taken k e)) h used some)))
+    (subst (λ ys. does_it (short_of value_of c.in_ok-judged-in-Suffixed.judged) ys) c.deref-in-Suffixed-3.ensures.value
+    (c.suffixed.ensures g (uses_of g e) h used some)))
 
 pub uses-returns-in-Prefixed : goal.uses-returns-in-Prefixed
 uses-returns-in-Prefixed t c = λ g h.
-    let k = taken_of c.args.scope.now.taken in
     let at = c.in-Prefixed.at in
     let o = c.in-Prefixed.operator in
     let e = expression_tree c.in-Prefixed.operand.value in
-    told k g c.args.how c.prefixed.result c.args.expression.now (Expression.Prefixed at o e) (uses_of g (Expression.Prefixed at o (taken k e)))
-    (ap (λ e. expression_tree e) c.in-Prefixed.is ∙ prefixed_tree at o c.in-Prefixed.operand) (prefixed_taken k g at o e refl)
-    (subst (λ x. IfOk c.prefixed.result (IsUsed c.args.how (uses_of g (Expression.Prefixed at o (taken k (expression_tree x)))))) c.deref-in-Prefixed.ensures
+    told g c.args.how c.prefixed.result c.args.expression.now (Expression.Prefixed at o e) (uses_of g (Expression.Prefixed at o e))
+    (ap (λ e. expression_tree e) c.in-Prefixed.is ∙ prefixed_tree at o c.in-Prefixed.operand) refl
+    (subst (λ x. IfOk c.prefixed.result (IsUsed c.args.how (uses_of g (Expression.Prefixed at o (expression_tree x))))) c.deref-in-Prefixed.ensures
     (c.prefixed.ensures g h))
 
-pub uses-returns-else-not-scope-3 : goal.uses-returns-else-not-scope-3
-uses-returns-else-not-scope-3 t c = λ g h.
-    let k = taken_of c.args.scope.now.taken in
+pub uses-returns-in-New : goal.uses-returns-in-New
+uses-returns-in-New t c = λ g h.
     let at = c.in-New.field-0 in
     let m = made_tree c.in-New.new in
-    told k g c.args.how c.made.result c.args.expression.now (Expression.New at m) (made_if k g g m unchanged)
-    (ap (λ e. expression_tree e) c.in-New.is ∙ new_tree at c.in-New.new) (new_uses k g at m c.if-not-scope-3.false)
-    (subst (λ p. IfOk c.made.result (IsUsed c.args.how (made_if k g g m p))) c.nothing.ensures (c.made.ensures g c.args.how h))
+    told g c.args.how c.made.result c.args.expression.now (Expression.New at m) (uses_made g m unchanged)
+    (ap (λ e. expression_tree e) c.in-New.is ∙ new_tree at c.in-New.new) refl
+    (subst (λ p. IfOk c.made.result (IsUsed c.args.how (uses_made g m p))) c.nothing.ensures (c.made.ensures g c.args.how h))
 
 pub uses-returns-in_ok-looked-in-NewIn : goal.uses-returns-in_ok-looked-in-NewIn
 uses-returns-in_ok-looked-in-NewIn t c = λ g h.
-    let takes = c.args.scope.now.taken in
-    let k = taken_of takes in
     let at = c.in-NewIn.field-0 in
     let handle = c.in-NewIn.handle.value in
     let m = made_tree c.in-NewIn.new in
-    let to = handle_goal takes g (expression_tree handle) in
-    let takes_it : takes_handle k (is_unique_region (expression_tree handle)) ≡ true =
-    sym (c.takes_handle.ensures ∙ ap (λ e. takes_handle k (is_unique_region (expression_tree e))) c.deref-in-NewIn.ensures)
-    ∙ c.if-not-takes_handle.false in
+    let to = handle_goal g (expression_tree handle) in
     let goal_known : short_of goal_in c.goal_part-goal.result ≡ shortened to =
     c.goal_part-goal.ensures g h.scope.sees
-    ∙ goal_is takes g handle c.is_unique_region.result (short_of value_of c.in_ok-judged-in-NewIn.judged)
-    (c.is_unique_region.ensures ∙ ap (λ e. is_unique_region (expression_tree e)) c.deref-in-NewIn-3.ensures)
-    (c.in_ok-judged-in-NewIn.ensures g h.scope ∙ ap (λ e. judged takes g e) c.deref-in-NewIn-2.ensures) in
+    ∙ goal_is g handle c.is_unique_region.result (short_of value_of c.in_ok-judged-in-NewIn.judged)
+    (c.is_unique_region.ensures ∙ ap (λ e. is_unique_region (expression_tree e)) c.deref-in-NewIn-2.ensures)
+    (c.in_ok-judged-in-NewIn.ensures g h.scope ∙ ap (λ e. judged g e) c.deref-in-NewIn.ensures) in
     let inside_known : enclosed to ≡ enclosing_of c.inside.result.enclosing =
     enclosed_is to ∙ ap enclosed_short (sym goal_known) ∙ sym c.inside.ensures.enclosing in
-    let looked : passage_of c.in_ok-looked-in-NewIn.looked.passed ≡ (uses_of g (taken k (expression_tree handle))).look =
-    (c.in_ok-looked-in-NewIn.ensures g h).passed ∙ ap (λ x. (uses_of g (taken k (expression_tree x))).look) c.deref-in-NewIn-4.ensures in
-    told k g c.args.how c.made-in-NewIn.result c.args.expression.now (Expression.NewIn at (expression_tree handle) m)
-    (made_if k g (inside to g) m (uses_of g (taken k (expression_tree handle))).look)
-    (ap (λ e. expression_tree e) c.in-NewIn.is ∙ new_in_tree at c.in-NewIn.handle c.in-NewIn.new) (new_in_uses k g at (expression_tree handle) m takes_it)
-    (subst (λ p. IfOk c.made-in-NewIn.result (IsUsed c.args.how (made_if k g (inside to g) m p))) looked
+    let looked : passage_of c.in_ok-looked-in-NewIn.looked.passed ≡ (uses_of g (expression_tree handle)).look =
+    (c.in_ok-looked-in-NewIn.ensures g h).passed ∙ ap (λ x. (uses_of g (expression_tree x)).look) c.deref-in-NewIn-3.ensures in
+    told g c.args.how c.made-in-NewIn.result c.args.expression.now (Expression.NewIn at (expression_tree handle) m)
+    (uses_made (inside to g) m (uses_of g (expression_tree handle)).look)
+    (ap (λ e. expression_tree e) c.in-NewIn.is ∙ new_in_tree at c.in-NewIn.handle c.in-NewIn.new) refl
+    (subst (λ p. IfOk c.made-in-NewIn.result (IsUsed c.args.how (uses_made (inside to g) m p))) looked
     (c.made-in-NewIn.ensures (inside to g) c.args.how (inside_goal c.inside.result to h c.inside.ensures.counters inside_known)))
 
 pub uses-returns-in_ok-passed-in-Chain : goal.uses-returns-in_ok-passed-in-Chain
 uses-returns-in_ok-passed-in-Chain t c = λ g h.
-    let k = taken_of c.args.scope.now.taken in
     let first = expression_tree c.in-Chain.first.value in
-    let links = links_of (map link_tree c.in-Chain.links.items) in
-    let linked : are_linked links ≡ true =
-    ap (λ ls. are_linked (links_of (map link_tree ls))) (sym c.deref-in-Chain.ensures.value) ∙ sym c.are_linked.ensures ∙ c.if-not-are_linked.false in
-    let passes : passage_of c.in_ok-passed-in-Chain.passed ≡ passed_links g (uses_of g (taken k first)).look (links_taken k links) =
+    let ls = c.in-Chain.links.items in
+    let links = links_of (map link_tree ls) in
+    let passes : passage_of c.in_ok-passed-in-Chain.passed ≡ passed_links g (uses_of g first).look links =
     c.in_ok-passed-in-Chain.ensures g h
-    ∙ ap (λ ls. passed_links g (passage_of c.in_ok-first-in-Chain.first.passed) (links_taken k (links_of (map link_tree ls)))) c.deref-in-Chain-3.ensures.value
-    ∙ ap (λ p. passed_links g p (links_taken k links))
-    ((c.in_ok-first-in-Chain.ensures g h).passed ∙ ap (λ x. (uses_of g (taken k (expression_tree x))).look) c.deref-in-Chain-2.ensures) in
-    does k g c.args.how c.value-in-Chain.result c.args.expression.now (Expression.Chain first links)
-    (uses_as_value (passed_links g (uses_of g (taken k first)).look (links_taken k links)))
-    (ap (λ e. expression_tree e) c.in-Chain.is ∙ chain_tree c.in-Chain.first c.in-Chain.links) (chain_uses k g first links linked)
-    (c.value-in-Chain.ensures c.args.how (passed_links g (uses_of g (taken k first)).look (links_taken k links)) passes)
-
-pub uses-returns-then-not-are_some : goal.uses-returns-then-not-are_some
-uses-returns-then-not-are_some t c = λ g h.
-    let k = taken_of c.args.scope.now.taken in
-    let first = expression_tree c.in-AllOf.first.value in
-    let others = expressions_of (map expression_tree c.in-AllOf.others.items) in
-    let none : are_some others ≡ false =
-    ap (λ es. are_some (expressions_of (map expression_tree es))) (sym c.deref-in-AllOf.ensures.value) ∙ sym c.are_some.ensures ∙ c.if-not-are_some.true in
-    does k g c.args.how c.idle-then-not-are_some.result c.args.expression.now (Expression.AllOf first others) (uses_as_value unchanged)
-    (ap (λ e. expression_tree e) c.in-AllOf.is ∙ all_of_tree c.in-AllOf.first c.in-AllOf.others) (all_of_idle k g first others none)
-    (c.idle-then-not-are_some.ensures c.args.how)
+    ∙ ap (λ ls. passed_links g (passage_of c.in_ok-first-in-Chain.first.passed) (links_of (map link_tree ls))) c.deref-in-Chain-2.ensures.value
+    ∙ ap (λ p. passed_links g p links)
+    ((c.in_ok-first-in-Chain.ensures g h).passed ∙ ap (λ x. (uses_of g (expression_tree x)).look) c.deref-in-Chain.ensures) in
+    does g c.args.how c.value-in-Chain.result c.args.expression.now (Expression.Chain first links)
+    (uses_as_value (passed_links g (uses_of g first).look links))
+    (ap (λ e. expression_tree e) c.in-Chain.is ∙ chain_tree c.in-Chain.first c.in-Chain.links)
+    (chain_uses g first ls (tested_length c.in-Chain.links c.is_empty-in-Chain.result c.is_empty-in-Chain.ensures ∙ c.if-is_empty-2.false))
+    (c.value-in-Chain.ensures c.args.how (passed_links g (uses_of g first).look links) passes)
 
 pub uses-returns-in_ok-passed-in-AllOf : goal.uses-returns-in_ok-passed-in-AllOf
 uses-returns-in_ok-passed-in-AllOf t c = λ g h.
-    let k = taken_of c.args.scope.now.taken in
     let first = expression_tree c.in-AllOf.first.value in
-    let others = expressions_of (map expression_tree c.in-AllOf.others.items) in
-    let some : are_some others ≡ true =
-    ap (λ es. are_some (expressions_of (map expression_tree es))) (sym c.deref-in-AllOf.ensures.value) ∙ sym c.are_some.ensures ∙ c.if-not-are_some.false in
-    let passes : passage_of c.in_ok-passed-in-AllOf.passed ≡ passed_tests g (uses_of g (taken k first)).look (all_taken k others) =
+    let es = c.in-AllOf.others.items in
+    let others = expressions_of (map expression_tree es) in
+    let passes : passage_of c.in_ok-passed-in-AllOf.passed ≡ passed_tests g (uses_of g first).look others =
     c.in_ok-passed-in-AllOf.ensures g h
-    ∙ ap (λ es. passed_tests g (passage_of c.in_ok-first-in-AllOf.first.passed) (all_taken k (expressions_of (map expression_tree es)))) c.deref-in-AllOf-3.ensures.value
-    ∙ ap (λ p. passed_tests g p (all_taken k others))
-    ((c.in_ok-first-in-AllOf.ensures g h).passed ∙ ap (λ x. (uses_of g (taken k (expression_tree x))).look) c.deref-in-AllOf-2.ensures) in
-    does k g c.args.how c.value-in-AllOf.result c.args.expression.now (Expression.AllOf first others)
-    (uses_as_value (passed_tests g (uses_of g (taken k first)).look (all_taken k others)))
-    (ap (λ e. expression_tree e) c.in-AllOf.is ∙ all_of_tree c.in-AllOf.first c.in-AllOf.others) (all_of_uses k g first others some)
-    (c.value-in-AllOf.ensures c.args.how (passed_tests g (uses_of g (taken k first)).look (all_taken k others)) passes)
-
-pub uses-returns-then-not-are_some-2 : goal.uses-returns-then-not-are_some-2
-uses-returns-then-not-are_some-2 t c = λ g h.
-    let k = taken_of c.args.scope.now.taken in
-    let first = expression_tree c.in-AnyOf.first.value in
-    let others = expressions_of (map expression_tree c.in-AnyOf.others.items) in
-    let none : are_some others ≡ false =
-    ap (λ es. are_some (expressions_of (map expression_tree es))) (sym c.deref-in-AnyOf.ensures.value) ∙ sym c.are_some-in-AnyOf.ensures ∙ c.if-not-are_some-2.true in
-    does k g c.args.how c.idle-then-not-are_some-2.result c.args.expression.now (Expression.AnyOf first others) (uses_as_value unchanged)
-    (ap (λ e. expression_tree e) c.in-AnyOf.is ∙ any_of_tree c.in-AnyOf.first c.in-AnyOf.others) (any_as_all k g first others ∙ all_of_idle k g first others none)
-    (c.idle-then-not-are_some-2.ensures c.args.how)
+    ∙ ap (λ es. passed_tests g (passage_of c.in_ok-first-in-AllOf.first.passed) (expressions_of (map expression_tree es))) c.deref-in-AllOf-2.ensures.value
+    ∙ ap (λ p. passed_tests g p others)
+    ((c.in_ok-first-in-AllOf.ensures g h).passed ∙ ap (λ x. (uses_of g (expression_tree x)).look) c.deref-in-AllOf.ensures) in
+    does g c.args.how c.value-in-AllOf.result c.args.expression.now (Expression.AllOf first others)
+    (uses_as_value (passed_tests g (uses_of g first).look others))
+    (ap (λ e. expression_tree e) c.in-AllOf.is ∙ all_of_tree c.in-AllOf.first c.in-AllOf.others)
+    (tests_joined g (uses_of g first) es (tested_length c.in-AllOf.others c.is_empty-in-AllOf.result c.is_empty-in-AllOf.ensures ∙ c.if-is_empty-3.false))
+    (c.value-in-AllOf.ensures c.args.how (passed_tests g (uses_of g first).look others) passes)
 
 pub uses-returns-in_ok-passed-in-AnyOf : goal.uses-returns-in_ok-passed-in-AnyOf
 uses-returns-in_ok-passed-in-AnyOf t c = λ g h.
-    let k = taken_of c.args.scope.now.taken in
     let first = expression_tree c.in-AnyOf.first.value in
-    let others = expressions_of (map expression_tree c.in-AnyOf.others.items) in
-    let some : are_some others ≡ true =
-    ap (λ es. are_some (expressions_of (map expression_tree es))) (sym c.deref-in-AnyOf.ensures.value) ∙ sym c.are_some-in-AnyOf.ensures ∙ c.if-not-are_some-2.false in
-    let passes : passage_of c.in_ok-passed-in-AnyOf.passed ≡ passed_tests g (uses_of g (taken k first)).look (all_taken k others) =
+    let es = c.in-AnyOf.others.items in
+    let others = expressions_of (map expression_tree es) in
+    let passes : passage_of c.in_ok-passed-in-AnyOf.passed ≡ passed_tests g (uses_of g first).look others =
     c.in_ok-passed-in-AnyOf.ensures g h
-    ∙ ap (λ es. passed_tests g (passage_of c.in_ok-first-in-AnyOf.first.passed) (all_taken k (expressions_of (map expression_tree es)))) c.deref-in-AnyOf-3.ensures.value
-    ∙ ap (λ p. passed_tests g p (all_taken k others))
-    ((c.in_ok-first-in-AnyOf.ensures g h).passed ∙ ap (λ x. (uses_of g (taken k (expression_tree x))).look) c.deref-in-AnyOf-2.ensures) in
-    does k g c.args.how c.value-in-AnyOf.result c.args.expression.now (Expression.AnyOf first others)
-    (uses_as_value (passed_tests g (uses_of g (taken k first)).look (all_taken k others)))
-    (ap (λ e. expression_tree e) c.in-AnyOf.is ∙ any_of_tree c.in-AnyOf.first c.in-AnyOf.others) (any_as_all k g first others ∙ all_of_uses k g first others some)
-    (c.value-in-AnyOf.ensures c.args.how (passed_tests g (uses_of g (taken k first)).look (all_taken k others)) passes)
+    ∙ ap (λ es. passed_tests g (passage_of c.in_ok-first-in-AnyOf.first.passed) (expressions_of (map expression_tree es))) c.deref-in-AnyOf-2.ensures.value
+    ∙ ap (λ p. passed_tests g p others)
+    ((c.in_ok-first-in-AnyOf.ensures g h).passed ∙ ap (λ x. (uses_of g (expression_tree x)).look) c.deref-in-AnyOf.ensures) in
+    does g c.args.how c.value-in-AnyOf.result c.args.expression.now (Expression.AnyOf first others)
+    (uses_as_value (passed_tests g (uses_of g first).look others))
+    (ap (λ e. expression_tree e) c.in-AnyOf.is ∙ any_of_tree c.in-AnyOf.first c.in-AnyOf.others)
+    (tests_joined g (uses_of g first) es (tested_length c.in-AnyOf.others c.is_empty-in-AnyOf.result c.is_empty-in-AnyOf.ensures ∙ c.if-is_empty-4.false))
+    (c.value-in-AnyOf.ensures c.args.how (passed_tests g (uses_of g first).look others) passes)
 
 pub uses-returns-in_ok-to-in-Assign : goal.uses-returns-in_ok-to-in-Assign
 uses-returns-in_ok-to-in-Assign t c = λ g h.
-    let k = taken_of c.args.scope.now.taken in
     let to = expression_tree c.in-Assign.to.value in
     let from = expression_tree c.in-Assign.from.value in
-    let from_is : passage_of c.in_ok-from-in-Assign.from.passed ≡ (uses_of g (taken k from)).value =
-    (c.in_ok-from-in-Assign.ensures g h).passed ∙ ap (λ x. (uses_of g (taken k (expression_tree x))).value) c.deref-in-Assign.ensures in
-    let to_is : passage_of c.in_ok-to-in-Assign.to.passed ≡ (uses_of g (taken k to)).target =
-    (c.in_ok-to-in-Assign.ensures g h).passed ∙ ap (λ x. (uses_of g (taken k (expression_tree x))).target) c.deref-in-Assign-2.ensures in
-    let both = in_turn (uses_of g (taken k from)).value (uses_of g (taken k to)).target in
-    does k g c.args.how c.value-in-Assign.result c.args.expression.now (Expression.Assign to from) (uses_as_value both)
+    let from_is : passage_of c.in_ok-from-in-Assign.from.passed ≡ (uses_of g from).value =
+    (c.in_ok-from-in-Assign.ensures g h).passed ∙ ap (λ x. (uses_of g (expression_tree x)).value) c.deref-in-Assign.ensures in
+    let to_is : passage_of c.in_ok-to-in-Assign.to.passed ≡ (uses_of g to).target =
+    (c.in_ok-to-in-Assign.ensures g h).passed ∙ ap (λ x. (uses_of g (expression_tree x)).target) c.deref-in-Assign-2.ensures in
+    let both = in_turn (uses_of g from).value (uses_of g to).target in
+    does g c.args.how c.value-in-Assign.result c.args.expression.now (Expression.Assign to from) (uses_as_value both)
     (ap (λ e. expression_tree e) c.in-Assign.is ∙ assign_tree c.in-Assign.to c.in-Assign.from) refl
     (c.value-in-Assign.ensures c.args.how both (c.in_turn.ensures ∙ ap₂ in_turn from_is to_is))
 
--- ---- forms that aren't taken
+-- ---- an operand alone
 
-pub uses-returns-then-not-scope : goal.uses-returns-then-not-scope
-uses-returns-then-not-scope t c = λ g h.
-    let k = taken_of c.args.scope.now.taken in
-    let e = expression_tree c.in-MakeUnion.value.value in
-    does k g c.args.how c.idle-then-not-scope.result c.args.expression.now (Expression.MakeUnion (name_tree c.in-MakeUnion.field-0) (name_tree c.in-MakeUnion.field-1) e) (uses_as_value unchanged)
-    (ap (λ e. expression_tree e) c.in-MakeUnion.is ∙ make_union_tree c.in-MakeUnion.field-0 c.in-MakeUnion.field-1 c.in-MakeUnion.value) (union_idle k g (name_tree c.in-MakeUnion.field-0) (name_tree c.in-MakeUnion.field-1) e c.if-not-scope.true) (c.idle-then-not-scope.ensures c.args.how)
-
-pub uses-returns-then-not-scope-2 : goal.uses-returns-then-not-scope-2
-uses-returns-then-not-scope-2 t c = λ g h.
-    let k = taken_of c.args.scope.now.taken in
-    let e = expression_tree c.in-NumElts.operand.value in
-    does k g c.args.how c.idle-then-not-scope-2.result c.args.expression.now (Expression.NumElts c.in-NumElts.field-0 e) (uses_as_value unchanged)
-    (ap (λ e. expression_tree e) c.in-NumElts.is ∙ num_elts_tree c.in-NumElts.field-0 c.in-NumElts.operand) (counted_idle k g c.in-NumElts.field-0 e c.if-not-scope-2.true) (c.idle-then-not-scope-2.ensures c.args.how)
-
-pub uses-returns-then-not-takes_suffixes : goal.uses-returns-then-not-takes_suffixes
-uses-returns-then-not-takes_suffixes t c = λ g h.
-    let k = taken_of c.args.scope.now.taken in
-    let takes = c.args.scope.now.taken in
+pub uses-returns-then-is_empty : goal.uses-returns-then-is_empty
+uses-returns-then-is_empty t c = λ g h.
     let e = expression_tree c.in-Suffixed.primary.value in
     let xs = c.in-Suffixed.suffixes.items in
-    let takes_none : takes_all takes xs ≡ false =
-    ap (takes_all takes) (sym c.deref-in-Suffixed.ensures.value) ∙ sym c.takes_suffixes.ensures ∙ c.if-not-takes_suffixes.true in
-    does k g c.args.how c.idle-then-not-takes_suffixes.result c.args.expression.now (Expression.Suffixed e (suffixes_of (map suffix_tree xs))) (uses_as_value unchanged)
-    (ap (λ e. expression_tree e) c.in-Suffixed.is ∙ suffixed_tree c.in-Suffixed.primary c.in-Suffixed.suffixes) (suffixed_idle k g e (map suffix_tree xs) takes_none) (c.idle-then-not-takes_suffixes.ensures c.args.how)
+    told g c.args.how c.uses-then-is_empty.result c.args.expression.now (Expression.Suffixed e (suffixes_of (map suffix_tree xs))) (uses_of g e)
+    (ap (λ e. expression_tree e) c.in-Suffixed.is ∙ suffixed_tree c.in-Suffixed.primary c.in-Suffixed.suffixes)
+    (suffixed_alone g e xs (tested_length c.in-Suffixed.suffixes c.is_empty.result c.is_empty.ensures ∙ c.if-is_empty.true))
+    (subst (λ x. IfOk c.uses-then-is_empty.result (IsUsed c.args.how (uses_of g (expression_tree x)))) c.deref-then-is_empty.ensures
+    (c.uses-then-is_empty.ensures g h))
 
-pub uses-returns-then-not-scope-3 : goal.uses-returns-then-not-scope-3
-uses-returns-then-not-scope-3 t c = λ g h.
-    let k = taken_of c.args.scope.now.taken in
-    does k g c.args.how c.idle-then-not-scope-3.result c.args.expression.now (Expression.New c.in-New.field-0 (made_tree c.in-New.new)) (uses_as_value unchanged)
-    (ap (λ e. expression_tree e) c.in-New.is ∙ new_tree c.in-New.field-0 c.in-New.new) (new_idle k g c.in-New.field-0 (made_tree c.in-New.new) c.if-not-scope-3.true) (c.idle-then-not-scope-3.ensures c.args.how)
+pub uses-returns-then-is_empty-2 : goal.uses-returns-then-is_empty-2
+uses-returns-then-is_empty-2 t c = λ g h.
+    let e = expression_tree c.in-Chain.first.value in
+    let xs = c.in-Chain.links.items in
+    told g c.args.how c.uses-then-is_empty-2.result c.args.expression.now (Expression.Chain e (links_of (map link_tree xs))) (uses_of g e)
+    (ap (λ e. expression_tree e) c.in-Chain.is ∙ chain_tree c.in-Chain.first c.in-Chain.links)
+    (chain_alone g e xs (tested_length c.in-Chain.links c.is_empty-in-Chain.result c.is_empty-in-Chain.ensures ∙ c.if-is_empty-2.true))
+    (subst (λ x. IfOk c.uses-then-is_empty-2.result (IsUsed c.args.how (uses_of g (expression_tree x)))) c.deref-then-is_empty-2.ensures
+    (c.uses-then-is_empty-2.ensures g h))
 
-pub uses-returns-then-not-takes_handle : goal.uses-returns-then-not-takes_handle
-uses-returns-then-not-takes_handle t c = λ g h.
-    let k = taken_of c.args.scope.now.taken in
-    let handle = c.in-NewIn.handle.value in
-    let takes_none : takes_handle k (is_unique_region (expression_tree handle)) ≡ false =
-    sym (c.takes_handle.ensures ∙ ap (λ e. takes_handle k (is_unique_region (expression_tree e))) c.deref-in-NewIn.ensures)
-    ∙ c.if-not-takes_handle.true in
-    does k g c.args.how c.idle-then-not-takes_handle.result c.args.expression.now (Expression.NewIn c.in-NewIn.field-0 (expression_tree handle) (made_tree c.in-NewIn.new)) (uses_as_value unchanged)
-    (ap (λ e. expression_tree e) c.in-NewIn.is ∙ new_in_tree c.in-NewIn.field-0 c.in-NewIn.handle c.in-NewIn.new) (new_in_idle k g c.in-NewIn.field-0 (expression_tree handle) (made_tree c.in-NewIn.new) takes_none) (c.idle-then-not-takes_handle.ensures c.args.how)
+pub uses-returns-then-is_empty-3 : goal.uses-returns-then-is_empty-3
+uses-returns-then-is_empty-3 t c = λ g h.
+    let e = expression_tree c.in-AllOf.first.value in
+    let xs = c.in-AllOf.others.items in
+    told g c.args.how c.uses-then-is_empty-3.result c.args.expression.now (Expression.AllOf e (expressions_of (map expression_tree xs))) (uses_of g e)
+    (ap (λ e. expression_tree e) c.in-AllOf.is ∙ all_of_tree c.in-AllOf.first c.in-AllOf.others)
+    (tested_alone g (uses_of g e) xs (tested_length c.in-AllOf.others c.is_empty-in-AllOf.result c.is_empty-in-AllOf.ensures ∙ c.if-is_empty-3.true))
+    (subst (λ x. IfOk c.uses-then-is_empty-3.result (IsUsed c.args.how (uses_of g (expression_tree x)))) c.deref-then-is_empty-3.ensures
+    (c.uses-then-is_empty-3.ensures g h))
 
-pub uses-returns-then-not-are_linked : goal.uses-returns-then-not-are_linked
-uses-returns-then-not-are_linked t c = λ g h.
-    let k = taken_of c.args.scope.now.taken in
-    let first = expression_tree c.in-Chain.first.value in
-    let links = links_of (map link_tree c.in-Chain.links.items) in
-    let none : are_linked links ≡ false =
-    ap (λ ls. are_linked (links_of (map link_tree ls))) (sym c.deref-in-Chain.ensures.value) ∙ sym c.are_linked.ensures ∙ c.if-not-are_linked.true in
-    does k g c.args.how c.idle-then-not-are_linked.result c.args.expression.now (Expression.Chain first links) (uses_as_value unchanged)
-    (ap (λ e. expression_tree e) c.in-Chain.is ∙ chain_tree c.in-Chain.first c.in-Chain.links) (chain_idle k g first links none) (c.idle-then-not-are_linked.ensures c.args.how)
+pub uses-returns-then-is_empty-4 : goal.uses-returns-then-is_empty-4
+uses-returns-then-is_empty-4 t c = λ g h.
+    let e = expression_tree c.in-AnyOf.first.value in
+    let xs = c.in-AnyOf.others.items in
+    told g c.args.how c.uses-then-is_empty-4.result c.args.expression.now (Expression.AnyOf e (expressions_of (map expression_tree xs))) (uses_of g e)
+    (ap (λ e. expression_tree e) c.in-AnyOf.is ∙ any_of_tree c.in-AnyOf.first c.in-AnyOf.others)
+    (tested_alone g (uses_of g e) xs (tested_length c.in-AnyOf.others c.is_empty-in-AnyOf.result c.is_empty-in-AnyOf.ensures ∙ c.if-is_empty-4.true))
+    (subst (λ x. IfOk c.uses-then-is_empty-4.result (IsUsed c.args.how (uses_of g (expression_tree x)))) c.deref-then-is_empty-4.ensures
+    (c.uses-then-is_empty-4.ensures g h))
 
 -- ---- parts one after another
 
 pub passed_all-each-preserved : goal.passed_all-each-preserved
 passed_all-each-preserved t c = λ g h.
-    let k = taken_of c.args.scope.now.taken in
-    all_step k g c.args.arguments.now c.each.argument-index c.argument-item.result (passage_of c.each.passed) (passage_of c.in_turn-passed.result)
+    all_step g c.args.arguments.now c.each.argument-index c.argument-item.result (passage_of c.each.passed) (passage_of c.in_turn-passed.result)
     c.each-test.true c.argument-item.is
     (c.in_turn-passed.ensures ∙ ap (λ p. in_turn (passage_of c.each.passed) p) (c.in_ok-argument.ensures g h).passed)
     ∙ c.each.invariant g h
 
 pub passed_all-returns : goal.passed_all-returns
 passed_all-returns t c = λ g h.
-    let k = taken_of c.args.scope.now.taken in
     let es = c.args.arguments.now in
     let done : drop c.each.argument-index es ≡ [] = drop_all c.each.argument-index es (omega (arith, c.each-test.false)) in
-    ap (λ xs. passed_all g (passage_of c.each.passed) (all_taken k (expressions_of (map expression_tree xs)))) (sym done) ∙ c.each.invariant g h
+    ap (λ xs. passed_all g (passage_of c.each.passed) (expressions_of (map expression_tree xs))) (sym done) ∙ c.each.invariant g h
 
 pub passed_links-each-preserved : goal.passed_links-each-preserved
 passed_links-each-preserved t c = λ g h.
-    let k = taken_of c.args.scope.now.taken in
-    links_step k g c.args.links.now c.each.link-index c.link-item.result (passage_of c.each.passed) (passage_of c.in_turn-passed.result)
+    links_step g c.args.links.now c.each.link-index c.link-item.result (passage_of c.each.passed) (passage_of c.in_turn-passed.result)
     c.each-test.true c.link-item.is
     (c.in_turn-passed.ensures ∙ ap (λ p. in_turn (passage_of c.each.passed) p) (c.in_ok-operand.ensures g h).passed)
     ∙ c.each.invariant g h
 
 pub passed_links-returns : goal.passed_links-returns
 passed_links-returns t c = λ g h.
-    let k = taken_of c.args.scope.now.taken in
     let ls = c.args.links.now in
     let done : drop c.each.link-index ls ≡ [] = drop_all c.each.link-index ls (omega (arith, c.each-test.false)) in
-    ap (λ xs. passed_links g (passage_of c.each.passed) (links_taken k (links_of (map link_tree xs)))) (sym done) ∙ c.each.invariant g h
+    ap (λ xs. passed_links g (passage_of c.each.passed) (links_of (map link_tree xs))) (sym done) ∙ c.each.invariant g h
 
 pub passed_tests-each-preserved : goal.passed_tests-each-preserved
 passed_tests-each-preserved t c = λ g h.
-    let k = taken_of c.args.scope.now.taken in
-    tests_step k g c.args.others.now c.each.operand-index c.operand-item.result (passage_of c.each.passed) (passage_of c.in_turn_or_not-passed.result)
+    tests_step g c.args.others.now c.each.operand-index c.operand-item.result (passage_of c.each.passed) (passage_of c.in_turn_or_not-passed.result)
     c.each-test.true c.operand-item.is
     (c.in_turn_or_not-passed.ensures ∙ ap (λ p. in_turn_or_not (passage_of c.each.passed) p) (c.in_ok-operand.ensures g h).passed)
     ∙ c.each.invariant g h
 
 pub passed_tests-returns : goal.passed_tests-returns
 passed_tests-returns t c = λ g h.
-    let k = taken_of c.args.scope.now.taken in
     let es = c.args.others.now in
     let done : drop c.each.operand-index es ≡ [] = drop_all c.each.operand-index es (omega (arith, c.each-test.false)) in
-    ap (λ xs. passed_tests g (passage_of c.each.passed) (all_taken k (expressions_of (map expression_tree xs)))) (sym done) ∙ c.each.invariant g h
+    ap (λ xs. passed_tests g (passage_of c.each.passed) (expressions_of (map expression_tree xs))) (sym done) ∙ c.each.invariant g h
 
 -- ---- operators before an operand
 
 pub prefixed-returns-in_ok-used-in-Negate : goal.prefixed-returns-in_ok-used-in-Negate
 prefixed-returns-in_ok-used-in-Negate t c = λ g h.
-    let e = taken (taken_of c.args.scope.now.taken) (expression_tree c.args.operand.now) in
+    let e = expression_tree c.args.operand.now in
     subst (λ u. IsUsed c.args.how u c.value.result) (sym (look_alone g c.args.at c.args.operator e c.in-Negate.is))
     (c.value.ensures c.args.how (uses_of g e).look (c.in_ok-used-in-Negate.ensures g h).passed)
 
 pub prefixed-returns-in_ok-contents-in-Dereference : goal.prefixed-returns-in_ok-contents-in-Dereference
 prefixed-returns-in_ok-contents-in-Dereference t c = λ g h.
-    let k = taken_of c.args.scope.now.taken in
     let at = c.args.at in
-    let e = taken k (expression_tree c.args.operand.now) in
+    let e = expression_tree c.args.operand.now in
     let s = short_of value_of c.in_ok-judged-in-Dereference.judged in
     let moved = c.is_moved-moves.ensures g h.scope.sees.tags in
     let contents_are : short_of value_of c.in_ok-contents-in-Dereference.contents ≡ short_after s (λ a. shortened (contents g at a)) =
@@ -431,7 +355,7 @@ prefixed-returns-in_ok-contents-in-Dereference t c = λ g h.
 pub prefixed-returns-in_ok-used-in-AddressOf : goal.prefixed-returns-in_ok-used-in-AddressOf
 prefixed-returns-in_ok-used-in-AddressOf t c = λ g h.
     let at = c.args.at in
-    let e = taken (taken_of c.args.scope.now.taken) (expression_tree c.args.operand.now) in
+    let e = expression_tree c.args.operand.now in
     let u = uses_of g e in
     let s = short_of value_of c.in_ok-judged-in-AddressOf.judged in
     let p = in_turn u.place (copied_if (u.own || in_block_short s) at) in
@@ -444,33 +368,29 @@ prefixed-returns-in_ok-used-in-AddressOf t c = λ g h.
 
 pub suffix_after-returns-in_ok-index-in-Index : goal.suffix_after-returns-in_ok-index-in-Index
 suffix_after-returns-in_ok-index-in-Index t c = λ g u h used.
-    let takes = c.args.scope.now.taken in
-    let k = taken_of takes in
     let s = short_of value_of c.args.judged in
     let e = expression_tree c.in-Index.index.value in
-    let judged_is : short_of value_of c.indexed_parts-judged.result ≡ short_suffix k g s (OneSuffix.Index e) =
+    let judged_is : short_of value_of c.indexed_parts-judged.result ≡ short_suffix g s (OneSuffix.Index e) =
     c.indexed_parts-judged.ensures g h.scope.sees
     ∙ ap (λ x. short_both s x (λ a b. shortened (indexed g a b)))
-    (c.in_ok-subscript-in-Index.ensures g h.scope ∙ ap (λ x. judged takes g x) c.deref.ensures) in
-    let index_is : passage_of c.in_ok-index-in-Index.index.passed ≡ (uses_of g (taken k e)).look =
-    (c.in_ok-index-in-Index.ensures g h).passed ∙ ap (λ x. (uses_of g (taken k (expression_tree x))).look) c.deref-in-Index.ensures in
-    after_index k g s (short_of value_of c.indexed_parts-judged.result) u c.of.result (suffix_tree c.args.suffix.now) c.place_of-at.result c.args.used.own
+    (c.in_ok-subscript-in-Index.ensures g h.scope ∙ ap (λ x. judged g x) c.deref.ensures) in
+    let index_is : passage_of c.in_ok-index-in-Index.index.passed ≡ (uses_of g e).look =
+    (c.in_ok-index-in-Index.ensures g h).passed ∙ ap (λ x. (uses_of g (expression_tree x)).look) c.deref-in-Index.ensures in
+    after_index g s (short_of value_of c.indexed_parts-judged.result) u c.of.result (suffix_tree c.args.suffix.now) c.place_of-at.result c.args.used.own
     (passage_of c.in_turn-passed.result) e (ap (λ x. suffix_tree x) c.in-Index.is ∙ index_tree c.in-Index.index) c.place_of-at.ensures judged_is used.own
     (c.in_turn-passed.ensures ∙ ap₂ in_turn index_is used.passed) (c.of.ensures g (passage_of c.in_turn-passed.result) h.scope.sees.tags refl)
 
 pub suffix_after-returns-in_ok-judged-in-Dot : goal.suffix_after-returns-in_ok-judged-in-Dot
 suffix_after-returns-in_ok-judged-in-Dot t c = λ g u h used.
-    let k = taken_of c.args.scope.now.taken in
     let s = short_of value_of c.args.judged in
-    after_dot k g s (short_of value_of c.in_ok-judged-in-Dot.judged) u c.of-in-Dot.result (suffix_tree c.args.suffix.now) c.place_of-at.result c.args.used.own
+    after_dot g s (short_of value_of c.in_ok-judged-in-Dot.judged) u c.of-in-Dot.result (suffix_tree c.args.suffix.now) c.place_of-at.result c.args.used.own
     (passage_of c.args.used.passed) (name_tree c.in-Dot.field) (ap (λ x. suffix_tree x) c.in-Dot.is ∙ dot_tree c.in-Dot.field) c.place_of-at.ensures
     (c.in_ok-judged-in-Dot.ensures g h.scope.sees.tags) used.own used.passed (c.of-in-Dot.ensures g (passage_of c.args.used.passed) h.scope.sees.tags refl)
 
 pub suffix_after-returns-in_ok-judged-in-Arrow : goal.suffix_after-returns-in_ok-judged-in-Arrow
 suffix_after-returns-in_ok-judged-in-Arrow t c = λ g u h used.
-    let k = taken_of c.args.scope.now.taken in
     let s = short_of value_of c.args.judged in
-    after_arrow k g s (short_of value_of c.in_ok-judged-in-Arrow.judged) u c.of-in-Arrow.result (suffix_tree c.args.suffix.now) c.place_of-at.result false
+    after_arrow g s (short_of value_of c.in_ok-judged-in-Arrow.judged) u c.of-in-Arrow.result (suffix_tree c.args.suffix.now) c.place_of-at.result false
     (passage_of c.pointed-passed.result) (name_tree c.in-Arrow.field) (ap (λ x. suffix_tree x) c.in-Arrow.is ∙ arrow_tree c.in-Arrow.field) c.place_of-at.ensures
     (c.in_ok-judged-in-Arrow.ensures g h.scope.sees) refl
     (c.pointed-passed.ensures u used ∙ ap (λ n. in_turn u.look (copied_if (is_unique_short s && not u.whole) n)) c.place_of-at.ensures)
@@ -478,57 +398,41 @@ suffix_after-returns-in_ok-judged-in-Arrow t c = λ g u h used.
 
 pub suffixed-each-init : goal.suffixed-each-init
 suffixed-each-init t c = λ g u h used.
-    let k = taken_of c.args.scope.now.taken in
-    after_first k g (short_of value_of c.args.judged) u c.in_ok-suffixed.suffixed c.in-Some.first.now c.in-Some.others.now c.args.suffixes.now
+    after_first g (short_of value_of c.args.judged) u c.in_ok-suffixed.suffixed c.in-Some.first.now c.in-Some.others.now c.args.suffixes.now
     c.in-Some.ensures.cases.0 (c.in_ok-suffixed.ensures g u h used)
 
 pub suffixed-each-preserved : goal.suffixed-each-preserved
 suffixed-each-preserved t c = λ g u h used.
-    let k = taken_of c.args.scope.now.taken in
     let so_far = c.each.invariant g u h used in
     let now = c.each.suffixed in
-    after_next k g now c.in_ok-suffixed-2.suffixed c.in-Some.others.now c.each.suffix-index c.suffix-item.result
-    (all_short_uses k g (short_of value_of c.args.judged) u (map suffix_tree c.args.suffixes.now)) c.each-test.true c.suffix-item.is so_far
+    after_next g now c.in_ok-suffixed-2.suffixed c.in-Some.others.now c.each.suffix-index c.suffix-item.result
+    (all_short_uses g (short_of value_of c.args.judged) u (map suffix_tree c.args.suffixes.now)) c.each-test.true c.suffix-item.is so_far
     (c.in_ok-suffixed-2.ensures g (uses_as_place now.at now.moves now.look.own (passage_of now.look.passed)) h (looked_is now so_far.part))
 
 pub suffixed-returns : goal.suffixed-returns
 suffixed-returns t c = λ g u h used some.
-    let k = taken_of c.args.scope.now.taken in
     let now = c.each.suffixed in
     let xs = c.in-Some.others.now in
     let done : drop c.each.suffix-index xs ≡ [] = drop_all c.each.suffix-index xs (omega (arith, c.each-test.false)) in
     let v = uses_as_place now.at now.moves now.look.own (passage_of now.look.passed) in
-    let all = all_short_uses k g (short_of value_of c.args.judged) u (map suffix_tree c.args.suffixes.now) in
-    let same : v ≡ all = ap (λ ys. all_short_uses k g (short_of value_of now.judged) v (map suffix_tree ys)) (sym done) ∙ (c.each.invariant g u h used).same in
+    let all = all_short_uses g (short_of value_of c.args.judged) u (map suffix_tree c.args.suffixes.now) in
+    let same : v ≡ all = ap (λ ys. all_short_uses g (short_of value_of now.judged) v (map suffix_tree ys)) (sym done) ∙ (c.each.invariant g u h used).same in
     subst (λ w. IsUsed c.args.how w c.place.result) same (c.place.ensures (passage_of now.look.passed) refl)
 
 -- ---- making
 
 pub made-returns-in_ok-value-in-One : goal.made-returns-in_ok-value-in-One
 made-returns-in_ok-value-in-One t c = λ g how h.
-    let k = taken_of c.args.scope.now.taken in
     let e = expression_tree c.in-One.value.value in
     let p = passage_of c.args.handle in
-    let both = in_turn p (uses_of g (taken k e)).value in
-    let passes : passage_of c.in_ok-value-in-One.value.passed ≡ (uses_of g (taken k e)).value =
-    (c.in_ok-value-in-One.ensures g h).passed ∙ ap (λ x. (uses_of g (taken k (expression_tree x))).value) c.deref.ensures in
-    subst (λ m. IsUsed how (made_if k g g m p) c.value.result) (sym (ap (λ m. made_tree m) c.in-One.is ∙ one_tree c.in-One.value))
+    let both = in_turn p (uses_of g e).value in
+    let passes : passage_of c.in_ok-value-in-One.value.passed ≡ (uses_of g e).value =
+    (c.in_ok-value-in-One.ensures g h).passed ∙ ap (λ x. (uses_of g (expression_tree x)).value) c.deref.ensures in
+    subst (λ m. IsUsed how (uses_made g m p) c.value.result) (sym (ap (λ m. made_tree m) c.in-One.is ∙ one_tree c.in-One.value))
     (c.value.ensures how both (c.in_turn.ensures ∙ ap (in_turn p) passes))
-
-pub made-returns-then-not-scope : goal.made-returns-then-not-scope
-made-returns-then-not-scope t c = λ g how h.
-    let k = taken_of c.args.scope.now.taken in
-    let x = name_tree c.in-Array.index in
-    let n = expression_tree c.in-Array.count.value in
-    let e = expression_tree c.in-Array.element.value in
-    let p = passage_of c.args.handle in
-    subst (λ m. IsUsed how (made_if k g g m p) c.idle.result)
-    (sym (ap (λ m. made_tree m) c.in-Array.is ∙ array_tree c.in-Array.index c.in-Array.count c.in-Array.element))
-    (subst (λ u. IsUsed how u c.idle.result) (sym (array_idle k g x n e p c.if-not-scope.true)) (c.idle.ensures how))
 
 pub made-returns-in_ok-element-in-Array : goal.made-returns-in_ok-element-in-Array
 made-returns-in_ok-element-in-Array t c = λ g how h.
-    let k = taken_of c.args.scope.now.taken in
     let x = name_tree c.in-Array.index in
     let n = expression_tree c.in-Array.count.value in
     let e = expression_tree c.in-Array.element.value in
@@ -540,16 +444,15 @@ made-returns-in_ok-element-in-Array t c = λ g how h.
     let one : length c.as_slice.result.now ≡ length c.args.around.counters.now + 1 =
     ap (λ cs. length cs) c.as_slice.ensures.value ∙ c.in_ok-counters-in-Array.ensures.one_more in
     let locals : c.in_ok-locals-in-Array.locals ≡ length g.locals = omega (arith, c.in_ok-locals-in-Array.ensures, h.count) in
-    let count_is : passage_of c.in_ok-count-in-Array.count.passed ≡ (uses_of g (taken k n)).look =
-    (c.in_ok-count-in-Array.ensures g h).passed ∙ ap (λ y. (uses_of g (taken k (expression_tree y))).look) c.deref-in-Array.ensures in
-    let element_is : passage_of c.in_ok-element-in-Array.element.passed ≡ (uses_of inner (taken k e)).value =
+    let count_is : passage_of c.in_ok-count-in-Array.count.passed ≡ (uses_of g n).look =
+    (c.in_ok-count-in-Array.ensures g h).passed ∙ ap (λ y. (uses_of g (expression_tree y)).look) c.deref-in-Array.ensures in
+    let element_is : passage_of c.in_ok-element-in-Array.element.passed ≡ (uses_of inner e).value =
     (c.in_ok-element-in-Array.ensures inner (counter_around _ x h refl more one)).passed
-    ∙ ap (λ y. (uses_of inner (taken k (expression_tree y))).value) c.deref-in-Array-3.ensures in
-    let elements_are : passage_of c.repeated-elements.result ≡ repeated (length g.locals) (uses_of inner (taken k e)).value =
+    ∙ ap (λ y. (uses_of inner (expression_tree y)).value) c.deref-in-Array-3.ensures in
+    let elements_are : passage_of c.repeated-elements.result ≡ repeated (length g.locals) (uses_of inner e).value =
     c.repeated-elements.ensures ∙ ap₂ repeated locals element_is in
-    let first : passage_of c.in_turn-in-Array.result ≡ in_turn p (uses_of g (taken k n)).look = c.in_turn-in-Array.ensures ∙ ap (in_turn p) count_is in
-    let all = in_turn (in_turn p (uses_of g (taken k n)).look) (repeated (length g.locals) (uses_of inner (taken k e)).value) in
-    subst (λ m. IsUsed how (made_if k g g m p) c.value-in-Array.result)
+    let first : passage_of c.in_turn-in-Array.result ≡ in_turn p (uses_of g n).look = c.in_turn-in-Array.ensures ∙ ap (in_turn p) count_is in
+    let all = in_turn (in_turn p (uses_of g n).look) (repeated (length g.locals) (uses_of inner e).value) in
+    subst (λ m. IsUsed how (uses_made g m p) c.value-in-Array.result)
     (sym (ap (λ m. made_tree m) c.in-Array.is ∙ array_tree c.in-Array.index c.in-Array.count c.in-Array.element))
-    (subst (λ u. IsUsed how u c.value-in-Array.result) (sym (array_made k g x n e p c.if-not-scope.false))
-    (c.value-in-Array.ensures how all (c.in_turn-in-Array-2.ensures ∙ ap₂ in_turn first elements_are)))
+    (c.value-in-Array.ensures how all (c.in_turn-in-Array-2.ensures ∙ ap₂ in_turn first elements_are))

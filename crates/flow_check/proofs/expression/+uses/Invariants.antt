@@ -3,8 +3,6 @@ use Rattle.cyc_tree.specs.View.{expression_tree, expressions_of, link_tree, link
 use Rattle.flow_summaries.specs.Passages.{unchanged}
 use Rattle.flow_summaries.specs.Uses.{Uses}
 use Rattle.source_typing.specs.Scope.{Env}
-use Rattle.source_typing.specs.Taken.{all_taken, links_taken}
-use Rattle.check_faults.specs.Taken.{taken_of}
 use Rattle.check_faults.specs.Verdicts.{short_of}
 use Rattle.check_operators.specs.Values.{value_of}
 use Rattle.flow_effects.specs.Passed.{passage_of}
@@ -19,23 +17,23 @@ use Rattle.flow_check.proofs.expression.+uses.Given as goal
 abbrev pub invariant-passed_all-each : goal.invariant-passed_all-each
 invariant-passed_all-each l =
     (g : Env) → IsWithin l.scope l.around g
-    → passed_all g (passage_of l.passed) (all_taken (taken_of l.scope.taken) (expressions_of (map expression_tree (drop l.argument-index l.arguments))))
-    ≡ passed_all g unchanged (all_taken (taken_of l.scope.taken) (expressions_of (map expression_tree l.arguments)))
+    → passed_all g (passage_of l.passed) (expressions_of (map expression_tree (drop l.argument-index l.arguments)))
+    ≡ passed_all g unchanged (expressions_of (map expression_tree l.arguments))
 
 abbrev pub invariant-passed_links-each : goal.invariant-passed_links-each
 invariant-passed_links-each l =
     (g : Env) → IsWithin l.scope l.around g
-    → passed_links g (passage_of l.passed) (links_taken (taken_of l.scope.taken) (links_of (map link_tree (drop l.link-index l.links))))
-    ≡ passed_links g (passage_of l.fn.first) (links_taken (taken_of l.scope.taken) (links_of (map link_tree l.links)))
+    → passed_links g (passage_of l.passed) (links_of (map link_tree (drop l.link-index l.links)))
+    ≡ passed_links g (passage_of l.fn.first) (links_of (map link_tree l.links))
 
 abbrev pub invariant-passed_tests-each : goal.invariant-passed_tests-each
 invariant-passed_tests-each l =
     (g : Env) → IsWithin l.scope l.around g
-    → passed_tests g (passage_of l.passed) (all_taken (taken_of l.scope.taken) (expressions_of (map expression_tree (drop l.operand-index l.others))))
-    ≡ passed_tests g (passage_of l.fn.first) (all_taken (taken_of l.scope.taken) (expressions_of (map expression_tree l.others)))
+    → passed_tests g (passage_of l.passed) (expressions_of (map expression_tree (drop l.operand-index l.others)))
+    ≡ passed_tests g (passage_of l.fn.first) (expressions_of (map expression_tree l.others))
 
 abbrev pub invariant-suffixed-each : goal.invariant-suffixed-each
 invariant-suffixed-each l =
     (g : Env) (u : Uses) → IsWithin l.scope l.around g → IsUsed usage.Look u l.fn.used
-    → Rest (taken_of l.scope.taken) g l.suffixed (map suffix_tree (drop l.suffix-index l.others))
-    (all_short_uses (taken_of l.scope.taken) g (short_of value_of l.fn.judged) u (map suffix_tree l.fn.suffixes))
+    → Rest g l.suffixed (map suffix_tree (drop l.suffix-index l.others))
+    (all_short_uses g (short_of value_of l.fn.judged) u (map suffix_tree l.fn.suffixes))

@@ -8,8 +8,6 @@ use Rattle.flow_summaries.specs.Statements as rules
 use Rattle.check_scopes.specs.Matching.{AreLocals}
 use Rattle.source_typing.specs.Functions.{body_scope, function_scope, head_of, with_parameters}
 use Rattle.source_typing.specs.Left.{states_at}
-use Rattle.source_typing.specs.Taken.{function_taken, items_taken}
-use Rattle.check_faults.specs.Taken.{taken_of}
 use Rattle.check_functions.specs.Bodies.{code_names, types_of}
 use Rattle.check_functions.proofs.Bodies.{stands}
 use Rattle.check_statements.specs.declared.context.Context.{Context}
@@ -24,8 +22,7 @@ pub returns : goal.returns
 returns c g known =
     let head = c.in_ok-head.head in
     let i = c.args.item in
-    let k = taken_of c.args.names.taken in
-    let f = function_taken k (function_tree c.args.function.now) in
+    let f = function_tree c.args.function.now in
     let h = head_of false g f in
     let is = c.in_ok-head.ensures g known.tag_names in
     let d : Context = record { result = c.known_type.result; frame = Level c.count.result; item = i; in_loop = false; in_switch = false } in
@@ -45,11 +42,9 @@ returns c g known =
     let inside = subst (λ e. Stands d ns 0 t e) parameters (c.in_ok-states.ensures.stands ns outer f.parameters named begun) in
     let begins : reverse (map state_of c.in_ok-states.states.items) ++ [] ≡ states_at body =
     c.in_ok-states.ensures.states ns outer f.parameters named begun ∙ ap states_at parameters in
-    let same_taken = c.in_ok-states.ensures.taken ∙ c.in_ok-scope.ensures.taken in
     let exits : exits_of c.in_ok-exits.exits ≡ rules.exits_of_items body f.body =
     c.in_ok-exits.ensures.exits body inside
-    ∙ ap (λ n. rules.exits_of_items body (items_taken (taken_of n) (items_of (map item_tree c.deref.result.now)))) same_taken
-    ∙ ap (λ b. rules.exits_of_items body (items_taken k (items_of (map item_tree b)))) c.deref.ensures.value in
+    ∙ ap (λ b. rules.exits_of_items body (items_of (map item_tree b))) c.deref.ensures.value in
     let faults = (passage_of c.in_ok-exits.exits.whole).faults in
     c.found.ensures
     ∙ ap (λ (bs : List Begun). found_in (length bs) faults (reverse (map state_of bs))) c.as_slice-2.ensures.value

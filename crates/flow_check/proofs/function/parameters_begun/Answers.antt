@@ -57,7 +57,6 @@ each-preserved c = record {
             ∙ none_begun bs (states_at g) outer inside so_far (ap added_of (sym v.in_default.is) ∙ added) all
       ] in
       begun ∙ ap states_at (sym r.2);
-  taken = c.in_ok-declare_parameter.ensures.taken ∙ c.each.invariant.taken;
 }
 
 pub returns-clause-stands : goal.returns-clause-stands

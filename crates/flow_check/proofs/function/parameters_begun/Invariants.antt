@@ -18,5 +18,4 @@ invariant-each l = record {
   states : (ns : List RegionNamed) (g : Env) (ms : List Member) → code_names l.parameters ≡ names_of ms → Stands l.context ns 0 l.initial.scope g
       → reverse (map state_of l.states.items) ++ states_at g
       ≡ states_at (with_parameters (take l.parameter-index ms) (types_of (take l.parameter-index l.parameters)) g);
-  taken : l.scope.taken ≡ l.initial.scope.taken;
 }

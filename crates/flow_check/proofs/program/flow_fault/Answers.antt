@@ -7,19 +7,16 @@ use Rattle.flow_summaries.specs.Statements.{fault_of_flow}
 use Rattle.source_typing.specs.Faults.{earliest}
 use Rattle.source_typing.specs.Left.{flow_faults}
 use Rattle.source_typing.specs.Programs.{tables_of}
-use Rattle.source_typing.specs.Taken.{only_taken}
 use Rattle.check_faults.specs.Faults.{faults_of}
-use Rattle.check_faults.specs.Taken.{taken_of}
 use Rattle.flow_check.proofs.Programs.{knows_program}
 use Rattle.flow_check.proofs.program.flow_fault.Goals as goal
 
 pub returns : goal.returns
 returns c =
-    let k = taken_of c.args.taken in
-    let all = only_taken k (program_tree c.items-items.result.now) in
+    let all = program_tree c.items-items.result.now in
     let names = c.in_ok-tags.ensures.names in
     let tables = c.in_ok-tags.ensures.tables in
-    IfOk-weaker c.items_flow.result (λ f. f ≡ fault_of_flow all) (λ f. faults_of f ≡ earliest (flow_faults (only_taken k c.args.program.now)))
-    (λ f e. ap faults_of e ∙ sym (flow_told all) ∙ ap (λ (q : Program). earliest (flow_faults (only_taken k q))) c.items-items.ensures)
+    IfOk-weaker c.items_flow.result (λ f. f ≡ fault_of_flow all) (λ f. faults_of f ≡ earliest (flow_faults c.args.program.now))
+    (λ f e. ap faults_of e ∙ sym (flow_told all) ∙ ap (λ (q : Program). earliest (flow_faults q)) c.items-items.ensures.same)
     (c.items_flow.ensures (tables_of false all)
     (knows_program _ all names tables (c.in_ok-globals.ensures (record { names = names; tables = tables }))))

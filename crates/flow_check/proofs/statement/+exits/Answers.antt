@@ -3,24 +3,21 @@ use Rattle.std.specs.Prelude.{None, option_map}
 use Rattle.cyc_tree.proofs.PartForms.{clause_parts}
 use Rattle.cyc_tree.proofs.StatementForms.{block_tree, declare_tree, exchange_tree, execute_tree, free_key_tree}
 use Rattle.cyc_tree.proofs.StatementForms.{free_unique_tree, if_else_tree, if_tree, return_tree, switch_tree, while_tree}
-use Rattle.cyc_tree.specs.Places.{expression_place}
 use Rattle.cyc_tree.specs.Tree.{Case, Default, Statement}
-use Rattle.cyc_tree.specs.View.{OneClause, OneItem, clause_tree, clauses_of, declaration_tree, expression_tree, item_tree, items_of, name_tree, pattern_tree, statement_tree}
+use Rattle.cyc_tree.specs.View.{OneItem, clause_tree, clauses_of, declaration_tree, expression_tree, item_tree, items_of, name_tree, pattern_tree, statement_tree}
 use Rattle.cyc_tree.specs.declared.statement.BlockItem.{BlockItem}
 use Rattle.cyc_tree.specs.declared.statement.Clause.{Clause}
 use Rattle.flow_summaries.specs.Exits.{either_exits, ends_after, entered, exits, exits_in_sequence, loop_exits, switch_left, with_passage}
 use Rattle.flow_summaries.specs.Expressions.{uses_of}
 use Rattle.flow_summaries.specs.Passages.{in_turn}
 use Rattle.flow_summaries.specs.Statements as rules
-use Rattle.flow_summaries.specs.Statements.{exits_of_clauses, exits_of_items, exits_within, freed_local, passage_of_result}
+use Rattle.flow_summaries.specs.Statements.{exits_of_clauses, exits_of_items, exits_within}
 use Rattle.source_typing.specs.Expressions.{judge}
 use Rattle.source_typing.specs.Left.{added_by}
 use Rattle.source_typing.specs.Regions.{Level}
 use Rattle.source_typing.specs.Scope.{Env, block_entered}
 use Rattle.source_typing.specs.States.{States}
 use Rattle.source_typing.specs.Statements.{clause_scope, in_a_loop, in_a_switch}
-use Rattle.source_typing.specs.Taken.{clauses_taken, items_taken, statement_taken, taken}
-use Rattle.check_faults.specs.Taken.{taken_of}
 use Rattle.check_scopes.specs.Changes.{left}
 use Rattle.check_scopes.specs.Locals.{dropped_to}
 use Rattle.check_scopes.specs.declared.scope.Scope.{Scope}
@@ -28,7 +25,7 @@ use Rattle.check_regions.specs.Marks.{mark_of}
 use Rattle.check_regions.specs.Scopes.{Scoped, first_of}
 use Rattle.check_regions.specs.declared.scope.RegionMark.{RegionMark}
 use Rattle.check_statements.specs.Contexts.{StandsIn, kept_to}
-use Rattle.check_statements.specs.Switching.{chosen_in, one_clause_taken}
+use Rattle.check_statements.specs.Switching.{chosen_in}
 use Rattle.check_statements.proofs.Blocks.{
   all_kept,
   begun_longer,
@@ -41,9 +38,7 @@ use Rattle.check_statements.proofs.Blocks.{
   no_fewer_regions,
   opened_same,
   scope_behind,
-  taken_items,
 }
-use Rattle.check_statements.proofs.Clauses.{taken_clauses}
 use Rattle.flow_effects.specs.Exits.{exits_of}
 use Rattle.flow_effects.specs.Passed.{added_of, passage_of}
 use Rattle.flow_effects.specs.Steps.{all_before, declared_before, step_before}
@@ -53,7 +48,7 @@ use Rattle.flow_check.specs.Switched.{clause_exits}
 use Rattle.flow_check.proofs.Adding.{adds_bound, entered_within, none_added}
 use Rattle.flow_check.proofs.Blocks.{Going, goes_on}
 use Rattle.flow_check.proofs.Located.{same_count}
-use Rattle.flow_check.proofs.Told.{answers_as, loop_follows, of_statement, still_follows, switch_follows, taken_exits, value_taken, way_goes_on}
+use Rattle.flow_check.proofs.Told.{answers_as, loop_follows, of_statement, still_follows, switch_follows, way_goes_on}
 use Rattle.flow_check.proofs.statement.+exits.Goals as goal
 use Rattle.flow_check.proofs.statement.+exits.Goals.{clause_exits-in-Case, clause_exits-in-Default}
 use Rattle.flow_check.proofs.statement.+exits.Goals.{items_exits-in-Declare+in_ok-declared-in-Declare, items_exits-in-Execute+in_ok-exits-in-Execute}
@@ -120,7 +115,6 @@ pub clause_exits-returns-clause-exits : goal.clause_exits-returns-clause-exits
 clause_exits-returns-clause-exits t c = λ g h.
     let s = c.args.scope.now in
     let ns = c.args.names.now in
-    let k = taken_of s.taken in
     let u = option_map chosen_in c.args.chosen in
     let clause = c.args.clause.now in
     let p = pattern_tree clause.pattern in
@@ -128,7 +122,6 @@ clause_exits-returns-clause-exits t c = λ g h.
     let outer : ℕ = length s.locals in
     let bound = c.bind.new.scope in
     let frame = c.in_ok-frame.ensures ∙ ap Level c.names.ensures in
-    let same : bound.taken ≡ s.taken = ap (λ (x : Scope). x.taken) (c.in_ok-bind.ensures.left 0 (mark_of s.regions) (grind arith)) in
     let begins = block_stands c.args.context ns s g c.begin_block.new.self c.in_ok-frame.frame outer h.known h.suits h.around c.in_ok-begin_block.ensures.begun
     frame (grind arith) in
     let up = frame ∙ ap Level h.known.regions.count in
@@ -138,10 +131,9 @@ clause_exits-returns-clause-exits t c = λ g h.
     (subst (λ n. StandsIn context ns n bound (clause_scope g u p)) (sym c.len-outer.ensures) binds) in
     let inside =
     c.in_ok-found.ensures.exits (clause_scope g u p) (record { stands = stands; locals = locals })
-    ∙ ap (λ (is : List BlockItem). exits_of_items (clause_scope g u p) (items_taken (taken_of bound.taken) (items_of (map item_tree is)))) c.deref-2.ensures.value
-    ∙ ap (λ n. exits_of_items (clause_scope g u p) (items_taken (taken_of n) (items_of (map item_tree clause.body.items)))) same in
+    ∙ ap (λ (is : List BlockItem). exits_of_items (clause_scope g u p) (items_of (map item_tree is))) c.deref-2.ensures.value in
     let added = added_of c.match-clause.begun in
-    let rest = exits_of_items (clause_scope g u p) (items_taken k (items_of (map item_tree clause.body.items))) in
+    let rest = exits_of_items (clause_scope g u p) (items_of (map item_tree clause.body.items)) in
     let count = sym (same_count s.locals g.locals h.locals) in
     let within : entered c.len-outer.result (length added + c.len-outer.result) added rest ≡ exits_within g (clause_scope g u p) rest =
     elim c.match-clause.branch [
@@ -162,7 +154,7 @@ clause_exits-returns-clause-exits t c = λ g h.
           ∙ subst (λ q. ◌≡◌ {A = States} [] (added_by g (clause_scope g u q))) (sym is) (sym (none_added (block_entered g) g.locals)))
     ] in
     c.leaving.ensures ∙ ap (entered c.len-outer.result (length added + c.len-outer.result) added) inside ∙ within
-    ∙ ap (λ (o : OneClause). clause_exits g u (record { at = o.at; pattern = o.pattern; body = items_taken k o.body })) (sym (clause_parts clause))
+    ∙ ap (clause_exits g u) (sym (clause_parts clause))
 
 -- ---- clauses of a `switch`
 
@@ -178,61 +170,56 @@ switched-each-preserved t c =
       names = names;
       each = λ g h.
           let follows = still_follows c.args.context c.args.names.now c.each.names all c.each.scope g c.each.invariant.scope c.each.invariant.names h in
-          ap (λ ss. all_before ss (exits_of_clauses g u (taken_clauses (taken_of all.taken) (drop (c.each.clause-index + 1) c.args.clauses.now))))
+          ap (λ ss. all_before ss (exits_of_clauses g u (clauses_of (map clause_tree (drop (c.each.clause-index + 1) c.args.clauses.now)))))
           c.in_ok-push.ensures.items
-          ∙ way_goes_on (taken_of all.taken) g u c.each.ways.items c.in_ok-way.way c.args.clauses.now c.each.clause-index clause
-          (exits_of_clauses g u (taken_clauses (taken_of all.taken) c.args.clauses.now)) c.each-test.true c.clause-item.is (c.each.invariant.each g h)
-          (c.in_ok-way.ensures.exits g follows
-          ∙ ap (λ (s : Scope). clause_exits g u (one_clause_taken (taken_of s.taken) (clause_tree clause))) c.each.invariant.scope);
+          ∙ way_goes_on g u c.each.ways.items c.in_ok-way.way c.args.clauses.now c.each.clause-index clause
+          (exits_of_clauses g u (clauses_of (map clause_tree c.args.clauses.now))) c.each-test.true c.clause-item.is (c.each.invariant.each g h)
+          (c.in_ok-way.ensures.exits g follows);
     }
 
 -- ---- items
 
 pub items_exits-each-preserved : goal.items_exits-each-preserved
 items_exits-each-preserved t c =
-    let k = taken_of c.args.scope.now.taken in
-    let here = taken_of c.each.scope.taken in
     let item = c.item-item.result in
     let context = c.args.context in
     let outer = c.args.outer in
     let names = c.each.names in
     let later = c.match-item.names in
     let all = c.args.scope.now in
-    let same_taken : c.each.scope.taken ≡ all.taken =
-    ap (λ (s : Scope). s.taken) (c.each.invariant.left 0 (mark_of all.regions) (grind arith) (grind arith) (grind arith)) in
     let own : (g : Env) → Stands context names outer c.each.scope g → (rest : List OneItem)
-    → step_before c.match-item.step (exits_of_items (scope_behind here g (item_tree item)) (taken_items here rest))
-    ≡ exits_of_items g (taken_items here (item_tree item ∷ rest)) =
+    → step_before c.match-item.step (exits_of_items (scope_behind g (item_tree item)) (items_of rest))
+    ≡ exits_of_items g (items_of (item_tree item ∷ rest)) =
     elim c.match-item.branch [
       | items_exits-in-Declare+in_ok-declared-in-Declare w ↦ λ g h rest.
           let d = declaration_tree w.in-Declare.declaration in
           let is = sym (declare_tree w.in-Declare.declaration) ∙ ap item_tree (sym w.in-Declare.is) in
-          ap (λ s. step_before s (exits_of_items (scope_behind here g (item_tree item)) (taken_items here rest))) w.step-is
-          ∙ ap (λ i. declared_before w.in_ok-declared-in-Declare.field-0 (exits_of_items (scope_behind here g i) (taken_items here rest))) (sym is)
-          ∙ w.in_ok-declared-in-Declare.ensures.before g (exits_of_items (scope_behind here g (OneItem.Declare d)) (taken_items here rest)) h
-          ∙ ap (λ i. exits_of_items g (taken_items here (i ∷ rest))) is
+          ap (λ s. step_before s (exits_of_items (scope_behind g (item_tree item)) (items_of rest))) w.step-is
+          ∙ ap (λ i. declared_before w.in_ok-declared-in-Declare.field-0 (exits_of_items (scope_behind g i) (items_of rest))) (sym is)
+          ∙ w.in_ok-declared-in-Declare.ensures.before g (exits_of_items (scope_behind g (OneItem.Declare d)) (items_of rest)) h
+          ∙ ap (λ i. exits_of_items g (items_of (i ∷ rest))) is
       | items_exits-in-Execute+in_ok-exits-in-Execute w ↦ λ g h rest.
           let e = statement_tree w.in-Execute.statement in
           let is = sym (execute_tree w.in-Execute.statement) ∙ ap item_tree (sym w.in-Execute.is) in
-          ap (λ s. step_before s (exits_of_items (scope_behind here g (item_tree item)) (taken_items here rest))) w.step-is
-          ∙ ap (λ i. exits_in_sequence (exits_of w.in_ok-exits-in-Execute.field-0) (exits_of_items (scope_behind here g i) (taken_items here rest))) (sym is)
-          ∙ ap (λ v. exits_in_sequence v (exits_of_items g (taken_items here rest)))
+          ap (λ s. step_before s (exits_of_items (scope_behind g (item_tree item)) (items_of rest))) w.step-is
+          ∙ ap (λ i. exits_in_sequence (exits_of w.in_ok-exits-in-Execute.field-0) (exits_of_items (scope_behind g i) (items_of rest))) (sym is)
+          ∙ ap (λ v. exits_in_sequence v (exits_of_items g (items_of rest)))
           (w.in_ok-exits-in-Execute.ensures.exits g (record { known = h.stands.known; suits = h.stands.suits; around = h.stands.block.around; locals = h.locals }))
-          ∙ ap (λ i. exits_of_items g (taken_items here (i ∷ rest))) is
+          ∙ ap (λ i. exits_of_items g (items_of (i ∷ rest))) is
     ] in
     let stands : (g : Env) → Stands context names outer c.each.scope g
-    → Stands context later outer c.match-item.scope (scope_behind here g (item_tree item)) =
+    → Stands context later outer c.match-item.scope (scope_behind g (item_tree item)) =
     elim c.match-item.branch [
-      | items_exits-in-Declare+in_ok-declared-in-Declare w ↦ λ g h. subst (λ s. Stands context later outer s (scope_behind here g (item_tree item))) (sym w.scope-is)
-          (subst (λ ns. Stands context ns outer w.declared.new.scope (scope_behind here g (item_tree item))) (sym w.names-is)
-          (subst (λ i. Stands context w.declared.new.names outer w.declared.new.scope (scope_behind here g i))
+      | items_exits-in-Declare+in_ok-declared-in-Declare w ↦ λ g h. subst (λ s. Stands context later outer s (scope_behind g (item_tree item))) (sym w.scope-is)
+          (subst (λ ns. Stands context ns outer w.declared.new.scope (scope_behind g (item_tree item))) (sym w.names-is)
+          (subst (λ i. Stands context w.declared.new.names outer w.declared.new.scope (scope_behind g i))
           (sym (declare_tree w.in-Declare.declaration) ∙ ap item_tree (sym w.in-Declare.is))
           (w.in_ok-declared-in-Declare.ensures.known g h)))
-      | items_exits-in-Execute+in_ok-exits-in-Execute w ↦ λ g h. subst (λ s. Stands context later outer s (scope_behind here g (item_tree item)))
+      | items_exits-in-Execute+in_ok-exits-in-Execute w ↦ λ g h. subst (λ s. Stands context later outer s (scope_behind g (item_tree item)))
           (sym (w.scope-is ∙ w.in_ok-exits-in-Execute.ensures.scope))
-          (subst (λ ns. Stands context ns outer c.each.scope (scope_behind here g (item_tree item)))
+          (subst (λ ns. Stands context ns outer c.each.scope (scope_behind g (item_tree item)))
           (sym (w.names-is ∙ w.in_ok-exits-in-Execute.ensures.kept))
-          (subst (λ i. Stands context names outer c.each.scope (scope_behind here g i))
+          (subst (λ i. Stands context names outer c.each.scope (scope_behind g i))
           (sym (execute_tree w.in-Execute.statement) ∙ ap item_tree (sym w.in-Execute.is)) h))
     ] in
     let leaves = c.each.invariant.left (length all.locals) (mark_of all.regions) (grind arith) (grind arith) (grind arith) in
@@ -258,15 +245,11 @@ items_exits-each-preserved t c =
     record {
       each = λ g h.
           let going = c.each.invariant.each g h in
-          let whole = exits_of_items g (items_taken k (items_of (map item_tree items))) in
-          subst (λ ss. Going k context later outer c.match-item.scope ss rest whole) (sym c.in_ok-push.ensures.items)
-          (goes_on k context names later outer c.each.scope c.match-item.scope c.each.steps.items c.match-item.step items c.each.item-index item whole
+          let whole = exits_of_items g (items_of (map item_tree items)) in
+          subst (λ ss. Going context later outer c.match-item.scope ss rest whole) (sym c.in_ok-push.ensures.items)
+          (goes_on context names later outer c.each.scope c.match-item.scope c.each.steps.items c.match-item.step items c.each.item-index item whole
           c.each-test.true c.item-item.is going
-          (subst (λ n. (others : List OneItem)
-          → step_before c.match-item.step (exits_of_items (scope_behind (taken_of n) going.env (item_tree item)) (taken_items (taken_of n) others))
-          ≡ exits_of_items going.env (taken_items (taken_of n) (item_tree item ∷ others))) same_taken (own going.env going.stands))
-          (subst (λ n. Stands context later outer c.match-item.scope (scope_behind (taken_of n) going.env (item_tree item))) same_taken
-          (stands going.env going.stands)));
+          (own going.env going.stands) (stands going.env going.stands));
       left = λ count mark l m o. same count mark (grind (arith, l, longer)) (grind (arith, m, more)) (grind (arith, o, opened))
           ∙ c.each.invariant.left count mark l m o;
       kept = λ count l. kept count (grind (arith, l, larger)) ∙ c.each.invariant.kept count l;
@@ -276,121 +259,107 @@ items_exits-each-preserved t c =
 
 pub exits-returns-in-Block-clause-exits : goal.exits-returns-in-Block-clause-exits
 exits-returns-in-Block-clause-exits t c = λ g h.
-    let k = taken_of c.args.scope.now.taken in
     let x = c.in-Block in
-    of_statement c.block.result k g c.args.statement.now (Statement.Block x.field-0 (items_of (map item_tree x.items.items)))
+    of_statement c.block.result g c.args.statement.now (Statement.Block x.field-0 (items_of (map item_tree x.items.items)))
     (ap statement_tree x.is ∙ block_tree x.field-0 x.items)
-    (subst (λ is. IfOk c.block.result (λ w. exits_of w ≡ exits_of_items (block_entered g) (items_taken k (items_of (map item_tree is)))))
+    (subst (λ is. IfOk c.block.result (λ w. exits_of w ≡ exits_of_items (block_entered g) (items_of (map item_tree is))))
     c.deref.ensures.value (c.block.ensures.exits g h))
 
 pub exits-returns-in_ok-right-in-Exchange-clause-exits : goal.exits-returns-in_ok-right-in-Exchange-clause-exits
 exits-returns-in_ok-right-in-Exchange-clause-exits t c = λ g h.
-    let k = taken_of c.args.scope.now.taken in
     let x = c.in-Exchange in
     let a = expression_tree x.left in
     let b = expression_tree x.right in
     c.ends_after-in-Exchange.ensures ∙ ap ends_after (c.in_turn.ensures ∙ ap (λ p. in_turn p (passage_of c.in_ok-right-in-Exchange.right))
     (c.in_ok-left-in-Exchange.ensures g h.known h.locals)
-    ∙ ap (in_turn (uses_of g (taken k a)).look) (c.in_ok-right-in-Exchange.ensures g h.known h.locals))
-    ∙ taken_exits g (expression_place a) (Statement.Exchange (taken k a) (taken k b)) k.unique c.if-not-scope.false
-    ∙ ap (λ s. rules.exits_of g (statement_taken k s)) (sym (ap statement_tree x.is ∙ exchange_tree x.left x.right))
+    ∙ ap (in_turn (uses_of g a).look) (c.in_ok-right-in-Exchange.ensures g h.known h.locals))
+    ∙ ap (rules.exits_of g) (sym (ap statement_tree x.is ∙ exchange_tree x.left x.right))
 
 pub exits-returns-in_ok-either-in-If-clause-exits : goal.exits-returns-in_ok-either-in-If-clause-exits
 exits-returns-in_ok-either-in-If-clause-exits t c = λ g h.
-    let k = taken_of c.args.scope.now.taken in
     let x = c.in-If in
     let e = expression_tree x.condition in
     let s = statement_tree x.body.value in
-    let body = c.in_ok-body-in-If.ensures.exits g h ∙ ap (λ b. rules.exits_of g (statement_taken k (statement_tree b))) c.deref-in-If.ensures in
+    let body = c.in_ok-body-in-If.ensures.exits g h ∙ ap (λ b. rules.exits_of g (statement_tree b)) c.deref-in-If.ensures in
     let either = c.in_ok-either-in-If.ensures ∙ ap (λ w. either_exits w (exits_of c.ends-in-If.result)) body
-    ∙ ap (either_exits (rules.exits_of g (statement_taken k s))) c.ends-in-If.ensures in
-    of_statement c.after.result k g c.args.statement.now (Statement.If x.field-0 e s)
+    ∙ ap (either_exits (rules.exits_of g s)) c.ends-in-If.ensures in
+    of_statement c.after.result g c.args.statement.now (Statement.If x.field-0 e s)
     (ap statement_tree x.is ∙ if_tree x.field-0 x.condition x.body)
-    (answers_as c.after.result _ (rules.exits_of g (statement_taken k (Statement.If x.field-0 e s)))
+    (answers_as c.after.result _ (rules.exits_of g (Statement.If x.field-0 e s))
     (ap (λ p. with_passage p (exits_of c.in_ok-either-in-If.field-0)) (c.in_ok-condition-in-If.ensures g h.known h.locals)
-    ∙ ap (with_passage (uses_of g (taken k e)).look) either) c.after.ensures)
+    ∙ ap (with_passage (uses_of g e).look) either) c.after.ensures)
 
 pub exits-returns-in_ok-either-in-IfElse-clause-exits : goal.exits-returns-in_ok-either-in-IfElse-clause-exits
 exits-returns-in_ok-either-in-IfElse-clause-exits t c = λ g h.
     let all = c.args.scope.now in
-    let k = taken_of all.taken in
     let x = c.in-IfElse in
     let e = expression_tree x.condition in
     let s = statement_tree x.body.value in
     let o = statement_tree x.otherwise.value in
-    let body = c.in_ok-body-in-IfElse.ensures.exits g h ∙ ap (λ b. rules.exits_of g (statement_taken k (statement_tree b))) c.deref-in-IfElse.ensures in
+    let body = c.in_ok-body-in-IfElse.ensures.exits g h ∙ ap (λ b. rules.exits_of g (statement_tree b)) c.deref-in-IfElse.ensures in
     let same = c.in_ok-body-in-IfElse.ensures.scope in
     let follows = still_follows c.args.context c.args.names.now c.exits-in-IfElse.new.names all c.exits-in-IfElse.new.scope g same
     c.in_ok-body-in-IfElse.ensures.kept h in
     let other = c.in_ok-otherwise-in-IfElse.ensures.exits g follows
-    ∙ ap (λ (z : Scope). rules.exits_of g (statement_taken (taken_of z.taken) (statement_tree c.deref-in-IfElse-2.result.now))) same
-    ∙ ap (λ b. rules.exits_of g (statement_taken k (statement_tree b))) c.deref-in-IfElse-2.ensures in
+    ∙ ap (λ b. rules.exits_of g (statement_tree b)) c.deref-in-IfElse-2.ensures in
     let either = c.in_ok-either-in-IfElse.ensures ∙ ap (λ w. either_exits w (exits_of c.in_ok-otherwise-in-IfElse.otherwise)) body
-    ∙ ap (either_exits (rules.exits_of g (statement_taken k s))) other in
-    of_statement c.after-in-IfElse.result k g c.args.statement.now (Statement.IfElse x.field-0 e s o)
+    ∙ ap (either_exits (rules.exits_of g s)) other in
+    of_statement c.after-in-IfElse.result g c.args.statement.now (Statement.IfElse x.field-0 e s o)
     (ap statement_tree x.is ∙ if_else_tree x.field-0 x.condition x.body x.otherwise)
-    (answers_as c.after-in-IfElse.result _ (rules.exits_of g (statement_taken k (Statement.IfElse x.field-0 e s o)))
+    (answers_as c.after-in-IfElse.result _ (rules.exits_of g (Statement.IfElse x.field-0 e s o))
     (ap (λ p. with_passage p (exits_of c.in_ok-either-in-IfElse.field-0)) (c.in_ok-condition-in-IfElse.ensures g h.known h.locals)
-    ∙ ap (with_passage (uses_of g (taken k e)).look) either) c.after-in-IfElse.ensures)
+    ∙ ap (with_passage (uses_of g e).look) either) c.after-in-IfElse.ensures)
 
 pub exits-returns-in_ok-body-in-While-clause-exits : goal.exits-returns-in_ok-body-in-While-clause-exits
 exits-returns-in_ok-body-in-While-clause-exits t c = λ g h.
     let all = c.args.scope.now in
-    let k = taken_of all.taken in
     let x = c.in-While in
     let e = expression_tree x.condition in
     let s = statement_tree x.body.value in
     let body = c.in_ok-body-in-While.ensures.exits (in_a_loop g)
     (loop_follows c.args.context c.looping.result c.args.names.now all g h c.looping.ensures)
-    ∙ ap (λ b. rules.exits_of (in_a_loop g) (statement_taken k (statement_tree b))) c.deref-in-While.ensures in
-    of_statement c.loop_of.result k g c.args.statement.now (Statement.While x.field-0 e s)
+    ∙ ap (λ b. rules.exits_of (in_a_loop g) (statement_tree b)) c.deref-in-While.ensures in
+    of_statement c.loop_of.result g c.args.statement.now (Statement.While x.field-0 e s)
     (ap statement_tree x.is ∙ while_tree x.field-0 x.condition x.body)
-    (answers_as c.loop_of.result _ (rules.exits_of g (statement_taken k (Statement.While x.field-0 e s)))
+    (answers_as c.loop_of.result _ (rules.exits_of g (Statement.While x.field-0 e s))
     (ap (λ p. loop_exits p (exits_of c.in_ok-body-in-While.body)) (c.in_ok-condition-in-While.ensures g h.known h.locals)
-    ∙ ap (loop_exits (uses_of g (taken k e)).look) body) c.loop_of.ensures)
+    ∙ ap (loop_exits (uses_of g e).look) body) c.loop_of.ensures)
 
 pub exits-returns-in_ok-switch_left-in-Switch-clause-exits : goal.exits-returns-in_ok-switch_left-in-Switch-clause-exits
 exits-returns-in_ok-switch_left-in-Switch-clause-exits t c = λ g h.
     let all = c.args.scope.now in
-    let k = taken_of all.taken in
     let x = c.in-Switch in
     let e = expression_tree x.place in
     let cs = clauses_of (map clause_tree x.clauses.items) in
-    let v = judge g (taken k e) in
+    let v = judge g e in
     let union = c.union_of-chosen.ensures v (c.in_ok-judged-in-Switch.ensures g h.known) in
     let ways = c.in_ok-ways-in-Switch.ensures.exits (in_a_switch g)
     (switch_follows c.args.context c.switching.result c.args.names.now all g h c.switching.ensures)
     ∙ ap (λ (l : List Clause). exits_of_clauses (in_a_switch g) (option_map chosen_in c.union_of-chosen.result)
-    (clauses_taken k (clauses_of (map clause_tree l)))) c.deref-in-Switch.ensures.value
-    ∙ ap (λ u. exits_of_clauses (in_a_switch g) u (clauses_taken k cs)) union in
+    (clauses_of (map clause_tree l))) c.deref-in-Switch.ensures.value
+    ∙ ap (λ u. exits_of_clauses (in_a_switch g) u cs) union in
     let left = c.in_ok-switch_left-in-Switch.ensures ∙ ap switch_left ways in
-    of_statement c.after-in-Switch.result k g c.args.statement.now (Statement.Switch x.field-0 e cs)
+    of_statement c.after-in-Switch.result g c.args.statement.now (Statement.Switch x.field-0 e cs)
     (ap statement_tree x.is ∙ switch_tree x.field-0 x.place x.clauses)
-    (answers_as c.after-in-Switch.result _ (rules.exits_of g (statement_taken k (Statement.Switch x.field-0 e cs)))
+    (answers_as c.after-in-Switch.result _ (rules.exits_of g (Statement.Switch x.field-0 e cs))
     (ap (λ p. with_passage p (exits_of c.in_ok-switch_left-in-Switch.field-0)) (c.in_ok-place-in-Switch.ensures g h.known h.locals)
-    ∙ ap (with_passage (uses_of g (taken k e)).look) left
-    ∙ taken_exits g x.field-0 (Statement.Switch x.field-0 (taken k e) (clauses_taken k cs)) k.unions c.if-not-scope-2.false) c.after-in-Switch.ensures)
+    ∙ ap (with_passage (uses_of g e).look) left) c.after-in-Switch.ensures)
 
 pub exits-returns-in_ok-result_given-in-Return-clause-exits : goal.exits-returns-in_ok-result_given-in-Return-clause-exits
 exits-returns-in_ok-result_given-in-Return-clause-exits t c = λ g h.
-    let k = taken_of c.args.scope.now.taken in
     let x = c.in-Return in
     c.returns.ensures
-    ∙ ap (λ p. exits None None None p.faults) (c.in_ok-result_given-in-Return.ensures g h.known h.locals ∙ ap (passage_of_result g) (value_taken k x.value))
-    ∙ ap (λ s. rules.exits_of g (statement_taken k s)) (sym (ap statement_tree x.is ∙ return_tree x.field-0 x.value))
+    ∙ ap (λ p. exits None None None p.faults) (c.in_ok-result_given-in-Return.ensures g h.known h.locals)
+    ∙ ap (rules.exits_of g) (sym (ap statement_tree x.is ∙ return_tree x.field-0 x.value))
 
 pub exits-returns-in_ok-freed-in-FreeUnique-clause-exits : goal.exits-returns-in_ok-freed-in-FreeUnique-clause-exits
 exits-returns-in_ok-freed-in-FreeUnique-clause-exits t c = λ g h.
-    let k = taken_of c.args.scope.now.taken in
     let x = c.in-FreeUnique in
     c.ends_after-in-FreeUnique.ensures ∙ ap ends_after (c.in_ok-freed-in-FreeUnique.ensures g h.locals)
-    ∙ taken_exits g x.at (Statement.FreeUnique x.at (name_tree x.pointer)) k.unique c.if-not-scope-3.false
-    ∙ ap (λ s. rules.exits_of g (statement_taken k s)) (sym (ap statement_tree x.is ∙ free_unique_tree x.at x.pointer))
+    ∙ ap (rules.exits_of g) (sym (ap statement_tree x.is ∙ free_unique_tree x.at x.pointer))
 
 pub exits-returns-in_ok-freed-in-FreeKey-clause-exits : goal.exits-returns-in_ok-freed-in-FreeKey-clause-exits
 exits-returns-in_ok-freed-in-FreeKey-clause-exits t c = λ g h.
-    let k = taken_of c.args.scope.now.taken in
     let x = c.in-FreeKey in
     c.ends_after-in-FreeKey.ensures ∙ ap ends_after (c.in_ok-freed-in-FreeKey.ensures g h.locals)
-    ∙ taken_exits g x.at (Statement.FreeKey x.at (name_tree x.key)) k.keys c.if-not-scope-4.false
-    ∙ ap (λ s. rules.exits_of g (statement_taken k s)) (sym (ap statement_tree x.is ∙ free_key_tree x.at x.key))
+    ∙ ap (rules.exits_of g) (sym (ap statement_tree x.is ∙ free_key_tree x.at x.key))

@@ -1,15 +1,12 @@
 use Rattle.std.proofs.Common.{◌≡◌, ◌≤◌, ℕ, length, map, drop}
 use Rattle.std.specs.Prelude.{option_map}
-use Rattle.cyc_tree.specs.View.{item_tree, items_of}
+use Rattle.cyc_tree.specs.View.{clause_tree, clauses_of, item_tree, items_of}
 use Rattle.flow_summaries.specs.Statements.{exits_of_clauses, exits_of_items}
 use Rattle.source_typing.specs.Scope.{Env}
-use Rattle.source_typing.specs.Taken.{items_taken}
 use Rattle.check_scopes.specs.Changes.{left}
 use Rattle.check_regions.specs.declared.scope.RegionMark.{RegionMark}
-use Rattle.check_faults.specs.Taken.{taken_of}
 use Rattle.check_statements.specs.Contexts.{kept_to}
 use Rattle.check_statements.specs.Switching.{chosen_in}
-use Rattle.check_statements.proofs.Clauses.{taken_clauses}
 use Rattle.flow_effects.specs.Steps.{all_before}
 use Rattle.flow_check.proofs.Blocks.{Going}
 use Rattle.flow_check.specs.Standing.{Follows, Stands}
@@ -19,8 +16,8 @@ use Rattle.flow_check.proofs.statement.+exits.Given as goal
 abbrev pub invariant-items_exits-each : goal.invariant-items_exits-each
 invariant-items_exits-each l = record {
   each : (g : Env) → Stands l.fn.context l.fn.names l.fn.outer l.fn.scope g
-      → Going (taken_of l.fn.scope.taken) l.fn.context l.names l.fn.outer l.scope l.steps.items (map item_tree (drop l.item-index l.fn.items))
-      (exits_of_items g (items_taken (taken_of l.fn.scope.taken) (items_of (map item_tree l.fn.items))));
+      → Going l.fn.context l.names l.fn.outer l.scope l.steps.items (map item_tree (drop l.item-index l.fn.items))
+      (exits_of_items g (items_of (map item_tree l.fn.items)));
   left : (count : ℕ) (mark : RegionMark) → count ≤ length l.fn.scope.locals → mark.names ≤ length l.fn.scope.regions.begun
       → mark.opened ≤ length l.fn.scope.regions.opened → left count mark l.scope ≡ left count mark l.fn.scope;
   kept : (count : ℕ) → count ≤ length l.fn.names → kept_to count l.names ≡ kept_to count l.fn.names;
@@ -33,6 +30,6 @@ invariant-switched-each l = record {
   names : l.names ≡ l.fn.names;
   each : (g : Env) → Follows l.fn.context l.fn.names l.fn.scope g
       → all_before l.ways.items
-      (exits_of_clauses g (option_map chosen_in l.fn.chosen) (taken_clauses (taken_of l.fn.scope.taken) (drop l.clause-index l.fn.clauses)))
-      ≡ exits_of_clauses g (option_map chosen_in l.fn.chosen) (taken_clauses (taken_of l.fn.scope.taken) l.fn.clauses);
+      (exits_of_clauses g (option_map chosen_in l.fn.chosen) (clauses_of (map clause_tree (drop l.clause-index l.fn.clauses))))
+      ≡ exits_of_clauses g (option_map chosen_in l.fn.chosen) (clauses_of (map clause_tree l.fn.clauses));
 }

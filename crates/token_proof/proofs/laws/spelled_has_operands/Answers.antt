@@ -1,4 +1,4 @@
-use Rattle.token_proof.proofs.Operands.{has_operands}
+use Rattle.source_grammar.proofs.Operands.{has_operands}
 use Rattle.token_proof.proofs.laws.spelled_has_operands.Goals as goal
 
 pub returns : goal.returns

@@ -1,7 +1,4 @@
 use Rattle.std.proofs.Common.{Option, ap, sym, ◌∙◌}
-use Rattle.source_typing.specs.Faults.{earliest}
-use Rattle.source_typing.specs.Left.{flow_faults}
-use Rattle.source_typing.specs.Taken.{Taken, only_taken}
 use Rattle.check_faults.specs.Faults.{faults_of}
 use Rattle.check_faults.specs.declared.fault.Fault.{Fault}
 use Rattle.unique_flow.proofs.Firsts.{first_is_sooner, sooner_is_some}
@@ -10,8 +7,7 @@ use Rattle.unique_flow.proofs.checked.first_broken.Goals as goal
 pub returns-in-Some : goal.returns-in-Some
 returns-in-Some c =
     let p = c.args.program.now in
-    let flow = c.in_ok-flow.ensures ∙ ap (λ (k : Taken). earliest (flow_faults (only_taken k p))) c.supported.ensures in
-    first_is_sooner p c.args.broken c.in_ok-flow.flow c.requires flow ∙ ap (λ (f : Option Fault). faults_of f) (sym c.sooner.ensures ∙ c.in-Some.is)
+    first_is_sooner p c.args.broken c.in_ok-flow.flow c.requires c.in_ok-flow.ensures ∙ ap (λ (f : Option Fault). faults_of f) (sym c.sooner.ensures ∙ c.in-Some.is)
 
 pub returns-in-None : goal.returns-in-None
 returns-in-None c = absurd (sooner_is_some c.args.broken c.in_ok-flow.flow (sym c.sooner.ensures ∙ c.in-None.is))

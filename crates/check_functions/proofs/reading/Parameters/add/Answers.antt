@@ -1,7 +1,5 @@
 use Rattle.std.proofs.Common.{◌++◌, ◌∷◌, List, [], refl, subst, sym}
 use Rattle.cyc_tree.specs.View.{member_tree}
-use Rattle.source_typing.specs.Taken.{member_taken}
-use Rattle.check_faults.specs.Taken.{taken_of}
 use Rattle.check_functions.proofs.ReadParameters.{read_more}
 use Rattle.check_functions.specs.Reading.{AreRead}
 use Rattle.check_functions.specs.declared.head.Parameter.{Parameter}
@@ -9,9 +7,8 @@ use Rattle.check_functions.proofs.reading.Parameters.add.Goals as goal
 
 pub returns : goal.returns
 returns c g ms tags h =
-    let k = c.args.taken in
     let tag = c.tag_of_type-tag.ensures g tags in
-    let m = member_taken (taken_of k) (member_tree c.args.member.now) in
+    let m = member_tree c.args.member.now in
     let old = c.args.self.now in
     let p : Parameter = record { name = c.deref.result; at = c.args.member.now.name.at; of = c.in_ok-of.of } in
     subst (λ xs. AreRead g c.parameter_in.new.self xs (ms ++ m ∷ [])) (sym {A = List Parameter} c.in_ok-push.ensures.items)

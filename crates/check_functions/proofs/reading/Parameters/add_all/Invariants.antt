@@ -1,8 +1,6 @@
 use Rattle.std.proofs.Common.{◌≡◌, ◌++◌, List, drop, map}
 use Rattle.cyc_tree.specs.View.{member_tree}
 use Rattle.source_typing.specs.Tables.{Tables}
-use Rattle.source_typing.specs.Taken.{members_taken}
-use Rattle.check_faults.specs.Taken.{taken_of}
 use Rattle.check_types.specs.Naming.{AreTagNames}
 use Rattle.check_functions.specs.Reading.{AreRead}
 use Rattle.cyc_tree.specs.Tree as tree
@@ -13,5 +11,4 @@ abbrev pub invariant-each : goal.invariant-each
 invariant-each l = (g : Tables) (ms : List tree.Member) → AreTagNames l.fn.tags g
     → AreRead g l.fn.self.variables l.fn.self.items.items ms
     → (ns : List tree.Member) × AreRead g l.self.variables l.self.items.items ns
-    × (ns ++ members_taken (taken_of l.fn.taken) (map member_tree (drop l.member-index l.members))
-    ≡ ms ++ members_taken (taken_of l.fn.taken) (map member_tree l.members))
+    × (ns ++ map member_tree (drop l.member-index l.members) ≡ ms ++ map member_tree l.members)

@@ -1,33 +1,22 @@
-use Rattle.std.proofs.Common.{ap, sym, ◌∙◌}
-use Rattle.cyc_tree.specs.View.{name_tree, type_tree}
-use Rattle.source_typing.specs.Functions.{AllSpotted}
-use Rattle.check_faults.specs.Taken.{taken_of}
-use Rattle.check_faults.specs.Verdicts.{shortened}
-use Rattle.check_types.proofs.TakenTypes.{parameter_as, spotted_as, tag_is_base, tag_stands}
+use Rattle.std.proofs.Common.{◌≡◌, ap, ⊎_elim}
+use Rattle.std.specs.Prelude.{Some}
+use Rattle.cyc_tree.specs.View.{base_tree, name_tree, type_tree}
+use Rattle.check_types.specs.Tagged.{base_tag, type_tag}
+use Rattle.check_types.proofs.PlainTypes.{tag_is_base}
 use Rattle.check_types.proofs.variables.RegionVariables.parameter_in.Goals as goal
 
-pub returns-in_ok-parameter-in-Some-clause-found : goal.returns-in_ok-parameter-in-Some-clause-found
-returns-in_ok-parameter-in-Some-clause-found c g h =
+pub returns-in-Struct-clause-found : goal.returns-in-Struct-clause-found
+returns-in-Struct-clause-found c g h =
     let t = type_tree c.args.of.now in
-    let x = name_tree c.in-Some.name.now in
-    let k = taken_of c.args.taken in
-    let e = sym c.in-Some.ensures in
-    c.in_ok-parameter-in-Some.ensures.found g (h x e) (tag_is_base k t x e)
-    ∙ ap (λ v. shortened v) (parameter_as k g c.args.self.now t (tag_stands k t x e))
+    let x = name_tree c.in-Struct.name in
+    let e : type_tag t ≡ Some x =
+    ⊎_elim (λ s. ap (λ b. base_tag (base_tree b)) s.1) (λ u. ap (λ b. base_tag (base_tree b)) u.1) c.in-Struct.is in
+    c.on_tagged.ensures.found g (h x e) (tag_is_base t x e)
 
-pub returns-in_ok-parameter-in-Some-clause-after : goal.returns-in_ok-parameter-in-Some-clause-after
-returns-in_ok-parameter-in-Some-clause-after c g h =
+pub returns-in-Struct-clause-after : goal.returns-in-Struct-clause-after
+returns-in-Struct-clause-after c g h =
     let t = type_tree c.args.of.now in
-    let x = name_tree c.in-Some.name.now in
-    let k = taken_of c.args.taken in
-    let e = sym c.in-Some.ensures in
-    c.in_ok-parameter-in-Some.ensures.after g (h x e) (tag_is_base k t x e)
-    ∙ ap (λ (s : AllSpotted). s.after_all) (spotted_as k g c.args.self.now t (tag_stands k t x e))
-
-pub returns-in_ok-parameter-in-None-clause-found : goal.returns-in_ok-parameter-in-None-clause-found
-returns-in_ok-parameter-in-None-clause-found c g h =
-    c.in_ok-parameter-in-None.ensures.found g (sym c.in-None.ensures)
-
-pub returns-in_ok-parameter-in-None-clause-after : goal.returns-in_ok-parameter-in-None-clause-after
-returns-in_ok-parameter-in-None-clause-after c g h =
-    c.in_ok-parameter-in-None.ensures.after g (sym c.in-None.ensures)
+    let x = name_tree c.in-Struct.name in
+    let e : type_tag t ≡ Some x =
+    ⊎_elim (λ s. ap (λ b. base_tag (base_tree b)) s.1) (λ u. ap (λ b. base_tag (base_tree b)) u.1) c.in-Struct.is in
+    c.on_tagged.ensures.after g (h x e) (tag_is_base t x e)

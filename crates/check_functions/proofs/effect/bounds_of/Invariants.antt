@@ -2,7 +2,7 @@ use Rattle.check_regions.specs.Fields.{pair_of}
 use Rattle.cyc_tree.specs.View.{bound_tree}
 use Rattle.check_functions.specs.Used.{bound_by}
 use Rattle.check_functions.proofs.Effects.{UsedTo}
-use Rattle.check_functions.proofs.effect.used_bounds.Given as goal
+use Rattle.check_functions.proofs.effect.bounds_of.Given as goal
 
 -- those so far
 abbrev pub invariant-each : goal.invariant-each

@@ -210,7 +210,8 @@ module _ (w : World) (result : Shape) (names more : List Named) (h inside : Regi
         behind before (statement_code w result names h own s) (ending_items w result names h first index further others) after
         (ending_items w result more inside first next number others) all after_is
         (moved_code w result names more h inside first index next further number others names_are regions_are next_is number_is)
-        (ap (λ (x : List core.Statement). before ++ x) (sym (append_assoc (statement_code w result names h own s) rest (leaving_code h.opened h.all (h.all - first))))
+        (ap (λ (x : List core.Statement). before ++ x)
+        (sym (append_assoc (statement_code w result names h own s) rest (leaving_code h.opened h.all (h.all - first))))
         ∙ ap (λ (x : BlockItems). before ++ ending_items w result names h first index own x) (sym left_is) ∙ is)
 
     pub values_executed : (before after all : List Shape) → after ≡ before ++ statement_values w names s

@@ -11,7 +11,6 @@ mod Lists
 mod Making
 mod Naming
 mod Nothing
-pub mod Lowerable
 mod Parts
 mod Pointers
 mod Promised

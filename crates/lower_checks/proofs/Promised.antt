@@ -14,7 +14,7 @@ use Rattle.source_lowering.proofs.bounds.Bounded.{code_bounded, program_frames_b
 use Rattle.token_proof.proofs.ProgramSizes.{tokens_pay}
 use Rattle.accepted_programs.specs.Accepted.{IsAccepted}
 use Rattle.lower_checks.specs.Promise.{IsLoweringOf}
-use Rattle.lower_checks.proofs.Lowerable.{is_lowerable}
+use Rattle.accepted_proof.proofs.Joined.{lowerable}
 
 -- a frame is within its bound where all are
 frame_fits : (w : World) (fs : List Routine) (number : ℕ) (f : Routine) (g : Function) → FramesFit w fs → slice_get fs number ≡ Some f
@@ -28,13 +28,13 @@ frame_fits w (r ∷ rs) (suc number) f g fit is_source is_core = frame_fits w rs
 
 promised : (p : Program) → IsAccepted p → HaveFewMembers (unions_of p) → IsLoweringOf p (program_code p)
 promised p accepted few =
-    let lowerable = is_lowerable p accepted few in
+    let takes = lowerable p accepted few in
     record {
-      does = λ input bytes never n. ⊎_elim (λ stuck. absurd (never n stuck)) (λ same. same) (programs_same p lowerable input bytes n);
+      does = λ input bytes never n. ⊎_elim (λ stuck. absurd (never n stuck)) (λ same. same) (programs_same p takes input bytes n);
       frames = λ number f g is_source is_core.
-          frame_fits (world_of p) (world_of p).functions number f g (program_frames_bounded p lowerable) is_source is_core;
+          frame_fits (world_of p) (world_of p).functions number f g (program_frames_bounded p takes) is_source is_core;
       code = λ tokens spelled.
-          let bounded = code_bounded p lowerable in
+          let bounded = code_bounded p takes in
           let paid = tokens_pay p tokens spelled in
           omega (arith, bounded, paid);
     }

@@ -2,10 +2,8 @@
 //!
 //! `lower` appends operation after operation: an expression leaves its value in a temporary, and its
 //! parts use the temporaries above it; a block's locals have numbers in it. The result is the Core
-//! program of `program_code` in `source_lowering`. Programs of functions, globals and locals of
-//! integers, of structs, of tagged unions, of handles, of keys, of pointers to these and of arrays of them are taken, with
-//! strings, the heap, lexical and dynamic regions, and arrays that are made there. Functions, globals, structs and unions are
-//! found by tables of their names, strings by their places.
+//! program of `program_code` in `source_lowering`. Functions, globals, structs and unions are found by tables of their names,
+//! strings by their places.
 //! Stands on `accepted_programs`, `cyc_core`, `accepted_proof`, `source_lowering`, `listed_strings`, `cyc_tree` and `indexmap`.
 #![tactic(auto)]
 
@@ -20,6 +18,7 @@ mod expression;
 mod fat;
 mod fault;
 mod first;
+mod freeing;
 mod function;
 mod given;
 mod last;

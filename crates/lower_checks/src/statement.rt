@@ -5,8 +5,8 @@ ghost use Rattle.cyc_tree.specs.View.{expression_tree, statement_tree as source_
 ghost use Rattle.cyc_core.specs.Trees.{statement_tree};
 ghost use Rattle.source_meaning.specs.Programs.{world_of};
 ghost use Rattle.core_meaning.specs.Core as core;
-ghost use Rattle.source_lowering.specs.Lowered.{all_of, expression_code, expression_values, get_code};
-ghost use Rattle.source_lowering.specs.Programs.{block_shapes, item_values, items_code, locals_of, outward, statement_code, statement_values, unique_free};
+ghost use Rattle.source_lowering.specs.Lowered.{all_of, expression_code, expression_values};
+ghost use Rattle.source_lowering.specs.Programs.{block_shapes, item_values, items_code, locals_of, outward, statement_code, statement_values};
 ghost use Rattle.source_lowering.specs.Lowerable.{Takes, TakesItems, TakesStatement};
 ghost use Rattle.lower_checks.specs.Scoped.{names_in, world_in};
 ghost use Rattle.lower_checks.specs.Structs.{AreVariables};
@@ -19,6 +19,7 @@ use crate::body::Body;
 use crate::declaration::{declared, lower_declaration};
 use crate::exchange::lower_exchange;
 use crate::expression::lower_expression;
+use crate::freeing::{lower_free, lower_free_key};
 use crate::leaving::{RegionsAround, lower_leaving, lower_left, lower_return, opened_outside};
 use crate::locals::Locals;
 use crate::names::number;
@@ -28,8 +29,7 @@ use crate::shape::Shape;
 use crate::stored::{Stored, add_stored};
 use crate::switch::lower_switch;
 use crate::table::Table;
-use crate::variable::lower_get;
-use cyc_core::{Operation, Statement, Temporary};
+use cyc_core::{Statement, Temporary};
 use cyc_tree::{BlockItem, Expression, Name, Statement as Source};
 
 /// Appends what a statement does, in a function with a result of this shape, among regions; appends the shapes of the unnamed values. The
@@ -48,7 +48,8 @@ fn lower_statement<'p>(
     ensures writes { let w = world_of program.now in
         let names = names_of locals.old in
         let s = source_tree statement.entry.now in
-        Writes body.old body.new (statement_code w (shape_tree shape.now) names (regions_tree around opened.now) (next_of body.old) s) (statement_values w names s) }
+        Writes body.old body.new (statement_code w (shape_tree shape.now) names (regions_tree around opened.now) (next_of body.old) s)
+        (statement_values w names s) }
     ensures kept { IsSound body.new → locals.new ≡ locals.old }
 {
     let to = around.value();
@@ -180,26 +181,6 @@ fn lower_statement<'p>(
             to,
         ),
     }
-}
-
-/// Appends what frees the block of the unique pointer of a name, which comes into a temporary, if it isn't NULL.
-fn lower_free(scope: &Scope<'_, '_>, pointer: &Name, body: &mut Body<'_>, to: Temporary)
-    ensures { Emits body.old body.new (get_code (world_in scope.now) (names_in scope.now) (name_tree pointer.now).text to.0 ++ unique_free to.0) }
-{
-    lower_get(scope, body, &pointer.text, to);
-    let outer = body.begin();
-    body.operation(Operation::UniqueFree(to));
-    let free = body.end(outer);
-    body.branch(to, free, Vec::new(body.alloc));
-}
-
-/// Appends what frees the region of the key of a name, which comes into a temporary.
-fn lower_free_key(scope: &Scope<'_, '_>, key: &Name, body: &mut Body<'_>, to: Temporary)
-    ensures { let names = names_in scope.now in
-        Emits body.old body.new (get_code (world_in scope.now) names (name_tree key.now).text to.0 ++ core.Do (core.KeyFree to.0) ∷ []) }
-{
-    lower_get(scope, body, &key.text, to);
-    body.operation(Operation::KeyFree(to));
 }
 
 /// What leaves the value of a loop's condition in a temporary; appends the shapes of the unnamed values.
@@ -412,10 +393,6 @@ pub fn lower_items<'p>(
             }
         }
     }
-    lower_leaving(
-        body,
-        &all,
-        regions.all,
-        regions.all.saturating_sub(around.all),
-    );
+    let count = regions.all.saturating_sub(around.all);
+    lower_leaving(body, &all, regions.all, count);
 }

@@ -229,7 +229,8 @@ fn lower_cases<'p>(
         let names = names_of locals.old in
         let parts = map part_of (map member_tree members.entry.now) in
         let cs = clauses_of (map clause_tree clauses.entry.now) in
-        Writes body.old body.new (cases_code w (shape_tree shape.now) names (regions_tree around opened.now) parts (next_of body.old) cs) (case_values w names parts cs) }
+        Writes body.old body.new (cases_code w (shape_tree shape.now) names (regions_tree around opened.now) parts (next_of body.old) cs)
+        (case_values w names parts cs) }
     ensures kept { IsSound body.new → locals.new ≡ locals.old }
 {
     'each: for clause in clauses {
@@ -270,7 +271,8 @@ fn lower_default<'p>(
     ensures writes { let w = world_of program.now in
         let names = names_of locals.old in
         let cs = clauses_of (map clause_tree clauses.entry.now) in
-        Writes body.old body.new (default_code w (shape_tree shape.now) names (regions_tree around opened.now) (next_of body.old) cs) (default_values w names cs) }
+        Writes body.old body.new (default_code w (shape_tree shape.now) names (regions_tree around opened.now) (next_of body.old) cs)
+        (default_values w names cs) }
     ensures kept { IsSound body.new → locals.new ≡ locals.old }
 {
     'each: for clause in clauses {
@@ -306,7 +308,8 @@ pub fn lower_switch<'p>(
     ensures writes { let w = world_of program.now in
         let names = names_of locals.old in
         let s = tree.Switch 0 (expression_tree place.entry.now) (clauses_of (map clause_tree clauses.entry.now)) in
-        Writes body.old body.new (statement_code w (shape_tree shape.now) names (regions_tree around opened.now) (next_of body.old) s) (statement_values w names s) }
+        Writes body.old body.new (statement_code w (shape_tree shape.now) names (regions_tree around opened.now) (next_of body.old) s)
+        (statement_values w names s) }
     ensures kept { IsSound body.new → locals.new ≡ locals.old }
 {
     let outer = body.begin();

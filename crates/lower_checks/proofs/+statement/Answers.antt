@@ -16,7 +16,17 @@ use Rattle.cyc_tree.specs.View.{
 }
 use Rattle.cyc_tree.specs.Tree as tree
 use Rattle.cyc_tree.specs.Tree.{Name, BlockItems, NoItems, Declare, Execute, Clauses, NoClauses, MoreClauses, local_of}
-use Rattle.cyc_tree.proofs.StatementForms.{exchange_tree, free_key_tree, free_unique_tree, if_tree, if_else_tree, while_tree, switch_tree, declare_tree, execute_tree}
+use Rattle.cyc_tree.proofs.StatementForms.{
+  exchange_tree,
+  free_key_tree,
+  free_unique_tree,
+  if_tree,
+  if_else_tree,
+  while_tree,
+  switch_tree,
+  declare_tree,
+  execute_tree,
+}
 use Rattle.cyc_tree.specs.declared.statement.BlockItem.TheFolds.{the_lemmas}
 use Rattle.core_meaning.specs.Core as core
 use Rattle.cyc_core.specs.Trees.{statement_tree}
@@ -346,8 +356,8 @@ statement::lower_part-returns-clause-part t c sound =
     let s = source_tree c.args.statement.now in
     let ended = c.end.ensures.ended in
     part_is c.args.body.now c.begin-outer.new.self c.lower_statement.new.body (map statement_tree c.end.result.items)
-    (λ n. statement_code w (shape_tree c.args.shape.now) names (regions_tree c.args.around c.args.opened.now) n s) (statement_values w names s) c.begin-outer.ensures.begun
-    (c.lower_statement.ensures.writes (sym ended.failed ∙ sound)) c.end.ensures.part
+    (λ n. statement_code w (shape_tree c.args.shape.now) names (regions_tree c.args.around c.args.opened.now) n s) (statement_values w names s)
+    c.begin-outer.ensures.begun (c.lower_statement.ensures.writes (sym ended.failed ∙ sound)) c.end.ensures.part
 
 -- the locals of a block that is taken are variables
 pub statement::lower_block-lower_inside-requires : goal.statement::lower_block-lower_inside-requires
@@ -629,8 +639,8 @@ statement::lower_items-returns-clause-writes t c sound =
     invariant.code in
     let written : IsWritten begun z (code (next_of begun)) values = record {
       sound = left.sound;
-      code = done.code ∙ ap (λ os. code_of b ++ leaving_code (reverse os) h.all c.saturating_sub.result) c.deref-2.ensures.value
-          ∙ ap (λ n. code_of b ++ leaving_code h.opened h.all n) c.saturating_sub.ensures ∙ left.written;
+      code = done.code ∙ ap (λ os. code_of b ++ leaving_code (reverse os) h.all c.saturating_sub-count.result) c.deref-2.ensures.value
+          ∙ ap (λ n. code_of b ++ leaving_code h.opened h.all n) c.saturating_sub-count.ensures ∙ left.written;
       values = ap (λ own. map shape_tree own.items) done.own ∙ sym (append-nil (values_of b)) ∙ left.values;
     } in
     moved a begun z code values (c.opened_outside-all.ensures.stays left.sound) written
@@ -1150,7 +1160,8 @@ switch::lower_switch-returns-clause-writes t c sound =
           let members_are = subst (λ s. IfSome s (λ ms. map part_of (map member_tree ms.now) ≡ parts)) v.in-Some.is (place.ensures.members done.sound) in
           let last = v.lower_cases.new.body in
           let at_parts =
-          subst (λ (ps : List Part). IsWritten x last (cases_code w result names (regions_tree c.in_switch-inside.result c.args.opened.now) ps (next_of x) clauses)
+          subst (λ (ps : List Part). IsWritten x last
+          (cases_code w result names (regions_tree c.in_switch-inside.result c.args.opened.now) ps (next_of x) clauses)
           (case_values w names ps clauses)) members_are done in
           let at_regions =
           subst (λ (i : RegionsAround). IsWritten x last (cases_code w result names i parts (next_of x) clauses) q) inside_is at_parts in (

@@ -4,15 +4,15 @@ use Rattle.cyc_tree.specs.Tree as tree
 use Rattle.source_meaning.specs.Programs.{unions_of}
 use Rattle.source_lowering.specs.Programs.{program_code}
 use Rattle.source_lowering.specs.Lowerable.{HaveFewMembers, IsLowerable}
-use Rattle.lower_checks.proofs.Lowerable.{is_lowerable}
+use Rattle.accepted_proof.proofs.Joined.{lowerable}
 use Rattle.lower_checks.proofs.Promised.{is_lowering}
 use Rattle.lower_checks.proofs.program.lower.Goals as goal
 
 pub lower_tree-requires : goal.lower_tree-requires
 lower_tree-requires c =
-    let few = subst (λ (p : tree.Program). HaveFewMembers (unions_of p)) (c.items.ensures ∙ c.program-program.ensures.same) c.in_default.ensures.few in
+    let few = subst (λ (p : tree.Program). HaveFewMembers (unions_of p)) (c.items.ensures.same ∙ c.program-program.ensures.same) c.in_default.ensures.few in
     record {
-      taken = subst IsLowerable (sym c.program-program.ensures.same) (is_lowerable c.args.checked.now c.program-program.ensures.accepted few);
+      taken = subst IsLowerable (sym c.program-program.ensures.same) (lowerable c.args.checked.now c.program-program.ensures.accepted few);
     }
 
 pub returns-in-Ok-clause-code : goal.returns-in-Ok-clause-code
@@ -20,12 +20,12 @@ returns-in-Ok-clause-code c = c.in-Ok.ensures.code ∙ ap program_code c.program
 
 pub returns-in-Ok-clause-few : goal.returns-in-Ok-clause-few
 returns-in-Ok-clause-few c =
-    subst (λ (p : tree.Program). HaveFewMembers (unions_of p)) (c.items.ensures ∙ c.program-program.ensures.same) c.in_default.ensures.few
+    subst (λ (p : tree.Program). HaveFewMembers (unions_of p)) (c.items.ensures.same ∙ c.program-program.ensures.same) c.in_default.ensures.few
 
 pub returns-in-Ok-clause-promised : goal.returns-in-Ok-clause-promised
 returns-in-Ok-clause-promised c =
     let same : program_tree c.in-Ok.core ≡ program_code c.args.checked.now = c.in-Ok.ensures.code ∙ ap program_code c.program-program.ensures.same in
-    let few = subst (λ (p : tree.Program). HaveFewMembers (unions_of p)) (c.items.ensures ∙ c.program-program.ensures.same) c.in_default.ensures.few in
+    let few = subst (λ (p : tree.Program). HaveFewMembers (unions_of p)) (c.items.ensures.same ∙ c.program-program.ensures.same) c.in_default.ensures.few in
     is_lowering c.args.checked.now (program_tree c.in-Ok.core) c.program-program.ensures.accepted few same
 
 pub unreachable-requires : goal.unreachable-requires

@@ -7,7 +7,7 @@ use Rattle.source_lowering.specs.Programs.{unique_free}
 use Rattle.lower_checks.specs.Scoped.{names_in, world_in}
 use Rattle.lower_checks.specs.Writing.{IsEmitted}
 use Rattle.lower_checks.proofs.Writing.{emit_emit, part_emitted}
-use Rattle.lower_checks.proofs.statement.lower_free.Goals as goal
+use Rattle.lower_checks.proofs.freeing.lower_free.Goals as goal
 
 -- what is read, and then a choice
 pub returns : goal.returns

@@ -5,7 +5,7 @@ use Rattle.source_lowering.specs.Lowered.{get_code}
 use Rattle.lower_checks.specs.Scoped.{names_in, world_in}
 use Rattle.lower_checks.specs.Writing.{IsEmitted}
 use Rattle.lower_checks.proofs.Writing.{emit_emit}
-use Rattle.lower_checks.proofs.statement.lower_free_key.Goals as goal
+use Rattle.lower_checks.proofs.freeing.lower_free_key.Goals as goal
 
 -- what is read, and then an operation
 pub returns : goal.returns

@@ -18,6 +18,7 @@ use Rattle.std.specs.Prelude.{
   List,
   [],
   ◌∷◌,
+  ◌++◌,
   length,
   slice_index,
   slice_index_or,
@@ -27,6 +28,7 @@ use Rattle.std.specs.Prelude.{
   if◌then◌else◌,
 }
 use Rattle.arena_laws.specs.declared.standing.Standing.{Standing}
+use Rattle.arena_laws.specs.declared.standing.Standing.TheVariants.{Lexical, Opened, Closed}
 use Rattle.arena_laws.specs.Classes.{IsClass}
 use Rattle.arena_laws.specs.Counts.{Counts}
 use Rattle.arena_laws.specs.declared.owner.Owner.{Owner}
@@ -99,6 +101,21 @@ holdings_of s = record {
   owner = owner_at s.owner s.used s.slots;
   counts = counts_of s.owner s.used s.last s.slots;
 }
+
+-- what a number stands for, as a word
+abbrev pub standing_word : Option Standing → ℕ
+standing_word None = 0
+standing_word (Some Lexical) = 1
+standing_word (Some Opened) = 2
+standing_word (Some Closed) = 3
+
+abbrev pub standing_words : List (Option Standing) → List ℕ
+standing_words [] = []
+standing_words (s ∷ rest) = standing_word s ∷ standing_words rest
+
+-- all tables but the arena's bytes, one behind the other
+abbrev pub tables_of : Plain → List ℕ
+tables_of s = s.owner ++ s.used ++ s.last ++ standing_words s.standing ++ s.slots
 
 -- the slot stands in a page of its class
 pub record IsInPage (owner : List ℕ) (u c : ℕ) : Type 0 where

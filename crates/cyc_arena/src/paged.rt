@@ -1,6 +1,6 @@
 // The allocator as a store: keys over regions with unique blocks.
 
-ghost use Rattle.std.specs.Prelude.{◌≡◌, ◌≢◌, ◌≤◌, IfOk};
+ghost use Rattle.std.specs.Prelude.{◌≡◌, ◌≢◌, ◌≤◌, false, IfOk};
 ghost use Rattle.arena_laws.specs.Asked.{KeyNew, RegionAlloc, RegionNew, UniqueAlloc, is_short};
 ghost use Rattle.arena_laws.specs.Holdings.{fresh, is_in_arena};
 ghost use Rattle.arena_laws.specs.Lawful.{Lacks, key_free, region_free};
@@ -96,6 +96,10 @@ impl<R: Blocks> BlockStore for PagedStore<R> {
     ghost holdings = { λ s. held_by R.holdings R.tag_of s.keys.regions };
 
     ghost byte_at = { λ s. R.byte_at s.keys.regions };
+
+    ghost headers = { λ s. R.headers s.keys.regions };
+
+    ghost may_lack = { false };
 
     fn region_new(&mut self) -> Result<u32, StoreRefusal>
         ensures does { let held = held_by R.holdings R.tag_of in

@@ -1,12 +1,12 @@
 // The plain store: tables that are read from their beginning at each call.
 
-ghost use Rattle.std.specs.Prelude.{◌≡◌, ◌≢◌, ◌<◌, true, IfOk};
+ghost use Rattle.std.specs.Prelude.{◌≡◌, ◌≢◌, ◌<◌, true, false, IfOk};
 ghost use Rattle.arena_laws.specs.Asked.{KeyNew, RegionAlloc, RegionNew, UniqueAlloc, is_short};
 ghost use Rattle.arena_laws.specs.Counts.{is_full};
 ghost use Rattle.arena_laws.specs.Holdings.{fresh, is_some};
 ghost use Rattle.arena_laws.specs.Lawful.{Lacks, without_number};
 ghost use Rattle.arena_laws.specs.Laws.{Does, answer_of, is_refused_full, key_new, made, region_alloc, region_new, unique_alloc};
-ghost use Rattle.cyc_arena.specs.Plain.{byte_at, holdings_of, standing_at};
+ghost use Rattle.cyc_arena.specs.Plain.{byte_at, holdings_of, standing_at, tables_of};
 ghost use Rattle.raw_pages.specs.Raw.{is_no_page_count, is_pages_fault};
 
 use crate::store::BlockStore;
@@ -146,6 +146,10 @@ impl BlockStore for PlainStore {
     ghost holdings = { holdings_of };
 
     ghost byte_at = { λ s. byte_at s.bytes };
+
+    ghost headers = { tables_of };
+
+    ghost may_lack = { false };
 
     fn region_new(&mut self) -> Result<u32, StoreRefusal>
         ensures does { Does result (holdings_of self.new) (region_new (answer_of result) (holdings_of self.old)) }

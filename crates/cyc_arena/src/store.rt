@@ -1,9 +1,9 @@
 // The calls of a store, with their laws.
 
-ghost use Rattle.std.specs.Prelude.{◌≡◌, ◌≤◌, ℕ};
+ghost use Rattle.std.specs.Prelude.{◌≡◌, ◌≤◌, ℕ, Bool, true, List};
 ghost use Rattle.arena_laws.specs.Asked.{KeyNew, RegionAlloc, RegionNew, UniqueAlloc, is_short};
 ghost use Rattle.arena_laws.specs.Holdings.{Holdings, is_in_arena, is_live_in};
-ghost use Rattle.arena_laws.specs.Lawful.{key_close, key_free, key_open, region_free, unique_free};
+ghost use Rattle.arena_laws.specs.Lawful.{Lacks, key_close, key_free, key_open, region_free, unique_free};
 ghost use Rattle.arena_laws.specs.Laws.{Does, answer_of, is_refused_full, key_new, loaded, region_alloc, region_new, stored, unique_alloc, unit_result};
 
 use arena_laws::StoreRefusal;
@@ -14,18 +14,25 @@ use arena_laws::StoreRefusal;
 /// refused call leaves it as it was.
 ///
 /// `byte_at` is the byte at each address of the arena. It is 0 until it is stored to, and nothing
-/// but `store8` changes it.
+/// but `store8` changes it. `headers` is what the store keeps beside those bytes, as words; `store8`
+/// changes none. `may_lack` says whether a store of this type may lack host memory after it was made:
+/// where it is false no call answers Memory.
 pub trait BlockStore {
     ghost holdings: { Self → Holdings };
 
     ghost byte_at: { Self → ℕ → ℕ };
+
+    ghost headers: { Self → List ℕ };
+
+    ghost may_lack: { Bool };
 
     /// Makes a region, which takes a page at once: its handle, from 1 up, differs from each live
     /// handle and key. Full where no page is free, Memory where the store lacks host memory.
     fn region_new(&mut self) -> Result<u32, StoreRefusal>
         ensures does { Does result (holdings self.new) (region_new (answer_of result) (holdings self.old)) }
         ensures bytes { byte_at self.new ≡ byte_at self.old }
-        ensures full { is_refused_full result ≡ is_short RegionNew (holdings self.old) };
+        ensures full { is_refused_full result ≡ is_short RegionNew (holdings self.old) }
+        ensures memory { answer_of result ≡ Lacks → may_lack ≡ true };
 
     /// A block of so many bytes in the region of a handle: its address, a multiple of 8. Handle 0
     /// is the heap, and an open key's number is its region's handle. The room is the bytes rounded
@@ -35,7 +42,8 @@ pub trait BlockStore {
     fn region_alloc(&mut self, handle: u32, bytes: u32) -> Result<u32, StoreRefusal>
         ensures does { Does result (holdings self.new) (region_alloc handle bytes (answer_of result) (holdings self.old)) }
         ensures bytes { byte_at self.new ≡ byte_at self.old }
-        ensures full { is_refused_full result ≡ is_short (RegionAlloc handle bytes) (holdings self.old) };
+        ensures full { is_refused_full result ≡ is_short (RegionAlloc handle bytes) (holdings self.old) }
+        ensures memory { answer_of result ≡ Lacks → may_lack ≡ true };
 
     /// Frees a lexical region: its blocks and all its pages. BadHandle where the number is no live
     /// lexical region's (the heap's and a key's number too).
@@ -50,7 +58,8 @@ pub trait BlockStore {
     fn unique_alloc(&mut self, bytes: u32) -> Result<u32, StoreRefusal>
         ensures does { Does result (holdings self.new) (unique_alloc bytes (answer_of result) (holdings self.old)) }
         ensures bytes { byte_at self.new ≡ byte_at self.old }
-        ensures full { is_refused_full result ≡ is_short (UniqueAlloc bytes) (holdings self.old) };
+        ensures full { is_refused_full result ≡ is_short (UniqueAlloc bytes) (holdings self.old) }
+        ensures memory { answer_of result ≡ Lacks → may_lack ≡ true };
 
     /// Frees the unique block that begins at an address; its page stays with its class. NotABlock
     /// where no live unique block begins there.
@@ -64,7 +73,8 @@ pub trait BlockStore {
     fn key_new(&mut self) -> Result<u32, StoreRefusal>
         ensures does { Does result (holdings self.new) (key_new (answer_of result) (holdings self.old)) }
         ensures bytes { byte_at self.new ≡ byte_at self.old }
-        ensures full { is_refused_full result ≡ is_short KeyNew (holdings self.old) };
+        ensures full { is_refused_full result ≡ is_short KeyNew (holdings self.old) }
+        ensures memory { answer_of result ≡ Lacks → may_lack ≡ true };
 
     /// Opens a closed key: its handle, which is the key's own number. BadKey where the number is no
     /// live key's, Open where the key is open.
@@ -92,7 +102,8 @@ pub trait BlockStore {
     fn store8(&mut self, at: u32, byte: u8) -> bool
         ensures says { result ≡ is_in_arena (holdings self.old) at }
         ensures bytes { byte_at self.new ≡ stored at byte (holdings self.old) (byte_at self.old) }
-        ensures holds { holdings self.new ≡ holdings self.old };
+        ensures holds { holdings self.new ≡ holdings self.old }
+        ensures headers { headers self.new ≡ headers self.old };
 
     /// Whether an address lies in the room of a live block.
     fn is_live(&self, at: u32) -> bool

@@ -4,3 +4,4 @@ pub mod Answers
 pub mod OneStep
 pub mod Progress
 pub mod Unstepped
+pub mod OtherEndings

@@ -1,8 +1,9 @@
 // The loop of a run.
 
-ghost use Rattle.std.specs.Prelude.{◌≡◌, ◌≢◌, ◌<◌, ◌⊎◌};
+ghost use Rattle.std.specs.Prelude.{◌≡◌, ◌≢◌, ◌<◌, ◌⊎◌, false};
 ghost use Rattle.rv32_machine.specs.Arrays.{areas_of, arrays, state_of};
 ghost use Rattle.rv32_machine.specs.State.{Runs};
+ghost use Rattle.rv32_machine.specs.Served.{lacks};
 ghost use Rattle.cyc_host.specs.Failures.{reads_failed, writes_failed};
 ghost use Rattle.cyc_host.specs.Hosted.{IsHosted, Written};
 
@@ -42,6 +43,9 @@ pub fn run<S: BlockStore, R: Input, W: Output>(
         (R.remaining reader.old) (R.remaining reader.new) (W.contents writer.old) (W.contents writer.new) }
     // at the step limit the machine runs on
     ensures goes_on { result ≡ Ending.StepLimit → 0 < steps → (state_of (arrays S.holdings S.byte_at machine.new)).mode ≡ Runs }
+    // over a store that never lacks host memory, no run stops for want of it, if the machine isn't stopped so before
+    ensures memory { let seen = arrays S.holdings S.byte_at in S.may_lack ≡ false → lacks (seen machine.old).mode ≡ false →
+        (result ≢ Ending.HostMemory) × (lacks (seen machine.new).mode ≡ false) }
     ensures areas { let seen = arrays S.holdings S.byte_at in areas_of (seen machine.new) ≡ areas_of (seen machine.old) }
     // each device's fault comes where just one call of that device failed, and any other ending where none did
     ensures reads { R.fault_count reader.new ≡ reads_failed result (R.fault_count reader.old) }

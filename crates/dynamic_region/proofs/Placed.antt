@@ -1,9 +1,8 @@
 -- A block in a region that takes blocks, whether a key's or not.
-use Rattle.std.proofs.Common.{◌≡◌, ℕ, Bool, true, false, Option, Some, None, Result, Ok, nat_eq, refl, sym, ap, subst, ◌∙◌}
+use Rattle.std.proofs.Common.{◌≡◌, ℕ, Bool, true, false, Option, Some, None, Result, Ok, nat_eq, refl, sym, ap, ◌∙◌}
 use Rattle.std.specs.Prelude.{if◌then◌else◌, ◌&&◌}
 use Rattle.arena_laws.specs.declared.refusal.StoreRefusal.{StoreRefusal}
 use Rattle.arena_laws.specs.declared.refusal.StoreRefusal.TheVariants.{Full, BadHandle}
-use Rattle.arena_laws.specs.declared.standing.Standing.{Standing}
 use Rattle.arena_laws.specs.declared.standing.Standing.TheVariants.{Lexical, Opened, Closed}
 use Rattle.arena_laws.specs.Counts.{is_full_for_block, is_too_long, room_of}
 use Rattle.arena_laws.specs.Holdings.{Holdings}

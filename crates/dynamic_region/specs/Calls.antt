@@ -1,5 +1,5 @@
 -- What the calls on keys say, in the words of the laws of every store.
-use Rattle.std.specs.Prelude.{Option, Some, None, ℕ, Result, Ok, Err}
+use Rattle.std.specs.Prelude.{ℕ, Result, Ok, Err}
 use Rattle.arena_laws.specs.declared.refusal.StoreRefusal.{StoreRefusal}
 use Rattle.arena_laws.specs.declared.refusal.StoreRefusal.TheVariants as store
 use Rattle.region_runtime.specs.declared.handle.Handle.{Handle}

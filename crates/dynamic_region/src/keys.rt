@@ -1,12 +1,14 @@
 // The calls on keys, and those on the regions below.
 
-ghost use Rattle.std.specs.Prelude.{◌≡◌, ◌+◌, ◌-◌, ◌≤◌, true};
-ghost use Rattle.arena_laws.specs.Counts.{is_full};
+ghost use Rattle.std.specs.Prelude.{◌≡◌, ◌+◌, ◌-◌, ◌≤◌, true, is_ok, ◌&&◌, if◌then◌else◌};
+ghost use Rattle.arena_laws.specs.Counts.{block_needs_page, is_full, room_of};
 ghost use Rattle.arena_laws.specs.Holdings.{is_in_arena, is_live_in, is_none, is_some};
 ghost use Rattle.arena_laws.specs.Lawful.{key_close, key_free, key_open, region_free, without_number};
 ghost use Rattle.arena_laws.specs.Laws.{Does, answer_of, is_block_refused, is_refused_full, key_new, loaded, region_alloc, region_new, stored};
 ghost use Rattle.region_runtime.specs.Calls.{said_address, said_done, said_handle, tags_set};
 ghost use Rattle.region_runtime.specs.Pool.{changed_words};
+ghost use Rattle.region_runtime.specs.Headers.{AreBlank, word_in};
+ghost use Rattle.region_runtime.specs.Touches.{Touched, block_least, reads_link, touches_for, used_after};
 ghost use Rattle.dynamic_region.specs.Calls as key_calls;
 ghost use Rattle.dynamic_region.specs.Calls.{said_key, said_opened};
 ghost use Rattle.dynamic_region.specs.Keyed.{held_by, is_closed_key, standing_of};
@@ -67,6 +69,7 @@ impl<R: Regions> Keys<R> {
         ensures holds { R.holdings self.new.regions ≡ R.holdings self.old.regions }
         ensures bytes { R.byte_at self.new.regions ≡ R.byte_at self.old.regions }
         ensures same { R.headers self.new.regions ≡ R.headers self.old.regions }
+        ensures sums { self.new.touched ≡ touches_for (is_some (R.tag_of self.old.regions number)) 2 (R.holdings self.old.regions).pages number }
         ensures fresh { R.ever_used self.new.regions ≡ R.ever_used self.old.regions }
         ensures touched { self.new.touched ≤ 2 }
     {
@@ -82,10 +85,12 @@ impl<R: Regions> Keys<R> {
 
     // a live region is marked by a tag
     fn mark(&mut self, number: u32, tag: u32)
+        requires live { is_some (R.tag_of self.old.regions number) ≡ true }
         requires few { self.old.touched ≤ 2 }
         ensures tags { R.tag_of self.new.regions ≡ tags_set number tag (R.tag_of self.old.regions) }
         ensures holds { R.holdings self.new.regions ≡ R.holdings self.old.regions }
         ensures bytes { R.byte_at self.new.regions ≡ R.byte_at self.old.regions }
+        ensures sums { self.new.touched ≡ self.old.touched + 2 }
         ensures fresh { R.ever_used self.new.regions ≡ R.ever_used self.old.regions }
     {
         self.regions.set_tag(Handle(number), tag);
@@ -98,6 +103,7 @@ impl<R: Regions> Keys<R> {
         requires touches { self.old.touched ≤ 2 }
         ensures holds { let held = held_by R.holdings R.tag_of in held self.new.regions ≡ without_number number (held self.old.regions) }
         ensures bytes { R.byte_at self.new.regions ≡ R.byte_at self.old.regions }
+        ensures sums { self.new.touched ≡ self.old.touched + 5 }
         ensures fresh { R.ever_used self.new.regions ≡ R.ever_used self.old.regions }
         ensures few { changed_words (R.headers self.old.regions) (R.headers self.new.regions) ≤ 8 }
         ensures touched { self.new.touched ≤ self.old.touched + 5 }
@@ -114,7 +120,8 @@ impl<R: Regions> Keys<R> {
             Does (said_key result) (held self.new.regions) (key_new (answer_of (said_key result)) (held self.old.regions)) }
         ensures full { is_refused_full (said_key result) ≡ is_full (R.holdings self.old.regions).counts }
         ensures bytes { R.byte_at self.new.regions ≡ R.byte_at self.old.regions }
-        ensures fresh { R.ever_used self.old.regions ≤ R.ever_used self.new.regions }
+        ensures fresh { R.ever_used self.new.regions ≡ used_after (is_ok result) (R.holdings self.old.regions) (R.ever_used self.old.regions) }
+        ensures sums { self.new.touched ≡ (if is_ok result then 7 + reads_link (R.holdings self.old.regions) (R.ever_used self.old.regions) else 0) }
     {
         let made = self.regions.region_new();
         let touched = u64::from(self.regions.touched());
@@ -137,6 +144,7 @@ impl<R: Regions> Keys<R> {
         ensures does { let held = held_by R.holdings R.tag_of in
             Does (said_opened result) (held self.new.regions) (key_open key.0 (held self.old.regions)) }
         ensures bytes { R.byte_at self.new.regions ≡ R.byte_at self.old.regions }
+        ensures sums { self.new.touched ≡ touches_for (is_some (R.tag_of self.old.regions key.0)) 2 (R.holdings self.old.regions).pages key.0 + (if is_ok result then 2 else 0) }
         ensures fresh { R.ever_used self.new.regions ≡ R.ever_used self.old.regions }
     {
         match self.standing(key.0) {
@@ -155,6 +163,7 @@ impl<R: Regions> Keys<R> {
         ensures does { let held = held_by R.holdings R.tag_of in
             Does (key_calls.said_done result) (held self.new.regions) (key_close key.0 (held self.old.regions)) }
         ensures bytes { R.byte_at self.new.regions ≡ R.byte_at self.old.regions }
+        ensures sums { self.new.touched ≡ touches_for (is_some (R.tag_of self.old.regions key.0)) 2 (R.holdings self.old.regions).pages key.0 + (if is_ok result then 2 else 0) }
         ensures fresh { R.ever_used self.new.regions ≡ R.ever_used self.old.regions }
     {
         match self.standing(key.0) {
@@ -174,6 +183,7 @@ impl<R: Regions> Keys<R> {
         ensures does { let held = held_by R.holdings R.tag_of in
             Does (key_calls.said_done result) (held self.new.regions) (key_free key.0 (held self.old.regions)) }
         ensures bytes { R.byte_at self.new.regions ≡ R.byte_at self.old.regions }
+        ensures sums { self.new.touched ≡ touches_for (is_some (R.tag_of self.old.regions key.0)) 2 (R.holdings self.old.regions).pages key.0 + (if is_ok result then 5 else 0) }
         ensures fresh { R.ever_used self.new.regions ≡ R.ever_used self.old.regions }
         ensures few { changed_words (R.headers self.old.regions) (R.headers self.new.regions) ≤ 8 }
         ensures touched { self.new.touched ≤ 8 }
@@ -196,7 +206,8 @@ impl<R: Regions> Keys<R> {
             Does (said_handle result) (held self.new.regions) (region_new (answer_of (said_handle result)) (held self.old.regions)) }
         ensures full { is_none result ≡ is_full (R.holdings self.old.regions).counts }
         ensures bytes { R.byte_at self.new.regions ≡ R.byte_at self.old.regions }
-        ensures fresh { R.ever_used self.old.regions ≤ R.ever_used self.new.regions }
+        ensures fresh { R.ever_used self.new.regions ≡ used_after (is_some result) (R.holdings self.old.regions) (R.ever_used self.old.regions) }
+        ensures sums { self.new.touched ≡ (if is_some result then 5 + reads_link (R.holdings self.old.regions) (R.ever_used self.old.regions) else 0) }
     {
         let made = self.regions.region_new();
         self.touched = u64::from(self.regions.touched());
@@ -211,7 +222,10 @@ impl<R: Regions> Keys<R> {
             Does (said_address result) (held self.new.regions) (region_alloc handle.0 bytes (answer_of (said_address result)) (held self.old.regions)) }
         ensures full { is_refused_full (said_address result) ≡ is_block_refused handle.0 bytes (held_by R.holdings R.tag_of self.old.regions) }
         ensures bytes { R.byte_at self.new.regions ≡ R.byte_at self.old.regions }
-        ensures fresh { R.ever_used self.old.regions ≤ R.ever_used self.new.regions }
+        ensures fresh { R.ever_used self.new.regions ≡ used_after (is_ok result && block_needs_page handle.0 (room_of bytes) (R.holdings self.old.regions).counts) (R.holdings self.old.regions) (R.ever_used self.old.regions) }
+        ensures sums { let needs = block_needs_page handle.0 (room_of bytes) (R.holdings self.old.regions).counts in
+            let tag = touches_for (is_some (R.tag_of self.old.regions handle.0)) 2 (R.holdings self.old.regions).pages handle.0 in
+            Touched (is_ok result) (tag + block_least handle.0 needs (reads_link (R.holdings self.old.regions) (R.ever_used self.old.regions))) 1 5 self.new.touched }
     {
         let standing = self.standing(handle.0);
         if is_closed(standing) {
@@ -229,6 +243,7 @@ impl<R: Regions> Keys<R> {
         ensures does { let held = held_by R.holdings R.tag_of in
             Does (said_done result) (held self.new.regions) (region_free handle.0 (held self.old.regions)) }
         ensures bytes { R.byte_at self.new.regions ≡ R.byte_at self.old.regions }
+        ensures sums { self.new.touched ≡ touches_for (is_some (R.tag_of self.old.regions handle.0)) 2 (R.holdings self.old.regions).pages handle.0 + (if is_ok result then 5 else 0) }
         ensures fresh { R.ever_used self.new.regions ≡ R.ever_used self.old.regions }
         ensures few { changed_words (R.headers self.old.regions) (R.headers self.new.regions) ≤ 8 }
         ensures touched { self.new.touched ≤ 8 }
@@ -250,10 +265,12 @@ impl<R: Regions> Keys<R> {
         self.regions.free_pages()
     }
 
-    /// How many pages were never used. They are free.
+    /// How many pages were never used. They are free, they come last, and their header words are 0.
+    /// A page that is taken is one of them only where no freed one is there.
     pub fn fresh_pages(&self) -> u32
         ensures fresh { result ≡ (R.holdings self.now.regions).pages - R.ever_used self.now.regions }
         ensures free { result ≤ (R.holdings self.now.regions).counts.free }
+        ensures unused { AreBlank (R.ever_used self.now.regions) (word_in (R.headers self.now.regions)) }
     {
         self.regions.fresh_pages()
     }
@@ -294,6 +311,7 @@ impl<R: Regions> Keys<R> {
         ensures bytes { R.byte_at self.new.regions ≡ stored at byte (R.holdings self.old.regions) (R.byte_at self.old.regions) }
         ensures holds { let held = held_by R.holdings R.tag_of in held self.new.regions ≡ held self.old.regions }
         ensures same { R.headers self.new.regions ≡ R.headers self.old.regions }
+        ensures sums { self.new.touched ≡ 0 }
         ensures fresh { R.ever_used self.new.regions ≡ R.ever_used self.old.regions }
     {
         let stored = self.regions.store8(at, byte);

@@ -19,7 +19,7 @@ impl Regions for UniqueBlocks {
 
     ghost ever_used = { λ u. u.pool.ever_used };
 
-    ghost touches = { λ u. u.pool.touched };
+    ghost touches = { λ u. u.touched };
 
     ghost tagged = { blocks_tagged };
 

@@ -1,12 +1,12 @@
 -- What was shown of a pool's shape holds of the pool that callers see.
-use Rattle.std.proofs.Common.{◌≡◌, ℕ, ◌+◌, ◌-◌, ◌*◌, ◌/◌, ◌<◌, ◌≤◌, Bool, true, false, Some, None, length, Ok, nat_eq, nat_lt, sym, ap, subst, ◌∙◌, arith}
+use Rattle.std.proofs.Common.{◌≡◌, ℕ, ◌+◌, ◌-◌, ◌*◌, ◌/◌, ◌<◌, ◌≤◌, true, false, Some, None, length, Ok, nat_eq, nat_lt, sym, ap, subst, ◌∙◌, arith}
 use Rattle.std.specs.Prelude.{if◌then◌else◌, slice_index}
 use Rattle.std.proofs.lemmas.Bool.Decides.{nat_tests}
 use Rattle.arena_laws.specs.Counts.{put}
 use Rattle.arena_laws.specs.Holdings.{arena_base}
 use Rattle.arena_laws.specs.Lawful.{Grants, region_free}
 use Rattle.arena_laws.specs.Laws.{Does, region_new}
-use Rattle.region_runtime.specs.Headers.{word_in, owner_of, used_of, is_live_number, pages_of, holder_of}
+use Rattle.region_runtime.specs.Headers.{AreBlank, word_in, owner_of, used_of, is_live_number, pages_of, holder_of}
 use Rattle.region_runtime.specs.Pool.{
   Pooled,
   Shape,
@@ -27,6 +27,8 @@ use Rattle.region_runtime.specs.Pool.{
 use Rattle.region_runtime.specs.Sound.{IsOrdered, IsSound, no_page}
 use Rattle.region_runtime.specs.Steps.{next_page, with_first, with_freed, with_taken, without_page}
 use Rattle.region_runtime.specs.Calls.{IsGot}
+use Rattle.region_runtime.specs.Touches.{used_after}
+use Rattle.region_runtime.proofs.Blank.{used_taken}
 use Rattle.region_runtime.proofs.Holders.{holder_taken}
 use Rattle.region_runtime.proofs.Owners.{owner_nobody}
 use Rattle.region_runtime.proofs.Tags.{taken_owner}
@@ -69,15 +71,9 @@ next_within p s f = (granted (shape_of p) s.ordered f).within
 pub pages_few : (p : Pooled) → IsSound p → length p.words / 16 ≤ 4096
 pages_few p s = s.ordered.few
 
-pub used_less : (t : Shape) → t.ever_used ≤ (without_page t).ever_used
-unfolding without_page
-used_less t = by_freed (nat_lt 0 t.freed)
-  where
-    by_freed : (b : Bool) → t.ever_used ≤ (if b then record t { first_freed = t.word t.first_freed 0; freed = t.freed - 1 } else record t {
-      ever_used = t.ever_used + 1;
-    }).ever_used
-    by_freed true = omega arith
-    by_freed false = omega arith
+-- pages never used are blank
+pub still_blank : (fields value : Pooled) → fields ≡ value → IsSound fields → AreBlank value.ever_used (word_in value.words)
+still_blank fields value v s = subst (λ p. AreBlank p.ever_used (word_in p.words)) v s.ordered.unused
 
 -- ---- a region is made
 
@@ -87,7 +83,7 @@ pub record GrantSays (old new : Pooled) (p : ℕ) : Type 0 where
   pub taken : is_taken new ≡ is_taken old
   pub words : word_of new ≡ word_of old
   pub bytes : byte_at new ≡ byte_at old
-  pub fresh : old.ever_used ≤ new.ever_used
+  pub fresh : new.ever_used ≡ used_after true (held old) old.ever_used
 
 pub grant_says : (fields value new : Pooled) (p : ℕ) → fields ≡ value → IsSound fields → nat_eq (free_in (shape_of fields)) 0 ≡ false →
     p ≡ next_page (shape_of fields) → shape_of new ≡ with_first p (without_page (shape_of fields)) → new.bytes ≡ fields.bytes → GrantSays value new p
@@ -101,7 +97,7 @@ grant_says fields value new p v s f n e b =
       taken = ap (λ k. is_taken_by k.word) e' ∙ g.taken;
       words = ap (λ k. word_by k.word) e' ∙ g.words;
       bytes = bytes_same fields new b;
-      fresh = let l = used_less t in let u = ap (λ k. k.ever_used) e' in omega (arith, l, u);
+      fresh = ap (λ k. k.ever_used) e' ∙ used_taken t;
     } in
     subst (λ k. GrantSays value new k) (sym n) (subst (λ k. GrantSays k new (next_page t)) v says)
 
@@ -134,7 +130,7 @@ pub record GotSays (old new : Pooled) (p : ℕ) : Type 0 where
   pub got : IsGot old new p
   pub tags : tag_of new ≡ tag_of old
   pub bytes : byte_at new ≡ byte_at old
-  pub fresh : old.ever_used ≤ new.ever_used
+  pub fresh : new.ever_used ≡ used_after true (held old) old.ever_used
 
 pub got_says : (fields value new : Pooled) (p : ℕ) → fields ≡ value → IsSound fields → nat_eq (free_in (shape_of fields)) 0 ≡ false →
     p ≡ next_page (shape_of fields) → shape_of new ≡ with_taken p (without_page (shape_of fields)) → new.bytes ≡ fields.bytes → GotSays value new p
@@ -153,6 +149,6 @@ got_says fields value new p v s f n e b =
       };
       tags = ap (λ k. tag_by k.word) e' ∙ g.tags;
       bytes = bytes_same fields new b;
-      fresh = let l = used_less t in let u = ap (λ k. k.ever_used) e' in omega (arith, l, u);
+      fresh = ap (λ k. k.ever_used) e' ∙ used_taken t;
     } in
     subst (λ k. GotSays value new k) (sym n) (subst (λ k. GotSays k new (next_page t)) v says)

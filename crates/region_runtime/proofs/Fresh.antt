@@ -71,6 +71,7 @@ module _ (r : Raw) (pages : ℕ) (zeros : AreZero pages r) where
           rounded = λ p. let e = z p 2 in grind (arith, nat_tests);
           within = λ p. let e = z p 2 in omega (arith, e);
           heap = λ p e. absurd (omega (arith, e));
+          unused = record { blank = λ p f l. z p f };
         };
       }
 

@@ -6,7 +6,7 @@ use Rattle.arena_laws.specs.declared.standing.Standing.TheVariants.{Lexical}
 use Rattle.arena_laws.specs.Counts.{put}
 use Rattle.arena_laws.specs.Holdings.{arena_base}
 use Rattle.region_runtime.specs.Chains.{follow, times, last_or}
-use Rattle.region_runtime.specs.Headers.{link_of, owner_of, used_of, newest_of, count_of, heap_mark, taken_mark, is_live_number, pages_of, holder_of, marked}
+use Rattle.region_runtime.specs.Headers.{AreBlank, link_of, owner_of, used_of, newest_of, count_of, heap_mark, taken_mark, is_live_number, pages_of, holder_of, marked}
 use Rattle.region_runtime.specs.Pool.{
   Shape,
   free_in,
@@ -68,8 +68,8 @@ module _ (t : Shape) (word : ℕ → ℕ → ℕ) (owners : (q : ℕ) → owner_
       first = λ h e. ap (last_or h) (chain_is h e) ∙ s.chains.first h e;
     }
 
-    pub kept_ordered : IsOrdered kept in_hand
-    kept_ordered = record {
+    pub kept_ordered : AreBlank t.ever_used word → IsOrdered kept in_hand
+    kept_ordered blank = record {
       few = s.few;
       begun = s.begun;
       chains = subst (λ f. AreChains (follow f t.freed t.first_freed) (owner_of word) (pages_of word) t.ever_used in_hand) (sym link_is)
@@ -77,6 +77,7 @@ module _ (t : Shape) (word : ℕ → ℕ → ℕ) (owners : (q : ℕ) → owner_
       rounded = λ q. let e = useds q in let r = s.rounded q in grind (arith, nat_tests);
       within = λ q. let e = useds q in let r = s.within q in omega (arith, e, r);
       heap = λ q e. owners q ∙ s.heap q e;
+      unused = blank;
     }
 
   holder_is : (q : ℕ) → holder_of word q ≡ holder_of t.word q

@@ -7,6 +7,7 @@ pub mod Holders
 pub mod Owners
 pub mod Held
 pub mod Tags
+pub mod Blank
 pub mod Granted
 pub mod Released
 pub mod Placed

@@ -30,12 +30,13 @@ use Rattle.std.specs.Prelude.{if◌then◌else◌}
 use Rattle.std.proofs.lemmas.Bool.Decides.{nat_tests}
 use Rattle.arena_laws.specs.Counts.{put}
 use Rattle.region_runtime.specs.Chains.{follow, times, last_or}
-use Rattle.region_runtime.specs.Headers.{link_of, owner_of, used_of, newest_of, count_of, heap_mark, taken_mark, is_live_number, pages_of}
+use Rattle.region_runtime.specs.Headers.{put_word, link_of, owner_of, used_of, newest_of, count_of, heap_mark, taken_mark, is_live_number, pages_of}
 use Rattle.region_runtime.specs.Pool.{Shape, free_in}
 use Rattle.region_runtime.specs.Sound.{AreChains, IsOrdered, freed_of, no_page, uses}
 use Rattle.region_runtime.specs.Steps.{next_page, with_first, with_freed, with_heap_page, with_newest, with_taken, without_page}
 use Rattle.region_runtime.proofs.Words.{live_some, live_own}
 use Rattle.region_runtime.proofs.Chains.{times_append, follow_zero, follow_more, follow_kept, follow_length, follow_spliced, length_least}
+use Rattle.region_runtime.proofs.Blank.{blank_put, blank_more}
 use Rattle.region_runtime.proofs.Freeing.{all_freed}
 use Rattle.region_runtime.proofs.Places.{
   page_in_hand,
@@ -83,6 +84,7 @@ module _ (t : Shape) (s : IsOrdered t no_page) where
     rounded = s.rounded;
     within = s.within;
     heap = s.heap;
+    unused = s.unused;
   }
 
   unused_taken : t.freed ≡ 0 → t.ever_used < t.pages → IsOrdered (record t { ever_used = t.ever_used + 1 }) (page_in_hand t.ever_used)
@@ -93,6 +95,7 @@ module _ (t : Shape) (s : IsOrdered t no_page) where
     rounded = s.rounded;
     within = s.within;
     heap = s.heap;
+    unused = blank_more t.word t.ever_used s.unused;
   }
 
   pub page_taken : nat_eq (free_in t) 0 ≡ false → IsOrdered (without_page t) (page_in_hand (next_page t))
@@ -115,6 +118,9 @@ module _ (t : Shape) (s : IsOrdered t no_page) where
   live_within h e q l =
       let u = uses_there (freed_of t) (owner_of t.word) (pages_of t.word) t.ever_used no_page few_used s.chains h q e l in
       let o = s.chains.once q in grind (arith, nat_tests)
+
+  pub first_used : (h : ℕ) → is_live_number (owner_of t.word) h ≡ true → h - 1 < t.ever_used
+  first_used h e = live_within h e (h - 1) (first_there (freed_of t) (owner_of t.word) (pages_of t.word) t.ever_used no_page few_used s.chains h e)
 
   pub count_least : (h : ℕ) → is_live_number (owner_of t.word) h ≡ true → count_of t.word h + t.freed ≤ 4096
   count_least h e =
@@ -182,6 +188,8 @@ module _ (t : Shape) (s : IsOrdered t no_page) where
       rounded = s.rounded;
       within = s.within;
       heap = λ p e. heap_by p (nat_eq p (h - 1)) refl (s.heap p e);
+      unused = let l = first_used h live in
+          blank_put (put_word (h - 1) 0 t.first_freed t.word) t.ever_used (h - 1) 1 0 l (blank_put t.word t.ever_used (h - 1) 0 t.first_freed l s.unused);
     }
       where
         heap_by : (p : ℕ) (b : Bool) → nat_eq p (h - 1) ≡ b → owner_of t.word p ≡ heap_mark → (if b then 0 else owner_of t.word p) ≡ heap_mark
@@ -203,6 +211,10 @@ module _ (t : Shape) (p : ℕ) (s : IsOrdered t (page_in_hand p)) where
 
   pub hand_small : p < 4096
   hand_small = let w = hand_within in let f = s.few in omega (arith, w, f)
+
+  -- it counts as used
+  hand_in : p < t.ever_used
+  hand_in = hand_used (freed_of t) (owner_of t.word) (pages_of t.word) t.ever_used p hand_few s.chains
 
   -- the heap's last page is another
   heap_other : (q w : ℕ) → owner_of t.word q ≡ heap_mark → put p w (owner_of t.word) q ≡ heap_mark
@@ -234,6 +246,7 @@ module _ (t : Shape) (p : ℕ) (s : IsOrdered t (page_in_hand p)) where
     rounded = s.rounded;
     within = s.within;
     heap = λ q e. heap_other q taken_mark (s.heap q e);
+    unused = blank_put t.word t.ever_used p 1 taken_mark hand_in s.unused;
   }
 
   -- the heap's last
@@ -247,6 +260,7 @@ module _ (t : Shape) (p : ℕ) (s : IsOrdered t (page_in_hand p)) where
     rounded = put_used (used_of t.word) room (λ n. n % 8 ≡ 0) a s.rounded;
     within = put_used (used_of t.word) room (λ n. n ≤ 4096) b s.within;
     heap = λ q e. let same : nat_eq q p ≡ true = grind (arith, nat_tests) in rw same refl;
+    unused = blank_put (put_word p 2 room t.word) t.ever_used p 1 heap_mark hand_in (blank_put t.word t.ever_used p 2 room hand_in s.unused);
   }
 
   -- a region's first
@@ -278,6 +292,9 @@ module _ (t : Shape) (p : ℕ) (s : IsOrdered t (page_in_hand p)) where
     rounded = put_used (used_of t.word) 0 (λ n. n % 8 ≡ 0) refl s.rounded;
     within = put_used (used_of t.word) 0 (λ n. n ≤ 4096) (omega arith) s.within;
     heap = λ q e. heap_other q (p + 1) (s.heap q e);
+    unused = let n = t.ever_used in let l = hand_in in
+        let a = put_word p 1 (p + 1) t.word in let b = put_word p 2 0 a in let c = put_word p 3 p b in let d = put_word p 4 1 c in
+        blank_put d n p 5 0 l (blank_put c n p 4 1 l (blank_put b n p 3 p l (blank_put a n p 2 0 l (blank_put t.word n p 1 (p + 1) l s.unused))));
   }
 
   -- a live region's newest
@@ -319,6 +336,12 @@ module _ (t : Shape) (p : ℕ) (s : IsOrdered t (page_in_hand p)) where
         follow_kept (link_of t.word) p (newest_of t.word h) t.freed t.first_freed
         (hand_not_free (freed_of t) (owner_of t.word) (pages_of t.word) t.ever_used p hand_few s.chains)
 
+    first_in : h - 1 < t.ever_used
+    first_in =
+        let a = first_there (freed_of t) (owner_of t.word) (pages_of t.word) t.ever_used (page_in_hand p) hand_few s.chains h live in
+        let u = uses_there (freed_of t) (owner_of t.word) (pages_of t.word) t.ever_used (page_in_hand p) hand_few s.chains h (h - 1) live a in
+        let o = s.chains.once (h - 1) in grind (arith, nat_tests)
+
     pub grown_ordered : room % 8 ≡ 0 → room ≤ 4096 → IsOrdered grown no_page
     grown_ordered a b = record {
       few = s.few;
@@ -328,4 +351,8 @@ module _ (t : Shape) (p : ℕ) (s : IsOrdered t (page_in_hand p)) where
       rounded = put_used (used_of t.word) room (λ n. n % 8 ≡ 0) a s.rounded;
       within = put_used (used_of t.word) room (λ n. n ≤ 4096) b s.within;
       heap = λ q e. heap_other q h (s.heap q e);
+      unused = let n = t.ever_used in let l = hand_in in let f = first_in in
+          let a = put_word p 2 room t.word in let b = put_word p 1 h a in let c = put_word p 0 (newest_of t.word h) b in let d = put_word (h - 1) 3 p c in
+          blank_put d n (h - 1) 4 (count_of t.word h + 1) f (blank_put c n (h - 1) 3 p f (blank_put b n p 0 (newest_of t.word h) l (blank_put a n p 1 h l
+          (blank_put t.word n p 2 room l s.unused))));
     }

@@ -38,6 +38,7 @@ use Rattle.arena_laws.specs.Laws.{Does, is_block_refused, region_alloc}
 use Rattle.region_runtime.specs.Headers.{put_word, owner_of, used_of, newest_of, count_of, heap_mark, is_live_number, pages_of, holder_of, holder_by}
 use Rattle.region_runtime.specs.Pool.{Shape, free_in, last_of, taken_by, left_of, owner_at, counts_of, holdings_of, tag_by, is_taken_by, word_by}
 use Rattle.region_runtime.specs.Sound.{AreChains, IsOrdered, freed_of}
+use Rattle.region_runtime.proofs.Blank.{blank_put}
 use Rattle.region_runtime.specs.Steps.{with_word, with_heap_page, with_newest}
 use Rattle.region_runtime.proofs.Words.{live_some, last_of_heap, last_of_region, last_of_other}
 use Rattle.region_runtime.proofs.Places.{page_in_hand, live_small, live_same, grown_live}
@@ -108,6 +109,7 @@ module _ (t : Shape) (in_hand : ℕ → ℕ) (s : IsOrdered t in_hand) (h q u ro
     rounded = put_used (λ n. n % 8 ≡ 0) (let r = s.rounded q in omega (arith, r, used, eights)) s.rounded;
     within = put_used (λ n. n ≤ 4096) fits s.within;
     heap = s.heap;
+    unused = blank_put t.word t.ever_used q 2 (u + room) (last_within t in_hand s h q last) s.unused;
   }
 
   mine : holder_of t.word q ≡ Some h

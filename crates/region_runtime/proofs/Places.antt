@@ -34,6 +34,10 @@ module _ (free : List ℕ) (owner : ℕ → ℕ) (chain : ℕ → List ℕ) (eve
   pub first_there : (h : ℕ) → is_live_number owner h ≡ true → 0 < times (h - 1) (chain h)
   first_there h e = let s = live_some owner h e in times_last h (h - 1) (chain h) (a.first h e) (grind (arith, nat_tests))
 
+  -- a page with a mark was used
+  pub marked_used : (p : ℕ) → 4096 < owner p → p < ever_used
+  marked_used p l = let u = uses_marked owner chain p l in let o = a.once p in grind (arith, nat_tests)
+
   -- a live number isn't a mark
   pub live_small : (h : ℕ) → is_live_number owner h ≡ true → h ≤ 4096
   live_small h e = by_size (nat_lt 4096 h) refl

@@ -1,5 +1,5 @@
 -- What setting a tag, or a word of a taken page, says to its caller.
-use Rattle.std.proofs.Common.{◌≡◌, ℕ, ◌-◌, ◌<◌, ◌≤◌, Bool, true, false, Some, None, length, nat_eq, refl, sym, ap, subst, ◌∙◌, arith}
+use Rattle.std.proofs.Common.{◌≡◌, ℕ, ◌-◌, ◌/◌, ◌<◌, ◌≤◌, Bool, true, false, Some, None, length, nat_eq, refl, sym, ap, subst, ◌∙◌, arith}
 use Rattle.std.specs.Prelude.{if◌then◌else◌, ◌&&◌}
 use Rattle.std.proofs.lemmas.Bool.Decides.{nat_tests}
 use Rattle.arena_laws.specs.Counts.{put}
@@ -22,17 +22,24 @@ use Rattle.region_runtime.specs.Pool.{
 }
 use Rattle.region_runtime.specs.Sound.{IsOrdered, IsSound, freed_of, no_page}
 use Rattle.region_runtime.specs.Steps.{with_word}
+use Rattle.region_runtime.specs.Touches.{reads_number, touches_for}
 use Rattle.region_runtime.specs.Calls.{tags_set, word_seen, words_set}
 use Rattle.region_runtime.proofs.Words.{live_some, live_own}
-use Rattle.region_runtime.proofs.Places.{live_small}
-use Rattle.region_runtime.proofs.Ordered.{few_used}
+use Rattle.region_runtime.proofs.Places.{live_small, marked_used}
+use Rattle.region_runtime.proofs.Ordered.{few_used, first_used}
 use Rattle.region_runtime.proofs.Tags.{word_other, taken_same, not_taken, small_unmarked, taken_owner, words_same, tag_live, tag_dead, tag_same}
+use Rattle.region_runtime.proofs.Blank.{blank_put}
 use Rattle.region_runtime.proofs.Kept.{kept_ordered, kept_holds, kept_taken}
 use Rattle.region_runtime.proofs.Along.{bytes_along, sound_after}
 
 -- what a live number's owner word is not
 small_number : (t : Shape) → IsOrdered t no_page → (h : ℕ) → is_live_number (owner_of t.word) h ≡ true → h ≤ 4096
 small_number t s h l = live_small (freed_of t) (owner_of t.word) (pages_of t.word) t.ever_used no_page (few_used t s) s.chains h l
+
+-- a taken page was used
+taken_used : (t : Shape) → IsOrdered t no_page → (p : ℕ) → is_taken_by t.word p ≡ true → p < t.ever_used
+taken_used t s p k = marked_used (freed_of t) (owner_of t.word) (pages_of t.word) t.ever_used no_page (few_used t s) s.chains p (let o = taken_owner
+    t.word p k in omega (arith, o))
 
 -- ---- a tag
 
@@ -86,7 +93,7 @@ tag_says fields value new v s l b h x d e =
     let k = there t s.ordered h x d in
     let says : TagSays fields new h x = record {
       sound = sound_after fields new (with_word (h - 1) 5 x t) s l b e (kept_ordered t w (λ q. refl) (λ q. refl) (λ q. refl) (λ g d. refl) (λ g d. refl)
-          no_page s.ordered);
+          no_page s.ordered (blank_put t.word t.ever_used (h - 1) 5 x (first_used t s.ordered h d) s.ordered.unused));
       says = sym k;
       tags = ap (λ m. tag_by m.word) e ∙ (rw k (λ i g. tag_put t s.ordered h x d g i));
       holds = ap holdings_of e ∙ kept_holds t w (λ q. refl) (λ q. refl) (λ q. refl) (λ g d. refl) (λ g d. refl);
@@ -174,7 +181,7 @@ word_says fields value new v s l b p f x k low high e =
     let ws : (q g : ℕ) → word_by w q g ≡ words_set fields p f x q g = (λ q g. rw (k, m) (written_words t s.ordered p f x k low up q g)) in
     let says : WordSays fields new p f x = record {
       sound = sound_after fields new (with_word p f x t) s l b e (kept_ordered t w (λ q. o q 1 (omega arith)) (λ q. o q 0 (omega arith)) (λ q. o q
-          2 (omega arith)) (λ h d. a h 3 d) (λ h d. a h 4 d) no_page s.ordered);
+          2 (omega arith)) (λ h d. a h 3 d) (λ h d. a h 4 d) no_page s.ordered (blank_put t.word t.ever_used p f x (taken_used t s.ordered p k) s.ordered.unused));
       words = ap (λ n. word_by n.word) e ∙ (λ i q g. ws q g i);
       holds = ap holdings_of e ∙ kept_holds t w (λ q. o q 1 (omega arith)) (λ q. o q 0 (omega arith)) (λ q. o q 2 (omega arith)) (λ h d. a h 3 d)
           (λ h d. a h 4 d);
@@ -194,3 +201,17 @@ word_read_there fields value v p f x k low high e =
 pub word_not_there : (fields value : Pooled) → fields ≡ value → (p f : ℕ) → false ≡ is_taken_by (word_in fields.words) p → None ≡ word_seen value p f
 word_not_there fields value v p f k =
     let n : is_taken fields p ≡ false = sym k in subst (λ m. None ≡ word_seen m p f) v (rw n refl)
+
+-- ---- how many words a call on a number touches
+
+pub live_touches : (fields value : Pooled) → fields ≡ value → (words h n : ℕ) → is_live_number (owner_of (word_in fields.words)) h ≡ true → n ≡ words →
+    n ≡ touches_for (is_some (tag_of value h)) words (length value.words / 16) h
+live_touches fields value v words h n d e =
+    let k : is_some (tag_of fields h) ≡ true = ap is_some (tag_live (word_in fields.words) h d) in
+    subst (λ p. n ≡ touches_for (is_some (tag_of p h)) words (length p.words / 16) h) v (rw k e)
+
+pub dead_touches : (fields value : Pooled) → fields ≡ value → (words h n : ℕ) → is_live_number (owner_of (word_in fields.words)) h ≡ false →
+    n ≡ reads_number (length fields.words / 16) h → n ≡ touches_for (is_some (tag_of value h)) words (length value.words / 16) h
+dead_touches fields value v words h n d e =
+    let k : is_some (tag_of fields h) ≡ false = ap is_some (tag_dead (word_in fields.words) h d) in
+    subst (λ p. n ≡ touches_for (is_some (tag_of p h)) words (length p.words / 16) h) v (rw k e)

@@ -1,7 +1,8 @@
 -- What a request for a block says to its caller.
 use Rattle.std.proofs.Common.{◌≡◌, ℕ, zero, suc, ◌+◌, ◌-◌, ◌*◌, ◌/◌, ◌<◌, ◌≤◌, Bool, true, false, length, Ok, nat_eq, refl, sym, ap, subst, ◌∙◌, arith}
 use Rattle.std.specs.Prelude.{if◌then◌else◌}
-use Rattle.arena_laws.specs.Counts.{room_of}
+use Rattle.std.proofs.lemmas.Bool.Decides.{nat_tests}
+use Rattle.arena_laws.specs.Counts.{block_needs_page, room_of}
 use Rattle.arena_laws.specs.Holdings.{arena_base}
 use Rattle.arena_laws.specs.Lawful.{Grants, takes_blocks}
 use Rattle.arena_laws.specs.Laws.{Does, is_block_refused, region_alloc}
@@ -11,6 +12,7 @@ use Rattle.region_runtime.specs.Pool.{
   Shape,
   shape_of,
   byte_at,
+  counts_of,
   free_in,
   held,
   holdings_of,
@@ -26,12 +28,15 @@ use Rattle.region_runtime.specs.Pool.{
 }
 use Rattle.region_runtime.specs.Sound.{IsOrdered, IsSound, no_page}
 use Rattle.region_runtime.specs.Steps.{next_page, with_heap_page, with_newest, with_page, with_word, without_page}
+use Rattle.region_runtime.specs.Touches.{Touched, block_least, reads_link, reads_number, used_after}
+use Rattle.region_runtime.proofs.Blank.{cut_words, grow_words, number_none, number_read, used_taken}
+use Rattle.region_runtime.proofs.Words.{last_of_region, live_page}
 use Rattle.region_runtime.proofs.Serves.{serves_live}
 use Rattle.region_runtime.proofs.Ordered.{count_least, page_taken, not_first}
 use Rattle.region_runtime.proofs.Held.{last_within, page_less}
 use Rattle.region_runtime.proofs.Placed.{is_room}
 use Rattle.region_runtime.proofs.Blocks.{IsPlaced, cut_placed, none_free, page_placed}
-use Rattle.region_runtime.proofs.Along.{bytes_along, sound_after, used_less}
+use Rattle.region_runtime.proofs.Along.{bytes_along, sound_after}
 
 pub last_in : (p : Pooled) → IsSound p → (h : ℕ) → last_of (shape_of p) h ≤ length p.words / 16
 last_in p s h = by_last (last_of (shape_of p) h) refl
@@ -49,14 +54,15 @@ pub record PlaceSays (old new : Pooled) (h asked at : ℕ) : Type 0 where
   pub taken : is_taken new ≡ is_taken old
   pub words : word_of new ≡ word_of old
   pub bytes : byte_at new ≡ byte_at old
-  pub fresh : old.ever_used ≤ new.ever_used
+  pub fresh : new.ever_used ≡ used_after (block_needs_page h (room_of asked) (held old).counts) (held old) old.ever_used
 
 module _ (fields value new : Pooled) (view : fields ≡ value) (s : IsSound fields) (long : length new.words ≡ length fields.words)
     (same_bytes : new.bytes ≡ fields.bytes) (h bytes : ℕ) where
   abbrev t : Shape
   t = shape_of fields
 
-  told : (after : Shape) (at : ℕ) → shape_of new ≡ after → t.ever_used ≤ after.ever_used → IsPlaced t after h bytes at → PlaceSays value new h bytes at
+  told : (after : Shape) (at : ℕ) → shape_of new ≡ after →
+      after.ever_used ≡ used_after (block_needs_page h (room_of bytes) (counts_of t)) (holdings_of t) t.ever_used → IsPlaced t after h bytes at → PlaceSays value new h bytes at
   told after at e f p =
       let says : PlaceSays fields new h bytes at = record {
         sound = sound_after fields new after s long same_bytes e p.ordered;
@@ -66,13 +72,33 @@ module _ (fields value new : Pooled) (view : fields ≡ value) (s : IsSound fiel
         taken = ap (λ k. is_taken_by k.word) e ∙ p.taken;
         words = ap (λ k. word_by k.word) e ∙ p.words;
         bytes = bytes_along fields fields new refl same_bytes;
-        fresh = let u = ap (λ k. k.ever_used) e in omega (arith, u, f);
+        fresh = ap (λ k. k.ever_used) e ∙ f;
       } in subst (λ k. PlaceSays k new h bytes at) view says
 
   module _ (serves : takes_blocks h (standing_by (owner_of t.word) h) ≡ true) (room : ℕ) (short : bytes ≤ 4096) (rounded : room ≡ room_of bytes)
       (last left : ℕ) (last_is : last ≡ last_of t h) (left_is : left ≡ left_of (used_of t.word) last) where
     live : 0 < h → is_live_number (owner_of t.word) h ≡ true
     live = serves_live (owner_of t.word) h serves
+
+    -- the words that are read before a block is placed
+    abbrev reads : ℕ
+    reads = reads_number t.pages h + (if nat_eq h 0 then 0 else 1) + (if nat_eq last 0 then 0 else 1)
+
+    heap_reads : h ≡ 0 → reads_number t.pages h ≡ 0
+    heap_reads e = number_none t.pages h e
+
+    region_reads : 0 < h → reads_number t.pages h ≡ 1
+    region_reads l = let p = live_page fields.words h (live l) in number_read t.pages h (λ e. omega (arith, l, e)) (omega (arith, p))
+
+    region_last : 0 < h → 0 < last
+    region_last l = let e = last_of_region t h (live l) in omega (arith, e, last_is)
+
+    touches : (needs : Bool) (n : ℕ) → block_needs_page h (room_of bytes) (counts_of t) ≡ needs →
+        Touched true (block_least h needs (reads_link (holdings_of t) t.ever_used)) 1 3 n →
+        Touched true (block_least h (block_needs_page h (room_of bytes) (held value).counts) (reads_link (held value) value.ever_used)) 1 3 n
+    touches needs n e k =
+        subst (λ p. Touched true (block_least h (block_needs_page h (room_of bytes) (held p).counts) (reads_link (held p) p.ever_used)) 1 3 n) view
+        (subst (λ b. Touched true (block_least h b (reads_link (holdings_of t) t.ever_used)) 1 3 n) (sym e) k)
 
     -- ---- in the last page
     module _ (fits : room ≤ left) where
@@ -88,18 +114,37 @@ module _ (fields value new : Pooled) (view : fields ≡ value) (s : IsSound fiel
       pub last_some : 0 < last
       last_some = (by_last last left_is).0
 
+      spare : block_needs_page h (room_of bytes) (counts_of t) ≡ false
+      spare =
+          let l = left_is ∙ ap (left_of (used_of t.word)) last_is in
+          subst (λ r. block_needs_page h r (counts_of t) ≡ false) rounded (grind (arith, nat_tests))
+
+      pub cut_touched : (n : ℕ) → n ≡ reads + 2 →
+          Touched true (block_least h (block_needs_page h (room_of bytes) (held value).counts) (reads_link (held value) value.ever_used)) 1 3 n
+      cut_touched n e = touches false n spare (cut_words h last (reads_number t.pages h) n (reads_link (holdings_of t) t.ever_used) last_some heap_reads
+          region_reads e)
+
       pub cut_says : (at : ℕ) → at ≡ arena_base + 4096 * (last - 1) + used_of t.word (last - 1) →
           shape_of new ≡ with_word (last - 1) 2 (used_of t.word (last - 1) + room) t → PlaceSays value new h bytes at
       cut_says at a e =
           let l = last_some in
           let p = cut_placed t s.ordered h bytes room live short rounded (last - 1) (used_of t.word (last - 1)) (omega (arith, l, last_is)) refl last_fits in
           subst (λ k. PlaceSays value new h bytes k) (sym a) (told (with_word (last - 1) 2 (used_of t.word (last - 1) + room) t)
-          (arena_base + 4096 * (last - 1) + used_of t.word (last - 1)) e (omega arith) p)
+          (arena_base + 4096 * (last - 1) + used_of t.word (last - 1)) e
+          (ap (λ b. used_after b (holdings_of t) t.ever_used) (sym spare)) p)
 
     -- ---- in a page that is taken
     module _ (more : left < room) where
       needs : left_of (used_of t.word) (last_of t h) < room
       needs = subst (λ k. left_of (used_of t.word) k < room) last_is (omega (arith, left_is, more))
+
+      short_of : block_needs_page h (room_of bytes) (counts_of t) ≡ true
+      short_of = let n = needs in subst (λ r. block_needs_page h r (counts_of t) ≡ true) rounded (grind (arith, nat_tests))
+
+      pub grow_touched : (n : ℕ) → n ≡ reads + reads_link (holdings_of t) t.ever_used + (if nat_eq h 0 then 2 else 7) →
+          Touched true (block_least h (block_needs_page h (room_of bytes) (held value).counts) (reads_link (held value) value.ever_used)) 1 3 n
+      grow_touched n e = touches true n short_of (grow_words h last (reads_number t.pages h) n (reads_link (holdings_of t) t.ever_used) region_last
+          heap_reads region_reads e)
 
       pub none_says : nat_eq (free_in t) 0 ≡ true → true ≡ is_block_refused h bytes (held fields)
       none_says f = none_free t s.ordered h bytes room live short rounded needs f
@@ -109,15 +154,16 @@ module _ (fields value new : Pooled) (view : fields ≡ value) (s : IsSound fiel
       grow_says p f n e =
           let e' : shape_of new ≡ with_page h (next_page t) room (without_page t) = e ∙ ap (λ k. with_page h k room (without_page t)) n in
           subst (λ k. PlaceSays value new h bytes (arena_base + 4096 * k)) (sym n)
-          (told (with_page h (next_page t) room (without_page t)) (arena_base + 4096 * next_page t) e' (used_after (next_page t))
-          (page_placed t s.ordered h bytes room live short rounded needs f))
+          (told (with_page h (next_page t) room (without_page t)) (arena_base + 4096 * next_page t) e'
+          (grown_used (next_page t) ∙ used_taken t ∙ ap (λ b. used_after b (holdings_of t) t.ever_used) (sym short_of)) (page_placed t s.ordered h bytes room live short rounded needs f))
         where
-          used_after : (p : ℕ) → t.ever_used ≤ (with_page h p room (without_page t)).ever_used
-          used_after p = by_heap (nat_eq h 0)
+          grown_used : (p : ℕ) → (with_page h p room (without_page t)).ever_used ≡ (without_page t).ever_used
+          grown_used p = by_heap (nat_eq h 0)
             where
-              by_heap : (b : Bool) → t.ever_used ≤ (if b then with_heap_page p room (without_page t) else with_newest h p room (without_page t)).ever_used
-              by_heap true = used_less t
-              by_heap false = used_less t
+              by_heap : (b : Bool) → (if b then with_heap_page p room (without_page t) else with_newest h p room (without_page t)).ever_used
+                  ≡ (without_page t).ever_used
+              by_heap true = refl
+              by_heap false = refl
 
 -- ---- what growing asks
 

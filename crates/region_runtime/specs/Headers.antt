@@ -1,5 +1,5 @@
 -- What the words of the headers say. `word p f` is the word of page p at field f.
-use Rattle.std.specs.Prelude.{Option, Some, None, ℕ, zero, suc, ◌+◌, ◌-◌, ◌*◌, ◌/◌, Bool, ◌&&◌, List, length, slice_index, nat_eq, nat_lt, if◌then◌else◌}
+use Rattle.std.specs.Prelude.{◌≡◌, ◌≤◌, Option, Some, None, ℕ, zero, suc, ◌+◌, ◌-◌, ◌*◌, ◌/◌, Bool, ◌&&◌, List, length, slice_index, nat_eq, nat_lt, if◌then◌else◌}
 use Rattle.region_runtime.specs.Chains.{follow, times}
 
 -- the word of a page at a field from 0 to 15, and 0 elsewhere
@@ -9,6 +9,10 @@ word_in words p f = (if nat_lt p (length words / 16) && nat_lt f 16 then slice_i
 -- one word is written
 abbrev pub put_word : ℕ → ℕ → ℕ → (ℕ → ℕ → ℕ) → ℕ → ℕ → ℕ
 put_word p f x word q g = (if nat_eq g f then (if nat_eq q p then x else word q g) else word q g)
+
+-- no page from one on has a word that isn't 0
+pub record AreBlank (used : ℕ) (word : ℕ → ℕ → ℕ) : Type 0 where
+  pub blank : (p f : ℕ) → used ≤ p → word p f ≡ 0
 
 -- the page after this one on its chain
 abbrev pub link_of : (ℕ → ℕ → ℕ) → ℕ → ℕ

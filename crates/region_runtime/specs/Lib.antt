@@ -3,4 +3,5 @@ pub mod Headers
 pub mod Pool
 pub mod Sound
 pub mod Steps
+pub mod Touches
 pub mod Calls

@@ -1,12 +1,13 @@
 // A pool's headers and fields, which are read and written word by word, and counted.
 
-ghost use Rattle.std.specs.Prelude.{◌≡◌, ◌+◌, ◌-◌, ◌*◌, ◌/◌, ◌<◌, ◌≤◌, ℕ, length, nat_eq, slice_set, true, false, ◌||◌};
+ghost use Rattle.std.specs.Prelude.{◌≡◌, ◌+◌, ◌-◌, ◌*◌, ◌/◌, ◌<◌, ◌≤◌, ℕ, length, nat_eq, slice_set, true, false, ◌||◌, nat_lt, if◌then◌else◌};
 ghost use Rattle.raw_pages.specs.Raw.{count};
 ghost use Rattle.arena_laws.specs.Counts.{is_full};
 ghost use Rattle.arena_laws.specs.Holdings.{arena_base};
 ghost use Rattle.arena_laws.specs.Lawful.{takes_blocks};
 ghost use Rattle.region_runtime.specs.Headers.{word_in, owner_of, newest_of, count_of, is_live_number, used_of, tag_in};
 ghost use Rattle.region_runtime.specs.Pool.{counts_of, last_of, left_of, changed_words, is_taken_by, standing_by};
+ghost use Rattle.region_runtime.specs.Touches.{one_if, reads_number, reads_page};
 ghost use Rattle.region_runtime.specs.Steps.{next_page, seen, with_first, with_freed, with_heap_page, with_newest, with_page, with_taken, with_word, without_page};
 
 use arena_laws::{BASE, PAGE};
@@ -93,7 +94,9 @@ impl Book {
         ensures value { result ≡ is_live_number (owner_of (seen self.old).word) number }
         ensures raw { self.new.raw ≡ self.old.raw }
         ensures shape { seen self.new ≡ seen self.old }
-        ensures touched { self.new.touched ≤ self.old.touched + 1 }
+        ensures touched { self.new.touched ≡ self.old.touched + reads_number (count self.old.raw) number }
+        ensures live { result ≡ true → self.new.touched ≡ self.old.touched + 1 }
+        ensures few { self.new.touched ≤ self.old.touched + 1 }
     {
         if number == 0 {
             return false;
@@ -110,7 +113,8 @@ impl Book {
         ensures value { result ≡ takes_blocks number (standing_by (owner_of (seen self.old).word) number) }
         ensures raw { self.new.raw ≡ self.old.raw }
         ensures shape { seen self.new ≡ seen self.old }
-        ensures touched { self.new.touched ≤ self.old.touched + 1 }
+        ensures touched { self.new.touched ≡ self.old.touched + reads_number (count self.old.raw) number }
+        ensures few { self.new.touched ≤ self.old.touched + 1 }
     {
         if number == 0 {
             return true;
@@ -135,7 +139,8 @@ impl Book {
         ensures page { result ≡ next_page (seen self.old) }
         ensures raw { self.new.raw ≡ self.old.raw }
         ensures shape { seen self.new ≡ without_page (seen self.old) }
-        ensures touched { self.new.touched ≤ self.old.touched + 1 }
+        ensures touched { self.new.touched ≡ self.old.touched + one_if (nat_lt 0 self.old.freed) }
+        ensures few { self.new.touched ≤ self.old.touched + 1 }
     {
         if self.freed > 0 {
             let page = self.first_freed;
@@ -157,6 +162,7 @@ impl Book {
         ensures shape { seen self.new ≡ with_first page (seen self.old) }
         ensures long { length self.new.raw.words ≡ length self.old.raw.words }
         ensures bytes { self.new.raw.bytes ≡ self.old.raw.bytes }
+        ensures touched { self.new.touched ≡ self.old.touched + 5 }
     {
         self.write(page, OWNER, page + 1);
         self.write(page, USED, 0);
@@ -175,7 +181,7 @@ impl Book {
         ensures value { result ≡ last_of (seen self.old) number }
         ensures raw { self.new.raw ≡ self.old.raw }
         ensures shape { seen self.new ≡ seen self.old }
-        ensures touched { self.new.touched ≤ self.old.touched + 1 }
+        ensures touched { self.new.touched ≡ self.old.touched + (if nat_eq number 0 then 0 else 1) }
     {
         if number == 0 {
             self.heap_last
@@ -192,7 +198,7 @@ impl Book {
         ensures value { result ≡ left_of (used_of (seen self.old).word) last }
         ensures raw { self.new.raw ≡ self.old.raw }
         ensures shape { seen self.new ≡ seen self.old }
-        ensures touched { self.new.touched ≤ self.old.touched + 1 }
+        ensures touched { self.new.touched ≡ self.old.touched + (if nat_eq last 0 then 0 else 1) }
     {
         if last == 0 {
             0
@@ -211,6 +217,7 @@ impl Book {
         ensures shape { seen self.new ≡ with_word page 2 (used_of (seen self.old).word page + room) (seen self.old) }
         ensures long { length self.new.raw.words ≡ length self.old.raw.words }
         ensures bytes { self.new.raw.bytes ≡ self.old.raw.bytes }
+        ensures touched { self.new.touched ≡ self.old.touched + 2 }
     {
         let used = self.read(page, USED);
         self.write(page, USED, used + room);
@@ -225,6 +232,7 @@ impl Book {
         ensures shape { seen self.new ≡ with_heap_page page room (seen self.old) }
         ensures long { length self.new.raw.words ≡ length self.old.raw.words }
         ensures bytes { self.new.raw.bytes ≡ self.old.raw.bytes }
+        ensures touched { self.new.touched ≡ self.old.touched + 2 }
     {
         self.write(page, USED, room);
         self.write(page, OWNER, HEAP);
@@ -242,6 +250,7 @@ impl Book {
         ensures shape { seen self.new ≡ with_newest number page room (seen self.old) }
         ensures long { length self.new.raw.words ≡ length self.old.raw.words }
         ensures bytes { self.new.raw.bytes ≡ self.old.raw.bytes }
+        ensures touched { self.new.touched ≡ self.old.touched + 7 }
     {
         let newest = self.read(number - 1, NEWEST);
         let pages = self.read(number - 1, COUNT);
@@ -263,6 +272,7 @@ impl Book {
         ensures shape { seen self.new ≡ with_page number page room (seen self.old) }
         ensures long { length self.new.raw.words ≡ length self.old.raw.words }
         ensures bytes { self.new.raw.bytes ≡ self.old.raw.bytes }
+        ensures touched { self.new.touched ≡ self.old.touched + (if nat_eq number 0 then 2 else 7) }
     {
         if number == 0 {
             self.grow_heap(page, room);
@@ -298,6 +308,7 @@ impl Book {
         ensures shape { seen self.new ≡ with_taken page (seen self.old) }
         ensures long { length self.new.raw.words ≡ length self.old.raw.words }
         ensures bytes { self.new.raw.bytes ≡ self.old.raw.bytes }
+        ensures touched { self.new.touched ≡ self.old.touched + 1 }
     {
         self.write(page, OWNER, TAKEN);
     }
@@ -323,6 +334,7 @@ impl Book {
         ensures shape { seen self.new ≡ with_word (number - 1) 5 value (seen self.old) }
         ensures long { length self.new.raw.words ≡ length self.old.raw.words }
         ensures bytes { self.new.raw.bytes ≡ self.old.raw.bytes }
+        ensures touched { self.new.touched ≡ self.old.touched + 1 }
     {
         self.write(number - 1, TAG, value);
     }
@@ -333,7 +345,9 @@ impl Book {
         ensures value { result ≡ is_taken_by (seen self.old).word page }
         ensures raw { self.new.raw ≡ self.old.raw }
         ensures shape { seen self.new ≡ seen self.old }
-        ensures touched { self.new.touched ≤ self.old.touched + 1 }
+        ensures touched { self.new.touched ≡ self.old.touched + reads_page (count self.old.raw) page }
+        ensures taken { result ≡ true → self.new.touched ≡ self.old.touched + 1 }
+        ensures few { self.new.touched ≤ self.old.touched + 1 }
     {
         if page >= self.raw.pages() {
             return false;
@@ -349,6 +363,7 @@ impl Book {
         ensures shape { seen self.new ≡ with_word page field value (seen self.old) }
         ensures long { length self.new.raw.words ≡ length self.old.raw.words }
         ensures bytes { self.new.raw.bytes ≡ self.old.raw.bytes }
+        ensures touched { self.new.touched ≡ self.old.touched + 1 }
     {
         self.write(page, field, value);
     }

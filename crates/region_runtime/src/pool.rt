@@ -1,12 +1,14 @@
 // The pool's calls.
 
-ghost use Rattle.std.specs.Prelude.{◌≡◌, ◌+◌, ◌-◌, ◌≤◌, ℕ, Bool, true, false, IfOk, ◌&&◌, nat_eq, nat_le, nat_lt, if◌then◌else◌};
-ghost use Rattle.arena_laws.specs.Counts.{is_full};
+ghost use Rattle.std.specs.Prelude.{◌≡◌, ◌+◌, ◌-◌, ◌≤◌, ℕ, Bool, true, false, IfOk, is_ok, ◌&&◌, nat_eq, nat_le, nat_lt, if◌then◌else◌};
+ghost use Rattle.arena_laws.specs.Counts.{block_needs_page, is_full, room_of};
 ghost use Rattle.arena_laws.specs.Holdings.{fresh, is_in_arena, is_live_in, is_none, is_some};
 ghost use Rattle.arena_laws.specs.Lawful.{region_free};
 ghost use Rattle.arena_laws.specs.Laws.{Does, answer_of, is_block_refused, is_refused_full, loaded, region_alloc, region_new, stored};
 ghost use Rattle.raw_pages.specs.Raw.{is_no_page_count, is_pages_fault};
 ghost use Rattle.region_runtime.specs.Calls.{Gets, said_address, said_done, said_handle, tags_set, tags_with, tags_without, word_seen, words_set};
+ghost use Rattle.region_runtime.specs.Headers.{AreBlank, word_in};
+ghost use Rattle.region_runtime.specs.Touches.{Touched, block_least, reads_link, touches_field, touches_for, used_after};
 ghost use Rattle.region_runtime.specs.Pool.{AreApart, byte_at, changed_words, held, is_free_field, is_taken, tag_of, word_of};
 
 use crate::book::{Book, OWNER, TAKEN, USED};
@@ -72,7 +74,8 @@ impl Pool {
         ensures taken { is_taken self.new ≡ is_taken self.old }
         ensures words { word_of self.new ≡ word_of self.old }
         ensures bytes { byte_at self.new ≡ byte_at self.old }
-        ensures fresh { self.old.ever_used ≤ self.new.ever_used }
+        ensures fresh { self.new.ever_used ≡ used_after (is_some result) (held self.old) self.old.ever_used }
+        ensures touches { self.new.touched ≡ (if is_some result then 5 + reads_link (held self.old) self.old.ever_used else 0) }
         ensures apart { AreApart self.new }
     {
         self.book.begin();
@@ -95,7 +98,9 @@ impl Pool {
         ensures taken { is_taken self.new ≡ is_taken self.old }
         ensures words { word_of self.new ≡ word_of self.old }
         ensures bytes { byte_at self.new ≡ byte_at self.old }
-        ensures fresh { self.old.ever_used ≤ self.new.ever_used }
+        ensures fresh { self.new.ever_used ≡ used_after (is_ok result && block_needs_page handle.0 (room_of bytes) (held self.old).counts) (held self.old) self.old.ever_used }
+        ensures touches { let needs = block_needs_page handle.0 (room_of bytes) (held self.old).counts in
+            Touched (is_ok result) (block_least handle.0 needs (reads_link (held self.old) self.old.ever_used)) 1 3 self.new.touched }
         ensures apart { AreApart self.new }
     {
         self.book.begin();
@@ -130,6 +135,7 @@ impl Pool {
         ensures few { changed_words self.old.words self.new.words ≤ 8 }
         ensures touched { self.new.touched ≤ 5 }
         ensures counted { changed_words self.old.words self.new.words ≤ self.new.touched }
+        ensures touches { self.new.touched ≡ touches_for (is_some (tag_of self.old handle.0)) 5 (held self.old).pages handle.0 }
         ensures fresh { self.new.ever_used ≡ self.old.ever_used }
         ensures apart { AreApart self.new }
     {
@@ -151,6 +157,7 @@ impl Pool {
         ensures bytes { byte_at self.new ≡ byte_at self.old }
         ensures headers { self.new.words ≡ self.old.words }
         ensures touched { self.new.touched ≤ 2 }
+        ensures touches { self.new.touched ≡ touches_for (is_some (tag_of self.old handle.0)) 2 (held self.old).pages handle.0 }
         ensures fresh { self.new.ever_used ≡ self.old.ever_used }
     {
         self.book.begin();
@@ -170,6 +177,7 @@ impl Pool {
         ensures taken { is_taken self.new ≡ is_taken self.old }
         ensures words { word_of self.new ≡ word_of self.old }
         ensures bytes { byte_at self.new ≡ byte_at self.old }
+        ensures touches { self.new.touched ≡ touches_for (is_some (tag_of self.old handle.0)) 2 (held self.old).pages handle.0 }
         ensures fresh { self.new.ever_used ≡ self.old.ever_used }
         ensures apart { AreApart self.new }
     {
@@ -187,7 +195,8 @@ impl Pool {
         ensures full { is_none result ≡ is_full (held self.old).counts }
         ensures tags { tag_of self.new ≡ tag_of self.old }
         ensures bytes { byte_at self.new ≡ byte_at self.old }
-        ensures fresh { self.old.ever_used ≤ self.new.ever_used }
+        ensures fresh { self.new.ever_used ≡ used_after (is_some result) (held self.old) self.old.ever_used }
+        ensures touches { self.new.touched ≡ (if is_some result then 1 + reads_link (held self.old) self.old.ever_used else 0) }
         ensures apart { AreApart self.new }
     {
         self.book.begin();
@@ -224,6 +233,7 @@ impl Pool {
         ensures tags { tag_of self.new ≡ tag_of self.old }
         ensures taken { is_taken self.new ≡ is_taken self.old }
         ensures bytes { byte_at self.new ≡ byte_at self.old }
+        ensures touches { self.new.touched ≡ touches_field result 2 (is_free_field field) (held self.old).pages page }
         ensures fresh { self.new.ever_used ≡ self.old.ever_used }
         ensures apart { AreApart self.new }
     {
@@ -245,10 +255,12 @@ impl Pool {
         self.book.freed + self.fresh_pages()
     }
 
-    /// How many pages were never used. They are free.
+    /// How many pages were never used. They are free, they come last, and their header words are 0.
+    /// A page that is taken is one of them only where no freed one is there.
     pub fn fresh_pages(&self) -> u32
         ensures fresh { result ≡ (held self.now).pages - self.now.ever_used }
         ensures free { result ≤ (held self.now).counts.free }
+        ensures unused { AreBlank self.now.ever_used (word_in self.now.words) }
     {
         self.pages() - self.book.ever_used
     }
@@ -307,6 +319,7 @@ impl Pool {
         ensures taken { is_taken self.new ≡ is_taken self.old }
         ensures page_words { word_of self.new ≡ word_of self.old }
         ensures words { self.new.words ≡ self.old.words }
+        ensures touches { self.new.touched ≡ 0 }
         ensures fresh { self.new.ever_used ≡ self.old.ever_used }
         ensures apart { AreApart self.new }
     {

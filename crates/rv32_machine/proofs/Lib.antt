@@ -1,6 +1,8 @@
 pub mod Bytes
 pub mod Moves
 pub mod Asking
+pub mod Served
+pub mod Lacking
 pub mod Starts
 pub mod Stores
 pub mod StackPlaces

@@ -4,6 +4,7 @@ pub mod Ledger
 pub mod Run
 pub mod Arrays
 pub mod Shortage
+pub mod Served
 pub mod Places
 pub mod Widths
 pub mod Audit

@@ -1,8 +1,9 @@
 // ECALL: the number is in x17, the arguments in x10 and x11.
 
+ghost use Rattle.std.specs.Prelude.{◌≡◌};
 ghost use Rattle.rv32_machine.specs.State.{Ended, Raised, register_of};
 ghost use Rattle.rv32_machine.specs.Step.{a0, a1, a7, asked_by, calls, calls_host, raises, refuses_frame, stop};
-ghost use Rattle.rv32_machine.specs.Shortage.{IsShortage};
+ghost use Rattle.rv32_machine.specs.Served.{IsServed};
 ghost use Rattle.rv32_machine.specs.Arrays.{Steps, answer_seen, areas_of, arrays, shown_of, state_of};
 
 use crate::areas::{STACK_BASE, STACK_END};
@@ -24,8 +25,9 @@ impl<S: BlockStore> Machine<S> {
         ensures step { let seen = arrays S.holdings S.byte_at in Steps (seen self.old) (seen self.new) result (calls (areas_of (seen self.old)) (answer_seen result (seen self.new))
             (register_of (state_of (seen self.old)) a7) (register_of (state_of (seen self.old)) a0)
             (register_of (state_of (seen self.old)) a1) (state_of (seen self.old))) }
-        ensures full { let seen = arrays S.holdings S.byte_at in IsShortage (asked_by (register_of (state_of (seen self.old)) a7)
-            (register_of (state_of (seen self.old)) a0) (register_of (state_of (seen self.old)) a1)) (seen self.old).holdings (shown_of result) }
+        ensures served { let seen = arrays S.holdings S.byte_at in IsServed S.may_lack (asked_by (register_of (state_of (seen self.old)) a7)
+            (register_of (state_of (seen self.old)) a0) (register_of (state_of (seen self.old)) a1)) (seen self.old).holdings (shown_of result)
+            (S.headers self.old.store) (S.headers self.new.store) }
     {
         let argument = self.register(Register::ARGUMENT_0);
         match self.register(Register::ARGUMENT_7) {
@@ -49,7 +51,8 @@ impl<S: BlockStore> Machine<S> {
 
     // ends with a status
     fn exits(&mut self, status: u32) -> Event
-        ensures { let seen = arrays S.holdings S.byte_at in Steps (seen self.old) (seen self.new) result (stop (Ended status) (state_of (seen self.old))) }
+        ensures step { let seen = arrays S.holdings S.byte_at in Steps (seen self.old) (seen self.new) result (stop (Ended status) (state_of (seen self.old))) }
+        ensures headers { S.headers self.new.store ≡ S.headers self.old.store }
     {
         self.phase = Phase::Ended(status);
         Event::Ended(status.cast_signed())
@@ -57,7 +60,8 @@ impl<S: BlockStore> Machine<S> {
 
     // writes the low byte of a value, which x10 gets
     fn writes(&mut self, value: u32) -> Event
-        ensures { let seen = arrays S.holdings S.byte_at in Steps (seen self.old) (seen self.new) result (calls_host (areas_of (seen self.old)) 1 value (state_of (seen self.old))) }
+        ensures step { let seen = arrays S.holdings S.byte_at in Steps (seen self.old) (seen self.new) result (calls_host (areas_of (seen self.old)) 1 value (state_of (seen self.old))) }
+        ensures headers { S.headers self.new.store ≡ S.headers self.old.store }
     {
         let byte = (value % 0x100) as u8;
         self.gives(Register::ARGUMENT_0, u32::from(byte));
@@ -66,7 +70,8 @@ impl<S: BlockStore> Machine<S> {
 
     // waits for a byte
     fn asks(&mut self) -> Event
-        ensures { let seen = arrays S.holdings S.byte_at in Steps (seen self.old) (seen self.new) result (calls_host (areas_of (seen self.old)) 2 0 (state_of (seen self.old))) }
+        ensures step { let seen = arrays S.holdings S.byte_at in Steps (seen self.old) (seen self.new) result (calls_host (areas_of (seen self.old)) 2 0 (state_of (seen self.old))) }
+        ensures headers { S.headers self.new.store ≡ S.headers self.old.store }
     {
         self.phase = Phase::Waits;
         Event::Get
@@ -74,7 +79,8 @@ impl<S: BlockStore> Machine<S> {
 
     // stops with a failed check of the source
     fn raises(&mut self, number: u32) -> Event
-        ensures { let seen = arrays S.holdings S.byte_at in Steps (seen self.old) (seen self.new) result (raises number (state_of (seen self.old))) }
+        ensures step { let seen = arrays S.holdings S.byte_at in Steps (seen self.old) (seen self.new) result (raises number (state_of (seen self.old))) }
+        ensures headers { S.headers self.new.store ≡ S.headers self.old.store }
     {
         match number {
             1 => self.raise(Kind::NullException),
@@ -85,7 +91,8 @@ impl<S: BlockStore> Machine<S> {
 
     // stops where the stack has fewer bytes below x2 than a frame takes
     fn refuses_frame(&mut self, bytes: u32) -> Event
-        ensures { let seen = arrays S.holdings S.byte_at in Steps (seen self.old) (seen self.new) result (refuses_frame (areas_of (seen self.old)) bytes (state_of (seen self.old))) }
+        ensures step { let seen = arrays S.holdings S.byte_at in Steps (seen self.old) (seen self.new) result (refuses_frame (areas_of (seen self.old)) bytes (state_of (seen self.old))) }
+        ensures headers { S.headers self.new.store ≡ S.headers self.old.store }
     {
         let top = self.register(Register::STACK_POINTER);
         if STACK_BASE <= top && top <= STACK_END && top - STACK_BASE < bytes {
@@ -98,7 +105,8 @@ impl<S: BlockStore> Machine<S> {
 
     // stops with a failed check of this kind
     fn raise(&mut self, kind: Kind) -> Event
-        ensures { let seen = arrays S.holdings S.byte_at in Steps (seen self.old) (seen self.new) result (stop (Raised kind) (state_of (seen self.old))) }
+        ensures step { let seen = arrays S.holdings S.byte_at in Steps (seen self.old) (seen self.new) result (stop (Raised kind) (state_of (seen self.old))) }
+        ensures headers { S.headers self.new.store ≡ S.headers self.old.store }
     {
         self.phase = Phase::Raised(kind);
         Event::Raised(kind)

@@ -1,17 +1,19 @@
 -- The pool's calls, with unique blocks beside.
-use Rattle.std.proofs.Common.{◌≡◌, ℕ, true, Some, None, Result, sym, ap, subst, ◌∙◌}
+use Rattle.std.proofs.Common.{◌≡◌, ℕ, Bool, true, false, List, Some, None, Result, Ok, refl, sym, ap, subst, ◌∙◌}
 use Rattle.std.specs.Prelude.{if◌then◌else◌}
 use Rattle.arena_laws.specs.declared.owner.Owner.{Owner}
 use Rattle.arena_laws.specs.declared.owner.Owner.TheVariants.{Region}
 use Rattle.arena_laws.specs.declared.refusal.StoreRefusal.{StoreRefusal}
-use Rattle.arena_laws.specs.Counts.{room_of}
+use Rattle.arena_laws.specs.declared.refusal.StoreRefusal.TheVariants.{BadHandle, Full}
+use Rattle.arena_laws.specs.Counts.{is_too_long, room_of}
 use Rattle.arena_laws.specs.Holdings.{Holdings, is_none}
-use Rattle.arena_laws.specs.Lawful.{is_in_room, region_free, with_region_block}
-use Rattle.arena_laws.specs.Laws.{Does, answer_of, region_alloc}
+use Rattle.arena_laws.specs.Lawful.{Answer, Grants, Refuses, Lacks, Done, gives_block, is_in_room, is_lawful_room, refuses, region_free, takes_blocks, with_region_block}
+use Rattle.arena_laws.specs.Lawful as lawful
+use Rattle.arena_laws.specs.Laws.{Does, answer_of, is_block_refused, region_alloc}
 use Rattle.arena_laws.proofs.Rooms.{block_placed}
 use Rattle.region_runtime.specs.Pool.{Pooled, is_taken, page_at, word_of}
 use Rattle.region_runtime.specs.Pool as pool
-use Rattle.unique_blocks.specs.Slots.{alone_at, slots_by}
+use Rattle.unique_blocks.specs.Slots.{AreSlots, alone_at, slots_by}
 use Rattle.unique_blocks.specs.Blocks.{joined}
 use Rattle.unique_blocks.specs.Calls.{slots_of}
 use Rattle.unique_blocks.proofs.Joined.{alloc_lifted, does_lifted, free_lifted}
@@ -46,3 +48,29 @@ module _ (old new : Pooled) (words : word_of new ≡ word_of old) where
       subst (λ t. Does r (joined t (pool.held new)) (region_free n (joined (slots_of old) (pool.held old)))) (sym same)
       (does_lifted (slots_of old) r (pool.held new) (region_free n (pool.held old)) (region_free n (joined (slots_of old) (pool.held old)))
       (free_lifted (slots_of old) (pool.held old) (owned_apart old) (λ q g. alone_of_none (slots_of old) q g) n) d)
+
+-- ---- the slots stay in order beside a block of a region
+
+pages_if : (t : Bool) (x y : Done) (n : ℕ) → x.after.pages ≡ n → y.after.pages ≡ n → (if t then x else y).after.pages ≡ n
+pages_if true x y n e f = e
+pages_if false x y n e f = f
+
+block_pages : (n room : ℕ) (a : Answer) (s : Holdings) → (gives_block n room a s).after.pages ≡ s.pages
+block_pages n room (Grants at) s =
+    pages_if (is_lawful_room s at room) (record { says = Ok at; after = with_region_block n at room s }) (refuses Full s) s.pages refl refl
+block_pages n room Refuses s = refl
+block_pages n room Lacks s = refl
+
+alloc_pages : (n bytes : ℕ) (a : Answer) (s : Holdings) → (region_alloc n bytes a s).after.pages ≡ s.pages
+alloc_pages n bytes a s =
+    pages_if (is_block_refused n bytes s) (refuses Full s) (lawful.region_alloc n bytes a s) s.pages refl
+    (pages_if (takes_blocks n (s.standing n)) (if is_too_long bytes then refuses Full s else gives_block n (room_of bytes) a s) (refuses BadHandle s) s.pages
+    (pages_if (is_too_long bytes) (refuses Full s) (gives_block n (room_of bytes) a s) s.pages refl (block_pages n (room_of bytes) a s)) refl)
+
+pub alloc_sound : (old new : Pooled) (heads : List ℕ) (n bytes : ℕ) (r : Result ℕ StoreRefusal) → word_of new ≡ word_of old →
+    Does r (pool.held new) (region_alloc n bytes (answer_of r) (pool.held old)) → AreSlots (pool.held old).pages heads (slots_of old) →
+    AreSlots (pool.held new).pages heads (slots_of new)
+alloc_sound old new heads n bytes r words d a =
+    let e : (pool.held new).pages ≡ (pool.held old).pages =
+    ap (λ h. let h : Holdings = h in h.pages) d.holds ∙ alloc_pages n bytes (answer_of r) (pool.held old) in
+    subst (λ k. AreSlots k heads (slots_of new)) (sym e) (subst (λ w. AreSlots (pool.held old).pages heads (slots_by w)) (sym words) a)

@@ -14,3 +14,4 @@ pub mod Forgotten
 pub mod Beside
 pub mod Freed
 pub mod Told
+pub mod Touching

@@ -1,5 +1,5 @@
 -- What a word that is written makes of the slots.
-use Rattle.std.proofs.Common.{◌≡◌, ℕ, ◌+◌, ◌-◌, ◌*◌, ◌/◌, ◌%◌, ◌^◌, ◌<◌, ◌≤◌, Bool, true, false, Some, None, nat_eq, nat_lt, refl, sym, ap, subst, ◌∙◌, arith}
+use Rattle.std.proofs.Common.{◌≡◌, ℕ, ◌+◌, ◌-◌, ◌*◌, ◌/◌, ◌%◌, ◌^◌, ◌<◌, ◌≤◌, Bool, true, false, Some, None, length, nat_eq, nat_lt, refl, sym, ap, subst, ◌∙◌, arith}
 use Rattle.std.specs.Prelude.{◌&&◌, if◌then◌else◌}
 use Rattle.std.specs.Int.{bit_at, bit_not, w32, trailing_ones}
 use Rattle.std.specs.Int.Bits.{bit_and, bit_or}
@@ -18,6 +18,9 @@ use Rattle.std.proofs.lemmas.Bool.Decides.{nat_tests}
 use Rattle.region_runtime.specs.Headers.{put_word}
 use Rattle.region_runtime.specs.Pool.{Pooled, is_free_field, is_taken, word_by, word_of}
 use Rattle.region_runtime.specs.Calls.{word_seen}
+use Rattle.region_runtime.specs.Touches.{touches_field}
+use Rattle.region_runtime.proofs.Blank.{page_beyond, page_read}
+use Rattle.region_runtime.proofs.Words.{taken_beyond}
 use Rattle.unique_blocks.specs.Calls.{IsFirstVacant}
 use Rattle.unique_blocks.specs.Slots.{bit_of, put_bit, slots_by, with_bit, with_class, with_live, with_next, with_no_bits, without_bits}
 
@@ -29,6 +32,30 @@ unseen p page field e = by_seen (is_taken p page && is_free_field field) refl
     by_seen : (t : Bool) → (is_taken p page && is_free_field field) ≡ t → 0 ≡ word_of p page field
     by_seen true s = absurd (let x : None ≡ Some (word_of p page field) = e ∙ ap (λ t. if t then Some (word_of p page field) else None) s in cc)
     by_seen false s = rw s refl
+
+-- no word of a page that wasn't got is seen
+pub untaken_word : (p : Pooled) (page field : ℕ) → is_taken p page ≡ false → word_of p page field ≡ 0
+unfolding word_by
+untaken_word p page field e = rw e refl
+
+pub unseen_untaken : (p : Pooled) (page field : ℕ) → 4 ≤ field → field < 16 → None ≡ word_seen p page field → is_taken p page ≡ false
+unseen_untaken p page field l h e = by_taken (is_taken p page) refl
+  where
+    by_taken : (t : Bool) → is_taken p page ≡ t → is_taken p page ≡ false
+    by_taken false k = k
+    by_taken true k =
+        let m : is_free_field field ≡ true = grind (arith, nat_tests) in
+        let s : word_seen p page field ≡ Some (word_of p page field) = rw (k, m) refl in
+        absurd (let x : None ≡ Some (word_of p page field) = e ∙ s in cc)
+
+-- how many words are read of it
+pub beyond_read : (p : Pooled) (page : ℕ) → length p.words / 16 ≤ page → touches_field (is_taken p page) 2 true (length p.words / 16) page ≡ 0
+beyond_read p page l =
+    let k : is_taken p page ≡ false = sym (taken_beyond p.words page l) in rw k (page_beyond (length p.words / 16) page l)
+
+pub none_read : (p : Pooled) (page : ℕ) → is_taken p page ≡ false → page < length p.words / 16 →
+    touches_field (is_taken p page) 2 true (length p.words / 16) page ≡ 1
+none_read p page k l = rw k (page_read (length p.words / 16) page l)
 
 -- ---- words beside the bits
 

@@ -6,10 +6,12 @@ use Rattle.region_runtime.specs.Pool.{Pooled, word_of}
 use Rattle.region_runtime.specs.Pool as pool
 use Rattle.unique_blocks.specs.Slots.{Slots, AreSlots, slots_by, alone_at, pages_of_class, slots_of_class}
 
--- A pool, and of each class the first page, and one, of its chain of pages with a vacant slot.
+-- A pool; of each class the first page, and one, of its chain of pages with a vacant slot; and how many words of headers the last call that may
+-- change anything read or wrote.
 pub record Slotted : Type 0 where
   pub pool : Pooled
   pub heads : List ℕ
+  pub touched : ℕ
 
 abbrev pub slots_in : Slotted → Slots
 slots_in u = slots_by (word_of u.pool)

@@ -1,5 +1,5 @@
 -- What the calls say and leave, in the words of the laws of every store.
-use Rattle.std.specs.Prelude.{◌≡◌, Some, ℕ, ◌+◌, ◌-◌, ◌<◌, ◌≤◌, Bool, true, false, Result, Ok, Err, slice_index}
+use Rattle.std.specs.Prelude.{◌≡◌, Some, ℕ, ◌+◌, ◌-◌, ◌<◌, ◌≤◌, Bool, true, false, Result, Ok, Err, slice_index, if◌then◌else◌}
 use Rattle.arena_laws.specs.declared.refusal.StoreRefusal.{StoreRefusal}
 use Rattle.arena_laws.specs.declared.refusal.StoreRefusal.TheVariants as store
 use Rattle.arena_laws.specs.declared.owner.Owner.TheVariants.{Alone}
@@ -8,6 +8,7 @@ use Rattle.arena_laws.specs.Holdings.{Holdings}
 use Rattle.arena_laws.specs.Lawful.{is_lawful_room, with_alone, without_alone}
 use Rattle.region_runtime.specs.Pool.{Pooled, is_taken, word_of}
 use Rattle.region_runtime.specs.Pool as pool
+use Rattle.region_runtime.specs.Touches.{used_after}
 use Rattle.unique_blocks.specs.declared.refusal.UniqueRefusal.{UniqueRefusal}
 use Rattle.unique_blocks.specs.declared.refusal.UniqueRefusal.TheVariants.{Full, NotABlock}
 use Rattle.unique_blocks.specs.Slots.{Slots, place_of, slots_by}
@@ -24,6 +25,11 @@ said_block (Err why) = Err (refusal_of why)
 abbrev pub said_freed : Result (Unit {0}) UniqueRefusal → Result ℕ StoreRefusal
 said_freed (Ok x) = Ok 0
 said_freed (Err why) = Err (refusal_of why)
+
+-- The least that a unique block takes: ten words of a page with a vacant slot; where a page is taken for it, fifteen more to cut it and the link
+-- of a freed page.
+abbrev pub slot_least : Bool → ℕ → ℕ
+slot_least needs link = (if needs then 25 + link else 10)
 
 -- ---- steps on a pool
 
@@ -46,7 +52,6 @@ with_page_of c h = record h { counts = record (h.counts) { free = h.counts.free 
 pub record IsBeside (old new : Slotted) : Type 0 where
   pub tags : tag_of new ≡ tag_of old
   pub bytes : byte_at new ≡ byte_at old
-  pub fresh : old.pool.ever_used ≤ new.pool.ever_used
 
 -- a page is cut for a class that needs one
 pub record IsOpened (old new : Slotted) (c : ℕ) : Type 0 where
@@ -55,6 +60,7 @@ pub record IsOpened (old new : Slotted) (c : ℕ) : Type 0 where
   pub holds : held new ≡ with_page_of c (held old)
   pub begins : 0 < slice_index new.heads (place_of c)
   pub beside : IsBeside old new
+  pub fresh : new.pool.ever_used ≡ used_after true (held old) old.pool.ever_used
 
 -- a class needs a page, and none is free
 pub record IsUnopened (old new : Slotted) (c : ℕ) : Type 0 where
@@ -62,6 +68,7 @@ pub record IsUnopened (old new : Slotted) (c : ℕ) : Type 0 where
   pub full : is_full (held old).counts ≡ true
   pub holds : held new ≡ held old
   pub beside : IsBeside old new
+  pub fresh : new.pool.ever_used ≡ old.pool.ever_used
 
 -- a vacant slot of the class is live
 pub record IsSlotTaken (old new : Slotted) (c at : ℕ) : Type 0 where
@@ -69,13 +76,14 @@ pub record IsSlotTaken (old new : Slotted) (c at : ℕ) : Type 0 where
   pub lawful : is_lawful_room (held old) at c ≡ true
   pub holds : held new ≡ with_alone at c (held old)
   pub beside : IsBeside old new
+  pub fresh : new.pool.ever_used ≡ old.pool.ever_used
 
 -- a live slot is vacant
 pub record IsSlotGiven (old new : Slotted) (c at : ℕ) : Type 0 where
   pub was : (held old).owner at ≡ Some (Alone at c)
   pub holds : held new ≡ without_alone at c (held old)
   pub beside : IsBeside old new
-  pub unused : new.pool.ever_used ≡ old.pool.ever_used
+  pub fresh : new.pool.ever_used ≡ old.pool.ever_used
 
 -- the first vacant slot of a page, or 128
 pub record IsFirstVacant (bits : ℕ → Bool) (k : ℕ) : Type 0 where

@@ -1,21 +1,24 @@
 // The calls of unique blocks, and the pool's beside.
 
-ghost use Rattle.std.specs.Prelude.{◌≡◌, ◌+◌, ◌-◌, ◌*◌, ◌/◌, ◌%◌, ◌<◌, ◌≤◌, ℕ, true, false, slice_index};
-ghost use Rattle.arena_laws.specs.Counts.{class_of, is_full, is_full_for_slot};
+ghost use Rattle.std.specs.Prelude.{◌≡◌, ◌+◌, ◌-◌, ◌*◌, ◌/◌, ◌%◌, ◌<◌, ◌≤◌, ℕ, true, false, is_ok, ◌&&◌, if◌then◌else◌, slice_index};
+ghost use Rattle.arena_laws.specs.Counts.{block_needs_page, class_of, is_full, is_full_for_slot, room_of, slot_needs_page};
 ghost use Rattle.arena_laws.specs.Holdings.{is_in_arena, is_live_in, is_none, is_some};
 ghost use Rattle.arena_laws.specs.Lawful.{region_free, unique_free};
 ghost use Rattle.arena_laws.specs.Laws.{Does, answer_of, is_block_refused, is_refused_full, loaded, region_alloc, region_new, stored, unique_alloc};
 ghost use Rattle.region_runtime.specs.Calls.{said_address, said_done, said_handle, tags_set, tags_with, tags_without};
+ghost use Rattle.region_runtime.specs.Headers.{AreBlank, word_in};
 ghost use Rattle.region_runtime.specs.Pool.{changed_words};
+ghost use Rattle.region_runtime.specs.Touches.{Touched, block_least, reads_link, touches_for, used_after};
 ghost use Rattle.region_runtime.specs.Pool as pooled;
 ghost use Rattle.unique_blocks.specs.Blocks.{byte_at, held, slots_in, tag_of};
-ghost use Rattle.unique_blocks.specs.Calls.{IsOpened, IsSlotGiven, IsSlotTaken, IsUnopened, said_block, said_freed};
+ghost use Rattle.unique_blocks.specs.Calls.{IsOpened, IsSlotGiven, IsSlotTaken, IsUnopened, said_block, said_freed, slot_least};
 ghost use Rattle.unique_blocks.specs.Slots.{address_of, alone_at, place_of};
 
 use crate::class::place_for;
 use crate::refusal::UniqueRefusal;
 use crate::slots::{
-    CLASS, NEXT, cut, first_vacant, forget_pages, give_slot, is_set, set_next, take_slot, word,
+    CLASS, NEXT, cut, finds, first_vacant, forget_pages, give_slot, is_set, read, set_next,
+    take_slot, word,
 };
 use arena_laws::{BASE, PAGE, class_for};
 use region_runtime::{Handle, Pool, Refusal};
@@ -28,6 +31,7 @@ use std::marker::Model;
 pub struct UniqueBlocks {
     pool: Pool,
     heads: [u32; 8],
+    touched: u32,
 }
 
 impl Model for UniqueBlocks {
@@ -35,9 +39,9 @@ impl Model for UniqueBlocks {
 
     ghost Value = { Slotted };
 
-    ghost view = { λ u. record { pool = u.pool; heads = u.heads } };
+    ghost view = { λ u. record { pool = u.pool; heads = u.heads; touched = u.touched } };
 
-    ghost invariant = { λ u. IsSound (record { pool = u.pool; heads = u.heads }) };
+    ghost invariant = { λ u. IsSound (record { pool = u.pool; heads = u.heads; touched = u.touched }) };
 }
 
 impl UniqueBlocks {
@@ -53,6 +57,7 @@ impl UniqueBlocks {
         UniqueBlocks {
             pool,
             heads: [0; 8],
+            touched: 0,
         }
     }
 
@@ -62,14 +67,21 @@ impl UniqueBlocks {
         requires place { place ≡ place_of class }
         requires few { place < 8 }
         requires empty { slice_index self.old.heads place ≡ 0 }
+        requires touches { self.old.touched < 100 }
         ensures opened { result ≡ true → IsOpened self.old self.new class }
         ensures unopened { result ≡ false → IsUnopened self.old self.new class }
+        ensures touches { self.new.touched ≡ self.old.touched + (if result then 15 + reads_link (held self.old) self.old.pool.ever_used else 0) }
     {
         match self.pool.take_page() {
-            None => false,
+            None => {
+                self.touched += self.pool.touched();
+                false
+            }
             Some(page) => {
-                cut(&mut self.pool, page, class);
-                self.heads[place] = page + 1;
+                self.touched += self.pool.touched();
+                cut(&mut self.pool, &mut self.touched, page, class);
+                let head = page + 1;
+                self.heads[place] = head;
                 true
             }
         }
@@ -81,13 +93,16 @@ impl UniqueBlocks {
         requires place { place ≡ place_of class }
         requires few { place < 8 }
         requires some { 0 < slice_index self.old.heads place }
-        ensures { IsSlotTaken self.old self.new class result }
+        requires touches { self.old.touched < 200 }
+        ensures taken { IsSlotTaken self.old self.new class result }
+        ensures least { self.old.touched + 10 ≤ self.new.touched }
+        ensures most { self.new.touched ≤ self.old.touched + 18 }
     {
         let page = self.heads[place] - 1;
-        let slot = first_vacant(&self.pool, page);
-        let live = take_slot(&mut self.pool, page, slot);
+        let slot = first_vacant(&self.pool, &mut self.touched, page);
+        let live = take_slot(&mut self.pool, &mut self.touched, page, slot);
         if live == PAGE / class {
-            self.heads[place] = word(&self.pool, page, NEXT);
+            self.heads[place] = read(&self.pool, &mut self.touched, page, NEXT);
         }
         BASE + PAGE * page + slot * class
     }
@@ -100,8 +115,12 @@ impl UniqueBlocks {
         ensures full { is_refused_full (said_block result) ≡ is_full_for_slot bytes (held self.old).counts }
         ensures tags { tag_of self.new ≡ tag_of self.old }
         ensures bytes { byte_at self.new ≡ byte_at self.old }
-        ensures fresh { self.old.pool.ever_used ≤ self.new.pool.ever_used }
+        ensures fresh { let needs = slot_needs_page (class_of bytes) (held self.old).counts in
+            self.new.pool.ever_used ≡ used_after (is_ok result && needs) (held self.old) self.old.pool.ever_used }
+        ensures touches { let needs = slot_needs_page (class_of bytes) (held self.old).counts in
+            Touched (is_ok result) (slot_least needs (reads_link (held self.old) self.old.pool.ever_used)) 8 0 self.new.touched }
     {
+        self.touched = 0;
         if bytes > PAGE {
             return Err(UniqueRefusal::Full);
         }
@@ -119,12 +138,15 @@ impl UniqueBlocks {
         requires some { 0 < class }
         requires slot { slot < 4096 / class }
         requires live { (slots_in self.old).bit page slot ≡ true }
-        ensures { IsSlotGiven self.old self.new class (address_of page class slot) }
+        requires touches { self.old.touched < 100 }
+        ensures given { IsSlotGiven self.old self.new class (address_of page class slot) }
+        ensures least { self.old.touched + 8 ≤ self.new.touched }
+        ensures most { self.new.touched ≤ self.old.touched + 10 }
     {
-        let live = give_slot(&mut self.pool, page, slot);
+        let live = give_slot(&mut self.pool, &mut self.touched, page, slot);
         if live == PAGE / class {
             let place = place_for(class);
-            set_next(&mut self.pool, page, self.heads[place]);
+            set_next(&mut self.pool, &mut self.touched, page, self.heads[place]);
             self.heads[place] = page + 1;
         }
     }
@@ -135,13 +157,15 @@ impl UniqueBlocks {
         ensures does { Does (said_freed result) (held self.new) (unique_free at (held self.old)) }
         ensures tags { tag_of self.new ≡ tag_of self.old }
         ensures bytes { byte_at self.new ≡ byte_at self.old }
+        ensures touches { Touched (is_ok result) 12 2 4 self.new.touched }
         ensures fresh { self.new.pool.ever_used ≡ self.old.pool.ever_used }
     {
+        self.touched = 0;
         if at < BASE {
             return Err(UniqueRefusal::NotABlock);
         }
         let page = (at - BASE) / PAGE;
-        let class = word(&self.pool, page, CLASS);
+        let class = read(&self.pool, &mut self.touched, page, CLASS);
         if class == 0 {
             return Err(UniqueRefusal::NotABlock);
         }
@@ -149,7 +173,7 @@ impl UniqueBlocks {
             return Err(UniqueRefusal::NotABlock);
         }
         let slot = (at - BASE) % PAGE / class;
-        if !is_set(&self.pool, page, slot) {
+        if !finds(&self.pool, &mut self.touched, page, slot) {
             return Err(UniqueRefusal::NotABlock);
         }
         self.give(page, class, slot);
@@ -184,9 +208,12 @@ impl UniqueBlocks {
         ensures full { is_none result ≡ is_full (held self.old).counts }
         ensures tags { tag_of self.new ≡ tags_with result (tag_of self.old) }
         ensures bytes { byte_at self.new ≡ byte_at self.old }
-        ensures fresh { self.old.pool.ever_used ≤ self.new.pool.ever_used }
+        ensures fresh { self.new.pool.ever_used ≡ used_after (is_some result) (held self.old) self.old.pool.ever_used }
+        ensures touches { self.new.touched ≡ (if is_some result then 5 + reads_link (held self.old) self.old.pool.ever_used else 0) }
     {
-        self.pool.region_new()
+        let made = self.pool.region_new();
+        self.touched = self.pool.touched();
+        made
     }
 
     /// A block of so many bytes in a live region, or in the heap (0): its address, a multiple of 8.
@@ -198,9 +225,13 @@ impl UniqueBlocks {
         ensures full { is_refused_full (said_address result) ≡ is_block_refused handle.0 bytes (held self.old) }
         ensures tags { tag_of self.new ≡ tag_of self.old }
         ensures bytes { byte_at self.new ≡ byte_at self.old }
-        ensures fresh { self.old.pool.ever_used ≤ self.new.pool.ever_used }
+        ensures fresh { self.new.pool.ever_used ≡ used_after (is_ok result && block_needs_page handle.0 (room_of bytes) (held self.old).counts) (held self.old) self.old.pool.ever_used }
+        ensures touches { let needs = block_needs_page handle.0 (room_of bytes) (held self.old).counts in
+            Touched (is_ok result) (block_least handle.0 needs (reads_link (held self.old) self.old.pool.ever_used)) 1 3 self.new.touched }
     {
-        self.pool.region_alloc(handle, bytes)
+        let placed = self.pool.region_alloc(handle, bytes);
+        self.touched = self.pool.touched();
+        placed
     }
 
     /// Frees a region: its blocks and all its pages, by two writes of header words. BadHandle where
@@ -210,11 +241,14 @@ impl UniqueBlocks {
         ensures tags { tag_of self.new ≡ tags_without handle.0 result (tag_of self.old) }
         ensures bytes { byte_at self.new ≡ byte_at self.old }
         ensures few { changed_words self.old.pool.words self.new.pool.words ≤ 8 }
-        ensures touched { self.new.pool.touched ≤ 5 }
-        ensures counted { changed_words self.old.pool.words self.new.pool.words ≤ self.new.pool.touched }
+        ensures touched { self.new.touched ≤ 5 }
+        ensures counted { changed_words self.old.pool.words self.new.pool.words ≤ self.new.touched }
+        ensures touches { self.new.touched ≡ touches_for (is_some (tag_of self.old handle.0)) 5 (held self.old).pages handle.0 }
         ensures fresh { self.new.pool.ever_used ≡ self.old.pool.ever_used }
     {
-        self.pool.region_free(handle)
+        let freed = self.pool.region_free(handle);
+        self.touched = self.pool.touched();
+        freed
     }
 
     /// The tag of a live region; none for another handle, and for the heap's.
@@ -224,10 +258,13 @@ impl UniqueBlocks {
         ensures tags { tag_of self.new ≡ tag_of self.old }
         ensures bytes { byte_at self.new ≡ byte_at self.old }
         ensures headers { self.new.pool.words ≡ self.old.pool.words }
-        ensures touched { self.new.pool.touched ≤ 2 }
+        ensures touched { self.new.touched ≤ 2 }
+        ensures touches { self.new.touched ≡ touches_for (is_some (tag_of self.old handle.0)) 2 (held self.old).pages handle.0 }
         ensures fresh { self.new.pool.ever_used ≡ self.old.pool.ever_used }
     {
-        self.pool.tag(handle)
+        let tag = self.pool.tag(handle);
+        self.touched = self.pool.touched();
+        tag
     }
 
     /// Sets the tag of a live region; false and nothing changed for another handle, and for the
@@ -237,9 +274,12 @@ impl UniqueBlocks {
         ensures tags { tag_of self.new ≡ tags_set handle.0 value (tag_of self.old) }
         ensures holds { held self.new ≡ held self.old }
         ensures bytes { byte_at self.new ≡ byte_at self.old }
+        ensures touches { self.new.touched ≡ touches_for (is_some (tag_of self.old handle.0)) 2 (held self.old).pages handle.0 }
         ensures fresh { self.new.pool.ever_used ≡ self.old.pool.ever_used }
     {
-        self.pool.set_tag(handle, value)
+        let set = self.pool.set_tag(handle, value);
+        self.touched = self.pool.touched();
+        set
     }
 
     /// How many pages are free.
@@ -249,20 +289,22 @@ impl UniqueBlocks {
         self.pool.free_pages()
     }
 
-    /// How many pages were never used. They are free.
+    /// How many pages were never used. They are free, they come last, and their header words are 0.
+    /// A page that is taken is one of them only where no freed one is there.
     pub fn fresh_pages(&self) -> u32
         ensures fresh { result ≡ (held self.now).pages - self.now.pool.ever_used }
         ensures free { result ≤ (held self.now).counts.free }
+        ensures unused { AreBlank self.now.pool.ever_used (word_in self.now.pool.words) }
     {
         self.pool.fresh_pages()
     }
 
-    /// How many header words the last call of the pool with `&mut self` read or wrote. A call of
-    /// unique blocks may make several.
+    /// How many header words the last call with `&mut self` read or wrote, over all calls that it made
+    /// of the pool.
     pub fn touched(&self) -> u32
-        ensures { result ≡ self.now.pool.touched }
+        ensures { result ≡ self.now.touched }
     {
-        self.pool.touched()
+        self.touched
     }
 
     /// How many pages the pool has.
@@ -287,8 +329,11 @@ impl UniqueBlocks {
         ensures holds { held self.new ≡ held self.old }
         ensures tags { tag_of self.new ≡ tag_of self.old }
         ensures words { self.new.pool.words ≡ self.old.pool.words }
+        ensures touches { self.new.touched ≡ 0 }
         ensures fresh { self.new.pool.ever_used ≡ self.old.pool.ever_used }
     {
-        self.pool.store8(at, byte)
+        let stored = self.pool.store8(at, byte);
+        self.touched = self.pool.touched();
+        stored
     }
 }

@@ -3,6 +3,7 @@
 ghost use Rattle.std.specs.Prelude.{◌≡◌, ◌+◌, ◌-◌, ◌*◌, ◌<◌, ◌≤◌, ℕ, true, false};
 ghost use Rattle.region_runtime.specs.Headers.{put_word};
 ghost use Rattle.region_runtime.specs.Pool.{held, is_taken, word_of};
+ghost use Rattle.region_runtime.specs.Touches.{touches_field};
 ghost use Rattle.unique_blocks.specs.Calls.{IsFirstVacant, IsKept, slots_of};
 ghost use Rattle.unique_blocks.specs.Slots.{bit_of, with_bit, with_class, with_cut, with_live, with_next, with_no_bits, with_slot_given, with_slot_taken};
 
@@ -30,15 +31,44 @@ pub(crate) fn word(pool: &Pool, page: u32, field: u32) -> u32
     }
 }
 
+// the same word, with the header words that are read counted: whose the page is, and the word if it was got
+pub(crate) fn read(pool: &Pool, touched: &mut u32, page: u32, field: u32) -> u32
+    requires from { 4 ≤ field }
+    requires field { field < 16 }
+    requires few { touched.old < 1000 }
+    ensures value { result ≡ word_of pool.now page field }
+    ensures counts { touched.new ≡ touched.old + touches_field (is_taken pool.now page) 2 true (held pool.now).pages page }
+    ensures taken { is_taken pool.now page ≡ true → touched.new ≡ touched.old + 2 }
+    ensures most { touched.new ≤ touched.old + 2 }
+    ensures least { touched.old ≤ touched.new }
+{
+    if page >= pool.pages() {
+        return 0;
+    }
+    match pool.page_word(page, field) {
+        Some(word) => {
+            *touched += 2;
+            word
+        }
+        None => {
+            *touched += 1;
+            0
+        }
+    }
+}
+
 // sets a word of a page got from the pool
-pub(crate) fn set_word(pool: &mut Pool, page: u32, field: u32, value: u32)
+fn set_word(pool: &mut Pool, touched: &mut u32, page: u32, field: u32, value: u32)
     requires taken { is_taken pool.old page ≡ true }
     requires from { 4 ≤ field }
     requires field { field < 16 }
+    requires few { touched.old < 1000 }
     ensures words { word_of pool.new ≡ put_word page field value (word_of pool.old) }
     ensures kept { IsKept pool.old pool.new }
+    ensures counts { touched.new ≡ touched.old + 2 }
 {
     pool.set_page_word(page, field, value);
+    *touched += pool.touched();
 }
 
 // no page has a class
@@ -62,109 +92,142 @@ pub(crate) fn is_set(pool: &Pool, page: u32, slot: u32) -> bool
     word(pool, page, BITS + slot / 32) >> (slot % 32) & 1 == 1
 }
 
+// the same, counted
+pub(crate) fn finds(pool: &Pool, touched: &mut u32, page: u32, slot: u32) -> bool
+    requires slot { slot < 128 }
+    requires few { touched.old < 1000 }
+    ensures value { result ≡ bit_of (word_of pool.now) page slot }
+    ensures counts { touched.new ≡ touched.old + touches_field (is_taken pool.now page) 2 true (held pool.now).pages page }
+    ensures taken { is_taken pool.now page ≡ true → touched.new ≡ touched.old + 2 }
+    ensures most { touched.new ≤ touched.old + 2 }
+    ensures least { touched.old ≤ touched.new }
+{
+    read(pool, touched, page, BITS + slot / 32) >> (slot % 32) & 1 == 1
+}
+
 // makes a slot live
-fn set_bit(pool: &mut Pool, page: u32, slot: u32)
+fn set_bit(pool: &mut Pool, touched: &mut u32, page: u32, slot: u32)
     requires taken { is_taken pool.old page ≡ true }
     requires slot { slot < 128 }
+    requires few { touched.old < 900 }
     ensures slots { slots_of pool.new ≡ with_bit page slot true (slots_of pool.old) }
     ensures kept { IsKept pool.old pool.new }
+    ensures counts { touched.new ≡ touched.old + 4 }
 {
     let field = BITS + slot / 32;
-    let bits = word(pool, page, field) | 1 << (slot % 32);
-    set_word(pool, page, field, bits);
+    let bits = read(pool, touched, page, field) | 1 << (slot % 32);
+    set_word(pool, touched, page, field, bits);
 }
 
 // makes a slot vacant
-fn clear_bit(pool: &mut Pool, page: u32, slot: u32)
+fn clear_bit(pool: &mut Pool, touched: &mut u32, page: u32, slot: u32)
     requires taken { is_taken pool.old page ≡ true }
     requires slot { slot < 128 }
+    requires few { touched.old < 900 }
     ensures slots { slots_of pool.new ≡ with_bit page slot false (slots_of pool.old) }
     ensures kept { IsKept pool.old pool.new }
+    ensures counts { touched.new ≡ touched.old + 4 }
 {
     let field = BITS + slot / 32;
-    let bits = word(pool, page, field) & !(1 << (slot % 32));
-    set_word(pool, page, field, bits);
+    let bits = read(pool, touched, page, field) & !(1 << (slot % 32));
+    set_word(pool, touched, page, field, bits);
 }
 
 // how many slots of a page are live
-fn set_live(pool: &mut Pool, page: u32, live: u32)
+fn set_live(pool: &mut Pool, touched: &mut u32, page: u32, live: u32)
     requires taken { is_taken pool.old page ≡ true }
+    requires few { touched.old < 900 }
     ensures slots { slots_of pool.new ≡ with_live page live (slots_of pool.old) }
     ensures kept { IsKept pool.old pool.new }
+    ensures counts { touched.new ≡ touched.old + 2 }
 {
-    set_word(pool, page, LIVE, live);
+    set_word(pool, touched, page, LIVE, live);
 }
 
 // the page, and one, that follows on the chain
-pub(crate) fn set_next(pool: &mut Pool, page: u32, next: u32)
+pub(crate) fn set_next(pool: &mut Pool, touched: &mut u32, page: u32, next: u32)
     requires taken { is_taken pool.old page ≡ true }
+    requires few { touched.old < 900 }
     ensures slots { slots_of pool.new ≡ with_next page next (slots_of pool.old) }
     ensures kept { IsKept pool.old pool.new }
+    ensures counts { touched.new ≡ touched.old + 2 }
 {
-    set_word(pool, page, NEXT, next);
+    set_word(pool, touched, page, NEXT, next);
 }
 
 // makes all slots vacant
-fn clear_bits(pool: &mut Pool, page: u32)
+fn clear_bits(pool: &mut Pool, touched: &mut u32, page: u32)
     requires taken { is_taken pool.old page ≡ true }
+    requires few { touched.old < 900 }
     ensures slots { slots_of pool.new ≡ with_no_bits page (slots_of pool.old) }
     ensures kept { IsKept pool.old pool.new }
+    ensures counts { touched.new ≡ touched.old + 8 }
 {
-    set_word(pool, page, BITS, 0);
-    set_word(pool, page, BITS + 1, 0);
-    set_word(pool, page, BITS + 2, 0);
-    set_word(pool, page, BITS + 3, 0);
+    set_word(pool, touched, page, BITS, 0);
+    set_word(pool, touched, page, BITS + 1, 0);
+    set_word(pool, touched, page, BITS + 2, 0);
+    set_word(pool, touched, page, BITS + 3, 0);
 }
 
 // cuts a page into vacant slots
-pub(crate) fn cut(pool: &mut Pool, page: u32, class: u32)
+pub(crate) fn cut(pool: &mut Pool, touched: &mut u32, page: u32, class: u32)
     requires taken { is_taken pool.old page ≡ true }
+    requires few { touched.old < 800 }
     ensures slots { slots_of pool.new ≡ with_cut page class (slots_of pool.old) }
     ensures kept { IsKept pool.old pool.new }
+    ensures counts { touched.new ≡ touched.old + 14 }
 {
-    set_word(pool, page, CLASS, class);
-    clear_bits(pool, page);
-    set_live(pool, page, 0);
-    set_next(pool, page, 0);
+    set_word(pool, touched, page, CLASS, class);
+    clear_bits(pool, touched, page);
+    set_live(pool, touched, page, 0);
+    set_next(pool, touched, page, 0);
 }
 
 // makes a slot live, and counts it: how many are live then
-pub(crate) fn take_slot(pool: &mut Pool, page: u32, slot: u32) -> u32
+pub(crate) fn take_slot(pool: &mut Pool, touched: &mut u32, page: u32, slot: u32) -> u32
     requires taken { is_taken pool.old page ≡ true }
     requires slot { slot < 128 }
-    requires few { (slots_of pool.old).live page < 128 }
+    requires vacant { (slots_of pool.old).live page < 128 }
+    requires few { touched.old < 800 }
     ensures live { result ≡ (slots_of pool.old).live page + 1 }
     ensures slots { slots_of pool.new ≡ with_slot_taken page slot (slots_of pool.old) }
     ensures kept { IsKept pool.old pool.new }
+    ensures counts { touched.new ≡ touched.old + 8 }
 {
-    let live = word(pool, page, LIVE) + 1;
-    set_bit(pool, page, slot);
-    set_live(pool, page, live);
+    let live = read(pool, touched, page, LIVE) + 1;
+    set_bit(pool, touched, page, slot);
+    set_live(pool, touched, page, live);
     live
 }
 
 // makes a slot vacant, and counts it: how many were live
-pub(crate) fn give_slot(pool: &mut Pool, page: u32, slot: u32) -> u32
+pub(crate) fn give_slot(pool: &mut Pool, touched: &mut u32, page: u32, slot: u32) -> u32
     requires taken { is_taken pool.old page ≡ true }
     requires slot { slot < 128 }
     requires some { 0 < (slots_of pool.old).live page }
+    requires few { touched.old < 800 }
     ensures live { result ≡ (slots_of pool.old).live page }
     ensures slots { slots_of pool.new ≡ with_slot_given page slot (slots_of pool.old) }
     ensures kept { IsKept pool.old pool.new }
+    ensures counts { touched.new ≡ touched.old + 8 }
 {
-    let live = word(pool, page, LIVE);
-    clear_bit(pool, page, slot);
-    set_live(pool, page, live - 1);
+    let live = read(pool, touched, page, LIVE);
+    clear_bit(pool, touched, page, slot);
+    set_live(pool, touched, page, live - 1);
     live
 }
 
 // the first vacant slot of a page, or 128
-pub(crate) fn first_vacant(pool: &Pool, page: u32) -> u32
-    ensures { IsFirstVacant (bit_of (word_of pool.now) page) result }
+pub(crate) fn first_vacant(pool: &Pool, touched: &mut u32, page: u32) -> u32
+    requires taken { is_taken pool.now page ≡ true }
+    requires few { touched.old < 900 }
+    ensures first { IsFirstVacant (bit_of (word_of pool.now) page) result }
+    ensures least { touched.old + 2 ≤ touched.new }
+    ensures most { touched.new ≤ touched.old + 8 }
 {
     let mut part = 0;
     'parts: while part < 4 {
-        let slot = word(pool, page, BITS + part).trailing_ones();
+        let slot = read(pool, touched, page, BITS + part).trailing_ones();
         if slot < 32 {
             return 32 * part + slot;
         }

@@ -1,4 +1,4 @@
-use Rattle.std.proofs.Common.{[], refl, sym, subst, false, ◌∙◌, inl, inr, arith, rules, ⊎_elim}
+use Rattle.std.proofs.Common.{[], refl, sym, ap, subst, false, ◌∙◌, inl, inr, arith, rules, ⊎_elim}
 use Rattle.std.proofs.lemmas.Int.{to_z-of_z}
 use mir.Val.{SFits}
 use mir.Syntax.{w32}
@@ -8,9 +8,11 @@ use Rattle.rv32_machine.specs.declared.event.Event.TheVariants as event
 use Rattle.rv32_machine.specs.Arrays.{answer_seen, areas_of, arrays, state_of}
 use Rattle.arena_laws.specs.Lawful.{Refuses}
 use Rattle.rv32_machine.specs.State.{Stop}
+use Rattle.rv32_machine.specs.Served.{lacks}
 use Rattle.rv32_machine.specs.Step.{Nothing, Writes, Asks, Stops}
 use Rattle.cyc_host.specs.declared.ending.Ending.TheVariants as ending
 use Rattle.cyc_host.proofs.Transfers.{all_written, counted_ok, of_err, of_ok}
+use Rattle.cyc_host.proofs.OtherEndings.{isnt_memory}
 use Rattle.cyc_host.proofs.OneStep.{IsStep, step_at, over_at, runs_at, runs_at_write, runs_at_answer}
 use Rattle.cyc_host.proofs.Progress.{Progress, begun, went_on, stopped_at, put_one, wrote, kept, answered, hosted, either_end}
 use Rattle.cyc_host.proofs.running.run.Goals as goal
@@ -21,6 +23,7 @@ steps-init g c = record {
   reads = search rules;
   writes = search rules;
   areas = refl;
+  memory = λ never before. before;
   going = inl refl;
   progress = subst (Progress _ _ 0 false _ _ _ _ _) (sym c.new-gathered.ensures) begun;
 }
@@ -107,6 +110,37 @@ returns-clause-hosted g c =
     hosted i.progress c.finish-2.result _ _ _ (λ k. Refuses) (omega arith) c.finish-2.ensures.written
     (either_end ending.StepLimit _ _ _ _ _ c.finish-2.ensures.same (refl, omega arith, λ some. ⊎_elim (λ none. absurd (omega (arith, none, some))) (λ runs. runs) i.going))
 
+pub returns-then-is_err-clause-memory : goal.returns-then-is_err-clause-memory
+returns-then-is_err-clause-memory g c = λ never before. (λ is. absurd (cc), (c.in-Put.ensures.memory never (c.steps.invariant.memory never before)).0)
+
+pub returns-then-is_err-2-clause-memory : goal.returns-then-is_err-2-clause-memory
+returns-then-is_err-2-clause-memory g c = λ never before. (λ is. absurd (cc), (c.in-Get.ensures.memory never (c.steps.invariant.memory never before)).0)
+
+pub returns-in-Err-clause-memory : goal.returns-in-Err-clause-memory
+returns-in-Err-clause-memory g c = λ never before. (λ is. absurd (cc), (c.in-Get.ensures.memory never (c.steps.invariant.memory never before)).0)
+
+pub returns-in-Ended-clause-memory : goal.returns-in-Ended-clause-memory
+returns-in-Ended-clause-memory g c =
+    λ never before. (isnt_memory _ _ c.finish.ensures.same refl, (c.in-Ended.ensures.memory never (c.steps.invariant.memory never before)).0)
+
+pub returns-in-Raised-clause-memory : goal.returns-in-Raised-clause-memory
+returns-in-Raised-clause-memory g c =
+    λ never before. (isnt_memory _ _ c.finish-in-Raised.ensures.same refl, (c.in-Raised.ensures.memory never (c.steps.invariant.memory never before)).0)
+
+pub returns-in-Exhausted-clause-memory : goal.returns-in-Exhausted-clause-memory
+returns-in-Exhausted-clause-memory g c =
+    λ never before. (isnt_memory _ _ c.finish-in-Exhausted.ensures.same refl, (c.in-Exhausted.ensures.memory never (c.steps.invariant.memory never before)).0)
+
+pub returns-in-Fault-clause-memory : goal.returns-in-Fault-clause-memory
+returns-in-Fault-clause-memory g c =
+    λ never before. (isnt_memory _ _ c.finish-in-Fault.ensures.same refl, (c.in-Fault.ensures.memory never (c.steps.invariant.memory never before)).0)
+
+pub returns-in-HostMemory-clause-memory : goal.returns-in-HostMemory-clause-memory
+returns-in-HostMemory-clause-memory g c = λ never before. absurd ((c.in-HostMemory.ensures.memory never (c.steps.invariant.memory never before)).1 refl)
+
+pub returns-clause-memory : goal.returns-clause-memory
+returns-clause-memory g c = λ never before. (isnt_memory _ _ c.finish-2.ensures.same refl, c.steps.invariant.memory never before)
+
 pub steps-preserved : goal.steps-preserved
 steps-preserved g c =
     let seen = arrays g.S.BlockStore.holdings g.S.BlockStore.byte_at in
@@ -120,6 +154,7 @@ steps-preserved g c =
             reads = i.reads;
             writes = i.writes;
             areas = w.in-Next.ensures.areas ∙ i.areas;
+            memory = λ never before. ap lacks (runs_at x);
             going = inr (runs_at x);
             progress = went_on i.progress _ _ x;
           })
@@ -131,6 +166,7 @@ steps-preserved g c =
             reads = i.reads;
             writes = counted_ok w.put.result _ _ w.put.ensures.counted (sym w.is_err.ensures.value ∙ w.if-is_err.false) ∙ i.writes;
             areas = w.in-Put.ensures.areas ∙ i.areas;
+            memory = λ never before. ap lacks (runs_at_write x);
             going = inr (runs_at_write x);
             progress = wrote (put_one i.progress _ _ w.in-Put.byte x) _ _ moved;
           })
@@ -143,6 +179,7 @@ steps-preserved g c =
             reads = w.in-Ok.ensures.counted ∙ i.reads;
             writes = counted_ok w.flush.result _ _ w.flush.ensures.counted (sym w.is_err-in-Get.ensures.value ∙ w.if-is_err-2.false) ∙ i.writes;
             areas = w.give.ensures.areas ∙ w.in-Get.ensures.areas ∙ i.areas;
+            memory = λ never before. ap lacks (runs_at_answer w.in-Ok.answer x w.give.ensures.state);
             going = inr (runs_at_answer w.in-Ok.answer x w.give.ensures.state);
             progress = subst (Progress _ _ _ _ _ _ _ _ _) (sym w.flush.ensures.empty)
                 (answered flushed _ _ _ _ _ _ x w.in-Ok.ensures.answer (search rules) w.give.ensures.state);

@@ -6,4 +6,4 @@ use Rattle.unique_blocks.proofs.slots.clear_bit.Goals as goal
 
 pub returns-clause-slots : goal.returns-clause-slots
 returns-clause-slots c =
-    ap slots_by c.set_word.ensures.words ∙ bit_cleared (word_of c.args.pool.now) c.args.page c.args.slot c.word.result c.requires.slot c.word.ensures
+    ap slots_by c.set_word.ensures.words ∙ bit_cleared (word_of c.args.pool.now) c.args.page c.args.slot c.read.result c.requires.slot c.read.ensures.value

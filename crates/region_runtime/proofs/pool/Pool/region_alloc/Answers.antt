@@ -3,10 +3,12 @@ use Rattle.arena_laws.specs.Lawful.{takes_blocks}
 use Rattle.region_runtime.specs.Headers.{word_in, owner_of, used_of}
 use Rattle.region_runtime.specs.Pool.{standing_by, last_of, left_of}
 use Rattle.region_runtime.specs.Steps.{pool_of, seen, next_page, with_page, with_word, without_page}
+use Rattle.region_runtime.specs.Touches.{reads_number}
+use Rattle.region_runtime.proofs.Blank.{link_is}
 use Rattle.region_runtime.proofs.Words.{free_seen, live_page}
 use Rattle.region_runtime.proofs.Serves.{serves_live}
 use Rattle.region_runtime.proofs.Along.{apart, bytes_along, next_within, pages_few}
-use Rattle.region_runtime.proofs.Told.{last_in, last_fits, last_some, cut_says, grow_says, hand_other, count_small}
+use Rattle.region_runtime.proofs.Told.{cut_touched, grow_touched, last_in, last_fits, last_some, cut_says, grow_says, hand_other, count_small}
 use Rattle.region_runtime.proofs.pool.Pool.region_alloc.Goals as goal
 
 pub returns-then-not-serves-clause-bytes : goal.returns-then-not-serves-clause-bytes
@@ -461,3 +463,35 @@ returns-clause-fresh c =
 
 pub returns-clause-apart : goal.returns-clause-apart
 returns-clause-apart c = apart (pool_of c.grow.new.self)
+
+pub returns-then-room-left-clause-touches : goal.returns-then-room-left-clause-touches
+returns-then-room-left-clause-touches c =
+    let h = c.args.handle.0 in
+    let last_is = c.last-last.ensures.value ∙ ap (λ k. last_of k h) (c.serves.ensures.shape ∙ c.begin.ensures.shape) in
+    let left_is = c.left.ensures.value ∙ ap (λ k. left_of (used_of k.word) c.last-last.result) (c.last-last.ensures.shape ∙ c.serves.ensures.shape
+    ∙ c.begin.ensures.shape) in
+    let z = c.begin.ensures.touched in let a = c.serves.ensures.touched in let b = c.last-last.ensures.touched in let d = c.left.ensures.touched in
+    let r = ap (λ r. reads_number (length r.words / 16) h) c.begin.ensures.raw in
+    let k = c.cut.ensures.touched in
+    cut_touched (pool_of c.self.inside.book) c.args.self.now (pool_of c.self.inside.book) c.self.view_is c.self.invariant refl refl h c.args.bytes
+    (ap (λ t. takes_blocks c.args.handle.0 (standing_by (owner_of t.word) c.args.handle.0)) (sym c.begin.ensures.shape) ∙ sym c.serves.ensures.value
+    ∙ c.if-not-serves.false)
+    c.room_for-room.result c.if-bytes-gt-PAGE.false (c.room_for-room.ensures.room c.if-bytes-gt-PAGE.false) c.last-last.result c.left.result last_is left_is
+    c.if-room-left.true c.cut.new.self.touched (omega (arith, z, a, b, d, k, r))
+
+pub returns-clause-touches : goal.returns-clause-touches
+returns-clause-touches c =
+    let h = c.args.handle.0 in
+    let last_is = c.last-last.ensures.value ∙ ap (λ k. last_of k h) (c.serves.ensures.shape ∙ c.begin.ensures.shape) in
+    let left_is = c.left.ensures.value ∙ ap (λ k. left_of (used_of k.word) c.last-last.result) (c.last-last.ensures.shape ∙ c.serves.ensures.shape
+    ∙ c.begin.ensures.shape) in
+    let z = c.begin.ensures.touched in let a = c.serves.ensures.touched in let b = c.last-last.ensures.touched in let d = c.left.ensures.touched in
+    let r = ap (λ r. reads_number (length r.words / 16) h) c.begin.ensures.raw in
+    let shapes = c.left.ensures.shape ∙ c.last-last.ensures.shape ∙ c.serves.ensures.shape ∙ c.begin.ensures.shape in
+    let m = link_is (pool_of c.self.inside.book) (pool_of c.self.inside.book) (seen c.left.new.self) refl shapes in
+    let j = c.take-page.ensures.touched in let k = c.grow.ensures.touched in
+    grow_touched (pool_of c.self.inside.book) c.args.self.now (pool_of c.self.inside.book) c.self.view_is c.self.invariant refl refl h c.args.bytes
+    (ap (λ t. takes_blocks c.args.handle.0 (standing_by (owner_of t.word) c.args.handle.0)) (sym c.begin.ensures.shape) ∙ sym c.serves.ensures.value
+    ∙ c.if-not-serves.false)
+    c.room_for-room.result c.if-bytes-gt-PAGE.false (c.room_for-room.ensures.room c.if-bytes-gt-PAGE.false) c.last-last.result c.left.result last_is left_is
+    c.if-room-left.false c.grow.new.self.touched (omega (arith, z, a, b, d, j, k, m, r))

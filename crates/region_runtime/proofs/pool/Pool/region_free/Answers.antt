@@ -1,10 +1,12 @@
 use Rattle.std.proofs.Common.{◌∙◌, ap, sym, subst, arith, ◌<◌, ◌≤◌, ◌+◌, ◌-◌, ◌/◌, length}
 use Rattle.region_runtime.specs.Pool.{changed_words}
 use Rattle.region_runtime.specs.Steps.{pool_of, seen, with_freed}
-use Rattle.region_runtime.proofs.Words.{live_some, live_page, live_seen, no_change}
+use Rattle.region_runtime.specs.Touches.{reads_number}
+use Rattle.region_runtime.proofs.Words.{live_some, live_page, live_seen, dead_seen, no_change}
 use Rattle.region_runtime.proofs.Ordered.{count_least}
 use Rattle.region_runtime.proofs.Released.{freed}
 use Rattle.region_runtime.proofs.Along.{apart, bytes_along, sound_after, free_says}
+use Rattle.region_runtime.proofs.Sets.{live_touches, dead_touches}
 use Rattle.region_runtime.proofs.pool.Pool.region_free.Goals as goal
 
 pub returns-then-not-knows-clause-bytes : goal.returns-then-not-knows-clause-bytes
@@ -91,3 +93,16 @@ returns-clause-bytes c =
 
 pub returns-clause-apart : goal.returns-clause-apart
 returns-clause-apart c = apart (pool_of c.splice.new.self)
+
+pub returns-clause-touches : goal.returns-clause-touches
+returns-clause-touches c =
+    let a = c.begin.ensures.touched in let b = c.knows.ensures.live c.if-not-knows.false in let d = c.splice.ensures.touched in
+    live_touches (pool_of c.self.inside.book) _ c.self.view_is 5 c.args.handle.0 _
+    (live_seen (seen c.self.inside.book) _ c.args.handle.0 _ c.begin.ensures.shape c.knows.ensures.value c.if-not-knows.false) (omega (arith, a, b, d))
+
+pub returns-then-not-knows-clause-touches : goal.returns-then-not-knows-clause-touches
+returns-then-not-knows-clause-touches c =
+    let a = c.begin.ensures.touched in let b = c.knows.ensures.touched in
+    let r = ap (λ r. reads_number (length r.words / 16) c.args.handle.0) c.begin.ensures.raw in
+    dead_touches (pool_of c.self.inside.book) _ c.self.view_is 5 c.args.handle.0 _
+    (dead_seen (seen c.self.inside.book) _ c.args.handle.0 _ c.begin.ensures.shape c.knows.ensures.value c.if-not-knows.true) (omega (arith, a, b, r))

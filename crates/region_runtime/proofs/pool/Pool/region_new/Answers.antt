@@ -1,5 +1,6 @@
 use Rattle.std.proofs.Common.{◌∙◌, ap, sym, subst, arith, ◌<◌, ◌/◌, length}
 use Rattle.region_runtime.specs.Steps.{pool_of, seen, next_page, with_first, without_page}
+use Rattle.region_runtime.proofs.Blank.{link_is}
 use Rattle.region_runtime.proofs.Words.{free_seen}
 use Rattle.region_runtime.proofs.Granted.{granted}
 use Rattle.region_runtime.proofs.Along.{apart, bytes_along, sound_after, next_within, pages_few, grant_says}
@@ -98,3 +99,8 @@ returns-clause-fresh c =
 
 pub returns-clause-apart : goal.returns-clause-apart
 returns-clause-apart c = apart (pool_of c.start.new.self)
+
+pub returns-clause-touches : goal.returns-clause-touches
+returns-clause-touches c =
+    let l = link_is (pool_of c.self.inside.book) _ (seen c.begin.new.self) c.self.view_is c.begin.ensures.shape in
+    let a = c.begin.ensures.touched in let b = c.take-page.ensures.touched in let d = c.start.ensures.touched in omega (arith, l, a, b, d)

@@ -1,8 +1,9 @@
-use Rattle.std.proofs.Common.{◌∙◌, ap, sym, subst, ◌<◌, ◌-◌, ◌/◌, length}
+use Rattle.std.proofs.Common.{arith, ◌∙◌, ap, sym, subst, ◌<◌, ◌-◌, ◌/◌, length}
 use Rattle.region_runtime.specs.Steps.{pool_of, seen, with_word}
+use Rattle.region_runtime.specs.Touches.{reads_number}
 use Rattle.region_runtime.proofs.Words.{live_some, live_page, live_seen, dead_seen}
 use Rattle.region_runtime.proofs.Along.{apart, bytes_along}
-use Rattle.region_runtime.proofs.Sets.{tag_says, no_tag, tag_not_set}
+use Rattle.region_runtime.proofs.Sets.{live_touches, dead_touches, tag_says, no_tag, tag_not_set}
 use Rattle.arena_laws.specs.Holdings.{is_some}
 use Rattle.region_runtime.proofs.pool.Pool.set_tag.Goals as goal
 
@@ -91,3 +92,16 @@ returns-clause-bytes c =
 
 pub returns-clause-apart : goal.returns-clause-apart
 returns-clause-apart c = apart (pool_of c.set_tag.new.self)
+
+pub returns-clause-touches : goal.returns-clause-touches
+returns-clause-touches c =
+    let a = c.begin.ensures.touched in let b = c.knows.ensures.live c.if-not-knows.false in let d = c.set_tag.ensures.touched in
+    live_touches (pool_of c.self.inside.book) _ c.self.view_is 2 c.args.handle.0 _
+    (live_seen (seen c.self.inside.book) _ c.args.handle.0 _ c.begin.ensures.shape c.knows.ensures.value c.if-not-knows.false) (omega (arith, a, b, d))
+
+pub returns-then-not-knows-clause-touches : goal.returns-then-not-knows-clause-touches
+returns-then-not-knows-clause-touches c =
+    let a = c.begin.ensures.touched in let b = c.knows.ensures.touched in
+    let r = ap (λ r. reads_number (length r.words / 16) c.args.handle.0) c.begin.ensures.raw in
+    dead_touches (pool_of c.self.inside.book) _ c.self.view_is 2 c.args.handle.0 _
+    (dead_seen (seen c.self.inside.book) _ c.args.handle.0 _ c.begin.ensures.shape c.knows.ensures.value c.if-not-knows.true) (omega (arith, a, b, r))

@@ -30,14 +30,14 @@ give_slot-live-requires-clause-some c =
     let live = ap (λ u. (slots_in u).bit c.args.page c.args.slot) c.self.view_is ∙ c.requires.live in
     (give_needs old heads c.args.page c.args.class c.args.slot c.self.invariant class c.requires.some (place_low c.args.class) c.requires.slot live).any
 
-pub set_next-requires : goal.set_next-requires
-set_next-requires c =
+pub set_next-requires-clause-taken : goal.set_next-requires-clause-taken
+set_next-requires-clause-taken c =
     let old = c.self.inside.pool in let heads = c.self.inside.heads in
     let class = ap (λ u. (slots_in u).class c.args.page) c.self.view_is ∙ c.requires.class in
     let live = ap (λ u. (slots_in u).bit c.args.page c.args.slot) c.self.view_is ∙ c.requires.live in
     let t = (give_needs old heads c.args.page c.args.class c.args.slot c.self.invariant class c.requires.some (place_low c.args.class) c.requires.slot
     live).taken in
-    record { taken = ap (λ f. f c.args.page) c.give_slot-live.ensures.kept.taken ∙ t }
+    ap (λ f. f c.args.page) c.give_slot-live.ensures.kept.taken ∙ t
 
 pub overflow_add-self : goal.overflow_add-self
 overflow_add-self c =
@@ -55,7 +55,7 @@ invariant_of-self c =
     let full : nat_eq (word_of old p 9) (4096 / c.args.class) ≡ true = (let a = c.give_slot-live.ensures.live in let b = c.if-live-class.true in
     grind (arith, nat_tests)) in
     let place = c.place_for-place.ensures.place in
-    subst (λ i. IsSound (record { pool = c.set_next.new.pool; heads = slice_set heads i (p + 1) })) (sym place)
+    subst (λ i. IsSound (record { pool = c.set_next.new.pool; heads = slice_set heads i (p + 1); touched = 0 })) (sym place)
     (back old heads p c.args.class c.args.slot c.self.invariant class c.requires.some (place_low c.args.class) c.requires.slot live
     c.give_slot-live.new.pool c.set_next.new.pool c.give_slot-live.ensures.kept c.set_next.ensures.kept c.give_slot-live.ensures.slots
     (c.set_next.ensures.slots ∙ ap (λ i. with_next p (slice_index heads i) (slots_of c.give_slot-live.new.pool)) place) full)
@@ -70,8 +70,8 @@ invariant_of-self-else-live-class c =
     more old heads p c.args.class c.args.slot c.self.invariant class c.requires.some (place_low c.args.class) c.requires.slot live
     c.give_slot-live.new.pool c.give_slot-live.ensures.kept c.give_slot-live.ensures.slots full
 
-pub returns-then-live-class : goal.returns-then-live-class
-returns-then-live-class c =
+pub returns-then-live-class-clause-given : goal.returns-then-live-class-clause-given
+returns-then-live-class-clause-given c =
     let old = c.self.inside.pool in let heads = c.self.inside.heads in let p = c.args.page in
     let class = ap (λ u. (slots_in u).class c.args.page) c.self.view_is ∙ c.requires.class in
     let live = ap (λ u. (slots_in u).bit c.args.page c.args.slot) c.self.view_is ∙ c.requires.live in
@@ -79,19 +79,37 @@ returns-then-live-class c =
     grind (arith, nat_tests)) in
     let place = c.place_for-place.ensures.place in
     let at = address_of p c.args.class c.args.slot in
-    subst (λ i. IsSlotGiven c.args.self.now (record { pool = c.set_next.new.pool; heads = slice_set heads i (p + 1) }) c.args.class at) (sym place)
-    (subst (λ u. IsSlotGiven u (record { pool = c.set_next.new.pool; heads = slice_set heads (place_of c.args.class) (p + 1) }) c.args.class at) c.self.view_is
+    subst (λ i. IsSlotGiven c.args.self.now (record { pool = c.set_next.new.pool; heads = slice_set heads i (p + 1); touched = c.set_next.new.touched }) c.args.class at) (sym place)
+    (subst (λ u. IsSlotGiven u (record { pool = c.set_next.new.pool; heads = slice_set heads (place_of c.args.class) (p + 1); touched = c.set_next.new.touched }) c.args.class at) c.self.view_is
     (back_says old heads p c.args.class c.args.slot c.self.invariant class c.requires.some (place_low c.args.class) c.requires.slot live
     c.give_slot-live.new.pool c.set_next.new.pool c.give_slot-live.ensures.kept c.set_next.ensures.kept c.give_slot-live.ensures.slots
-    (c.set_next.ensures.slots ∙ ap (λ i. with_next p (slice_index heads i) (slots_of c.give_slot-live.new.pool)) place) full))
+    (c.set_next.ensures.slots ∙ ap (λ i. with_next p (slice_index heads i) (slots_of c.give_slot-live.new.pool)) place) full c.self.inside.touched c.set_next.new.touched))
 
-pub returns-else-live-class : goal.returns-else-live-class
-returns-else-live-class c =
+pub returns-else-live-class-clause-given : goal.returns-else-live-class-clause-given
+returns-else-live-class-clause-given c =
     let old = c.self.inside.pool in let heads = c.self.inside.heads in let p = c.args.page in
     let class = ap (λ u. (slots_in u).class c.args.page) c.self.view_is ∙ c.requires.class in
     let live = ap (λ u. (slots_in u).bit c.args.page c.args.slot) c.self.view_is ∙ c.requires.live in
     let full : nat_eq (word_of old p 9) (4096 / c.args.class) ≡ false = (let a = c.give_slot-live.ensures.live in let b = c.if-live-class.false in
     grind (arith, nat_tests)) in
-    subst (λ u. IsSlotGiven u (record { pool = c.give_slot-live.new.pool; heads = heads }) c.args.class (address_of p c.args.class c.args.slot)) c.self.view_is
+    subst (λ u. IsSlotGiven u (record { pool = c.give_slot-live.new.pool; heads = heads; touched = c.give_slot-live.new.touched }) c.args.class (address_of p c.args.class c.args.slot)) c.self.view_is
     (more_says old heads p c.args.class c.args.slot c.self.invariant class c.requires.some (place_low c.args.class) c.requires.slot live
-    c.give_slot-live.new.pool c.give_slot-live.ensures.kept c.give_slot-live.ensures.slots full)
+    c.give_slot-live.new.pool c.give_slot-live.ensures.kept c.give_slot-live.ensures.slots full c.self.inside.touched c.give_slot-live.new.touched)
+
+pub give_slot-live-requires-clause-few : goal.give_slot-live-requires-clause-few
+give_slot-live-requires-clause-few c = let v = ap (λ u. u.touched) c.self.view_is in omega (arith, v)
+
+pub set_next-requires-clause-few : goal.set_next-requires-clause-few
+set_next-requires-clause-few c = let v = ap (λ u. u.touched) c.self.view_is in let a = c.give_slot-live.ensures.counts in omega (arith, v, a)
+
+pub returns-then-live-class-clause-least : goal.returns-then-live-class-clause-least
+returns-then-live-class-clause-least c = let v = ap (λ u. u.touched) c.self.view_is in let a = c.give_slot-live.ensures.counts in let b = c.set_next.ensures.counts in omega (arith, v, a, b)
+
+pub returns-then-live-class-clause-most : goal.returns-then-live-class-clause-most
+returns-then-live-class-clause-most c = let v = ap (λ u. u.touched) c.self.view_is in let a = c.give_slot-live.ensures.counts in let b = c.set_next.ensures.counts in omega (arith, v, a, b)
+
+pub returns-else-live-class-clause-least : goal.returns-else-live-class-clause-least
+returns-else-live-class-clause-least c = let v = ap (λ u. u.touched) c.self.view_is in let a = c.give_slot-live.ensures.counts in omega (arith, v, a)
+
+pub returns-else-live-class-clause-most : goal.returns-else-live-class-clause-most
+returns-else-live-class-clause-most c = let v = ap (λ u. u.touched) c.self.view_is in let a = c.give_slot-live.ensures.counts in omega (arith, v, a)

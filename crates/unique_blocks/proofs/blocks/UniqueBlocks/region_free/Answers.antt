@@ -8,7 +8,7 @@ use Rattle.unique_blocks.proofs.blocks.UniqueBlocks.region_free.Goals as goal
 
 pub returns-clause-does : goal.returns-clause-does
 returns-clause-does c =
-    subst (λ u. Does (said_done c.region_free.result) (held (record { pool = c.region_free.new.self; heads = c.self.inside.heads }))
+    subst (λ u. Does (said_done c.region_free-freed.result) (held (record { pool = c.region_free-freed.new.self; heads = c.self.inside.heads; touched = 0 }))
     (region_free c.args.handle.0 (held u))) c.self.view_is
-    (free_along c.self.inside.pool c.region_free.new.self c.region_free.ensures.words c.args.handle.0
-    (said_done c.region_free.result) c.region_free.ensures.does)
+    (free_along c.self.inside.pool c.region_free-freed.new.self c.region_free-freed.ensures.words c.args.handle.0
+    (said_done c.region_free-freed.result) c.region_free-freed.ensures.does)

@@ -1,5 +1,5 @@
 -- What the status and the image of an answer say.
-use Rattle.std.specs.Prelude.{◌≡◌, ◌⊎◌, ℕ, List, Option, Some, None, codes}
+use Rattle.std.specs.Prelude.{◌≡◌, ◌≢◌, ◌⊎◌, ℕ, List, Option, Some, None, codes}
 use Rattle.std.specs.Io.KnownBytes.{Appends}
 use Rattle.cyc_image.specs.declared.fault.ImageFault.{ImageFault}
 use Rattle.cyc_image.specs.declared.fault.ImageFault.TheVariants as image
@@ -9,6 +9,7 @@ use Rattle.arena_laws.specs.Holdings.{fresh}
 use Rattle.rv32_machine.specs.Arrays.{Arrays, IsStart, areas_of, state_of}
 use Rattle.rv32_machine.specs.State.{State}
 use Rattle.cyc_host.specs.declared.ending.Ending.{Ending}
+use Rattle.cyc_host.specs.declared.ending.Ending.TheVariants as ending
 use Rattle.cyc_host.specs.Hosted.{IsHosted}
 use Rattle.core_eval.specs.declared.ending.EvalEnding.{EvalEnding}
 use Rattle.cycc_driver.specs.declared.fault.CompileFault.{CompileFault}
@@ -45,6 +46,8 @@ IsCompiled text pages None status = IsRefused (λ fault. HasNoImageFor fault tex
 pub record HasRun (text : List ℕ) (pages steps : ℕ) (reader_old reader_new writer_old writer_new : Option (List ℕ)) (status : ℕ) : Type 0 where
   pub why : Ending
   pub run : IsTextRun text pages steps why reader_old reader_new writer_old writer_new
+  -- the machine and its store took all their memory before the run
+  pub memory : why ≢ ending.HostMemory
   pub shown : status ≡ status_of why
 
 -- what `run` says
@@ -93,6 +96,8 @@ pub record HasExecuted (bytes : List ℕ) (steps : ℕ) (reader_old reader_new w
   pub end : State
   pub why : Ending
   pub hosted : IsHosted why (areas_of start) steps (state_of start) end reader_old reader_new writer_old writer_new
+  -- the machine and its store took all their memory before the run
+  pub memory : why ≢ ending.HostMemory
   pub shown : status ≡ status_of why
 
 -- what `exec` says

@@ -7,7 +7,7 @@ ghost use Rattle.cycc_answer.specs.Devices.{AreCounted};
 
 use crate::lines::{Told, ended, printed, unloaded};
 use byteorder::{ByteOrder, LittleEndian};
-use cyc_arena::{PagesFault, PlainStore};
+use cyc_arena::{PagedStore, PagesFault};
 use cyc_host::GATHERED_BYTES;
 use cycc_driver::{Image, ImageFault, Input, Machine, Output, decode, load, run};
 use rv32_machine::CODE_BASE;
@@ -44,7 +44,7 @@ pub fn exec<R: Input, W: Output, E: Write>(
         Ok(image) => image,
         Err(fault) => return unloaded(alloc, told.input, fault, faults),
     };
-    let store = match PlainStore::new(alloc, image.pages()) {
+    let store = match PagedStore::new(alloc, image.pages()) {
         Ok(store) => store,
         Err(PagesFault::Memory) => return Err(AllocError),
         Err(PagesFault::Pages) => unreachable!(),

@@ -3,7 +3,6 @@ use Rattle.std.proofs.Common.{◌≡◌, ℕ, List, Some, refl, sym, subst}
 use Rattle.cyc_tree.specs.Tree.{Program}
 use Rattle.check_faults.specs.Faults.{fault_of}
 use Rattle.source_typing.specs.Answers.{first_fault}
-use Rattle.accepted_programs.specs.Supported.{supported}
 use Rattle.check_faults.specs.declared.fault.Fault.{Fault}
 use Rattle.check_faults.specs.declared.fault.FaultKind.{FaultKind}
 use Rattle.check_faults.specs.declared.fault.FaultKind.TheVariants as kind
@@ -29,7 +28,7 @@ by_kind text kind.Lent place broken = broken
 by_kind text kind.Copy place broken = broken
 by_kind text kind.Size place broken = broken
 
-pub broken_text : (text : List ℕ) (program : Program) (why : CheckFault) (f : CompileFault) → ((b : Fault) → why ≡ check.Broken b → first_fault supported program ≡ Some (fault_of b))
+pub broken_text : (text : List ℕ) (program : Program) (why : CheckFault) (f : CompileFault) → ((b : Fault) → why ≡ check.Broken b → first_fault program ≡ Some (fault_of b))
     → IsOfChecking text why f → IsTextOf text program → IsRefusedFor f text
 broken_text text program (check.Broken b) f first (place, is, there) spelled =
     subst (λ (x : CompileFault). IsRefusedFor x text) (sym is)

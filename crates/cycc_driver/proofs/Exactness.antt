@@ -10,7 +10,6 @@ use Rattle.source_grammar.specs.Grammar.{IsProgram}
 use Rattle.cyc_parser.specs.Refusals.{IsUnexpectedFirst, IsTooDeepAt, GoNoFurther}
 use Rattle.cyc_parser.proofs.WholePrograms.{one_program}
 use Rattle.source_typing.specs.Answers.{first_fault}
-use Rattle.accepted_programs.specs.Supported.{supported}
 use Rattle.check_faults.specs.declared.fault.FaultKind.{FaultKind}
 use Rattle.cycc_driver.specs.declared.fault.Place.{Place}
 use Rattle.cycc_driver.specs.declared.fault.CompileFault.{CompileFault}
@@ -48,7 +47,7 @@ too_deep text p place spelled none =
 pub broken : (text : List ℕ) (p : Program) (k : FaultKind) (place : Place) → IsAcceptedAs text p → IsBroken text k place → ⊥
 broken text p k place accepted breaks =
     let same = same_program text p breaks.program accepted.spelled breaks.spelled in
-    let none = sym accepted.accepted ∙ ap (first_fault supported) same ∙ breaks.first in
+    let none = sym accepted.accepted.faultless ∙ ap first_fault same ∙ breaks.first in
     cc
 
 -- an accepted text is refused only for want of memory

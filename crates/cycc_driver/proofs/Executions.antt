@@ -4,12 +4,12 @@ use Rattle.std.proofs.lemmas.List.{take-append-drop}
 use Rattle.std.proofs.lemmas.Bool.{cases_lt}
 use Rattle.std.specs.Io.KnownBytes.{Appends}
 use Rattle.cyc_words.specs.Words.{word}
-use Rattle.cyc_words.specs.Events.{Event, SourceEvent, SourceEnding, Request, MachineEnding, output, visible}
+use Rattle.cyc_words.specs.Events.{AreBytes, Event, SourceEvent, SourceEnding, Request, MachineEnding, output, visible}
 use Rattle.cyc_words.proofs.Events.{output_append}
 use Rattle.cyc_tree.specs.Tree.{Program}
 use Rattle.source_meaning.specs.Programs.{source, world_of}
-use Rattle.arena_laws.specs.Holdings.{fresh}
-use Rattle.rv32_machine.specs.Arrays.{Arrays, IsStart, areas_of, state_of}
+use Rattle.arena_laws.specs.Holdings.{Holdings, fresh}
+use Rattle.rv32_machine.specs.Arrays.{Arrays, IsStart, areas_of, state_of, stack_length}
 use Rattle.rv32_machine.specs.State.{State, Areas, Stop, Mode, Runs, Over}
 use Rattle.rv32_machine.specs.Run.{Run, run_steps, from, exhausted_by, ending_in, ending_of}
 use Rattle.rv32_machine.specs.Implements.{IsBeginning, IsRefused, HasNoFrame, active_after, IsCut, AgreesIn}
@@ -18,7 +18,11 @@ use Rattle.cyc_host.specs.declared.ending.Ending.TheVariants as ending
 use Rattle.cyc_host.specs.Hosted.{Written, EndsAs, IsHosted}
 use Rattle.compile_proof.specs.Promise.{meaning_of, frame_bound_of}
 use Rattle.cycc_driver.specs.Outcome.{WantsRoom, WritesBeginning, WritesAll, EndsAsProgram, IsTextImage, IsTextRun}
-use Rattle.cycc_driver.proofs.Longer.{same_state, runs_before}
+use Rattle.exhaustion_proof.specs.Room.{is_refused_after}
+use Rattle.exhaustion_proof.specs.Laws.{NeverExhausted, ExhaustedAt}
+use Rattle.exhaustion_proof.proofs.Exhausted.{exhaustion_is_exact}
+use Rattle.cycc_driver.proofs.Longer.{same_state, same_events, same_exact, runs_before}
+use Rattle.cycc_driver.proofs.Exhaustions.{bytes_and, meaning_grows, room_as, ends_at, stopped_before}
 use Rattle.core_lines.proofs.memory.Whole.{cut_begins}
 
 -- ---- output
@@ -120,6 +124,14 @@ text_run text bytes pages steps why made arena start blank starts end {reader_ol
     let at_limit : why ≡ ending.StepLimit → EndsAs ending.StepLimit n steps h.count (run_steps n h.count r) end =
     λ same. subst (λ (w : Ending). EndsAs w n steps h.count (run_steps n h.count r) end) same h.ends in
     let stays : why ≡ ending.StepLimit → (run_steps n h.count r).state.mode ≡ Runs = λ same. runs_on n r steps h.count end starts.runs (at_limit same) in
+    let bound = frame_bound_of (world_of made.program) in
+    let page_count : n.pages ≡ pages = ap (λ (k : Holdings). k.pages) starts.held in
+    let stack_count : n.stack ≡ stack_length = starts.stack in
+    let is_fresh : s.holdings ≡ fresh n.pages = starts.held ∙ ap fresh (sym page_count) in
+    let exact : (more : List ℕ) → AreBytes more → NeverExhausted bound n s (h.input ++ more) (meaning_of made.program (h.input ++ more))
+    × ExhaustedAt bound n s (h.input ++ more) (meaning_of made.program (h.input ++ more)) = λ more bytes.
+    exhaustion_is_exact bound n s (h.input ++ more) (meaning_of made.program (h.input ++ more)) is_fresh (meaning_grows made.program (h.input ++ more))
+    (made.implemented arena start small with_its (h.input ++ more) (bytes_and h.input more h.bytes bytes)) in
     record {
       program = made.program;
       accepted = made.accepted;
@@ -140,4 +152,23 @@ text_run text bytes pages steps why made arena start blank starts end {reader_ol
           let later : steps < count = runs_before n count steps longer (meaning_of made.program (h.input ++ more)) fuel over (reached h.answers)
           (ap (λ k. (run_steps n k longer).state.mode) (sym (at_limit is_limit).1) ∙ ap (λ (x : State). x.mode) same ∙ stays is_limit) in
           omega (arith, later, within);
+      roomy = λ more bytes none room is_exhausted.
+          let longer = from s (h.input ++ more) h.answers in
+          let law = exact more bytes in
+          let at : EndsAs ending.Exhausted n steps h.count (run_steps n h.count r) end =
+          subst (λ (w : Ending). EndsAs w n steps h.count (run_steps n h.count r) end) is_exhausted h.ends in
+          law.0 (λ fuel. room_as bound pages stack_length n.pages n.stack (source made.program (h.input ++ more) fuel).events page_count stack_count (room fuel))
+          h.answers h.count (same_exact n h.count s h.input h.answers more none h.exact)
+          (ap (λ (x : State). x.mode) (same_state n h.count s h.input h.answers more none) ∙ at.1);
+      short = λ more bytes none fuel before e rest split room refused enough reached within.
+          let longer = from s (h.input ++ more) h.answers in
+          let law = exact more bytes in
+          let same = same_state n h.count s h.input h.answers more none in
+          stopped_before n steps enough longer before writer_old writer_new within
+          (λ count less exactly. law.1 fuel before e rest split (room_as bound pages stack_length n.pages n.stack before page_count stack_count room)
+          (ap (λ k. is_refused_after k (visible before) e) page_count ∙ refused) enough reached h.answers count less exactly)
+          why h.count (same_exact n h.count s h.input h.answers more none h.exact)
+          (λ stop is. ap (λ (x : State). x.mode) same ∙ ends_at n why steps h.count (run_steps n h.count r) end h.ends stop is)
+          (λ is_limit. ((at_limit is_limit).1, ap (λ (x : State). x.mode) same ∙ stays is_limit))
+          (subst (λ (es : List Event). Written why writer_old writer_new (output es)) (sym (same_events n h.count s h.input h.answers more none)) h.written);
     }

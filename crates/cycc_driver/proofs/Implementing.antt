@@ -1,6 +1,6 @@
 -- From the layers to the whole: an image of a program's placed code and data does what the program does.
 use Rattle.std.specs.Prelude.{slice_index, nat_eq, nat_le, if◌then◌else◌}
-use Rattle.std.proofs.Common.{◌≡◌, ℕ, ◌+◌, ◌^◌, ◌≤◌, ◌<◌, Bool, true, false, List, [], length, refl, sym, ap, ◌∙◌, subst, arith}
+use Rattle.std.proofs.Common.{◌≡◌, ℕ, ◌+◌, ◌^◌, ◌≤◌, ◌<◌, Bool, true, false, List, length, refl, sym, ap, ◌∙◌, subst, arith}
 use Rattle.std.proofs.lemmas.Bool.{leb-true, leb-false}
 use Rattle.arena_laws.specs.Holdings.{Holdings, fresh}
 use Rattle.compile_proof.specs.Promise.{lines_of}
@@ -19,10 +19,7 @@ use Rattle.compile_proof.proofs.Joined.{never_stuck}
 use Rattle.source_meaning.specs.Programs.{unions_of}
 use Rattle.source_lowering.specs.Programs.{program_code}
 use Rattle.source_lowering.specs.Lowerable.{HaveFewMembers}
-use Rattle.source_typing.specs.Answers.{program_faults}
-use Rattle.accepted_programs.specs.Supported.{supported}
 use Rattle.accepted_programs.specs.Accepted.{IsAccepted}
-use Rattle.accepted_programs.proofs.Accepted.{no_faults}
 use Rattle.cycc_driver.proofs.Small.{code_small, data_small, each_small, memory_small}
 use Rattle.cycc_driver.specs.Outcome.{IsCode, IsImplementedBy, IsTextImage}
 use Rattle.cycc_driver.specs.Texts.{IsAcceptedAs}
@@ -82,14 +79,13 @@ module _ (program : Program) (code statics : List ℕ) (parts : Contents) (layer
 
   pub implemented : IsAccepted program → HaveFewMembers (unions_of program) → IsImplementedBy program parts
   implemented accepted few arena start small starts input are_bytes =
-      let faultless : program_faults supported program ≡ [] = no_faults program accepted in
-      let all = accepted_do program faultless few in
+      let all = accepted_do program accepted few in
       let does = all.promised in
       let begun : Begins (areas_of start) (place_of (lines_of program)) (lines_of program) (program_code program).data_objects (state_of start) =
       begins_as start (place_of (lines_of program)) (lines_of program) (program_code program).data_objects (first_machine arena start small starts) all.plain
       (starts.statics ∙ is_statics ∙ layers.statics_are) layers.places (layers.has start (starts.code ∙ is_code)) in
       does.does (areas_of start) (place_of (lines_of program)) (state_of start) input are_bytes begun
-      (λ fuel. never_stuck program faultless input fuel)
+      (λ fuel. never_stuck program accepted input fuel)
 
 -- ---- sizes
 
@@ -103,7 +99,7 @@ is_code program code long within =
 pub data_fit : (program : Program) → IsAccepted program → HaveFewMembers (unions_of program)
     → data_limit < length (data_bytes (data_offsets (program_code program).data_objects) 0 (program_code program).data_objects) → ⊥
 data_fit program accepted few large =
-    let does = accepted_do program (no_faults program accepted) few in
+    let does = accepted_do program accepted few in
     let within = does.data_within in
     let objects = (program_code program).data_objects in
     let long = data_length (data_offsets objects) 0 objects does.plain in

@@ -3,6 +3,7 @@ pub mod Longer
 pub mod Implementing
 pub mod Breaking
 pub mod Refusing
+pub mod Exhaustions
 pub mod Executions
 pub mod Exactness
 pub mod OneFault

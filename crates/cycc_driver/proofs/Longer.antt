@@ -1,5 +1,5 @@
 -- A run on an input, and on that input with more behind it: where the input's end wasn't told, both do the same.
-use Rattle.std.proofs.Common.{◌≡◌, ℕ, zero, suc, ◌-◌, ◌≤◌, ◌<◌, List, [], ◌∷◌, ◌++◌, true, Option, None, Ok, Err, inl, inr, refl, sym, ap, subst, ◌∙◌, arith, append-nil, add-sub_of_le, ⊎_elim}
+use Rattle.std.proofs.Common.{◌≡◌, ℕ, zero, suc, ◌+◌, ◌-◌, ◌≤◌, ◌<◌, List, [], ◌∷◌, ◌++◌, true, Option, None, Ok, Err, inl, inr, refl, sym, ap, subst, ◌∙◌, arith, append-nil, add-sub_of_le, ⊎_elim}
 use Rattle.std.proofs.lemmas.Bool.{cases_lt}
 use Rattle.std.proofs.lemmas.List.Elements.{Contains-append_left, Contains-append_right}
 use Rattle.std.specs.List.{Contains}
@@ -13,6 +13,8 @@ use Rattle.rv32_machine.specs.Step.{Shown, Nothing, Writes, Asks, Stops, Told, S
 use Rattle.rv32_machine.specs.Run.{Run, answer_from, refused_by, after_call, after_step, run_step, run_steps, from, ending_in, ending_of}
 use Rattle.rv32_machine.specs.Implements.{Meaning, is_cut_short, EndsWith, Reaches}
 use Rattle.rv32_machine.proofs.LongerRuns.{run_more, over_steps, steps_show}
+use Rattle.rv32_machine.specs.Shortage.{IsShortage, asked_at}
+use Rattle.exhaustion_proof.specs.Laws.{AreExact}
 use Rattle.cycc_driver.specs.Outcome.{IsOver}
 
 -- ---- more input
@@ -57,16 +59,41 @@ steps_longer n (suc count) more r untold =
     ap (run_steps n count) (step_longer more r x.shown x.told x.state (λ told. untold (told_then n count (run_step n r) told)))
     ∙ steps_longer n count more (run_step n r) untold
 
--- more input, or none where the end was told: the state is the same
-pub same_state : (n : Areas) (count : ℕ) (s : State) (input : List ℕ) (answers : ℕ → Answer) (more : List ℕ)
-    → (IsTold (run_steps n count (from s input answers)) → more ≡ [])
-    → (run_steps n count (from s (input ++ more) answers)).state ≡ (run_steps n count (from s input answers)).state
-same_state n count s input answers [] none = ap (λ l. (run_steps n count (from s l answers)).state) (append-nil input)
-same_state n count s input answers (byte ∷ more) none =
-    ap (λ (r : Run). r.state) (steps_longer n count (byte ∷ more) (from s input answers) (λ told. cons_is_some (none told)))
+-- more input, or none where the end was told: what is seen of the run beside its input is the same
+pub same_seen : {A : Type 0} (see : Run → A) (n : Areas) (count : ℕ) (s : State) (input : List ℕ) (answers : ℕ → Answer) (more : List ℕ)
+    → ((r : Run) → see (with_more more r) ≡ see r) → (IsTold (run_steps n count (from s input answers)) → more ≡ [])
+    → see (run_steps n count (from s (input ++ more) answers)) ≡ see (run_steps n count (from s input answers))
+same_seen see n count s input answers [] blind none = ap (λ l. see (run_steps n count (from s l answers))) (append-nil input)
+same_seen see n count s input answers (byte ∷ more) blind none =
+    ap see (steps_longer n count (byte ∷ more) (from s input answers) (λ told. cons_is_some (none told))) ∙ blind (run_steps n count (from s input answers))
   where
     cons_is_some : byte ∷ more ≡ [] → ⊥
     cons_is_some same = absurd (cc)
+
+-- the state is the same
+pub same_state : (n : Areas) (count : ℕ) (s : State) (input : List ℕ) (answers : ℕ → Answer) (more : List ℕ)
+    → (IsTold (run_steps n count (from s input answers)) → more ≡ [])
+    → (run_steps n count (from s (input ++ more) answers)).state ≡ (run_steps n count (from s input answers)).state
+same_state n count s input answers more none = same_seen (λ (r : Run). r.state) n count s input answers more (λ r. refl) none
+
+-- and so are the events
+pub same_events : (n : Areas) (count : ℕ) (s : State) (input : List ℕ) (answers : ℕ → Answer) (more : List ℕ)
+    → (IsTold (run_steps n count (from s input answers)) → more ≡ [])
+    → (run_steps n count (from s (input ++ more) answers)).events ≡ (run_steps n count (from s input answers)).events
+same_events n count s input answers more none = same_seen (λ (r : Run). r.events) n count s input answers more (λ r. refl) none
+
+-- what the store answers is so exact as before
+pub same_exact : (n : Areas) (count : ℕ) (s : State) (input : List ℕ) (answers : ℕ → Answer) (more : List ℕ)
+    → (IsTold (run_steps n count (from s input answers)) → more ≡ []) → AreExact n count (from s input answers) → AreExact n count (from s (input ++ more) answers)
+same_exact n count s input answers more none exact = λ k less.
+    let told_later : IsTold (run_steps n k (from s input answers)) → more ≡ [] = λ told. none
+    (subst IsTold (sym (run_more n k (count - k) (from s input answers)) ∙ ap (λ j. run_steps n j (from s input answers)) (whole k less))
+    (told_then n (count - k) (run_steps n k (from s input answers)) told)) in
+    let same = same_seen (λ (r : Run). (r.state, r.answers)) n k s input answers more (λ r. refl) told_later in
+    subst (λ (p : State × (ℕ → Answer)). IsShortage (asked_at n p.0) p.0.holdings (step n (p.1 0) p.0).shown) (sym same) (exact k less)
+  where
+    whole : (k : ℕ) → k < count → k + (count - k) ≡ count
+    whole k less = omega (arith, less)
 
 -- ---- runs that are over
 

@@ -9,7 +9,6 @@ use Rattle.cyc_parser.proofs.OnePlace.{one_place, one_depth}
 use Rattle.cyc_parser.proofs.OneFault.{one_fault as not_both}
 use Rattle.check_faults.proofs.Telling.{same_rule, same_at}
 use Rattle.source_typing.specs.Answers.{first_fault}
-use Rattle.accepted_programs.specs.Supported.{supported}
 use Rattle.check_faults.specs.declared.fault.FaultKind.{FaultKind}
 use Rattle.check_faults.specs.declared.fault.FaultKind.TheVariants as kind
 use Rattle.cycc_driver.specs.declared.fault.Place.{Place}
@@ -77,7 +76,7 @@ module _ (text : List ℕ) where
   both_broken : (k l : FaultKind) (p q : Place) → IsBroken text k p → IsBroken text l q → form_of k p ≡ form_of l q
   both_broken k l p q a b =
       let program : a.program ≡ b.program = same_program text a.program b.program a.spelled b.spelled in
-      let first = sym a.first ∙ ap (first_fault supported) program ∙ b.first in
+      let first = sym a.first ∙ ap first_fault program ∙ b.first in
       let kinds : k ≡ l = same_rule k l a.at b.at first in
       let places : p ≡ q = same_place text a.at b.at p q a.there b.there (same_at k l a.at b.at first) in
       ap (λ (j : FaultKind). form_of j p) kinds ∙ ap (form_of l) places

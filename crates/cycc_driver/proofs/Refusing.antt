@@ -8,7 +8,6 @@ use Rattle.cycc_driver.specs.Refusals.{IsRefusedFor, HasNoImageFor}
 use Rattle.cycc_driver.specs.Refused.{HasNoCodeFor}
 use Rattle.compile_proof.proofs.AcceptedDo.{accepted_do}
 use Rattle.token_proof.proofs.ProgramSizes.{tokens_pay}
-use Rattle.accepted_programs.proofs.Accepted.{no_faults}
 
 -- what a text is refused for
 pub refused_image : (f : CompileFault) (text : List ℕ) → IsRefusedFor f text → HasNoImageFor f text
@@ -42,7 +41,7 @@ codeless_image (fault.Lent place) text program accepted why = absurd why
 codeless_image (fault.Copy place) text program accepted why = absurd why
 codeless_image (fault.Size place) text program accepted why = absurd why
 codeless_image (fault.TooLarge place) text program accepted why =
-    let bounded = (accepted_do program (no_faults program accepted.accepted) why.few).promised.code in
+    let bounded = (accepted_do program accepted.accepted why.few).promised.code in
     let paid = tokens_pay program accepted.spelled.tokens accepted.spelled.parsed in
     let long = why.long in
     record { program = program; accepted = accepted; large = omega (arith, bounded, paid, long); line = why.line; column = why.column }

@@ -1,12 +1,12 @@
 -- What a compiled text is, and what its run is.
-use Rattle.std.specs.Prelude.{◌≡◌, ◌≢◌, ℕ, ◌<◌, ◌≤◌, ◌%◌, ◌⊎◌, List, [], ◌++◌, length, Option, None, Contains}
+use Rattle.std.specs.Prelude.{◌≡◌, ◌≢◌, ℕ, ◌<◌, ◌≤◌, ◌%◌, ◌⊎◌, true, List, [], ◌∷◌, ◌++◌, length, Option, None, Contains}
 use Rattle.std.specs.Io.KnownBytes.{Appends}
 use Rattle.cyc_words.specs.Words.{word}
-use Rattle.cyc_words.specs.Events.{AreBytes, Event, SourceEvent, ByteRead, SourceEnding, Request, output, visible}
+use Rattle.cyc_words.specs.Events.{AreBytes, Event, SourceEvent, Visible, ByteRead, SourceEnding, Request, output, visible}
 use Rattle.cyc_tree.specs.Tree.{Program}
 use Rattle.source_meaning.specs.Programs.{source, world_of}
 use Rattle.cyc_image.specs.Format.{Contents, IsImage, code_limit}
-use Rattle.rv32_machine.specs.Arrays.{Arrays, IsStart, areas_of, state_of}
+use Rattle.rv32_machine.specs.Arrays.{Arrays, IsStart, areas_of, state_of, stack_length}
 use Rattle.arena_laws.specs.Holdings.{fresh}
 use Rattle.arena_laws.specs.Lawful.{Answer}
 use Rattle.rv32_machine.specs.State.{State, Areas, Runs}
@@ -15,6 +15,7 @@ use Rattle.rv32_machine.specs.Implements.{Implements, Reaches, IsCut, IsRefused,
 use Rattle.cyc_host.specs.declared.ending.Ending.{Ending}
 use Rattle.cyc_host.specs.declared.ending.Ending.TheVariants as ending
 use Rattle.cyc_host.specs.Hosted.{IsHosted}
+use Rattle.exhaustion_proof.specs.Room.{HasRoom, is_refused_after}
 use Rattle.compile_proof.specs.Promise.{meaning_of, frame_bound_of}
 use Rattle.cycc_driver.specs.Texts.{IsAcceptedAs}
 
@@ -90,6 +91,21 @@ IsOver (SourceEnding.Raised kind) = Unit {0}
 IsOver SourceEnding.Running = ⊥
 IsOver SourceEnding.Stuck = ⊥
 
+-- the bytes that a frame of one of the program's functions may take
+abbrev pub frames_of : Program → List ℕ → ℕ
+frames_of program = frame_bound_of (world_of program)
+
+-- The run was stopped as exhausted, when all before an event was written; or a device failed it before, or the host's memory.
+abbrev pub IsStoppedBefore : Ending → List Event → Option (List ℕ) → Option (List ℕ) → Type 0
+IsStoppedBefore ending.Exhausted shown old new = Appends old new (output shown)
+IsStoppedBefore ending.HostMemory shown old new = Unit {0}
+IsStoppedBefore ending.ReadFault shown old new = Unit {0}
+IsStoppedBefore ending.WriteFault shown old new = Unit {0}
+IsStoppedBefore (ending.Ended status) shown old new = ⊥
+IsStoppedBefore (ending.Raised kind) shown old new = ⊥
+IsStoppedBefore (ending.Fault fault) shown old new = ⊥
+IsStoppedBefore ending.StepLimit shown old new = ⊥
+
 -- A run between a reader and a writer of at most so many steps, of the image of an accepted text from its start on.
 pub record IsTextRun (text : List ℕ) (pages steps : ℕ) (why : Ending) (reader_old reader_new writer_old writer_new : Option (List ℕ)) : Type 0 where
   pub program : Program
@@ -116,3 +132,18 @@ pub record IsTextRun (text : List ℕ) (pages steps : ℕ) (why : Ending) (reade
       → ((answers : ℕ → Answer) →
       Reaches (run_steps (areas_of start) count (from (state_of start) (hosted.input ++ more) answers)) (meaning_of program (hosted.input ++ more)) fuel)
       → count ≤ steps → why ≢ ending.StepLimit
+  -- No run is exhausted where, on some input that begins with what was read, and is that where its end was told, there are pages for each of the program's
+  -- events and stack for each of its calls.
+  pub roomy : (more : List ℕ) → AreBytes more
+      → (Contains (run_steps (areas_of start) hosted.count (from (state_of start) hosted.input hosted.answers)).events (ByteRead None) → more ≡ [])
+      → ((fuel : ℕ) → HasRoom (frames_of program) pages stack_length (source program (hosted.input ++ more) fuel).events) → why ≢ ending.Exhausted
+  -- Where the first event that wants more is a request that the counts of pages refuse, and enough steps were given for it whatever the store answers, the run
+  -- is exhausted, when just the output up to that request was written, if no device failed it.
+  pub short : (more : List ℕ) → AreBytes more
+      → (Contains (run_steps (areas_of start) hosted.count (from (state_of start) hosted.input hosted.answers)).events (ByteRead None) → more ≡ [])
+      → (fuel : ℕ) (before : List SourceEvent) (e : Event) (rest : List SourceEvent)
+      → (source program (hosted.input ++ more) fuel).events ≡ before ++ Visible e ∷ rest → HasRoom (frames_of program) pages stack_length before
+      → is_refused_after pages (visible before) e ≡ true → (enough : ℕ)
+      → ((answers : ℕ → Answer) →
+      Reaches (run_steps (areas_of start) enough (from (state_of start) (hosted.input ++ more) answers)) (meaning_of program (hosted.input ++ more)) fuel)
+      → enough ≤ steps → IsStoppedBefore why (visible before) writer_old writer_new

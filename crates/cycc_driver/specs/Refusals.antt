@@ -13,7 +13,6 @@ use Rattle.source_meaning.specs.Programs.{world_of}
 use Rattle.source_lowering.specs.Bounds.{regions_left}
 use Rattle.source_typing.specs.Answers.{first_fault}
 use Rattle.source_typing.specs.Faults as rules
-use Rattle.accepted_programs.specs.Supported.{supported}
 use Rattle.cycc_driver.specs.declared.fault.Place.{Place}
 use Rattle.cycc_driver.specs.declared.fault.CompileFault.{CompileFault}
 use Rattle.cycc_driver.specs.declared.fault.CompileFault.TheVariants as fault
@@ -44,7 +43,7 @@ pub record IsBroken (text : List ℕ) (k : FaultKind) (place : Place) : Type 0 w
   pub program : Program
   pub spelled : IsTextOf text program
   pub at : ℕ
-  pub first : first_fault supported program ≡ Some (rules.fault (number_of k) at)
+  pub first : first_fault program ≡ Some (rules.fault (number_of k) at)
   pub there : IsPlaceOf text at place
 
 -- Why a text is refused before its code is made.

@@ -8,7 +8,6 @@ ghost use Rattle.source_meaning.specs.Programs.{unions_of};
 ghost use Rattle.source_lowering.specs.Programs.{program_code};
 ghost use Rattle.source_lowering.specs.Lowerable.{HaveFewMembers};
 ghost use Rattle.accepted_programs.specs.Accepted.{IsAccepted};
-ghost use Rattle.accepted_programs.specs.Supported.{supported};
 ghost use Rattle.check_faults.specs.Faults.{fault_of};
 ghost use Rattle.check_faults.specs.declared.fault.Fault.{Fault};
 ghost use Rattle.source_typing.specs.Answers.{effect_fault};
@@ -24,7 +23,7 @@ use cyc_lexer::tokens;
 use cyc_meaning::lower;
 use cyc_parser::parse;
 use cyc_tree::Program;
-use rv32_layout::{PlaceFault, data, place};
+use rv32_layout::{LayoutFault, data, place};
 use rv32_select::select;
 use std::alloc::Global;
 use unique_flow::{CheckFault, Checked, effects, first_broken, flow, typed};
@@ -46,7 +45,7 @@ fn parsed(alloc: Global, text: &[u8]) -> Result<Program, CompileFault>
 
 /// A text's first fault, where the earliest one of names, types, regions and effects in its program is this.
 fn first_of(alloc: Global, text: &[u8], program: &Program, fault: CheckFault) -> CompileFault
-    requires { (b : Fault) → fault ≡ CheckFault.Broken b → effect_fault supported program.now ≡ Some (fault_of b) }
+    requires { (b : Fault) → fault ≡ CheckFault.Broken b → effect_fault program.now ≡ Some (fault_of b) }
     ensures { IsTextOf text.now program.now → IsRefusedFor result text.now }
 {
     let CheckFault::Broken(broken) = fault else {
@@ -158,11 +157,11 @@ fn lay_out(alloc: Global, checked: &Checked) -> Result<Placed, CompileFault>
     let labelled = select(alloc, &core)?;
     let code = match place(alloc, &labelled) {
         Ok(code) => code,
-        Err(PlaceFault::TooLarge) => return Err(CompileFault::TooLarge(Place {
+        Err(LayoutFault::TooLarge) => return Err(CompileFault::TooLarge(Place {
             line: 1,
             column: 1,
         })),
-        Err(PlaceFault::Memory) => return Err(CompileFault::Memory),
+        Err(LayoutFault::Memory) => return Err(CompileFault::Memory),
     };
     match data(alloc, &core) {
         Ok(data) => Ok(Placed {
@@ -170,8 +169,8 @@ fn lay_out(alloc: Global, checked: &Checked) -> Result<Placed, CompileFault>
             data,
         }),
         // the data of an accepted program are within the limit
-        Err(PlaceFault::TooLarge) => unreachable!(),
-        Err(PlaceFault::Memory) => Err(CompileFault::Memory),
+        Err(LayoutFault::TooLarge) => unreachable!(),
+        Err(LayoutFault::Memory) => Err(CompileFault::Memory),
     }
 }
 

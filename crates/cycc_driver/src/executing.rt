@@ -1,13 +1,13 @@
 // Runs of a text.
 
-ghost use Rattle.std.specs.Prelude.{◌≡◌, ◌≤◌, IfOk, IfErr};
+ghost use Rattle.std.specs.Prelude.{◌≡◌, ◌≢◌, ◌≤◌, IfOk, IfErr};
 ghost use Rattle.cyc_host.specs.Failures.{reads_failed, writes_failed};
 ghost use Rattle.cycc_driver.specs.Refusals.{HasNoImageFor};
 ghost use Rattle.cycc_driver.specs.Outcome.{IsTextRun};
 
 use crate::compiling::compile;
 use crate::fault::CompileFault;
-use cyc_arena::{PagesFault, PlainStore};
+use cyc_arena::{PagedStore, PagesFault};
 use cyc_host::{Ending, run};
 use cyc_image::{ImageFault, load};
 use cyc_words::{Input, Output};
@@ -24,7 +24,8 @@ pub struct Limits {
 /// Compiles a text and runs its image.
 ///
 /// Refuses what `compile` refuses, before anything is read or written, and with `Memory` also where
-/// no host memory is left for the machine and its store, a `PlainStore`. Otherwise answers how the run ended.
+/// no host memory is left for the machine and its store, a `PagedStore`. Otherwise answers how the run ended,
+/// which is never HostMemory: the store takes all its memory before the run.
 pub fn execute<R: Input, W: Output>(
     alloc: Global,
     text: &[u8],
@@ -37,6 +38,8 @@ pub fn execute<R: Input, W: Output>(
     // what is written is the program's output on the bytes that the reader gave, and the ending is its; or the run was stopped after a beginning of it
     ensures run { IfOk result (λ ending. IsTextRun text.now limits.pages limits.steps ending
         (R.remaining reader.old) (R.remaining reader.new) (W.contents writer.old) (W.contents writer.new)) }
+    // a run that has begun lacks no host memory
+    ensures memory { IfOk result (λ ending. ending ≢ Ending.HostMemory) }
     // a device's fault comes where just one call of that device failed, and any other ending where none did
     ensures reads { IfOk result (λ ending. R.fault_count reader.new ≡ reads_failed ending (R.fault_count reader.old)) }
     ensures writes { IfOk result (λ ending. W.fault_count writer.new ≡ writes_failed ending (W.fault_count writer.old)) }
@@ -50,7 +53,7 @@ pub fn execute<R: Input, W: Output>(
         Err(ImageFault::Memory) => return Err(CompileFault::Memory),
         Err(_) => unreachable!(),
     };
-    let store = match PlainStore::new(alloc, limits.pages) {
+    let store = match PagedStore::new(alloc, limits.pages) {
         Ok(store) => store,
         Err(PagesFault::Memory) => return Err(CompileFault::Memory),
         Err(PagesFault::Pages) => unreachable!(),

@@ -12,6 +12,7 @@ mod executing;
 mod fault;
 
 pub use compiling::{accepted_or_refused, check, compile, front, one_fault};
+pub use cyc_arena::{BlockStore, PagedStore, PlainStore};
 pub use cyc_host::{Ending, run};
 pub use cyc_image::{Image, ImageFault, load};
 pub use cyc_meaning::{EvalEnding, eval, never_stuck};

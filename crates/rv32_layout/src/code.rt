@@ -7,7 +7,7 @@ ghost use Rattle.core_lines.specs.Relaxed.{place_of};
 ghost use Rattle.rv32_layout.specs.Placed.{ArePlaced};
 ghost use Rattle.rv32_layout.specs.Holding.{IsCodeOf};
 
-use crate::fault::PlaceFault;
+use crate::fault::LayoutFault;
 use crate::length::length;
 use crate::words::words;
 use rv32_select::Labelled;
@@ -22,17 +22,17 @@ pub struct Code {
 /// The code of the lines, each behind those before it, with each jump and call going to where its label stands: at the
 /// first line that places it, or behind all lines where none does. An `Err` is `TooLarge` exactly where the code would be
 /// over 1,048,576 bytes, and else `Memory`.
-pub fn place(alloc: Global, labelled: &Labelled) -> Result<Code, PlaceFault>
+pub fn place(alloc: Global, labelled: &Labelled) -> Result<Code, LayoutFault>
     ensures placed { IfOk result (λ code. ArePlaced labelled.now code.bytes.items) }
     ensures length { IfOk result (λ code. vec_len code.bytes ≡ code_length labelled.now) }
     ensures within { IfOk result (λ code. vec_len code.bytes ≤ code_limit) }
     // each machine with the code has the lines, where no label is placed twice, and a jump can go to each label
     ensures has { IfOk result (λ code. AreOnce (labels_placed labelled.now) → IsCodeOf labelled.now code.bytes.items) }
     ensures places { IfOk result (λ code. (label : ℕ) → IsPlace (place_of labelled.now label)) }
-    ensures too_large { (result ≡ Err PlaceFault.TooLarge) ↔ (code_limit < code_length labelled.now) }
+    ensures too_large { (result ≡ Err LayoutFault.TooLarge) ↔ (code_limit < code_length labelled.now) }
 {
     if length(labelled).is_none() {
-        return Err(PlaceFault::TooLarge);
+        return Err(LayoutFault::TooLarge);
     }
     let bytes = words(alloc, labelled)?;
     Ok(Code { bytes })

@@ -10,7 +10,7 @@ ghost use Rattle.core_lines.specs.Statics.{zeros, datum_bytes, data_bytes, AreCe
 ghost use Rattle.rv32_layout.specs.Addresses.{AreChars, IsAddress};
 ghost use Rattle.rv32_layout.specs.Sizes.{cell_size, cells_size, datum_size};
 
-use crate::fault::PlaceFault;
+use crate::fault::LayoutFault;
 use crate::words::word_bytes;
 use cyc_core::{CellLayout, Datum, Layout, Program};
 use cyc_image::DATA_LIMIT;
@@ -254,15 +254,15 @@ fn globals_bytes(alloc: Global, offsets: &[u64], globals: &[Datum]) -> Result<Ve
 /// The bytes of a program's globals and strings, each from a multiple of 4 on; a pointer to one of them is its address. An `Err`
 /// is `TooLarge` exactly where they would be over 1,048,576 bytes, and else `Memory`, also where the cells of an object don't lie one
 /// behind the other, or a pointer names no object: no lowered program has such.
-pub fn data(alloc: Global, program: &Program) -> Result<Vec<u8>, PlaceFault>
+pub fn data(alloc: Global, program: &Program) -> Result<Vec<u8>, LayoutFault>
     ensures bytes { let ds = (program_tree program.now).data_objects in IfOk result (λ bytes. bytes.items ≡ data_bytes (data_offsets ds) 0 ds) }
     ensures plain { let ds = (program_tree program.now).data_objects in IfOk result (λ bytes. ArePlainData (data_offsets ds) ds) }
     ensures within { IfOk result (λ bytes. vec_len bytes ≤ data_limit) }
     ensures too_large { let ds = (program_tree program.now).data_objects in
-        (result ≡ Err PlaceFault.TooLarge) ↔ (data_limit < length (data_bytes (data_offsets ds) 0 ds)) }
+        (result ≡ Err LayoutFault.TooLarge) ↔ (data_limit < length (data_bytes (data_offsets ds) 0 ds)) }
 {
     if are_too_large(&program.globals) {
-        return Err(PlaceFault::TooLarge);
+        return Err(LayoutFault::TooLarge);
     }
     let offsets = statics(alloc, &program.globals)?;
     let bytes = globals_bytes(alloc, &offsets, &program.globals)?;

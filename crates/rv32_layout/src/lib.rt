@@ -15,5 +15,5 @@ mod places;
 mod words;
 
 pub use code::{Code, place};
-pub use fault::PlaceFault;
+pub use fault::LayoutFault;
 pub use globals::data;

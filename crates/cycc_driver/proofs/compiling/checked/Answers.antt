@@ -3,7 +3,6 @@ use Rattle.std.specs.Prelude.{Err}
 use Rattle.cyc_tree.specs.Tree.{Program}
 use Rattle.check_faults.specs.Faults.{fault_of}
 use Rattle.source_typing.specs.Answers.{effect_fault}
-use Rattle.accepted_programs.specs.Supported.{supported}
 use Rattle.unique_flow.specs.CheckFault.{CheckFault}
 use Rattle.unique_flow.specs.Faults.{IsFirstFault}
 use Rattle.cycc_driver.proofs.Breaking.{flow_text}
@@ -11,7 +10,7 @@ use Rattle.cycc_driver.proofs.compiling.checked.Goals as goal
 
 pub first_of-requires : goal.first_of-requires
 first_of-requires c = λ b is.
-    subst (λ (p : Program). effect_fault supported p ≡ Some (fault_of b)) c.in_ok-typed.ensures
+    subst (λ (p : Program). effect_fault p ≡ Some (fault_of b)) c.in_ok-typed.ensures
     (c.in-Err.ensures.broken b (ap (λ (f : CheckFault). Err f) is))
 
 pub returns-in-Err-flow-clause-refused : goal.returns-in-Err-flow-clause-refused

@@ -7,7 +7,7 @@ use Rattle.core_lines.specs.Running.{data_offsets}
 use Rattle.core_lines.specs.Selected as select
 use Rattle.core_lines.specs.Statics.{data_bytes}
 use Rattle.core_meaning.specs.Core as core
-use Rattle.rv32_layout.specs.declared.fault.PlaceFault.{PlaceFault}
+use Rattle.rv32_layout.specs.declared.fault.LayoutFault.{LayoutFault}
 use Rattle.rv32_layout.specs.Holding.{IsCodeOf}
 use Rattle.rv32_layout.specs.Placed.{ArePlaced, place_of}
 use Rattle.cyc_image.specs.Format.{code_limit, data_limit}
@@ -17,7 +17,7 @@ use Rattle.cycc_driver.proofs.compiling.lay_out.Goals as goal
 pub returns-in-Err-TooLarge-clause-refused : goal.returns-in-Err-TooLarge-clause-refused
 returns-in-Err-TooLarge-clause-refused c =
     let lines = c.in_ok-labelled.ensures.code ∙ ap (select.program_code far) c.in_ok-core.ensures.code in
-    let large = c.in-Err-TooLarge.ensures.too_large.0 (ap (λ (f : PlaceFault). Err f) c.in-Err-TooLarge.field-0-is) in
+    let large = c.in-Err-TooLarge.ensures.too_large.0 (ap (λ (f : LayoutFault). Err f) c.in-Err-TooLarge.field-0-is) in
     record {
       few = c.in_ok-core.ensures.few;
       long = subst (λ (ls : List Line). code_limit < code_length ls) lines large;
@@ -45,6 +45,6 @@ returns-in-Ok-data-clause-implemented c = λ parts is_code is_statics from_first
 
 pub unreachable-requires : goal.unreachable-requires
 unreachable-requires c =
-    let large = c.in-Err-TooLarge-data.ensures.too_large.0 (ap (λ (f : PlaceFault). Err f) c.in-Err-TooLarge-data.field-0-is) in
+    let large = c.in-Err-TooLarge-data.ensures.too_large.0 (ap (λ (f : LayoutFault). Err f) c.in-Err-TooLarge-data.field-0-is) in
     data_fit c.args.checked.now c.in_ok-core.ensures.accepted c.in_ok-core.ensures.few
     (subst (λ (p : core.Program). data_limit < length (data_bytes (data_offsets p.data_objects) 0 p.data_objects)) c.in_ok-core.ensures.code large)

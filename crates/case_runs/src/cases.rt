@@ -10,8 +10,19 @@ pub struct Part<'a> {
 }
 
 /// The keys that mean something.
-const KEYS: [&str; 10] = [
-    "command", "source", "file", "bytes", "input", "writes", "says", "status", "pages", "",
+const KEYS: [&str; 12] = [
+    "command",
+    "source",
+    "pieces",
+    "file",
+    "bytes",
+    "input",
+    "writes",
+    "writes_pieces",
+    "says",
+    "status",
+    "pages",
+    "",
 ];
 
 impl<'a> Part<'a> {

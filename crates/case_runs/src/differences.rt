@@ -2,7 +2,7 @@
 
 use crate::answers::Found;
 use crate::cases::Case;
-use crate::texts::{Shown, bytes_of};
+use crate::texts::{Shown, bytes_of, pieced_bytes};
 use std::alloc::{AllocError, Global};
 use std::fmt;
 
@@ -14,6 +14,14 @@ fn are_meant(alloc: Global, case: Case<'_>, key: &str, bytes: &[u8]) -> Result<b
         return Ok(bytes.strip_suffix(b"\n") == Some(wanted.as_slice()));
     }
     Ok(bytes == wanted.as_slice())
+}
+
+/// Whether these bytes are what a case expects to be written.
+fn are_written(alloc: Global, case: Case<'_>, bytes: &[u8]) -> Result<bool, AllocError> {
+    match case.part("writes_pieces") {
+        Some(part) => Ok(pieced_bytes(alloc, part)?.as_slice() == bytes),
+        None => are_meant(alloc, case, "writes", bytes),
+    }
 }
 
 /// Whether a status is the one that the case, or else the head of its file, has, and otherwise 0.
@@ -41,7 +49,7 @@ pub fn is_as_wanted(
     Ok(
         is_status(found.status, head, case)
             && are_pages(found.pages, case)
-            && are_meant(alloc, case, "writes", &found.written)?
+            && are_written(alloc, case, &found.written)?
             && are_meant(alloc, case, "says", &found.said)?,
     )
 }

@@ -14,7 +14,7 @@ mod texts;
 use crate::answers::{Found, answer_to};
 use crate::cases::{Case, Part};
 use crate::differences::{Difference, is_as_wanted};
-use crate::texts::{bytes_of, plain_bytes};
+use crate::texts::{bytes_of, pieced_bytes, plain_bytes};
 use std::fs::File;
 use std::io::Read;
 use std::process::ExitCode;
@@ -44,6 +44,9 @@ fn source_of(rt: &HostRuntime, case: Case<'_>) -> io::Result<Vec<u8>> {
     }
     if let Some(part) = case.part("source") {
         return Ok(plain_bytes(rt.alloc(), part)?);
+    }
+    if let Some(part) = case.part("pieces") {
+        return Ok(pieced_bytes(rt.alloc(), part)?);
     }
     Ok(bytes_of(rt.alloc(), case.part("bytes"))?)
 }

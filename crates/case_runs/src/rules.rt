@@ -1,7 +1,7 @@
-// What the tokens, the grammar and the rules of the whole language say of a source, whatever the compiler takes of it.
+// What the tokens, the grammar and the rules of the language say of a source.
 
 use crate::answers::Found;
-use check_faults::{Fault, Taken};
+use check_faults::Fault;
 use check_programs::program_fault;
 use command_line::status::{REFUSED, SUCCESS};
 use cyc_lexer::{LexFault, Token, place_of, tokens};
@@ -107,11 +107,11 @@ fn verdict(alloc: Global, source: &[u8], fault: Option<Fault>) -> Result<String,
 
 /// What all rules say of a program; and besides, where that is something else, what they say without those on live regions and effects.
 fn judged(alloc: Global, source: &[u8], program: &Program) -> Result<Found, AllocError> {
-    let whole = program_fault(alloc, Taken::whole(), program, false)?;
-    let lenient = program_fault(alloc, Taken::whole(), program, true)?;
+    let whole = program_fault(alloc, program, false)?;
+    let lenient = program_fault(alloc, program, true)?;
     let first = match whole {
         Some(_) => whole,
-        None => flow_fault(alloc, Taken::whole(), program)?,
+        None => flow_fault(alloc, program)?,
     };
     if first.is_none() && lenient.is_none() {
         return accepted(alloc);
@@ -128,7 +128,7 @@ fn judged(alloc: Global, source: &[u8], program: &Program) -> Result<Found, Allo
     refused_with(alloc, lines.as_str())
 }
 
-/// What the rules of the whole language say of a source.
+/// What the rules of the language say of a source.
 pub fn faults_found(alloc: Global, source: &[u8]) -> Result<Found, AllocError> {
     match program_of(alloc, source) {
         Ok(program) => judged(alloc, source, &program),

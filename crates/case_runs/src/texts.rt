@@ -13,6 +13,57 @@ pub fn plain_bytes(alloc: Global, part: Part<'_>) -> Result<Vec<u8>, AllocError>
     Ok(bytes)
 }
 
+/// What a digit of a short number may be.
+const DIGITS: &str = "0123456789ABCDEFGHIJKLMNOPQRSTUVWXYZabcdefghijklmnopqrstuvwxyz";
+
+/// Appends a digit of 62.
+fn push_digit(text: &mut String, number: u32) -> Result<(), AllocError> {
+    match DIGITS.as_bytes().get(number as usize) {
+        Some(digit) => text.push(char::from(*digit)),
+        None => Ok(()),
+    }
+}
+
+/// Appends a number in one or two of 62 digits, the last one first.
+fn push_short(text: &mut String, number: u32) -> Result<(), AllocError> {
+    let (last, first) = (number % 62, number / 62 % 62);
+    push_digit(text, last)?;
+    if first > 0 {
+        push_digit(text, first)?;
+    }
+    Ok(())
+}
+
+/// Appends a piece, in which `#` is the number of the time and `$` the same in few digits.
+fn push_piece(text: &mut String, piece: &str, number: u32) -> Result<(), AllocError> {
+    for letter in piece.chars() {
+        match letter {
+            '#' => write!(text, "{number}")?,
+            '$' => push_short(text, number)?,
+            letter => text.push(letter)?,
+        }
+    }
+    Ok(())
+}
+
+/// Appends the pieces of a line: how often, and the piece, which is the end of a line where none stands there.
+fn push_pieces(text: &mut String, line: &str) -> Result<(), AllocError> {
+    let (times, piece) = line.split_once(' ').unwrap_or((line, "\n"));
+    for number in 0..times.parse().unwrap_or(0u32) {
+        push_piece(text, piece, number)?;
+    }
+    Ok(())
+}
+
+/// The bytes of a part of pieces, a line for each.
+pub fn pieced_bytes(alloc: Global, part: Part<'_>) -> Result<Vec<u8>, AllocError> {
+    let mut text = String::new(alloc);
+    for line in part.text.lines() {
+        push_pieces(&mut text, line)?;
+    }
+    Ok(text.into_bytes())
+}
+
 /// Appends what stands behind a `\x`: a byte, of two hexadecimal digits, and then text.
 fn push_byte(bytes: &mut Vec<u8>, text: &str) -> Result<(), AllocError> {
     let (Some(digits), Some(rest)) = (text.get(..2), text.get(2..)) else {

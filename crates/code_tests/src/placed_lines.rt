@@ -4,7 +4,7 @@ use crate::selected_lines::{fat, tagged};
 use core_lines::Line;
 use cyc_core::{Cell, CellLayout, Datum, Layout, Program};
 use rv32_isa::{Instr, Register, Signed12};
-use rv32_layout::{Code, PlaceFault, data, place};
+use rv32_layout::{Code, LayoutFault, data, place};
 use rv32_select::Labelled;
 use std::alloc::{AllocError, Global};
 use std::rc::Rc;
@@ -99,7 +99,7 @@ fn the_first_call_goes_to_the_last_instruction_of_the_greatest_code(
 fn a_call_behind_an_instruction_goes_to_behind_the_greatest_code(
     rt: HostRuntime,
 ) -> Result<(), Fail> {
-    for (words, fault) in [(262_144, None), (262_145, Some(PlaceFault::TooLarge))] {
+    for (words, fault) in [(262_144, None), (262_145, Some(LayoutFault::TooLarge))] {
         let mut lines = [Line::Plain(nothing()), Line::CallTo(0)].to_vec(rt.alloc())?;
         lines.resize(words, Line::Plain(nothing()))?;
         let code = place(rt.alloc(), &labelled(lines)?);
@@ -224,7 +224,7 @@ fn a_pointer_to_no_object_has_no_bytes(rt: HostRuntime) -> Result<(), Fail> {
         globals,
     };
     let bytes = data(rt.alloc(), &program);
-    assert_eq!(rt; bytes.err(), Some(PlaceFault::Memory));
+    assert_eq!(rt; bytes.err(), Some(LayoutFault::Memory));
     Ok(())
 }
 

@@ -1,10 +1,10 @@
-// What is read of a text: how expressions are grouped, and the parts of the other forms.
+// What is read of a text: how expressions are grouped, how deep the phrases nest, where parts stand, and the parts of the other forms.
 
-use crate::lexed_texts::expect;
-use cyc_lexer::tokens;
+use cyc_lexer::{LexFault, tokens};
 use cyc_parser::parse;
 use cyc_tree::{
-    BlockItem, Constant, Expression, Initial, Item, Pattern, Program, Statement, Suffix,
+    BlockItem, Constant, Declaration, Expression, Function, Initial, Item, Pattern, Program,
+    Statement, Suffix, nesting,
 };
 use std::alloc::{AllocError, Global};
 use std::test::Fail;
@@ -79,51 +79,12 @@ fn first_statement(program: &Program) -> Option<&Statement> {
     }
 }
 
-// Each line has an expression and, behind a `$`, its groups.
-const GROUPS: &str = "a = b = c$(a = (b = c))
-a - b - c$(a Subtract b Subtract c)
-a * b / c % d$(a Multiply b Divide c Remainder d)
-a || b && c | d ^ e & f == g < h << i + j * -k$(a || (b && (c BitOr (d BitXor (e BitAnd (f Equal (g Less (h ShiftLeft (i Add (j Multiply (Negate k)))))))))))
-*a / b - c >> d >= e != f & g ^ h | i && j || k$(((((((((((Dereference a) Divide b) Subtract c) ShiftRight d) GreaterEqual e) NotEqual f) BitAnd g) BitXor h) BitOr i) && j) || k)
-a <= b > c$(a LessEqual b Greater c)
-!a = b || c$((Not a) = (b || c))
-~a * &b$((Complement a) Multiply (AddressOf b))";
-
-// The groups of an expression.
-fn groups_of(alloc: Global, text: &str) -> Result<String, Fail> {
-    let text = format!(in alloc; "int main() {{ {text}; }}")?;
-    let program = program_of(alloc, text.as_str())?;
-    let mut found = String::new(alloc);
-    if let Some(Statement::Run(expression)) = first_statement(&program) {
-        write_groups(expression, &mut found)?;
-    }
-    Ok(found)
-}
-
-#[test]
-fn groups(rt: HostRuntime) -> Result<(), Fail> {
-    for line in GROUPS.lines() {
-        let (text, groups) = line.split_once('$').ok_or("no `$`")?;
-        expect(groups_of(rt.alloc(), text)?, groups)?;
-    }
-    Ok(())
-}
-
 // Whether the first `if` has no `else`, and the one in it has.
 fn inner_has_else(program: &Program) -> bool {
     match first_statement(program) {
         Some(Statement::If(13, _, body)) => matches!(&**body, Statement::IfElse(20, _, _, _)),
         _ => false,
     }
-}
-
-// An `else` belongs to the nearest `if`.
-#[test]
-fn nearest_if(rt: HostRuntime) -> Result<(), Fail> {
-    let text = "int main() { if (a) if (b) c; else d; }";
-    let is_right = inner_has_else(&program_of(rt.alloc(), text)?);
-    assert!(rt; is_right);
-    Ok(())
 }
 
 // The primary and the suffixes of a program's first statement.
@@ -153,17 +114,6 @@ fn is_variable(program: &Program) -> bool {
     )
 }
 
-// `Id . Id (` makes a union value, and else a `.` is a suffix.
-#[test]
-fn members(rt: HostRuntime) -> Result<(), Fail> {
-    let text = "int main() { T.a(b).c[d]->e; }";
-    let makes = is_union_value(&program_of(rt.alloc(), text)?);
-    let text = "int main() { a.b.c; }";
-    let names = is_variable(&program_of(rt.alloc(), text)?);
-    assert!(rt; makes && names);
-    Ok(())
-}
-
 // Whether there are two clauses, of which the second is `default`.
 fn has_two_clauses(program: &Program) -> bool {
     let Some(Statement::Switch(13, _, clauses)) = first_statement(program) else {
@@ -179,28 +129,7 @@ fn has_two_clauses(program: &Program) -> bool {
     }
 }
 
-#[test]
-fn clauses(rt: HostRuntime) -> Result<(), Fail> {
-    let text = "int main() { switch (u) { case {.a = x}: x; break; default: } }";
-    let is_right = has_two_clauses(&program_of(rt.alloc(), text)?);
-    assert!(rt; is_right);
-    Ok(())
-}
-
-const POINTERS: &str =
-    "[Pointer { sign: Nullable, region: Some(Heap(6)) }, Pointer { sign: Fat, region: Some(Unique(14)) }, Pointer { sign: NotNull, region: Some(Named(Name { at: 18, text: [114] })) }, Pointer { sign: Fat, region: None }, Pointer { sign: Nullable, region: None }, Pointer { sign: NotNull, region: None }]";
-
-// The pointers of a program's first global.
-fn pointers_of(alloc: Global, text: &str) -> Result<String, Fail> {
-    let program = program_of(alloc, text)?;
-    match program.items().first() {
-        Some(Item::Global(global)) => {
-            Ok(format!(in alloc; "{:?}", global.of.pointers.as_slice())?)
-        }
-        _ => Ok(String::new(alloc)),
-    }
-}
-
+// Whether a program's first global begins as -5u.
 fn is_minus_five(program: &Program) -> bool {
     match program.items().first() {
         Some(Item::Global(global)) => {
@@ -213,42 +142,171 @@ fn is_minus_five(program: &Program) -> bool {
     }
 }
 
-#[test]
-fn pointers(rt: HostRuntime) -> Result<(), Fail> {
-    let text = "char *`H *@fat`U @`r ?*@thin*@notnull x = -5u;";
-    expect(pointers_of(rt.alloc(), text)?, POINTERS)?;
-    let is_right = is_minus_five(&program_of(rt.alloc(), text)?);
-    assert!(rt; is_right);
-    Ok(())
+// Whether a program's first statement, or its first global, is what a name says.
+fn is_named(program: &Program, part: &str) -> bool {
+    match part {
+        "nearest if" => inner_has_else(program),
+        "union value" => is_union_value(program),
+        "variable" => is_variable(program),
+        "clauses" => has_two_clauses(program),
+        _ => is_minus_five(program),
+    }
 }
 
-// Each line has an item, the function, and behind a `$` how many parameters, regions in its effect and
-// bounds it has, and that one byte, its last brace, stands at its end.
-const SIGNATURES: &str = "int f() { }$0 None 0 1
-int f(void) { }$0 None 0 1
-int f(void v) { }$1 None 0 1
-int f(void *p, int x) { }$2 None 0 1
-int f(; {}) { }$0 Some(0) 0 1
-int f(int x; {`r, `s} : `r > `s, `s > `t) { { } }$1 Some(2) 2 1";
+// The groups of a program's first statement.
+fn groups_of(alloc: Global, program: &Program) -> Result<String, AllocError> {
+    let mut found = String::new(alloc);
+    if let Some(Statement::Run(expression)) = first_statement(program) {
+        write_groups(expression, &mut found)?;
+    }
+    Ok(found)
+}
 
-// The signature of the text's first item, and how many bytes stand behind it.
-fn signature_of(alloc: Global, text: &str) -> Result<String, Fail> {
-    let program = program_of(alloc, text)?;
-    let Some(Item::Function(function)) = program.items().first() else {
-        return Ok(String::new(alloc));
-    };
+// The pointers of a program's first global.
+fn pointers_of(alloc: Global, program: &Program) -> Result<String, AllocError> {
+    match program.items().first() {
+        Some(Item::Global(global)) => format!(in alloc; "{:?}", global.of.pointers.as_slice()),
+        _ => Ok(String::new(alloc)),
+    }
+}
+
+// How many parameters, regions in its effect and bounds a function has, and where its end is.
+fn signature_of(alloc: Global, function: &Function) -> Result<String, AllocError> {
     let parameters = function.parameters.len();
-    let effect = function.effect.as_ref().map(|regions| regions.len());
-    let bounds = function.bounds.len();
-    let behind = text.len().saturating_sub(function.end as usize);
-    Ok(format!(in alloc; "{parameters} {effect:?} {bounds} {behind}")?)
+    let effect = match &function.effect {
+        Some(regions) => Some(regions.len()),
+        None => None,
+    };
+    let (bounds, end) = (function.bounds.len(), function.end);
+    format!(in alloc; "{parameters} {effect:?} {bounds} {end}")
 }
 
-#[test]
-fn signatures(rt: HostRuntime) -> Result<(), Fail> {
-    for line in SIGNATURES.lines() {
-        let (text, signature) = line.split_once('$').ok_or("no `$`")?;
-        expect(signature_of(rt.alloc(), text)?, signature)?;
+// The places of a program's first item, of a local that begins it, with its name, and of the statement behind that.
+fn places_of(alloc: Global, item: &Item, body: &[BlockItem]) -> Result<String, AllocError> {
+    let mut found = format!(in alloc; "{}", item.place())?;
+    for part in body {
+        match part {
+            BlockItem::Declare(local) => write_local(local, &mut found)?,
+            BlockItem::Execute(statement) => write!(found, " {}", statement.place())?,
+        }
+    }
+    Ok(found)
+}
+
+// Writes the place of a local, and its name.
+fn write_local(local: &Declaration, out: &mut String) -> Result<(), AllocError> {
+    write!(out, " {} ", local.place())?;
+    for byte in local.local().text.iter() {
+        out.push(char::from(*byte))?;
     }
     Ok(())
+}
+
+// The same of a program's first function.
+fn function_shown(alloc: Global, program: &Program, part: &str) -> Result<String, AllocError> {
+    match program.items().first() {
+        Some(item) => match item {
+            Item::Function(function) => {
+                if part == "places" {
+                    places_of(alloc, item, &function.body)
+                } else {
+                    signature_of(alloc, function)
+                }
+            }
+            _ => Ok(String::new(alloc)),
+        },
+        None => Ok(String::new(alloc)),
+    }
+}
+
+// What a part of a program is shown as.
+fn shown(alloc: Global, program: &Program, part: &str) -> Result<String, AllocError> {
+    match part {
+        "groups" => groups_of(alloc, program),
+        "pointers" => pointers_of(alloc, program),
+        "nesting" => format!(in alloc; "{}", nesting(program)),
+        "signature" | "places" => function_shown(alloc, program, part),
+        _ => format!(in alloc; "{}", is_named(program, part)),
+    }
+}
+
+// Refuses what is found where it isn't what is wanted.
+fn expect(found: String, wanted: &str) -> Result<(), Fail> {
+    if found.as_str() == wanted {
+        Ok(())
+    } else {
+        Err(Fail::new(format_args!("found {found}, not {wanted}")))
+    }
+}
+
+// What a part of a text's program is shown as.
+fn text_shown(alloc: Global, text: &str, part: &str) -> Result<String, Fail> {
+    let program = program_of(alloc, text)?;
+    Ok(shown(alloc, &program, part)?)
+}
+
+// Refuses a table with a row that isn't so: a part, a text, and what the part of its program is shown as, with a `$` between them.
+fn expect_rows(alloc: Global, table: &str) -> Result<(), Fail> {
+    for row in table.lines() {
+        let (part, rest) = row.split_once('$').unwrap_or((row, ""));
+        let (text, wanted) = rest.split_once('$').unwrap_or((rest, ""));
+        expect(text_shown(alloc, text, part)?, wanted)?;
+    }
+    Ok(())
+}
+
+// How expressions are grouped.
+const GROUPS: &str = "\
+groups$int main() { a = b = c; }$(a = (b = c))
+groups$int main() { a - b - c; }$(a Subtract b Subtract c)
+groups$int main() { a * b / c % d; }$(a Multiply b Divide c Remainder d)
+groups$int main() { a || b && c | d ^ e & f == g < h << i + j * -k; }$(a || (b && (c BitOr (d BitXor (e BitAnd (f Equal (g Less (h ShiftLeft (i Add (j \
+Multiply (Negate k)))))))))))
+groups$int main() { *a / b - c >> d >= e != f & g ^ h | i && j || k; }$(((((((((((Dereference a) Divide b) Subtract c) ShiftRight d) GreaterEqual e) \
+NotEqual f) BitAnd g) BitXor h) BitOr i) && j) || k)
+groups$int main() { a <= b > c; }$(a LessEqual b Greater c)
+groups$int main() { !a = b || c; }$((Not a) = (b || c))
+groups$int main() { ~a * &b; }$((Complement a) Multiply (AddressOf b))";
+
+#[test]
+fn groups(rt: HostRuntime) -> Result<(), Fail> {
+    expect_rows(rt.alloc(), GROUPS)
+}
+
+// The pointers of a global. How many parameters, regions in its effect and bounds a function has, and its last brace. How deep phrases nest: what
+// contains `2`
+// are the block, the `return`, the sum, the call, the argument, and as unary expressions `-2` and `2`. Places. An `else` belongs to the nearest `if`.
+// `Id . Id (` makes a union value, and else a `.` is a suffix.
+const PARTS: &str = "\
+pointers$char *`H *@fat`U @`r ?*@thin*@notnull x = -5u;$[Pointer { sign: Nullable, region: Some(Heap(6)) }, Pointer { sign: Fat, region: Some(Unique(14)) \
+}, Pointer { sign: NotNull, region: Some(Named(Name { at: 18, text: [114] })) }, Pointer { sign: Fat, region: None }, Pointer { sign: Nullable, region: \
+None }, Pointer { sign: NotNull, region: None }]
+signature$int f() { }$0 None 0 10
+signature$int f(void) { }$0 None 0 14
+signature$int f(void v) { }$1 None 0 16
+signature$int f(void *p, int x) { }$2 None 0 24
+signature$int f(; {}) { }$0 Some(0) 0 14
+signature$int f(int x; {`r, `s} : `r > `s, `s > `t) { { } }$1 Some(2) 2 48
+nesting$int x;$0
+nesting$int main() { ; } int x;$1
+nesting$int main() { { return (1) + f(-2); ; } }$7
+places$int main() { int x; NULL; }$0 13 x 20
+nearest if$int main() { if (a) if (b) c; else d; }$true
+union value$int main() { T.a(b).c[d]->e; }$true
+variable$int main() { a.b.c; }$true
+clauses$int main() { switch (u) { case {.a = x}: x; break; default: } }$true
+minus five$char *`H *@fat`U @`r ?*@thin*@notnull x = -5u;$true";
+
+#[test]
+fn parts(rt: HostRuntime) -> Result<(), Fail> {
+    expect_rows(rt.alloc(), PARTS)
+}
+
+#[test]
+fn faults_print(rt: HostRuntime) -> Result<(), Fail> {
+    let (fault, memory) = (LexFault::Lex(7), LexFault::Memory);
+    expect(
+        format!(in rt.alloc(); "{fault};{memory};")?,
+        "Lex;out of memory;",
+    )
 }

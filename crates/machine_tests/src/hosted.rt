@@ -1,417 +1,197 @@
-// Runs of short images that were assembled by hand, with readers and writers that stumble.
+// Runs of short programs between a reader and a writer that stumble.
+//
+// A row has a program; the read that fails, and the input; the most bytes that are taken at a call, the write that stumbles, how it does, and what is
+// written; and what is done with the machine, which has to be so. `run` makes a run of so many steps, and says how it ends, how many bytes are written then,
+// and how many reads and writes there were and failed; `each` makes several runs, which all end so; `pc`, `x5` and `x10` say what the machine has.
 
-use arrayvec::ArrayVec;
+use crate::devices::{Script, Tape, script_of, tape_of};
+use crate::machines::{machine_of, parted};
+use crate::programs::{code_of, program_of};
 use cyc_arena::PlainStore;
 use cyc_host::{Ending, run};
-use cyc_image::{Parts, load, write};
-use cyc_words::{Counted, Input, Kind, MachineFault, Output};
-use rv32_isa::decode;
+use cyc_words::{Counted, Input, Output};
 use rv32_machine::Machine;
-use std::alloc::{AllocGlobal, Global};
-use std::io;
-use std::io::{Error, ErrorKind, Read, Write};
-use std::process::Abort;
+use std::alloc::{AllocError, Global};
 use std::test::Fail;
 
-// gives one byte at a call and the end after the last one; fails at the call of that number, and where it is asked for
-// anything but one byte
+// what a machine runs between
 #[derive(Drop)]
-struct Script {
-    bytes: &'static [u8],
-    calls: u16,
-    fails_at: u16,
+struct Devices {
+    reader: Counted<Script>,
+    writer: Counted<Tape>,
 }
 
-impl Script {
-    fn new(bytes: &'static [u8], fails_at: u16) -> Counted<Script> {
-        Counted::new(Script {
-            bytes,
-            calls: 0,
-            fails_at,
-        })
-    }
+// how a run of so many steps ends
+fn ending_of(machine: &mut Machine<PlainStore>, devices: &mut Devices, steps: &str) -> Ending {
+    let steps = steps.parse().unwrap_or(0);
+    run(machine, &mut devices.reader, &mut devices.writer, steps)
 }
 
-impl Read for Script {
-    fn read(&mut self, buffer: &mut [u8]) -> io::Result<usize> {
-        self.calls = self.calls.saturating_add(1);
-        if self.calls == self.fails_at || buffer.len() != 1 {
-            return Err(Error::from(ErrorKind::Other));
+// whether what is written is right so far
+fn is_right(devices: &Devices) -> bool {
+    devices.writer.get_ref().is_right
+}
+
+// what devices were asked: the bytes written, the reads and writes, and those that failed
+fn asked(alloc: Global, ending: Ending, devices: &Devices) -> Result<String, AllocError> {
+    let taken = devices.writer.get_ref().taken;
+    let reads = devices.reader.get_ref().calls;
+    let writes = devices.writer.get_ref().calls;
+    let (torn, lost) = (devices.reader.faults(), devices.writer.faults());
+    format!(in alloc; "{ending:?} {taken} {reads} {writes} {torn} {lost}")
+}
+
+// whether a run ends so
+fn runs(
+    alloc: Global,
+    machine: &mut Machine<PlainStore>,
+    devices: &mut Devices,
+    text: &str,
+) -> Result<bool, AllocError> {
+    let (steps, wanted) = parted(text);
+    let ending = ending_of(machine, devices, steps);
+    let found = asked(alloc, ending, devices)?;
+    Ok(is_right(devices) && found.as_str() == wanted)
+}
+
+// whether an ending is the one of a name
+fn is_ending(alloc: Global, ending: Ending, wanted: &str) -> Result<bool, AllocError> {
+    let shown = format!(in alloc; "{ending:?}")?;
+    Ok(shown.as_str() == wanted)
+}
+
+// whether so many runs all end so
+fn all_run(
+    alloc: Global,
+    machine: &mut Machine<PlainStore>,
+    devices: &mut Devices,
+    text: &str,
+) -> Result<bool, AllocError> {
+    let (times, rest) = parted(text);
+    let (steps, wanted) = parted(rest);
+    for _ in 0..times.parse().unwrap_or(0u32) {
+        let ending = ending_of(machine, devices, steps);
+        if !is_ending(alloc, ending, wanted)? {
+            return Ok(false);
         }
-        if self.bytes.is_empty() {
-            return Ok(0);
-        }
-        buffer[0] = self.bytes[0];
-        self.bytes = &self.bytes[1..];
-        Ok(1)
     }
+    Ok(true)
 }
 
-// what a writer does at the call at which it stumbles
-#[derive(Clone, Copy, PartialEq, Eq, Debug)]
-enum Stumble {
-    TakesNothing,
-    Fails,
-}
-
-// keeps what it takes, so many bytes at a call at most; stumbles at the call of that number
-#[derive(Drop)]
-struct Tape {
-    written: ArrayVec<u8, 8192>,
-    most: usize,
-    calls: u16,
-    stumbles_at: u16,
-    stumble: Stumble,
-}
-
-impl Tape {
-    fn new(most: usize, stumbles_at: u16, stumble: Stumble) -> Counted<Tape> {
-        Counted::new(Tape {
-            written: ArrayVec::new(),
-            most,
-            calls: 0,
-            stumbles_at,
-            stumble,
-        })
-    }
-
-    // one that takes all and never stumbles
-    fn plain() -> Counted<Tape> {
-        Tape::new(8192, 0, Stumble::Fails)
-    }
-}
-
-impl Write for Tape {
-    fn write(&mut self, bytes: &[u8]) -> io::Result<usize> {
-        self.calls = self.calls.saturating_add(1);
-        if self.calls == self.stumbles_at {
-            return match self.stumble {
-                Stumble::TakesNothing => Ok(0),
-                Stumble::Fails => Err(Error::from(ErrorKind::Other)),
-            };
-        }
-        let taken = bytes.len().min(self.most);
-        for byte in &bytes[..taken] {
-            let _ = self.written.try_push(*byte);
-        }
-        Ok(taken)
-    }
-
-    fn flush(&mut self) -> io::Result<()> {
-        Ok(())
-    }
-}
-
-type Word = (u32, &'static str);
-
-// the machine of an image of one page with these words, at its first instruction, over a store of one page
-fn machine_of(alloc: Global, words: &[Word]) -> Result<Machine<PlainStore>, Fail> {
-    let mut code = Vec::new(alloc);
-    for (word, _) in words {
-        code.extend_from_slice(&word.to_le_bytes())?;
-    }
-    let parts = Parts {
-        entry: 0,
-        code: &code,
-        statics: b"",
-        pages: 1,
+// whether a machine has this in a register, or as the address of its instruction
+fn has(machine: &Machine<PlainStore>, place: &str, wanted: &str) -> bool {
+    let found = match place {
+        "pc" => machine.pc(),
+        "x5" => machine.reg(5),
+        "x10" => machine.reg(10),
+        _ => return false,
     };
-    if !parts.fits() {
-        return Err(Fail::from("the parts do not fit"));
-    }
-    let bytes = write(alloc, &parts)?;
-    let image = load(alloc, &bytes)?;
-    let store = PlainStore::new(alloc, image.pages())?;
-    match Machine::new(alloc, &image, store) {
-        Ok(machine) => Ok(machine),
-        Err(_) => Err(Fail::from("no memory for the machine")),
-    }
+    wanted.parse() == Ok(found)
 }
 
-// puts out each byte that it gets, in six steps, and ends with 0 at the end of the input
-const ECHO: [Word; 9] = [
-    (0x0020_0893, "addi x17, x0, 2"),
-    (0x0000_0073, "ecall"),
-    (0x0005_4863, "blt x10, x0, 16"),
-    (0x0010_0893, "addi x17, x0, 1"),
-    (0x0000_0073, "ecall"),
-    (0xFEDF_F06F, "jal x0, -20"),
-    (0x0000_0893, "addi x17, x0, 0"),
-    (0x0000_0513, "addi x10, x0, 0"),
-    (0x0000_0073, "ecall"),
-];
-
-// gets twice, and ends with what the second getchar answered
-const TWICE: [Word; 5] = [
-    (0x0020_0893, "addi x17, x0, 2"),
-    (0x0000_0073, "ecall"),
-    (0x0000_0073, "ecall"),
-    (0x0000_0893, "addi x17, x0, 0"),
-    (0x0000_0073, "ecall"),
-];
-
-// puts out A, and raises
-const RAISES: [Word; 6] = [
-    (0x0410_0513, "addi x10, x0, 65"),
-    (0x0010_0893, "addi x17, x0, 1"),
-    (0x0000_0073, "ecall"),
-    (0x0020_0513, "addi x10, x0, 2"),
-    (0x0030_0893, "addi x17, x0, 3"),
-    (0x0000_0073, "ecall"),
-];
-
-const FIVE: Word = (0x0050_0293, "addi x5, x0, 5");
-
-const PAGE: Word = (0x0000_12B7, "lui x5, 1");
-
-const LESS: Word = (0xFFF2_8293, "addi x5, x5, -1");
-
-const SAME: Word = (0x0002_8293, "addi x5, x5, 0");
-
-const MORE: Word = (0x0012_8293, "addi x5, x5, 1");
-
-// puts out A so many times, as two instructions leave in x5, and ends with 65
-fn prints(first: Word, second: Word) -> [Word; 9] {
-    [
-        (0x0010_0893, "addi x17, x0, 1"),
-        (0x0410_0513, "addi x10, x0, 65"),
-        first,
-        second,
-        (0x0000_0073, "ecall"),
-        LESS,
-        (0xFE02_9CE3, "bne x5, x0, -8"),
-        (0x0000_0893, "addi x17, x0, 0"),
-        (0x0000_0073, "ecall"),
-    ]
+// whether all that a row does with a machine is so
+fn holds(
+    alloc: Global,
+    machine: &mut Machine<PlainStore>,
+    devices: &mut Devices,
+    row: &str,
+) -> Result<bool, AllocError> {
+    for text in row.split("; ") {
+        let (name, rest) = parted(text);
+        let is_so = match name {
+            "run" => runs(alloc, machine, devices, rest)?,
+            "each" => all_run(alloc, machine, devices, rest)?,
+            _ => has(machine, name, rest),
+        };
+        if !is_so {
+            return Ok(false);
+        }
+    }
+    Ok(true)
 }
 
-// fails where an assembler reads another word for one of the texts
-fn check_texts(alloc: Global, words: &[Word]) -> Result<(), Fail> {
-    for (word, text) in words {
-        let instr = decode(*word).ok_or("no instruction")?;
-        let display = format!(in alloc; "{instr}")?;
-        if display.as_str() != *text {
-            return Err(Fail::from("another text"));
+// the program of a row, its input and output, and what is done
+fn parts_of(row: &'static str) -> Option<(&'static str, &'static str, &'static str, &'static str)> {
+    let (program, rest) = row.split_once(" | ")?;
+    let (input, rest) = rest.split_once(" | ")?;
+    let (output, rest) = rest.split_once(" | ")?;
+    Some((program, input, output, rest))
+}
+
+// the machine of a program, at its first instruction
+fn machine_at_start(alloc: Global, program: &str) -> Result<Machine<PlainStore>, Fail> {
+    let code = code_of(alloc, program_of(program))?;
+    machine_of(alloc, &code, b"", 1)
+}
+
+// whether it is so what a row says
+fn is_so(alloc: Global, row: &'static str) -> Result<bool, Fail> {
+    let (program, input, output, rest) = parts_of(row).ok_or("no row")?;
+    let mut machine = machine_at_start(alloc, program)?;
+    let mut devices = Devices {
+        reader: script_of(input),
+        writer: tape_of(output),
+    };
+    Ok(holds(alloc, &mut machine, &mut devices, rest)?)
+}
+
+// refuses a table with a row that isn't so
+fn expect(alloc: Global, table: &'static str) -> Result<(), Fail> {
+    for row in table.lines() {
+        if !is_so(alloc, row)? {
+            return Err(Fail::new(row));
         }
     }
     Ok(())
 }
 
-#[test]
-fn the_words_are_what_their_texts_say(rt: HostRuntime) -> Result<(), Fail> {
-    check_texts(rt.alloc(), &ECHO)?;
-    check_texts(rt.alloc(), &TWICE)?;
-    check_texts(rt.alloc(), &RAISES)?;
-    check_texts(rt.alloc(), &prints(FIVE, SAME))?;
-    check_texts(rt.alloc(), &prints(PAGE, MORE))
-}
-
-// asserts what was written, how often each device was called, and how many faults each counts
-fn leaves(
-    rt: &(impl Abort + AllocGlobal),
-    reader: &Counted<Script>,
-    writer: &Counted<Tape>,
-    written: &[u8],
-    calls: (u16, u16),
-    faults: (u64, u64),
-) {
-    assert!(rt; writer.get_ref().written.as_slice() == written);
-    assert!(rt; (reader.get_ref().calls, writer.get_ref().calls) == calls);
-    assert!(rt; (reader.faults(), writer.faults()) == faults);
-}
-
-// runs these words with this input, whose read of that number fails, and asserts how the run ends and what it leaves
-fn check_run(
-    rt: &(impl Abort + AllocGlobal),
-    words: &[Word],
-    (bytes, fails_at): (&'static [u8], u16),
-    tape: Counted<Tape>,
-    ending: Ending,
-    (written, calls, faults): (&[u8], (u16, u16), (u64, u64)),
-) -> Result<(), Fail> {
-    let mut machine = machine_of(rt.alloc(), words)?;
-    let mut reader = Script::new(bytes, fails_at);
-    let mut writer = tape;
-    assert!(rt; run(&mut machine, &mut reader, &mut writer, 1000) == ending);
-    leaves(rt, &reader, &writer, written, calls, faults);
-    Ok(())
-}
+// An echo, a byte after the end, a read that fails once, and steps one by one; without steps nothing is read.
+const RUNS: &str = "\
+echo | 0 hello | 8192 0 fails hello | run 1000 Ended(0) 5 6 5 0 0
+twice | 0 | 8192 0 fails | run 1000 Ended(-1) 0 1 0 0 0
+echo | 3 hello | 8192 0 fails hello | run 1000 ReadFault 2 3 2 1 0; run 1000 Ended(0) 5 7 5 1 0
+echo | 0 hi | 8192 0 fails hi | run 0 StepLimit 0 0 0 0 0; run 2 StepLimit 0 1 0 0 0; pc 65544; x10 104; \
+each 15 1 StepLimit; each 2 1 Ended(0); run 1 Ended(0) 2 3 2 0 0
+twice | 1 x | 8192 0 fails | run 0 StepLimit 0 0 0 0 0; run 2 ReadFault 0 1 0 1 0; run 0 StepLimit 0 1 0 1 0; run 1 StepLimit 0 2 0 1 0; x10 120";
 
 #[test]
-fn an_echo_writes_what_it_reads(rt: HostRuntime) -> Result<(), Fail> {
-    let left = (b"hello".as_slice(), (6, 5), (0, 0));
-    check_run(
-        &rt,
-        &ECHO,
-        (b"hello", 0),
-        Tape::plain(),
-        Ending::Ended(0),
-        left,
-    )
+fn a_run_reads_and_writes_in_order(rt: HostRuntime) -> Result<(), Fail> {
+    expect(rt.alloc(), RUNS)
 }
+
+// A failed write takes the place of an ending. After a failed call no device is called; what was gathered is written before the next byte is read, and at
+// each ending.
+const FAILURES: &str = "\
+five | 0 | 1 0 fails AAAAA | run 1000 Ended(65) 5 0 5 0 0
+five | 0 | 1 3 nothing AA | run 1000 WriteFault 2 0 3 0 1
+five | 0 | 1 3 fails AA | run 1000 WriteFault 2 0 3 0 1
+echo | 1 hello | 8192 0 fails | run 1000 ReadFault 0 1 0 1 0
+echo | 2 hello | 8192 0 fails h | run 1000 ReadFault 1 2 1 1 0
+echo | 3 hello | 8192 0 fails he | run 1000 ReadFault 2 3 2 1 0
+echo | 0 hello | 8192 1 nothing | run 1000 WriteFault 0 1 1 0 1
+echo | 0 hello | 8192 2 nothing h | run 1000 WriteFault 1 2 2 0 1
+echo | 0 hello | 8192 3 nothing he | run 1000 WriteFault 2 3 3 0 1
+echo | 0 hello | 8192 1 fails | run 1000 WriteFault 0 1 1 0 1
+echo | 0 hello | 8192 2 fails h | run 1000 WriteFault 1 2 2 0 1
+echo | 0 hello | 8192 3 fails he | run 1000 WriteFault 2 3 3 0 1
+raises | 0 | 8192 0 fails A | run 1000 Raised(ArrayBounds) 1 0 1 0 0
+cut | 0 | 8192 0 fails A | run 1000 Fault(Access) 1 0 1 0 0";
 
 #[test]
-fn after_the_end_nothing_is_read(rt: HostRuntime) -> Result<(), Fail> {
-    let left = (b"".as_slice(), (1, 0), (0, 0));
-    check_run(
-        &rt,
-        &TWICE,
-        (b"", 0),
-        Tape::plain(),
-        Ending::Ended(-1),
-        left,
-    )
+fn a_failed_call_is_the_last_one(rt: HostRuntime) -> Result<(), Fail> {
+    expect(rt.alloc(), FAILURES)
 }
 
-#[test]
-fn a_run_goes_on_after_a_failed_read(rt: HostRuntime) -> Result<(), Fail> {
-    let mut machine = machine_of(rt.alloc(), &ECHO)?;
-    let mut reader = Script::new(b"hello", 3);
-    let mut writer = Tape::plain();
-    assert!(rt; run(&mut machine, &mut reader, &mut writer, 1000) == Ending::ReadFault);
-    leaves(&rt, &reader, &writer, b"he", (3, 2), (1, 0));
-    assert!(rt; run(&mut machine, &mut reader, &mut writer, 1000) == Ending::Ended(0));
-    leaves(&rt, &reader, &writer, b"hello", (7, 5), (1, 0));
-    Ok(())
-}
-
-#[test]
-fn a_run_goes_on_after_each_step(rt: HostRuntime) -> Result<(), Fail> {
-    let mut machine = machine_of(rt.alloc(), &ECHO)?;
-    let mut reader = Script::new(b"hi", 0);
-    let mut writer = Tape::plain();
-    assert!(rt; run(&mut machine, &mut reader, &mut writer, 0) == Ending::StepLimit);
-    // the byte that is asked for at the last step is answered
-    assert!(rt; run(&mut machine, &mut reader, &mut writer, 2) == Ending::StepLimit);
-    assert!(rt; (machine.pc(), machine.reg(10)) == (0x0001_0008, 104));
-    for step in 0..17 {
-        let ending = run(&mut machine, &mut reader, &mut writer, 1);
-        let limit = step < 15;
-        assert!(rt;
-            ending
-                == if limit {
-                    Ending::StepLimit
-                } else {
-                    Ending::Ended(0)
-                }
-        );
-    }
-    assert!(rt; writer.get_ref().written.as_slice() == b"hi".as_slice());
-    Ok(())
-}
-
-#[test]
-fn a_writer_may_take_one_byte_at_a_call(rt: HostRuntime) -> Result<(), Fail> {
-    let words = prints(FIVE, SAME);
-    let tape = Tape::new(1, 0, Stumble::Fails);
-    let left = (b"AAAAA".as_slice(), (0, 5), (0, 0));
-    check_run(&rt, &words, (b"", 0), tape, Ending::Ended(65), left)
-}
-
-#[test]
-fn a_failed_write_takes_the_place_of_an_ending(rt: HostRuntime) -> Result<(), Fail> {
-    let words = prints(FIVE, SAME);
-    for stumble in [Stumble::TakesNothing, Stumble::Fails] {
-        let tape = Tape::new(1, 3, stumble);
-        let left = (b"AA".as_slice(), (0, 3), (0, 1));
-        check_run(&rt, &words, (b"", 0), tape, Ending::WriteFault, left)?;
-    }
-    Ok(())
-}
-
-// what a device had written before the call of that number
-const BEFORE: [(u16, &'static [u8]); 3] = [(1, b""), (2, b"h"), (3, b"he")];
-
-#[test]
-fn after_a_failed_read_no_device_is_called(rt: HostRuntime) -> Result<(), Fail> {
-    for (call, written) in BEFORE {
-        let left = (written, (call, call - 1), (1, 0));
-        check_run(
-            &rt,
-            &ECHO,
-            (b"hello", call),
-            Tape::plain(),
-            Ending::ReadFault,
-            left,
-        )?;
-    }
-    Ok(())
-}
-
-// What was gathered is written before the next byte is read.
-#[test]
-fn after_a_failed_write_no_device_is_called(rt: HostRuntime) -> Result<(), Fail> {
-    for stumble in [Stumble::TakesNothing, Stumble::Fails] {
-        for (call, written) in BEFORE {
-            let tape = Tape::new(8192, call, stumble);
-            let left = (written, (call, call), (0, 1));
-            check_run(&rt, &ECHO, (b"hello", 0), tape, Ending::WriteFault, left)?;
-        }
-    }
-    Ok(())
-}
-
-#[test]
-fn without_steps_nothing_is_read(rt: HostRuntime) -> Result<(), Fail> {
-    let mut machine = machine_of(rt.alloc(), &TWICE)?;
-    let mut reader = Script::new(b"x", 1);
-    let mut writer = Tape::plain();
-    let limit = Ending::StepLimit;
-    // a byte is wanted at the second step, and again from then on
-    for (steps, ending) in [(0, limit), (2, Ending::ReadFault), (0, limit), (1, limit)] {
-        assert!(rt; run(&mut machine, &mut reader, &mut writer, steps) == ending);
-    }
-    assert!(rt; (reader.get_ref().calls, machine.reg(10)) == (2, 120));
-    Ok(())
-}
-
-#[test]
-fn what_is_gathered_is_written_at_each_ending(rt: HostRuntime) -> Result<(), Fail> {
-    let mut writer = Tape::plain();
-    let raised = Ending::Raised(Kind::ArrayBounds);
-    writes_more(&rt, &RAISES, &mut writer, raised, b"A")?;
-    let fault = Ending::Fault(MachineFault::Access);
-    writes_more(&rt, &RAISES[..3], &mut writer, fault, b"AA")
-}
-
-// asserts how these words end, and what the writer has written then
-fn writes_more(
-    rt: &(impl Abort + AllocGlobal),
-    words: &[Word],
-    writer: &mut Counted<Tape>,
-    ending: Ending,
-    written: &[u8],
-) -> Result<(), Fail> {
-    let mut machine = machine_of(rt.alloc(), words)?;
-    assert!(rt; run(&mut machine, &mut Script::new(b"", 0), writer, 1000) == ending);
-    assert!(rt; writer.get_ref().written.as_slice() == written);
-    Ok(())
-}
-
-// asserts that the first write fails where so many bytes are still to be put out, this one among them, and how many writes there
-// are where none fails
-fn check_writes(
-    rt: &(impl Abort + AllocGlobal),
-    words: &[Word],
-    left: u32,
-    writes: u16,
-    length: usize,
-) -> Result<(), Fail> {
-    let mut machine = machine_of(rt.alloc(), words)?;
-    let mut torn = Tape::new(8192, 1, Stumble::Fails);
-    let fault = run(&mut machine, &mut Script::new(b"", 0), &mut torn, 100_000);
-    assert!(rt; fault == Ending::WriteFault && machine.reg(5) == left);
-    let mut again = machine_of(rt.alloc(), words)?;
-    let mut tape = Tape::plain();
-    let whole = run(&mut again, &mut Script::new(b"", 0), &mut tape, 100_000);
-    assert!(rt; whole == Ending::Ended(65) && tape.get_ref().calls == writes);
-    assert!(rt; tape.get_ref().written.len() == length);
-    Ok(())
-}
+// Where the first write fails, x5 has how many bytes are still to be put out, the one among them that was put out last.
+const GATHERED: &str = "\
+less | 0 | 8192 1 fails | run 100000 WriteFault 0 0 1 0 1; x5 0
+less | 0 | 8192 0 fails AAAAA | run 100000 Ended(65) 4095 0 1 0 0
+page | 0 | 8192 1 fails | run 100000 WriteFault 0 0 1 0 1; x5 1
+page | 0 | 8192 0 fails AAAAA | run 100000 Ended(65) 4096 0 1 0 0
+more | 0 | 8192 1 fails | run 100000 WriteFault 0 0 1 0 1; x5 2
+more | 0 | 8192 0 fails AAAAA | run 100000 Ended(65) 4097 0 2 0 0";
 
 #[test]
 fn output_is_written_at_the_4096th_byte(rt: HostRuntime) -> Result<(), Fail> {
-    check_writes(&rt, &prints(PAGE, LESS), 0, 1, 4095)?;
-    check_writes(&rt, &prints(PAGE, SAME), 1, 1, 4096)?;
-    check_writes(&rt, &prints(PAGE, MORE), 2, 2, 4097)
+    expect(rt.alloc(), GATHERED)
 }

@@ -1,19 +1,11 @@
-//! Tests of the types of the whole language in code: each public call once, with answers worked out by hand.
+//! Tests of the types of the whole language in code: what is said of types, by tables that were worked out by hand.
 //!
 //! A crate with tests is proved twice, so these stand here, where nothing else is proved.
 #![tactic(auto)]
 
 #[cfg(test)]
-mod conversions;
+mod answers;
 #[cfg(test)]
-mod extents;
+mod rows;
 #[cfg(test)]
-mod kinds;
-#[cfg(test)]
-mod layouts;
-#[cfg(test)]
-mod likeness;
-#[cfg(test)]
-mod made_types;
-#[cfg(test)]
-mod tables;
+mod written;

@@ -29,7 +29,8 @@ A source is refused for one fault, written IN:LINE:COLUMN: NAME (status 8):
   Lent      a local used while it is lent
   Copy      a copy of a value that can only be moved
   Size      a type, an array, a string or the globals too large
-  TooLarge  code of over 1,048,576 bytes (compile and run only)";
+  TooLarge  code of over 1,048,576 bytes (compile and run only)
+What each wants, with a source that has it: cycc explain NAME";
 
 /// The faults of an image, below the help of the commands that read one.
 pub const IMAGE_FAULTS: &str = "\

@@ -88,8 +88,12 @@ fn run(rt: &HostRuntime) -> Result<u8, AllocError> {
     let command = match command_of(rt.alloc(), words.as_slice()) {
         Ok(command) => command,
         Err(error) => {
+            let status = usage_status(&error);
+            if status == MEMORY {
+                return Ok(out_of_memory(rt));
+            }
             let text = shown_error(rt.alloc(), &error)?;
-            return Ok(explained(rt, text.as_str(), usage_status(&error)));
+            return Ok(explained(rt, text.as_str(), status));
         }
     };
     let path = command.input();

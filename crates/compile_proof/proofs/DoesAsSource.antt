@@ -10,9 +10,7 @@ use Rattle.core_meaning.specs.Meaning.{core as core_source}
 use Rattle.rv32_machine.specs.State.{Areas, State}
 use Rattle.rv32_machine.specs.Run.{run_steps, from, ending_of}
 use Rattle.rv32_machine.specs.Implements.{Meaning, Implements, AgreesIn, Reaches}
-use Rattle.core_lines.specs.Choosing.{far}
 use Rattle.core_lines.specs.Running.{named, core_meaning, IsNeverStuck}
-use Rattle.core_lines.proofs.DoesAsCore.{does_as_core}
 use Rattle.source_lowering.specs.Programs.{program_code}
 use Rattle.source_lowering.specs.Lowerable.{IsLowerable}
 use Rattle.source_lowering.specs.Simulation.{SameEvent, BothVisible, BothCalled, BothReturned, SameEvents, SameOutcome}
@@ -89,11 +87,11 @@ module _ (p : Program) (lowerable : IsLowerable p) (input : List ℕ) (bytes : A
   core_sound : IsNeverStuck (core_meaning (names_of w.functions) (program_code p) input)
   core_sound fuel stuck = sound fuel ((both fuel).ending ∙ stuck)
 
--- The lines of a program that is taken do what its source does, where no two functions have one name.
+-- Lines of the Core of a program that is taken do what its source does, where no two functions have one name.
 pub does_as_source : (p : Program) → IsLowerable p → AreNamedApart (world_of p).functions → DoesAsSource p
-does_as_source p lowerable named_apart n places s input bytes begins sound =
+does_as_source p lowerable named_apart lines are n places s input bytes begins sound =
     let names = names_of (world_of p).functions in
     let bound = frame_bound_of (world_of p) in
     implements_same bound n s input (core_meaning names (program_code p) input) (meaning_of p input) (core_is_source p lowerable input bytes sound)
-    (does_as_core (program_code p) far (selectable p lowerable) names bound n places s input bytes (frames_bounded p lowerable named_apart) begins
+    (are.does (selectable p lowerable) names bound n places s input bytes (frames_bounded p lowerable named_apart) begins
     (core_sound p lowerable input bytes sound))

@@ -1,76 +1,24 @@
--- Each function's frame is within the bound that its source gives by its name.
+-- What each function's frame may take is within the bound that its source gives by its name.
 use Rattle.std.specs.Prelude.{slice_get, bytes_eq, if◌then◌else◌}
 use Rattle.std.specs.List.{All}
-use Rattle.std.proofs.Common.{◌≡◌, ℕ, zero, suc, ◌≤◌, true, false, List, [], ◌∷◌, Option, Some, refl, ap, ◌∙◌, subst, arith}
+use Rattle.std.proofs.Common.{◌≡◌, ℕ, zero, suc, ◌≤◌, true, false, List, [], ◌∷◌, Option, Some, ap, ◌∙◌, subst, arith}
 use Rattle.std.proofs.lemmas.List.Elements.{All-head, All-tail}
 use Rattle.std.proofs.lemmas.Option.{same_Some, none-some}
 use Rattle.cyc_tree.specs.Tree.{Program}
 use Rattle.source_meaning.specs.Steps.{World, Routine}
 use Rattle.source_meaning.specs.Calls.{function_of}
 use Rattle.source_meaning.specs.Programs.{world_of}
-use Rattle.core_meaning.specs.Core.{
-  Local,
-  Statement,
-  Do,
-  If,
-  While,
-  Block,
-  Leave,
-  Break,
-  Continue,
-  Call,
-  Return,
-  Raise,
-  Statements,
-  NoStatements,
-  MoreStatements,
-  Function,
-}
-use Rattle.core_lines.specs.Selected.{frame_bytes}
-use Rattle.core_lines.specs.Bounds as frames
+use Rattle.core_meaning.specs.Core.{Function}
+use Rattle.core_meaning.specs.Bounds.{core_bound}
 use Rattle.core_lines.specs.Running.{AreBounded}
-use Rattle.core_lines.proofs.homes.Locals.{frame_spares}
-use Rattle.source_lowering.specs.Programs.{function_code, program_code}
+use Rattle.source_lowering.specs.Programs.{program_code}
 use Rattle.source_lowering.specs.Lowerable.{IsLowerable}
-use Rattle.source_lowering.specs.Bounds as source
 use Rattle.source_lowering.specs.Bounds.{frame_bound}
-use Rattle.source_lowering.proofs.expressions.Names.{IsRoutine}
 use Rattle.source_lowering.proofs.bounds.Bounded.{frame_bounded}
 use Rattle.source_lowering.proofs.Programs.{routines_are}
 use Rattle.compile_proof.specs.Promise.{name_in, names_of, AreNamedApart, bound_in, frame_bound_of}
 use Rattle.compile_proof.proofs.Selectable.{code_of}
 use Rattle.type_proof.proofs.invariant.Layouts.{same_text}
-
--- ---- both count the words of locals alike
-
-words_same : (ls : List Local) → frames.words_of ls ≡ source.local_words ls
-words_same [] = refl
-words_same (l ∷ ls) = let h = words_same ls in omega (arith, h)
-
-mutual
-  statement_same : (s : Statement) → frames.local_words s ≡ source.statement_words s
-  statement_same (Do operation) = refl
-  statement_same (If t these those) = let h = statements_same these in let g = statements_same those in omega (arith, h, g)
-  statement_same (While test t body) = let h = statements_same test in let g = statements_same body in omega (arith, h, g)
-  statement_same (Block locals body) = let h = words_same locals in let g = statements_same body in omega (arith, h, g)
-  statement_same (Leave body) = statements_same body
-  statement_same Break = refl
-  statement_same Continue = refl
-  statement_same (Call results number arguments) = refl
-  statement_same (Return values) = refl
-  statement_same (Raise kind) = refl
-
-  statements_same : (ss : Statements) → frames.all_local_words ss ≡ source.block_words ss
-  statements_same NoStatements = refl
-  statements_same (MoreStatements s ss) = let h = statement_same s in let g = statements_same ss in omega (arith, h, g)
-
-frame_within : (w : World) (f : Routine) → IsRoutine w f → frame_bytes (function_code w f) ≤ frame_bound w f
-frame_within w f is =
-    let spare = frame_spares (function_code w f) in
-    let own = words_same (function_code w f).own in
-    let body = statements_same (function_code w f).body in
-    let less = frame_bounded w f is in
-    omega (arith, spare, own, body, less)
 
 -- ---- by names
 
@@ -105,6 +53,6 @@ pub frames_bounded : (p : Program) → IsLowerable p → AreNamedApart (world_of
 frames_bounded p h apart number f is =
     let w : World = world_of p in
     let c = code_of w w.functions number f (routines_are (world_of p) p h.items) is in
-    let within = subst (λ (g : Function). frame_bytes g ≤ frame_bound w c.routine) c.same (frame_within w c.routine c.is) in
+    let within = subst (λ (g : Function). core_bound g ≤ frame_bound w c.routine) c.same (frame_bounded w c.routine c.is) in
     let bound = bound_is w number c.routine apart c.there in
     omega (arith, within, bound)

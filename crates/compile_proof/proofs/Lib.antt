@@ -13,8 +13,6 @@ pub mod Functions
 pub mod Selectable
 pub mod Frames
 pub mod DoesAsSource
-pub mod OperationLengths
-pub mod Lengths
 pub mod Data
 pub mod LowerableDo
 pub mod NamedApart

@@ -1,4 +1,4 @@
--- What is promised of the lines that a program's tree becomes: a machine that begins with them does what the source does.
+-- What is promised of lines for a program's lowered Core, whichever they are: a machine that begins with them does what the source does.
 use Rattle.std.specs.Prelude.{◌≡◌, ℕ, ◌≤◌, false, List, [], ◌∷◌, Option, Some, None, slice_get, bytes_eq}
 use Rattle.std.specs.List.{All}
 use Rattle.cyc_words.specs.Events.{AreBytes}
@@ -9,9 +9,8 @@ use Rattle.source_meaning.specs.Programs.{world_of, source}
 use Rattle.rv32_machine.specs.State.{Areas, State}
 use Rattle.rv32_machine.specs.Implements.{Meaning, Implements}
 use Rattle.core_lines.specs.declared.line.Line.{Line}
-use Rattle.core_lines.specs.Lines.{code_length}
-use Rattle.core_lines.specs.Choosing.{far}
-use Rattle.core_lines.specs.Selected as select
+use Rattle.core_meaning.specs.Bounds.{core_code}
+use Rattle.core_lines.specs.Promise.{AreLinesOf}
 use Rattle.core_lines.specs.Running.{Begins, IsNeverStuck}
 use Rattle.source_lowering.specs.Programs as lower
 use Rattle.source_lowering.specs.Bounds.{frame_bound, code_bound}
@@ -47,18 +46,16 @@ frame_bound_of w name = bound_in w (function_of w.functions name)
 
 -- ---- the promise
 
--- the lines of the program's lowered Core
-abbrev pub lines_of : Program → List Line
-lines_of p = select.program_code far (lower.program_code p)
-
--- A machine that begins with the lines and the data does what the source does, on each input of bytes on which the source is never stuck, whatever its store
--- answers.
+-- A machine that begins with lines of the program's lowered Core and with its data does what the source does, on each input of bytes on which the source is
+-- never stuck, whatever its store answers.
 abbrev pub DoesAsSource : Program → Type 0
 DoesAsSource p =
-    (n : Areas) (places : ℕ → ℕ) (s : State) (input : List ℕ) → AreBytes input → Begins n places (lines_of p) (lower.program_code p).data_objects s
-    → IsNeverStuck (meaning_of p input) → Implements (frame_bound_of (world_of p)) n s input (meaning_of p input)
+    (lines : List Line) → AreLinesOf (lower.program_code p) lines → (n : Areas) (places : ℕ → ℕ) (s : State) (input : List ℕ) → AreBytes input
+    → Begins n places lines (lower.program_code p).data_objects s → IsNeverStuck (meaning_of p input)
+    → Implements (frame_bound_of (world_of p)) n s input (meaning_of p input)
 
--- What holds of a program that is lowered where no two functions have one name: its lines do what it does and take no more bytes than its text allows.
+-- What holds of a program that is lowered where no two functions have one name: its lines do what it does, and the bound on their bytes is within that of its
+-- text.
 pub record LowerableDoes (p : Program) : Type 0 where
   pub does : DoesAsSource p
-  pub code : code_length (lines_of p) ≤ code_bound (world_of p).functions
+  pub code : core_code (lower.program_code p) ≤ code_bound (world_of p).functions

@@ -3,9 +3,9 @@
 ghost use Rattle.compile_proof.specs.Laws.{AllLowerableDo, AllAcceptedDo};
 
 /// A law, with nothing to run: of each program that lowering takes and in which no two functions have one name, a
-/// machine that begins with the lines of its lowered Core and its data does what the source does, on each input of
-/// bytes on which the source is never stuck, and whatever the machine's store answers; and the lines take no more bytes
-/// than the bound on the text's code.
+/// machine that begins with lines of its lowered Core, whichever they are, and its data does what the source does, on
+/// each input of bytes on which the source is never stuck, and whatever the machine's store answers; and the bound on
+/// the lines' bytes is within the bound on the text's code.
 pub fn lowerable_do()
     ensures { AllLowerableDo }
 {}

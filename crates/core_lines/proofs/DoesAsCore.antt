@@ -3,9 +3,8 @@ use Rattle.std.specs.Prelude.{slice_get, length}
 use Rattle.std.proofs.Common.{Bool, ◌+◌, ◌≡◌, ℕ, suc, ◌*◌, ◌^◌, ◌≤◌, List, [], ◌∷◌, Some, None, refl, sym, ap, subst, ◌∙◌, arith}
 use Rattle.core_meaning.specs.Core.{Function, Datum, Program}
 use Rattle.core_lines.specs.Selected.{frame_bytes, own_end, placed_body, slots_of, offsets_from, datum_locals, program_code}
-use Rattle.core_lines.specs.Bounds.{core_bound}
 use Rattle.core_lines.specs.Selectable.{IsSelectable, HaveLinesIn}
-use Rattle.core_lines.specs.Running.{AreBounded, DoesAsCore}
+use Rattle.core_lines.specs.Running.{DoesAsCore}
 use Rattle.std.proofs.lemmas.Option.{none-some}
 use Rattle.core_lines.specs.Homes.{homes_in}
 use Rattle.core_meaning.specs.Meaning as core
@@ -15,7 +14,7 @@ use Rattle.core_lines.proofs.Forms.{Does}
 use Rattle.core_lines.proofs.homes.FineHomes.{fine_homes}
 use Rattle.core_lines.proofs.memory.Relations.{World, IsInOrder}
 use Rattle.core_lines.proofs.frames.Bodies.{activation}
-use Rattle.core_lines.proofs.homes.Locals.{as_many_offsets, offset_below, frame_bounded, frame_has_all, highest_of_above}
+use Rattle.core_lines.proofs.homes.Locals.{as_many_offsets, offset_below, frame_has_all, highest_of_above}
 use Rattle.core_lines.proofs.operations.EachOperation.{DataSmall}
 use Rattle.core_lines.proofs.EachStatement.{statements_do}
 use Rattle.core_lines.proofs.Programs.{IsOfProgram, FunctionsDo, program_does_as_core}
@@ -73,8 +72,3 @@ module _ (p : Program) (selectable : IsSelectable p) (w : World) (order : IsInOr
 -- A machine that begins with a program's lines does what the program does.
 pub does_as_core : (p : Program) (wide : ℕ → Bool) → IsSelectable p → DoesAsCore p (program_code wide p)
 does_as_core p wide selectable = program_does_as_core p wide selectable (λ w order of. functions_do p selectable w order of)
-
--- Bounds on frames that are no less than Core's hold the frames.
-pub core_bounds : (names : ℕ → List ℕ) (bound : List ℕ → ℕ) (functions : List Function)
-    → ((number : ℕ) (f : Function) → slice_get functions number ≡ Some f → core_bound f ≤ bound (names number)) → AreBounded names bound functions
-core_bounds names bound functions above number f is = let frame = frame_bounded f in let most = above number f is in omega (arith, frame, most)

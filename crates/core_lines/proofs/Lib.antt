@@ -13,4 +13,7 @@ pub mod EachFunction
 pub mod Offsets
 pub mod EachStatement
 pub mod DoesAsCore
+pub mod OperationLengths
+pub mod Lengths
+pub mod Promised
 pub mod Images

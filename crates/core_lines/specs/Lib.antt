@@ -11,5 +11,5 @@ pub mod Layouts
 pub mod Statics
 pub mod Running
 pub mod Selectable
-pub mod Bounds
+pub mod Promise
 pub mod Laws

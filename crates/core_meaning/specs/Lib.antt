@@ -1,5 +1,6 @@
 pub mod Memory
 pub mod Core
+pub mod Bounds
 pub mod Words
 pub mod Steps
 pub mod Operations

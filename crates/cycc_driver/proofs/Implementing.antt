@@ -3,14 +3,14 @@ use Rattle.std.specs.Prelude.{slice_index, nat_eq, nat_le, if◌then◌else◌}
 use Rattle.std.proofs.Common.{◌≡◌, ℕ, ◌+◌, ◌^◌, ◌≤◌, ◌<◌, Bool, true, false, List, length, refl, sym, ap, ◌∙◌, subst, arith}
 use Rattle.std.proofs.lemmas.Bool.{leb-true, leb-false}
 use Rattle.arena_laws.specs.Holdings.{Holdings, fresh}
-use Rattle.compile_proof.specs.Promise.{lines_of}
 use Rattle.compile_proof.proofs.AcceptedDo.{accepted_do}
-use Rattle.core_lines.specs.Lines.{IsPlace, code_length}
+use Rattle.core_lines.specs.declared.line.Line.{Line}
+use Rattle.core_lines.specs.Promise.{AreLinesOf}
 use Rattle.core_lines.specs.Running.{Begins, data_offsets}
 use Rattle.core_lines.specs.Statics.{data_bytes}
 use Rattle.core_lines.proofs.Images.{IsFirst, begins_as, data_length}
 use Rattle.rv32_layout.specs.Holding.{IsCodeOf}
-use Rattle.rv32_layout.specs.Placed.{ArePlaced, place_of}
+use Rattle.rv32_layout.specs.Placed.{AreInstructions}
 use Rattle.cyc_image.specs.Format.{Contents, Fits, IsImage, code_limit, data_limit}
 use Rattle.cyc_tree.specs.Tree.{Program}
 use Rattle.rv32_machine.specs.State.{stack_base}
@@ -20,16 +20,17 @@ use Rattle.source_meaning.specs.Programs.{unions_of}
 use Rattle.source_lowering.specs.Programs.{program_code}
 use Rattle.source_lowering.specs.Lowerable.{HaveFewMembers}
 use Rattle.accepted_programs.specs.Accepted.{IsAccepted}
-use Rattle.cycc_driver.proofs.Small.{code_small, data_small, each_small, memory_small}
+use Rattle.cycc_driver.proofs.Small.{code_small, code_whole, data_small, each_small, memory_small}
 use Rattle.cycc_driver.specs.Outcome.{IsCode, IsImplementedBy, IsTextImage}
 use Rattle.cycc_driver.specs.Texts.{IsAcceptedAs}
-use Rattle.core_lines.proofs.memory.Access.{of_words}
 
--- What the layers promise of a program: the bytes are its lines', a machine with them has the lines, and the data are its globals'.
+-- What the layers promise of a program: there are lines of its Core, the bytes are instructions, a machine with them has the lines, and the data are its
+-- globals'.
 pub record AreLayers (program : Program) (code statics : List ℕ) : Type 0 where
-  pub placed : ArePlaced (lines_of program) code
-  pub has : IsCodeOf (lines_of program) code
-  pub places : (label : ℕ) → IsPlace (place_of (lines_of program) label)
+  pub lines : List Line
+  pub are : AreLinesOf (program_code program) lines
+  pub words : AreInstructions code
+  pub has : IsCodeOf lines code
   pub statics_are : statics ≡ data_bytes (data_offsets (program_code program).data_objects) 0 (program_code program).data_objects
 
 -- each register begins as a word: the stack's end, or 0
@@ -70,7 +71,7 @@ module _ (program : Program) (code statics : List ℕ) (parts : Contents) (layer
         pages_within = let within = fits.pages_within in omega (arith, within, pages);
         small = memory_small start.holdings.pages start.arena start.code start.statics start.stack
             (subst (λ (a : ℕ → ℕ). (at : ℕ) → a at < 256) (sym starts.arena_bytes) small)
-            (subst (λ (bs : List ℕ). (k : ℕ) → slice_index bs k < 256) (sym (starts.code ∙ is_code)) (each_small code (code_small (lines_of program) code layers.placed)))
+            (subst (λ (bs : List ℕ). (k : ℕ) → slice_index bs k < 256) (sym (starts.code ∙ is_code)) (each_small code (code_small code layers.words)))
             (subst (λ (bs : List ℕ). (k : ℕ) → slice_index bs k < 256) (sym (starts.statics ∙ is_statics ∙ layers.statics_are))
             (each_small (data_bytes offsets 0 objects) (data_small offsets 0 objects)))
             (λ k. let none = starts.zeros k in omega (arith, none));
@@ -81,19 +82,18 @@ module _ (program : Program) (code statics : List ℕ) (parts : Contents) (layer
   implemented accepted few arena start small starts input are_bytes =
       let all = accepted_do program accepted few in
       let does = all.promised in
-      let begun : Begins (areas_of start) (place_of (lines_of program)) (lines_of program) (program_code program).data_objects (state_of start) =
-      begins_as start (place_of (lines_of program)) (lines_of program) (program_code program).data_objects (first_machine arena start small starts) all.plain
-      (starts.statics ∙ is_statics ∙ layers.statics_are) layers.places (layers.has start (starts.code ∙ is_code)) in
-      does.does (areas_of start) (place_of (lines_of program)) (state_of start) input are_bytes begun
+      let places = layers.has.places in
+      let begun : Begins (areas_of start) places layers.lines (program_code program).data_objects (state_of start) =
+      begins_as start places layers.lines (program_code program).data_objects (first_machine arena start small starts) all.plain
+      (starts.statics ∙ is_statics ∙ layers.statics_are) layers.has.labels (layers.has.has start (starts.code ∙ is_code)) in
+      does.does layers.lines layers.are (areas_of start) places (state_of start) input are_bytes begun
       (λ fuel. never_stuck program accepted input fuel)
 
 -- ---- sizes
 
--- its code begins with a call, and is of whole words
-pub is_code : (program : Program) (code : List ℕ) → length code ≡ code_length (lines_of program) → length code ≤ code_limit → IsCode code
-is_code program code long within =
-    let words = of_words (lines_of program) in
-    record { some = omega (arith, long); within = within; whole_words = omega (arith, long, words) }
+-- code of instructions, of which there are some
+pub is_code : (code : List ℕ) → AreInstructions code → 0 < length code → length code ≤ code_limit → IsCode code
+is_code code words some within = record { some = some; within = within; whole_words = code_whole code words }
 
 -- the data are never over theirs
 pub data_fit : (program : Program) → IsAccepted program → HaveFewMembers (unions_of program)

@@ -6,7 +6,6 @@ use Rattle.cycc_driver.specs.declared.fault.CompileFault.TheVariants as fault
 use Rattle.cycc_driver.specs.Texts.{IsAcceptedAs}
 use Rattle.cycc_driver.specs.Refusals.{IsRefusedFor, HasNoImageFor}
 use Rattle.cycc_driver.specs.Refused.{HasNoCodeFor}
-use Rattle.compile_proof.proofs.AcceptedDo.{accepted_do}
 use Rattle.token_proof.proofs.ProgramSizes.{tokens_pay}
 
 -- what a text is refused for
@@ -41,8 +40,7 @@ codeless_image (fault.Lent place) text program accepted why = absurd why
 codeless_image (fault.Copy place) text program accepted why = absurd why
 codeless_image (fault.Size place) text program accepted why = absurd why
 codeless_image (fault.TooLarge place) text program accepted why =
-    let bounded = (accepted_do program accepted.accepted why.few).promised.code in
     let paid = tokens_pay program accepted.spelled.tokens accepted.spelled.parsed in
     let long = why.long in
-    record { program = program; accepted = accepted; large = omega (arith, bounded, paid, long); line = why.line; column = why.column }
+    record { program = program; accepted = accepted; large = omega (arith, paid, long); line = why.line; column = why.column }
 codeless_image fault.Memory text program accepted why = tt

@@ -1,14 +1,14 @@
 -- What a machine's memory holds where its code is placed and its data are a program's: bytes.
 use Rattle.std.specs.Prelude.{slice_index}
-use Rattle.std.proofs.Common.{◌≡◌, ℕ, zero, suc, ◌+◌, ◌-◌, ◌*◌, ◌/◌, ◌%◌, ◌<◌, ◌^◌, Bool, true, false, List, [], ◌∷◌, ◌++◌, length, nat_eq, nat_lt, if◌then◌else◌, sym, subst, arith}
+use Rattle.std.proofs.Common.{◌≡◌, ℕ, zero, suc, ◌+◌, ◌-◌, ◌*◌, ◌/◌, ◌%◌, ◌<◌, ◌^◌, Bool, true, false, List, [], ◌∷◌, ◌++◌, length, nat_eq, nat_lt, if◌then◌else◌, sym, ap, subst, arith}
+use Rattle.std.proofs.Common.{length-append}
 use Rattle.arena_laws.specs.Holdings.{arena_base}
 use Rattle.cyc_image.specs.Format.{u32_bytes}
 use Rattle.core_meaning.specs.Memory.{Content, PartShape}
 use Rattle.core_meaning.specs.Core.{Datum}
-use Rattle.core_lines.specs.declared.line.Line.{Line}
 use Rattle.core_lines.specs.Selected.{rounded}
 use Rattle.core_lines.specs.Statics.{data_bytes, datum_bytes, element_bytes, cells_bytes, parts_bytes, number_bytes, number_in, zeros}
-use Rattle.rv32_layout.specs.Placed.{ArePlaced, AreWords, place_of, instructions_from}
+use Rattle.rv32_layout.specs.Placed.{AreWords, AreInstructions}
 use Rattle.rv32_isa.specs.declared.instruction.Instr.{Instr}
 use Rattle.rv32_machine.specs.Arrays.{bytes_in}
 use Rattle.rv32_machine.specs.State.{code_base, data_base, stack_base}
@@ -37,8 +37,17 @@ words_small (instr ∷ instrs) bytes (front, rest, parts, is, more) =
     subst AreSmall (sym parts)
     (both_small front rest (subst AreSmall (sym is.spelled) (word_small is.word is.is_word)) (words_small instrs rest more))
 
-pub code_small : (lines : List Line) (bytes : List ℕ) → ArePlaced lines bytes → AreSmall bytes
-code_small lines bytes placed = words_small (instructions_from (place_of lines) 0 lines) bytes placed
+pub code_small : (bytes : List ℕ) → AreInstructions bytes → AreSmall bytes
+code_small bytes (instrs, are) = words_small instrs bytes are
+
+words_whole : (instrs : List Instr) (bytes : List ℕ) → AreWords instrs bytes → length bytes % 4 ≡ 0
+words_whole [] bytes are = ap (λ bs. length bs % 4) are
+words_whole (instr ∷ instrs) bytes (front, rest, parts, is, more) =
+    let others = words_whole instrs rest more in
+    omega (arith, ap length parts, length-append front rest, ap length is.spelled, others)
+
+pub code_whole : (bytes : List ℕ) → AreInstructions bytes → length bytes % 4 ≡ 0
+code_whole bytes (instrs, are) = words_whole instrs bytes are
 
 -- ---- data
 

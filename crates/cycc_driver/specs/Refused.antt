@@ -15,11 +15,9 @@ use Rattle.cycc_driver.specs.declared.fault.CompileFault.{CompileFault}
 use Rattle.cycc_driver.specs.declared.fault.CompileFault.TheVariants as fault
 use Rattle.cycc_driver.specs.Refusals.{IsPlaceOf}
 use Rattle.cyc_tree.specs.Tree.{Program}
-use Rattle.source_meaning.specs.Programs.{unions_of}
-use Rattle.source_lowering.specs.Lowerable.{HaveFewMembers}
+use Rattle.source_meaning.specs.Programs.{world_of}
 use Rattle.cyc_image.specs.Format.{code_limit}
-use Rattle.core_lines.specs.Lines.{code_length}
-use Rattle.compile_proof.specs.Promise.{lines_of}
+use Rattle.source_lowering.specs.Bounds.{code_bound}
 
 -- it is of this form, at the place of an offset
 abbrev pub StandsAt : List ℕ → ℕ → (Place → CompileFault) → CompileFault → Type 0
@@ -55,10 +53,9 @@ IsOfFlow text (flow.Lent at) f = StandsAt text at fault.Lent f
 IsOfFlow text (flow.Copy at) f = StandsAt text at fault.Copy f
 IsOfFlow text flow.Memory f = f ≡ fault.Memory
 
--- the code of the program is over the limit, and its unions have no more members than a word counts
+-- the bound on the program's code is over the limit
 pub record HasLongCode (program : Program) (place : Place) : Type 0 where
-  pub few : HaveFewMembers (unions_of program)
-  pub long : code_limit < code_length (lines_of program)
+  pub long : code_limit < code_bound (world_of program).functions
   pub line : place.line ≡ 1
   pub column : place.column ≡ 1
 

@@ -10,7 +10,7 @@ use Rattle.std.proofs.lemmas.Bool.Decides.{nat_tests}
 use Rattle.rv32_isa.specs.Table.{decoded}
 use Rattle.rv32_isa.specs.declared.instruction.Instr.{Instr}
 use Rattle.rv32_machine.specs.State.{Areas, code_base, word_at}
-use Rattle.rv32_machine.specs.Arrays.{bytes_in, byte_at, areas_of}
+use Rattle.rv32_machine.specs.Arrays.{Arrays, bytes_in, byte_at, areas_of}
 use Rattle.rv32_machine.proofs.Bytes.{in_code}
 use Rattle.core_lines.specs.declared.line.Line.{Line}
 use Rattle.core_lines.specs.declared.line.Line.TheVariants.{Plain, Label, Jump, JumpIfZero, BranchIfZero, CallTo}
@@ -19,7 +19,6 @@ use Rattle.core_lines.proofs.memory.Access.{length_of_both}
 use Rattle.cyc_image.specs.Format.{code_limit, u32_bytes}
 use Rattle.core_lines.specs.Relaxed.{place_of}
 use Rattle.rv32_layout.specs.Placed.{IsWord, AreWords, ArePlaced, instructions_from}
-use Rattle.rv32_layout.specs.Holding.{IsCodeOf}
 use Rattle.rv32_layout.proofs.Lines.{place_is_of_words, place_within_length}
 use Rattle.rv32_layout.proofs.Appending.{line_length}
 
@@ -132,7 +131,8 @@ module _ (n : Areas) (code statics stack : List ℕ) (pages : ℕ) (arena : ℕ 
 
 -- ---- the whole code
 
-pub is_code_of : (lines : List Line) (bytes : List ℕ) → ArePlaced lines bytes → AreOnce (labels_placed lines) → IsCodeOf lines bytes
+pub is_code_of : (lines : List Line) (bytes : List ℕ) → ArePlaced lines bytes → AreOnce (labels_placed lines)
+    → (m : Arrays) → m.code ≡ bytes → HasLines (areas_of m) (byte_at m) (place_of lines) 0 lines
 is_code_of lines bytes placed once m code =
     has_lines (areas_of m) (byte_at m) lines [] lines 0 refl refl once
     (has_instrs (areas_of m) m.code m.statics m.stack m.holdings.pages m.arena refl [] bytes code_base (instructions_from (place_of lines) 0 lines) code refl

@@ -2,9 +2,10 @@
 use Rattle.std.specs.Prelude.{◌≡◌, ℕ, List}
 use Rattle.rv32_machine.specs.Arrays.{Arrays, areas_of, byte_at}
 use Rattle.core_lines.specs.declared.line.Line.{Line}
-use Rattle.core_lines.specs.Lines.{HasLines}
-use Rattle.core_lines.specs.Relaxed.{place_of}
+use Rattle.core_lines.specs.Lines.{HasLines, IsPlace}
 
--- each machine whose code these bytes are has the lines from its code's first address on, with each label where `place_of` says
-abbrev pub IsCodeOf : List Line → List ℕ → Type 0
-IsCodeOf lines bytes = (m : Arrays) → m.code ≡ bytes → HasLines (areas_of m) (byte_at m) (place_of lines) 0 lines
+-- each machine whose code these bytes are has the lines from its code's first address on, with each label at one place, to which a jump can go
+pub record IsCodeOf (lines : List Line) (bytes : List ℕ) : Type 0 where
+  pub places : ℕ → ℕ
+  pub labels : (label : ℕ) → IsPlace (places label)
+  pub has : (m : Arrays) → m.code ≡ bytes → HasLines (areas_of m) (byte_at m) places 0 lines

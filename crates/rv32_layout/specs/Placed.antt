@@ -27,3 +27,7 @@ AreWords (instr ∷ instrs) bytes = (front : List ℕ) × (rest : List ℕ) × (
 -- the bytes are the code of the lines
 abbrev pub ArePlaced : List Line → List ℕ → Type 0
 ArePlaced lines bytes = AreWords (instructions_from (place_of lines) 0 lines) bytes
+
+-- the bytes are words of instructions, one after the other
+abbrev pub AreInstructions : List ℕ → Type 0
+AreInstructions bytes = (instrs : List Instr) × AreWords instrs bytes

@@ -4,9 +4,7 @@ ghost use Rattle.std.specs.Prelude.{◌≡◌, ◌+◌, ◌-◌, ◌%◌, ◌^�
 ghost use Rattle.cyc_core.specs.Trees.{function_tree, program_tree};
 ghost use Rattle.core_lines.specs.Frames.{test_code, move_code, take_code, prologue_code, leave_code};
 ghost use Rattle.core_lines.specs.Choosing.{far};
-ghost use Rattle.core_lines.specs.Lines.{labels_placed, AreOnce};
-ghost use Rattle.core_lines.specs.Running.{DoesAsCore};
-ghost use Rattle.core_lines.specs.Selectable.{IsSelectable};
+ghost use Rattle.core_lines.specs.Promise.{AreLinesOf};
 ghost use Rattle.core_lines.specs.Selected.{slots_of, own_end, frame_bytes, labels_within, function_code, functions_code, program_code};
 ghost use Rattle.rv32_select.specs.Places.{surroundings};
 
@@ -168,11 +166,9 @@ fn program_lines(alloc: Global, program: &Program) -> Result<Vec<Line>, AllocErr
 /// The instructions of a lowered program. Fails only where no host memory is left, and where a program hasn't its `main`: no
 /// lowered program is without.
 pub fn select(alloc: Global, program: &Program) -> Result<Labelled, AllocError>
-    ensures code { IfOk result (λ labelled. labelled ≡ program_code far (program_tree program.now)) }
-    // each label is placed once
-    ensures once { IfOk result (λ labelled. AreOnce (labels_placed labelled)) }
-    // a machine that begins with the lines does what the program does
-    ensures meaning { IfOk result (λ labelled. IsSelectable (program_tree program.now) → DoesAsCore (program_tree program.now) labelled) }
+    // no label stands twice in the lines; their words, where a jump on zero counts as two, are some, and are within the bound by the program's operations; and
+    // a machine that begins with the lines does what the program does, with frames within the bounds of its functions
+    ensures lines { IfOk result (λ labelled. AreLinesOf (program_tree program.now) labelled) }
 {
     if program.main as usize >= program.functions.len() {
         return Err(AllocError);

@@ -7,7 +7,7 @@ use Rattle.core_meaning.specs.Core.{Local, Statement, Do, If, While, Block, Leav
 use Rattle.core_meaning.specs.Core.{Statements, NoStatements, MoreStatements, Function}
 use Rattle.core_lines.specs.Homes.{fills, is_scalar, addressed_of, eligible_from, eligible, eligible_of, flag_at, home_for, homes_from, home_in, home_registers, some_of, saved_by}
 use Rattle.core_lines.specs.Selected.{shrink, shrunk, homes_here, homes_after, names_after, names_after_all, shrunk_in, shrunk_of, placed_body}
-use Rattle.core_lines.specs.Bounds.{words_of, local_words, all_local_words}
+use Rattle.core_meaning.specs.Bounds.{local_words, statement_words, block_words}
 
 -- ---- a local that may have a home takes a word
 
@@ -183,14 +183,14 @@ mutual
 -- of a block: each home is that of a local that takes a word
 here_words : (home : ℕ → ℕ) (flag : ℕ → Bool) → ((i r : ℕ) → home i ≡ suc r → flag i ≡ true) → (n : ℕ) (ls : List Local) (body : Statements) (i : ℕ)
     → AreFlags flag i (eligible_from n ls body)
-    → words_of (shrunk ls (homes_from home i (length ls))) + length (some_of (homes_from home i (length ls))) ≤ words_of ls
+    → local_words (shrunk ls (homes_from home i (length ls))) + length (some_of (homes_from home i (length ls))) ≤ local_words ls
 here_words home flag has n [] body i f = omega arith
 here_words home flag has n (l ∷ ls) body i f = by (home i) refl (here_words home flag has (suc n) ls body (suc i) f.1)
   where
     by : (h : ℕ) → home i ≡ h
-        → words_of (shrunk ls (homes_from home (suc i) (length ls))) + length (some_of (homes_from home (suc i) (length ls))) ≤ words_of ls
-        → words_of (shrink h l ∷ shrunk ls (homes_from home (suc i) (length ls))) + length (some_of (h ∷ homes_from home (suc i) (length ls)))
-        ≤ words_of (l ∷ ls)
+        → local_words (shrunk ls (homes_from home (suc i) (length ls))) + length (some_of (homes_from home (suc i) (length ls))) ≤ local_words ls
+        → local_words (shrink h l ∷ shrunk ls (homes_from home (suc i) (length ls))) + length (some_of (h ∷ homes_from home (suc i) (length ls)))
+        ≤ local_words (l ∷ ls)
     by zero e rest = omega (arith, rest)
     by (suc r) e rest =
         let flagged : (is_scalar l && not (addressed_of 0 n body)) ≡ true = sym f.0 ∙ has i r e in
@@ -199,31 +199,31 @@ here_words home flag has n (l ∷ ls) body i f = by (home i) refl (here_words ho
         omega (arith, rest, some)
 
 both_words : (home : ℕ → ℕ) (ss more : Statements) (i b : ℕ)
-    → all_local_words (shrunk_of (homes_from home i (length (eligible_of ss) + (length (eligible_of more) + b))) ss)
-    + length (some_of (homes_from home i (length (eligible_of ss)))) ≤ all_local_words ss
-    → all_local_words (shrunk_of (homes_from home (i + length (eligible_of ss)) (length (eligible_of more) + b)) more)
-    + length (some_of (homes_from home (i + length (eligible_of ss)) (length (eligible_of more)))) ≤ all_local_words more
-    → all_local_words (shrunk_of (homes_from home i (length (eligible_of ss ++ eligible_of more) + b)) ss)
-    + all_local_words (shrunk_of (names_after_all ss (homes_from home i (length (eligible_of ss ++ eligible_of more) + b))) more)
-    + length (some_of (homes_from home i (length (eligible_of ss ++ eligible_of more)))) ≤ all_local_words ss + all_local_words more
+    → block_words (shrunk_of (homes_from home i (length (eligible_of ss) + (length (eligible_of more) + b))) ss)
+    + length (some_of (homes_from home i (length (eligible_of ss)))) ≤ block_words ss
+    → block_words (shrunk_of (homes_from home (i + length (eligible_of ss)) (length (eligible_of more) + b)) more)
+    + length (some_of (homes_from home (i + length (eligible_of ss)) (length (eligible_of more)))) ≤ block_words more
+    → block_words (shrunk_of (homes_from home i (length (eligible_of ss ++ eligible_of more) + b)) ss)
+    + block_words (shrunk_of (names_after_all ss (homes_from home i (length (eligible_of ss ++ eligible_of more) + b))) more)
+    + length (some_of (homes_from home i (length (eligible_of ss ++ eligible_of more)))) ≤ block_words ss + block_words more
 both_words home ss more i b first second =
     let one = eligible_of ss in
     let two = eligible_of more in
     let many = length-append one two in
     let count : length (one ++ two) + b ≡ length one + (length two + b) = omega (arith, many) in
-    let a : all_local_words (shrunk_of (homes_from home i (length (one ++ two) + b)) ss)
-    ≡ all_local_words (shrunk_of (homes_from home i (length one + (length two + b))) ss) =
-    ap (λ n. all_local_words (shrunk_of (homes_from home i n) ss)) count in
-    let c : all_local_words (shrunk_of (names_after_all ss (homes_from home i (length (one ++ two) + b))) more)
-    ≡ all_local_words (shrunk_of (homes_from home (i + length one) (length two + b)) more) =
-    ap (λ n. all_local_words (shrunk_of (names_after_all ss (homes_from home i n)) more)) count
-    ∙ ap (λ hs. all_local_words (shrunk_of hs more)) (all_names_are home ss i (length two + b)) in
+    let a : block_words (shrunk_of (homes_from home i (length (one ++ two) + b)) ss)
+    ≡ block_words (shrunk_of (homes_from home i (length one + (length two + b))) ss) =
+    ap (λ n. block_words (shrunk_of (homes_from home i n) ss)) count in
+    let c : block_words (shrunk_of (names_after_all ss (homes_from home i (length (one ++ two) + b))) more)
+    ≡ block_words (shrunk_of (homes_from home (i + length one) (length two + b)) more) =
+    ap (λ n. block_words (shrunk_of (names_after_all ss (homes_from home i n)) more)) count
+    ∙ ap (λ hs. block_words (shrunk_of hs more)) (all_names_are home ss i (length two + b)) in
     let split = ap (λ n. length (some_of (homes_from home i n))) many ∙ some_split home i (length one) (length two) in
     omega (arith, first, second, a, c, split)
 
 mutual
   home_words : (home : ℕ → ℕ) (flag : ℕ → Bool) → ((i r : ℕ) → home i ≡ suc r → flag i ≡ true) → (s : Statement) (i b : ℕ) → AreFlags flag i (eligible s)
-      → local_words (shrunk_in (homes_from home i (length (eligible s) + b)) s) + length (some_of (homes_from home i (length (eligible s)))) ≤ local_words s
+      → statement_words (shrunk_in (homes_from home i (length (eligible s) + b)) s) + length (some_of (homes_from home i (length (eligible s)))) ≤ statement_words s
   home_words home flag has (Do operation) i b f = omega arith
   home_words home flag has (If t these those) i b f = both_words home these those i b
       (all_home_words home flag has these i (length (eligible_of those) + b) (flags_first flag i (eligible_of these) (eligible_of those) f))
@@ -241,12 +241,12 @@ mutual
       let start : i + length flags ≡ i + length ls = omega (arith, few) in
       let here = here_words home flag has 0 ls body i (flags_first flag i flags inner f) in
       let rest = all_home_words home flag has body (i + length ls) b (subst (λ k. AreFlags flag k inner) start (flags_second flag i flags inner f)) in
-      let mine : words_of (shrunk ls (homes_here ls (homes_from home i (length (flags ++ inner) + b)))) ≡ words_of (shrunk ls (homes_from home i (length ls))) =
-      ap (λ n. words_of (shrunk ls (homes_here ls (homes_from home i n)))) count ∙ ap (λ hs. words_of (shrunk ls hs)) (here_are home ls i (length inner + b)) in
-      let others : all_local_words (shrunk_of (homes_after ls (homes_from home i (length (flags ++ inner) + b))) body)
-      ≡ all_local_words (shrunk_of (homes_from home (i + length ls) (length inner + b)) body) =
-      ap (λ n. all_local_words (shrunk_of (homes_after ls (homes_from home i n)) body)) count
-      ∙ ap (λ hs. all_local_words (shrunk_of hs body)) (after_are home ls i (length inner + b)) in
+      let mine : local_words (shrunk ls (homes_here ls (homes_from home i (length (flags ++ inner) + b)))) ≡ local_words (shrunk ls (homes_from home i (length ls))) =
+      ap (λ n. local_words (shrunk ls (homes_here ls (homes_from home i n)))) count ∙ ap (λ hs. local_words (shrunk ls hs)) (here_are home ls i (length inner + b)) in
+      let others : block_words (shrunk_of (homes_after ls (homes_from home i (length (flags ++ inner) + b))) body)
+      ≡ block_words (shrunk_of (homes_from home (i + length ls) (length inner + b)) body) =
+      ap (λ n. block_words (shrunk_of (homes_after ls (homes_from home i n)) body)) count
+      ∙ ap (λ hs. block_words (shrunk_of hs body)) (after_are home ls i (length inner + b)) in
       let split = ap (λ n. length (some_of (homes_from home i n))) all ∙ some_split home i (length ls) (length inner) in
       omega (arith, here, rest, mine, others, split)
   home_words home flag has (Leave body) i b f = all_home_words home flag has body i b f
@@ -258,8 +258,8 @@ mutual
 
   all_home_words : (home : ℕ → ℕ) (flag : ℕ → Bool) → ((i r : ℕ) → home i ≡ suc r → flag i ≡ true) → (ss : Statements) (i b : ℕ)
       → AreFlags flag i (eligible_of ss)
-      → all_local_words (shrunk_of (homes_from home i (length (eligible_of ss) + b)) ss) + length (some_of (homes_from home i (length (eligible_of ss))))
-      ≤ all_local_words ss
+      → block_words (shrunk_of (homes_from home i (length (eligible_of ss) + b)) ss) + length (some_of (homes_from home i (length (eligible_of ss))))
+      ≤ block_words ss
   all_home_words home flag has NoStatements i b f = omega arith
   all_home_words home flag has (MoreStatements s ss) i b f =
       let one = eligible s in
@@ -268,21 +268,21 @@ mutual
       let count : length (one ++ two) + b ≡ length one + (length two + b) = omega (arith, many) in
       let first = home_words home flag has s i (length two + b) (flags_first flag i one two f) in
       let second = all_home_words home flag has ss (i + length one) b (flags_second flag i one two f) in
-      let a : local_words (shrunk_in (homes_from home i (length (one ++ two) + b)) s)
-      ≡ local_words (shrunk_in (homes_from home i (length one + (length two + b))) s) =
-      ap (λ n. local_words (shrunk_in (homes_from home i n) s)) count in
-      let c : all_local_words (shrunk_of (names_after s (homes_from home i (length (one ++ two) + b))) ss)
-      ≡ all_local_words (shrunk_of (homes_from home (i + length one) (length two + b)) ss) =
-      ap (λ n. all_local_words (shrunk_of (names_after s (homes_from home i n)) ss)) count
-      ∙ ap (λ hs. all_local_words (shrunk_of hs ss)) (names_are home s i (length two + b)) in
+      let a : statement_words (shrunk_in (homes_from home i (length (one ++ two) + b)) s)
+      ≡ statement_words (shrunk_in (homes_from home i (length one + (length two + b))) s) =
+      ap (λ n. statement_words (shrunk_in (homes_from home i n) s)) count in
+      let c : block_words (shrunk_of (names_after s (homes_from home i (length (one ++ two) + b))) ss)
+      ≡ block_words (shrunk_of (homes_from home (i + length one) (length two + b)) ss) =
+      ap (λ n. block_words (shrunk_of (names_after s (homes_from home i n)) ss)) count
+      ∙ ap (λ hs. block_words (shrunk_of hs ss)) (names_are home s i (length two + b)) in
       let split = ap (λ n. length (some_of (homes_from home i n))) many ∙ some_split home i (length one) (length two) in
       omega (arith, first, second, a, c, split)
 
-pub homes_are_words : (f : Function) → all_local_words (placed_body f) + length (saved_by f) ≤ all_local_words f.body
+pub homes_are_words : (f : Function) → block_words (placed_body f) + length (saved_by f) ≤ block_words f.body
 homes_are_words f =
     let flags = eligible_of f.body in
     let words = all_home_words (home_in f) (flag_at flags) (λ i r e. home_flag flags f.order home_registers i r e) f.body 0 0 (flags_are flags) in
     let n : length flags + 0 ≡ length flags = omega arith in
-    let e : all_local_words (shrunk_of (homes_from (home_in f) 0 (length flags + 0)) f.body) ≡ all_local_words (placed_body f) =
-    ap (λ k. all_local_words (shrunk_of (homes_from (home_in f) 0 k) f.body)) n in
+    let e : block_words (shrunk_of (homes_from (home_in f) 0 (length flags + 0)) f.body) ≡ block_words (placed_body f) =
+    ap (λ k. block_words (shrunk_of (homes_from (home_in f) 0 k) f.body)) n in
     omega (arith, words, e)

@@ -24,7 +24,7 @@ use Rattle.core_meaning.specs.Core.{
 use Rattle.core_lines.specs.Selected.{rounded, bytes_of, offsets_from, end_from, greater, highest, highest_of, slots_of, own_end, placed_body, shrink, shrunk, first_of, rest_of, frame_bytes, too_many}
 use Rattle.core_lines.specs.Selectable.{AreLayouts}
 use Rattle.core_lines.specs.Layouts.{IsLayout}
-use Rattle.core_lines.specs.Bounds.{words_of, local_words, all_local_words, core_bound}
+use Rattle.core_meaning.specs.Bounds.{local_words, statement_words, block_words, core_bound}
 use Rattle.core_lines.proofs.homes.HomeWords.{homes_are_words}
 use Rattle.core_lines.proofs.memory.Arrays.{object_fits}
 use Rattle.core_lines.proofs.memory.Laying.{LaidOut}
@@ -111,7 +111,7 @@ mutual
 
 -- ---- no more than the bound
 
-end_bounded : (low : ℕ) (ls : List Local) → rounded (end_from low ls) ≤ rounded low + 4 * words_of ls
+end_bounded : (low : ℕ) (ls : List Local) → rounded (end_from low ls) ≤ rounded low + 4 * local_words ls
 end_bounded low [] = omega arith
 end_bounded low (l ∷ ls) = let h = end_bounded (rounded low + bytes_of l) ls in omega (arith, h)
 
@@ -123,7 +123,7 @@ rounded_greater a b high l m = by (nat_le a b)
     by false = l
 
 mutual
-  highest_bounded : (low : ℕ) (s : Statement) → rounded (highest low s) ≤ rounded low + 4 * local_words s
+  highest_bounded : (low : ℕ) (s : Statement) → rounded (highest low s) ≤ rounded low + 4 * statement_words s
   highest_bounded low (Do operation) = omega arith
   highest_bounded low (If t these those) =
       let h = highest_of_bounded low these in let g = highest_of_bounded low those in
@@ -140,7 +140,7 @@ mutual
   highest_bounded low (Return values) = omega arith
   highest_bounded low (Raise kind) = omega arith
 
-  highest_of_bounded : (low : ℕ) (ss : Statements) → rounded (highest_of low ss) ≤ rounded low + 4 * all_local_words ss
+  highest_of_bounded : (low : ℕ) (ss : Statements) → rounded (highest_of low ss) ≤ rounded low + 4 * block_words ss
   highest_of_bounded low NoStatements = omega arith
   highest_of_bounded low (MoreStatements s ss) =
       let h = highest_bounded low s in let g = highest_of_bounded low ss in
@@ -150,23 +150,19 @@ mutual
 abbrev pub top_of : Function → ℕ
 top_of f = highest_of (own_end f) (placed_body f)
 
-top_bounded : (f : Function) → top_of f + 124 ≤ core_bound f
+top_bounded : (f : Function) → top_of f + 60 ≤ core_bound f
 top_bounded f =
     let h = highest_of_bounded (own_end f) (placed_body f) in
     let fewer = homes_are_words f in
     let g = end_bounded (4 * slots_of f) f.own in
     omega (arith, h, g, fewer)
 
--- with 64 bytes to spare
-pub frame_spares : (f : Function) → frame_bytes f + 64 ≤ core_bound f
-frame_spares f = by (nat_le (top_of f) (too_many - 16)) refl
+pub frame_bounded : (f : Function) → frame_bytes f ≤ core_bound f
+frame_bounded f = by (nat_le (top_of f) (too_many - 16)) refl
   where
-    by : (c : Bool) → nat_le (top_of f) (too_many - 16) ≡ c → (if c then (top_of f + 15) / 16 * 16 else too_many) + 64 ≤ core_bound f
+    by : (c : Bool) → nat_le (top_of f) (too_many - 16) ≡ c → (if c then (top_of f + 15) / 16 * 16 else too_many) ≤ core_bound f
     by true e = let h = top_bounded f in omega (arith, h)
     by false e = let h = top_bounded f in let g = leb-false (top_of f) (too_many - 16) e in omega (arith, h, g)
-
-pub frame_bounded : (f : Function) → frame_bytes f ≤ core_bound f
-frame_bounded f = let h = frame_spares f in omega (arith, h)
 
 pub frame_even : (f : Function) → frame_bytes f % 16 ≡ 0
 frame_even f = by (nat_le (top_of f) (too_many - 16))

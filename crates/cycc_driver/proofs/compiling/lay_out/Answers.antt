@@ -1,47 +1,46 @@
-use Rattle.std.proofs.Common.{◌≡◌, ℕ, ◌<◌, List, length, refl, ap, ◌∙◌, subst, arith}
+use Rattle.std.proofs.Common.{◌≡◌, ◌<◌, List, length, refl, ap, ◌∙◌, subst, arith}
 use Rattle.std.specs.Prelude.{Err}
 use Rattle.core_lines.specs.declared.line.Line.{Line}
-use Rattle.core_lines.specs.Choosing.{far}
-use Rattle.core_lines.specs.Lines.{IsPlace, code_length}
+use Rattle.core_lines.specs.Promise.{AreLinesOf}
 use Rattle.core_lines.specs.Running.{data_offsets}
-use Rattle.core_lines.specs.Selected as select
 use Rattle.core_lines.specs.Statics.{data_bytes}
 use Rattle.core_meaning.specs.Core as core
 use Rattle.rv32_layout.specs.declared.fault.LayoutFault.{LayoutFault}
-use Rattle.rv32_layout.specs.Holding.{IsCodeOf}
-use Rattle.rv32_layout.specs.Placed.{ArePlaced, place_of}
-use Rattle.cyc_image.specs.Format.{code_limit, data_limit}
+use Rattle.cyc_image.specs.Format.{data_limit}
+use Rattle.compile_proof.proofs.AcceptedDo.{accepted_do}
 use Rattle.cycc_driver.proofs.Implementing.{data_fit, implemented, is_code}
 use Rattle.cycc_driver.proofs.compiling.lay_out.Goals as goal
 
 pub returns-in-Err-TooLarge-clause-refused : goal.returns-in-Err-TooLarge-clause-refused
 returns-in-Err-TooLarge-clause-refused c =
-    let lines = c.in_ok-labelled.ensures.code ∙ ap (select.program_code far) c.in_ok-core.ensures.code in
-    let large = c.in-Err-TooLarge.ensures.too_large.0 (ap (λ (f : LayoutFault). Err f) c.in-Err-TooLarge.field-0-is) in
+    let made = c.in_ok-core.ensures in
+    let are = subst (λ (p : core.Program). AreLinesOf p c.in_ok-labelled.labelled) made.code c.in_ok-labelled.ensures.lines in
+    let all = accepted_do c.args.checked.now made.accepted made.few in
+    let large = c.in-Err-TooLarge.ensures.too_large (ap (λ (f : LayoutFault). Err f) c.in-Err-TooLarge.field-0-is) in
     record {
-      few = c.in_ok-core.ensures.few;
-      long = subst (λ (ls : List Line). code_limit < code_length ls) lines large;
+      long = let within = are.within in let bound = all.promised.code in omega (arith, large, within, bound);
       line = refl;
       column = refl;
     }
 
 pub returns-in-Ok-data-clause-code : goal.returns-in-Ok-data-clause-code
 returns-in-Ok-data-clause-code c =
-    let lines = c.in_ok-labelled.ensures.code ∙ ap (select.program_code far) c.in_ok-core.ensures.code in
     let placed = c.in-Ok.ensures in
-    is_code c.args.checked.now c.in-Ok.code.bytes.items (omega (arith, placed.length, ap code_length lines)) (omega (arith, placed.within))
+    let some = placed.some c.in_ok-labelled.ensures.lines.some in
+    is_code c.in-Ok.code.bytes.items placed.words (omega (arith, some)) (omega (arith, placed.within))
 
 pub returns-in-Ok-data-clause-implemented : goal.returns-in-Ok-data-clause-implemented
 returns-in-Ok-data-clause-implemented c = λ parts is_code is_statics from_first fits.
-    let lines = c.in_ok-labelled.ensures.code ∙ ap (select.program_code far) c.in_ok-core.ensures.code in
+    let made = c.in_ok-core.ensures in
+    let are = subst (λ (p : core.Program). AreLinesOf p c.in_ok-labelled.labelled) made.code c.in_ok-labelled.ensures.lines in
     let placed = c.in-Ok.ensures in
-    let bytes = c.in-Ok.code.bytes.items in
-    implemented c.args.checked.now bytes c.in-Ok-data.data.items parts record {
-      placed = subst (λ (ls : List Line). ArePlaced ls bytes) lines placed.placed;
-      has = subst (λ (ls : List Line). IsCodeOf ls bytes) lines (placed.has c.in_ok-labelled.ensures.once);
-      places = subst (λ (ls : List Line). (label : ℕ) → IsPlace (place_of ls label)) lines placed.places;
-      statics_are = c.in-Ok-data.ensures.bytes ∙ ap (λ (p : core.Program). data_bytes (data_offsets p.data_objects) 0 p.data_objects) c.in_ok-core.ensures.code;
-    } is_code is_statics from_first fits c.in_ok-core.ensures.accepted c.in_ok-core.ensures.few
+    implemented c.args.checked.now c.in-Ok.code.bytes.items c.in-Ok-data.data.items parts record {
+      lines = c.in_ok-labelled.labelled;
+      are = are;
+      words = placed.words;
+      has = placed.has are.once;
+      statics_are = c.in-Ok-data.ensures.bytes ∙ ap (λ (p : core.Program). data_bytes (data_offsets p.data_objects) 0 p.data_objects) made.code;
+    } is_code is_statics from_first fits made.accepted made.few
 
 pub unreachable-requires : goal.unreachable-requires
 unreachable-requires c =

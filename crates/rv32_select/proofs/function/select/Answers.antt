@@ -4,7 +4,7 @@ use Rattle.std.proofs.lemmas.List.{length-map}
 use Rattle.cyc_core.specs.Trees.{function_tree, program_tree}
 use Rattle.rv32_select.proofs.Beginning.{program_begins}
 use Rattle.rv32_select.proofs.NoBranches.{program_long}
-use Rattle.rv32_select.proofs.Meaning.{lines_once, lines_do_as}
+use Rattle.rv32_select.proofs.Meaning.{lines_are}
 use Rattle.rv32_select.proofs.function.select.Goals as goal
 
 pub invariant_of-result : goal.invariant_of-result
@@ -14,8 +14,5 @@ invariant_of-result c =
     let there : program.main < length (map function_tree program.functions.items) = omega (arith, length-map program.functions.items function_tree) in
     (program_begins (program_tree program) lines c.in_ok-lines.ensures there, program_long (program_tree program) lines c.in_ok-lines.ensures)
 
-pub returns-clause-once : goal.returns-clause-once
-returns-clause-once c = lines_once (program_tree c.args.program.now) c.in_ok-lines.lines.items c.in_ok-lines.ensures
-
-pub returns-clause-meaning : goal.returns-clause-meaning
-returns-clause-meaning c = lines_do_as (program_tree c.args.program.now) c.in_ok-lines.lines.items c.in_ok-lines.ensures
+pub returns : goal.returns
+returns c = record { lines = lines_are (program_tree c.args.program.now) c.in_ok-lines.lines.items c.in_ok-lines.ensures }

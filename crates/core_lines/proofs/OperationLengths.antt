@@ -11,7 +11,7 @@ use Rattle.core_lines.specs.Frames.{lower_of, is_short, word_code, load_code, sa
 use Rattle.core_lines.specs.Loops.{are_words, copy_loop, clear_loop}
 use Rattle.core_lines.specs.Selected.{Surroundings, nth, local_offset, local_home, from_temp, to_temp, constant_code, far_code, read_line, read_code, write_line, write_code, binary_code, address_code, get_code, byte_code, put_code, bytes_code, further_code, bytes_in, operation_code}
 use Rattle.core_lines.proofs.memory.Access.{length_of_both}
-use Rattle.source_lowering.specs.Bounds.{operation_count}
+use Rattle.core_meaning.specs.Bounds.{operation_count}
 
 -- lines take no more than so many bytes
 pub record IsWithin (n : ℕ) (lines : List Line) : Type 0 where

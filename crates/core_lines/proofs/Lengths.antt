@@ -8,8 +8,8 @@ use Rattle.core_lines.specs.Choosing.{is_held, held_behind, held_behind_all, hel
 use Rattle.core_lines.specs.Homes.{saved_slot, saved_by}
 use Rattle.core_lines.specs.Selected.{offsets_from, frame_bytes, datum_locals, Surroundings, labels_in, labels_of, names_after, names_after_all, naming, holding, within_block, statement_code, statements_code, around, labels_within, function_code, functions_code, program_code}
 use Rattle.core_lines.proofs.homes.SavedFew.{return_within, ends_within}
-use Rattle.source_lowering.specs.Bounds.{branch_count, statement_operations, operations_of, all_operations, core_code}
-use Rattle.compile_proof.proofs.OperationLengths.{IsWithin, both_within, less_within, nothing_within, load_within, save_within, operation_within}
+use Rattle.core_meaning.specs.Bounds.{branch_count, statement_operations, operations_of, all_operations, core_code}
+use Rattle.core_lines.proofs.OperationLengths.{IsWithin, both_within, less_within, nothing_within, load_within, save_within, operation_within}
 
 -- ---- statements
 

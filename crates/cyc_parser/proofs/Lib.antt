@@ -11,6 +11,8 @@ pub mod Depths
 pub mod ReadLists
 pub mod ReadMembers
 pub mod Vectors
+pub mod Eaten
+pub mod ReadSome
 pub mod Chains
 pub mod Levels
 pub mod ReadSteps

@@ -92,6 +92,10 @@ behind s p = read (sign s) (λ at. p)
 abbrev pub listed : {A : Type 0} → (Tokens → Outcome A) → Tokens → Outcome (List A)
 listed p = read p (λ x. read (many (is_sign sign_of.Comma) (behind sign_of.Comma p)) (λ xs. done (x ∷ xs)))
 
+-- phrases as long as the next token passes, of which there is one at least
+abbrev pub some : {A : Type 0} → (TokenKind → Bool) → (Tokens → Outcome A) → Tokens → Outcome (List A)
+some test p = read p (λ x. read (many test p) (λ xs. done (x ∷ xs)))
+
 -- ---- what a function answers
 
 -- the fault that a function answers is the reader's, unless memory ran out

@@ -1,6 +1,6 @@
 // The tokens that are left to read.
 
-ghost use Rattle.std.specs.Prelude.{◌≡◌, ◌<◌, ◌≤◌, OnOk, OnErr, OnSome, List, length, map, drop, if◌then◌else◌};
+ghost use Rattle.std.specs.Prelude.{◌≡◌, ◌<◌, MatchBool, Ok, OnOk, List, length, map, drop, if◌then◌else◌};
 ghost use Rattle.cyc_lexer.specs.Tokens.{token_tree};
 ghost use Rattle.cyc_tree.specs.View.{name_tree, region_tree};
 ghost use Rattle.cyc_parser.specs.declared.fault.ParseFault.TheVariants.{Parse, TooDeep};
@@ -43,7 +43,6 @@ impl<'t, 'a> Cursor<'t, 'a> {
     /// The next token's kind.
     pub fn kind(&self) -> Option<TokenKind>
         ensures next { result ≡ next_kind self.now }
-        ensures some { OnSome result (0 < length self.now) }
     {
         match self.tokens.get(self.next) {
             Some(token) => Some(token.kind),
@@ -117,7 +116,6 @@ impl<'t, 'a> Cursor<'t, 'a> {
     pub fn read(&mut self) -> Parsed<Token<'a>>
         ensures reads { Gives token_tree result self.new (token any_token self.old) }
         ensures shorter { OnOk result (length self.new < length self.old) }
-        ensures err { OnErr result (self.new ≡ self.old) }
     {
         match self.tokens.get(self.next) {
             Some(token) => {
@@ -133,7 +131,6 @@ impl<'t, 'a> Cursor<'t, 'a> {
     pub fn sign(&mut self, sign: Sign) -> Parsed<u32>
         ensures reads { Gives (λ at. at) result self.new (sign_at sign self.old) }
         ensures shorter { OnOk result (length self.new < length self.old) }
-        ensures err { OnErr result (self.new ≡ self.old) }
     {
         if self.is_sign(sign) {
             Ok(self.read()?.at)
@@ -142,11 +139,23 @@ impl<'t, 'a> Cursor<'t, 'a> {
         }
     }
 
+    /// Reads the next token where it is this sign, and answers whether it is.
+    pub fn eat(&mut self, sign: Sign) -> bool
+        ensures next { result ≡ next_is (sign_test sign) self.old }
+        ensures reads { MatchBool result (sign_at sign self.old ≡ Ok (next_place self.old, self.new)) (self.new ≡ self.old) }
+        ensures shorter { MatchBool result (length self.new < length self.old) (self.new ≡ self.old) }
+    {
+        let stands = self.is_sign(sign);
+        if stands {
+            self.next += 1;
+        }
+        stands
+    }
+
     /// Reads the next token, which has to be this keyword, and answers its place.
     pub fn keyword(&mut self, keyword: Keyword) -> Parsed<u32>
         ensures reads { Gives (λ at. at) result self.new (keyword_at keyword self.old) }
         ensures shorter { OnOk result (length self.new < length self.old) }
-        ensures err { OnErr result (self.new ≡ self.old) }
     {
         if self.is_keyword(keyword) {
             Ok(self.read()?.at)
@@ -160,7 +169,6 @@ impl<'t, 'a> Cursor<'t, 'a> {
     pub fn name(&mut self, alloc: Global) -> Parsed<Name>
         ensures reads { Gives name_tree result self.new (name_at self.old) }
         ensures shorter { OnOk result (length self.new < length self.old) }
-        ensures err { OnErr result (length self.new ≤ length self.old) }
     {
         if !self.is_name() {
             return Err(self.unexpected());
@@ -175,7 +183,6 @@ impl<'t, 'a> Cursor<'t, 'a> {
     pub fn region(&mut self, alloc: Global) -> Parsed<RegionName>
         ensures reads { Gives region_tree result self.new (region_at self.old) }
         ensures shorter { OnOk result (length self.new < length self.old) }
-        ensures err { OnErr result (length self.new ≤ length self.old) }
     {
         if !self.is_region() {
             return Err(self.unexpected());
@@ -192,12 +199,11 @@ impl<'t, 'a> Cursor<'t, 'a> {
         }
     }
 
-    #[tactic(auto, unfolding(crate::specs::ReadTypes::number))]
     /// Reads the next token, which has to be a number, and answers its value and whether it has the suffix.
+    #[tactic(auto, unfolding(crate::specs::ReadTypes::number))]
     pub fn number(&mut self) -> Parsed<(u32, bool)>
         ensures reads { Gives (λ n. n) result self.new (number_at self.old) }
         ensures shorter { OnOk result (length self.new < length self.old) }
-        ensures err { OnErr result (self.new ≡ self.old) }
     {
         let Some(TokenKind::Number(value, suffix)) = self.kind() else {
             return Err(self.unexpected());

@@ -49,8 +49,7 @@ fn initializer(alloc: Global, depth: u32, cursor: &mut Cursor<'_, '_>) -> Parsed
     ensures reads { Gives initializer_tree result cursor.new (initializer_by (expression_at depth) cursor.old) }
     ensures shorter { OnOk result (length cursor.new ≤ length cursor.old) }
 {
-    if cursor.is_sign(Sign::Assign) {
-        cursor.sign(Sign::Assign)?;
+    if cursor.eat(Sign::Assign) {
         Ok(Initializer::Value(expression(alloc, depth, cursor)?))
     } else if cursor.is_sign(Sign::LeftBracket) {
         Ok(Initializer::Array(element_count(cursor)?))
@@ -68,8 +67,7 @@ fn region(alloc: Global, cursor: &mut Cursor<'_, '_>) -> Parsed<Declaration>
     let at = cursor.keyword(Keyword::Region)?;
     let region = one_region(alloc, cursor)?;
     let handle = cursor.name(alloc)?;
-    if cursor.is_sign(Sign::Assign) {
-        cursor.sign(Sign::Assign)?;
+    if cursor.eat(Sign::Assign) {
         cursor.keyword(Keyword::Open)?;
         let key = parenthesized_name(alloc, cursor)?;
         cursor.sign(Sign::Semicolon)?;

@@ -38,8 +38,7 @@ fn assignment(alloc: Global, depth: u32, cursor: &mut Cursor<'_, '_>) -> Parsed<
     ensures shorter { OnOk result (length cursor.new < length cursor.old) }
 {
     let first = any_of(alloc, depth, cursor)?;
-    if is_unary(&first) && cursor.is_sign(Sign::Assign) {
-        cursor.sign(Sign::Assign)?;
+    if is_unary(&first) && cursor.eat(Sign::Assign) {
         let value = expression(alloc, depth, cursor)?;
         let place = Box::new(alloc, first)?;
         Ok(Expression::Assign(place, Box::new(alloc, value)?))
@@ -57,8 +56,7 @@ fn any_of(alloc: Global, depth: u32, cursor: &mut Cursor<'_, '_>) -> Parsed<Expr
 {
     let first = all_of(alloc, depth, cursor)?;
     let mut others = Vec::new(alloc);
-    'others: while cursor.is_sign(Sign::OrOr) {
-        cursor.sign(Sign::OrOr)?;
+    'others: while cursor.eat(Sign::OrOr) {
         others.push(all_of(alloc, depth, cursor)?)?;
     }
     if others.is_empty() {
@@ -77,8 +75,7 @@ fn all_of(alloc: Global, depth: u32, cursor: &mut Cursor<'_, '_>) -> Parsed<Expr
 {
     let first = chain(alloc, depth, Some(LOOSEST), cursor)?;
     let mut others = Vec::new(alloc);
-    'others: while cursor.is_sign(Sign::AndAnd) {
-        cursor.sign(Sign::AndAnd)?;
+    'others: while cursor.eat(Sign::AndAnd) {
         others.push(chain(alloc, depth, Some(LOOSEST), cursor)?)?;
     }
     if others.is_empty() {
@@ -288,10 +285,9 @@ fn named(
         let arguments = arguments(alloc, depth, cursor)?;
         return Ok((Expression::Call(name, arguments), None));
     }
-    if !cursor.is_sign(Sign::Dot) {
+    if !cursor.eat(Sign::Dot) {
         return Ok((Expression::Variable(name), None));
     }
-    cursor.sign(Sign::Dot)?;
     let member = cursor.name(alloc)?;
     if cursor.is_sign(Sign::LeftParenthesis) {
         let value = parenthesized(alloc, depth, cursor)?;
@@ -310,8 +306,7 @@ fn arguments(alloc: Global, depth: u32, cursor: &mut Cursor<'_, '_>) -> Parsed<V
     ensures shorter { OnOk result (length cursor.new < length cursor.old) }
 {
     cursor.sign(Sign::LeftParenthesis)?;
-    if cursor.is_sign(Sign::RightParenthesis) {
-        cursor.sign(Sign::RightParenthesis)?;
+    if cursor.eat(Sign::RightParenthesis) {
         return Ok(Vec::new(alloc));
     }
     let arguments = listed(alloc, depth, cursor)?;
@@ -326,12 +321,12 @@ fn listed(alloc: Global, depth: u32, cursor: &mut Cursor<'_, '_>) -> Parsed<Vec<
     ensures shorter { OnOk result (length cursor.new < length cursor.old) }
 {
     let mut expressions = Vec::new(alloc);
-    expressions.push(expression(alloc, depth, cursor)?)?;
-    'more: while cursor.is_sign(Sign::Comma) {
-        cursor.sign(Sign::Comma)?;
+    'more: loop {
         expressions.push(expression(alloc, depth, cursor)?)?;
+        if !cursor.eat(Sign::Comma) {
+            return Ok(expressions);
+        }
     }
-    Ok(expressions)
 }
 
 /// Reads the suffixes of a primary expression, as far as they go. The first may have been read: the member
@@ -364,13 +359,11 @@ fn suffix(alloc: Global, depth: u32, cursor: &mut Cursor<'_, '_>) -> Parsed<Suff
     ensures reads { Gives suffix_tree result cursor.new (suffix_by (expression_at depth) cursor.old) }
     ensures shorter { OnOk result (length cursor.new < length cursor.old) }
 {
-    if cursor.is_sign(Sign::LeftBracket) {
-        cursor.sign(Sign::LeftBracket)?;
+    if cursor.eat(Sign::LeftBracket) {
         let index = expression(alloc, depth, cursor)?;
         cursor.sign(Sign::RightBracket)?;
         Ok(Suffix::Index(Box::new(alloc, index)?))
-    } else if cursor.is_sign(Sign::Dot) {
-        cursor.sign(Sign::Dot)?;
+    } else if cursor.eat(Sign::Dot) {
         Ok(Suffix::Dot(cursor.name(alloc)?))
     } else {
         cursor.sign(Sign::Arrow)?;

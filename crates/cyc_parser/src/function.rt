@@ -3,7 +3,7 @@
 ghost use Rattle.std.specs.Prelude.{◌<◌, ◌≤◌, OnOk, length, map, option_map};
 ghost use Rattle.cyc_tree.specs.View.{name_tree, region_tree, type_tree, member_tree, bound_tree, function_tree};
 ghost use Rattle.cyc_tree.specs.Depths.{nesting_limit};
-ghost use Rattle.cyc_parser.specs.Reader.{Gives};
+ghost use Rattle.cyc_parser.specs.Reader.{Gives, listed};
 ghost use Rattle.cyc_parser.specs.ReadPrograms.{void_parameter as void_parameter_at, first_parameter as first_parameter_at, parameters as parameters_at, effect as effect_at, bound as bound_at, bounds as bounds_at, function_of};
 
 use crate::cursor::Cursor;
@@ -59,8 +59,7 @@ fn parameters(alloc: Global, cursor: &mut Cursor<'_, '_>) -> Parsed<Vec<Member>>
         return Ok(parameters);
     };
     parameters.push(first)?;
-    'more: while cursor.is_sign(Sign::Comma) {
-        cursor.sign(Sign::Comma)?;
+    'more: while cursor.eat(Sign::Comma) {
         parameters.push(typed_name(alloc, cursor)?)?;
     }
     Ok(parameters)
@@ -105,10 +104,9 @@ fn effect(alloc: Global, cursor: &mut Cursor<'_, '_>) -> Parsed<Option<RegionNam
     ensures reads { Gives (λ effect. option_map (λ regions. map region_tree regions.items) effect) result cursor.new (effect_at cursor.old) }
     ensures shorter { OnOk result (length cursor.new ≤ length cursor.old) }
 {
-    if !cursor.is_sign(Sign::Semicolon) {
+    if !cursor.eat(Sign::Semicolon) {
         return Ok(None);
     }
-    cursor.sign(Sign::Semicolon)?;
     cursor.sign(Sign::LeftBrace)?;
     let effect = if cursor.is_region() {
         regions(alloc, cursor)?
@@ -125,17 +123,25 @@ fn bounds(alloc: Global, cursor: &mut Cursor<'_, '_>) -> Parsed<Bounds>
     ensures reads { Gives (λ bounds. map bound_tree bounds.items) result cursor.new (bounds_at cursor.old) }
     ensures shorter { OnOk result (length cursor.new ≤ length cursor.old) }
 {
+    if cursor.eat(Sign::Colon) {
+        listed_bounds(alloc, cursor)
+    } else {
+        Ok(Bounds::new(alloc))
+    }
+}
+
+/// Reads bounds with commas between them, of which there is one at least.
+fn listed_bounds(alloc: Global, cursor: &mut Cursor<'_, '_>) -> Parsed<Bounds>
+    ensures reads { Gives (λ bounds. map bound_tree bounds.items) result cursor.new (listed bound_at cursor.old) }
+    ensures shorter { OnOk result (length cursor.new < length cursor.old) }
+{
     let mut bounds = Bounds::new(alloc);
-    if !cursor.is_sign(Sign::Colon) {
-        return Ok(bounds);
-    }
-    cursor.sign(Sign::Colon)?;
-    bounds.push(bound(alloc, cursor)?)?;
-    'more: while cursor.is_sign(Sign::Comma) {
-        cursor.sign(Sign::Comma)?;
+    'more: loop {
         bounds.push(bound(alloc, cursor)?)?;
+        if !cursor.eat(Sign::Comma) {
+            return Ok(bounds);
+        }
     }
-    Ok(bounds)
 }
 
 /// Reads a bound: a region that outlives another one.

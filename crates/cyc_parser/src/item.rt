@@ -8,7 +8,8 @@ ghost use Rattle.source_grammar.specs.Phrases.{Tokens};
 ghost use Rattle.source_grammar.specs.Grammar.{IsProgram};
 ghost use Rattle.cyc_parser.specs.Refusals.{IsUnexpectedAt, IsUnexpectedFirst, IsTooDeepAt, IsRefusedFor, IsRefusedProgram};
 ghost use Rattle.cyc_tree.specs.View.{type_tree, member_tree, structure_tree, initial_tree, program_item_tree};
-ghost use Rattle.cyc_parser.specs.Reader.{Gives};
+ghost use Rattle.cyc_parser.specs.Reader.{Gives, some};
+ghost use Rattle.cyc_parser.specs.Tests.{begins_type as type_test};
 ghost use Rattle.cyc_parser.specs.ReadPrograms.{member as member_at, members as members_at, tagged_union as tagged_union_at, initial as initial_at, typed as typed_at, struct_or_typed as struct_or_typed_at, item as item_at, program as program_at};
 
 use crate::cursor::Cursor;
@@ -89,15 +90,25 @@ fn members(alloc: Global, cursor: &mut Cursor<'_, '_>) -> Parsed<Vec<Member>>
     ensures reads { Gives (λ members. map member_tree members.items) result cursor.new (members_at cursor.old) }
     ensures shorter { OnOk result (length cursor.new < length cursor.old) }
 {
-    let mut members = Vec::new(alloc);
     cursor.sign(Sign::LeftBrace)?;
-    members.push(member(alloc, cursor)?)?;
-    'more: while begins_type(cursor.kind()) {
-        members.push(member(alloc, cursor)?)?;
-    }
+    let members = some_members(alloc, cursor)?;
     cursor.sign(Sign::RightBrace)?;
     cursor.sign(Sign::Semicolon)?;
     Ok(members)
+}
+
+/// Reads members as far as they go, of which there is one at least.
+fn some_members(alloc: Global, cursor: &mut Cursor<'_, '_>) -> Parsed<Vec<Member>>
+    ensures reads { Gives (λ members. map member_tree members.items) result cursor.new (some type_test member_at cursor.old) }
+    ensures shorter { OnOk result (length cursor.new < length cursor.old) }
+{
+    let mut members = Vec::new(alloc);
+    'more: loop {
+        members.push(member(alloc, cursor)?)?;
+        if !begins_type(cursor.kind()) {
+            return Ok(members);
+        }
+    }
 }
 
 /// Reads a member, with its semicolon.
@@ -133,8 +144,7 @@ fn initial(alloc: Global, cursor: &mut Cursor<'_, '_>) -> Parsed<Initial>
     ensures reads { Gives initial_tree result cursor.new (initial_at cursor.old) }
     ensures shorter { OnOk result (length cursor.new ≤ length cursor.old) }
 {
-    if cursor.is_sign(Sign::Assign) {
-        cursor.sign(Sign::Assign)?;
+    if cursor.eat(Sign::Assign) {
         Ok(Initial::Constant(constant(alloc, cursor)?))
     } else if cursor.is_sign(Sign::LeftBracket) {
         Ok(Initial::Array(element_count(cursor)?))
@@ -149,11 +159,12 @@ fn items(alloc: Global, cursor: &mut Cursor<'_, '_>) -> Parsed<Vec<Item>>
     ensures { Gives (λ items. map program_item_tree items.items) result cursor.new (program_at nesting_limit cursor.old) }
 {
     let mut items = Vec::new(alloc);
-    items.push(item(alloc, cursor)?)?;
-    'items: while cursor.kind().is_some() {
+    'items: loop {
         items.push(item(alloc, cursor)?)?;
+        if cursor.kind().is_none() {
+            return Ok(items);
+        }
     }
-    Ok(items)
 }
 
 /// The program that the tokens spell.

@@ -48,6 +48,16 @@ fn compound(alloc: Global, depth: u32, cursor: &mut Cursor<'_, '_>) -> Parsed<St
     }
 }
 
+/// Reads a statement into a box, with at most `depth` phrases in one another.
+#[cycle(statement)]
+fn boxed(alloc: Global, depth: u32, cursor: &mut Cursor<'_, '_>) -> Parsed<Box<Statement>>
+    ensures reads { Gives (λ box. statement_tree box.value) result cursor.new (statement_at depth cursor.old) }
+    ensures shorter { OnOk result (length cursor.new < length cursor.old) }
+{
+    let statement = statement(alloc, depth, cursor)?;
+    Ok(Box::new(alloc, statement)?)
+}
+
 /// Reads a block.
 #[cycle(statement)]
 #[tactic(auto, unfolding(crate::specs::ReadStatements::block_by))]
@@ -97,12 +107,10 @@ fn conditional(alloc: Global, depth: u32, cursor: &mut Cursor<'_, '_>) -> Parsed
 {
     let at = cursor.keyword(Keyword::If)?;
     let condition = parenthesized(alloc, depth, cursor)?;
-    let body = statement(alloc, depth, cursor)?;
-    let body = Box::new(alloc, body)?;
+    let body = boxed(alloc, depth, cursor)?;
     if cursor.is_keyword(Keyword::Else) {
         cursor.keyword(Keyword::Else)?;
-        let otherwise = statement(alloc, depth, cursor)?;
-        let otherwise = Box::new(alloc, otherwise)?;
+        let otherwise = boxed(alloc, depth, cursor)?;
         Ok(Statement::IfElse(at, condition, body, otherwise))
     } else {
         Ok(Statement::If(at, condition, body))
@@ -118,8 +126,8 @@ fn repeated(alloc: Global, depth: u32, cursor: &mut Cursor<'_, '_>) -> Parsed<St
 {
     let at = cursor.keyword(Keyword::While)?;
     let condition = parenthesized(alloc, depth, cursor)?;
-    let body = statement(alloc, depth, cursor)?;
-    Ok(Statement::While(at, condition, Box::new(alloc, body)?))
+    let body = boxed(alloc, depth, cursor)?;
+    Ok(Statement::While(at, condition, body))
 }
 
 /// Reads a `switch`.
@@ -145,11 +153,12 @@ fn clauses(alloc: Global, depth: u32, cursor: &mut Cursor<'_, '_>) -> Parsed<Vec
     ensures shorter { OnOk result (length cursor.new < length cursor.old) }
 {
     let mut clauses = Vec::new(alloc);
-    clauses.push(clause(alloc, depth, cursor)?)?;
-    'more: while begins_clause(cursor.kind()) {
+    'more: loop {
         clauses.push(clause(alloc, depth, cursor)?)?;
+        if !begins_clause(cursor.kind()) {
+            return Ok(clauses);
+        }
     }
-    Ok(clauses)
 }
 
 /// Reads a clause of a `switch`.
@@ -257,8 +266,7 @@ fn run(alloc: Global, depth: u32, cursor: &mut Cursor<'_, '_>) -> Parsed<Stateme
     ensures shorter { OnOk result (length cursor.new < length cursor.old) }
 {
     let first = expression(alloc, depth, cursor)?;
-    if cursor.is_sign(Sign::Exchange) {
-        cursor.sign(Sign::Exchange)?;
+    if cursor.eat(Sign::Exchange) {
         let second = expression(alloc, depth, cursor)?;
         cursor.sign(Sign::Semicolon)?;
         Ok(Statement::Exchange(first, second))

@@ -143,10 +143,9 @@ pub fn region_list(alloc: Global, cursor: &mut Cursor<'_, '_>) -> Parsed<RegionN
     ensures reads { Gives (λ regions. map region_tree regions.items) result cursor.new (region_list_at cursor.old) }
     ensures shorter { OnOk result (length cursor.new ≤ length cursor.old) }
 {
-    if !cursor.is_sign(Sign::Less) {
+    if !cursor.eat(Sign::Less) {
         return Ok(RegionNames::new(alloc));
     }
-    cursor.sign(Sign::Less)?;
     let regions = regions(alloc, cursor)?;
     cursor.sign(Sign::Greater)?;
     Ok(regions)
@@ -159,10 +158,10 @@ pub fn regions(alloc: Global, cursor: &mut Cursor<'_, '_>) -> Parsed<RegionNames
     ensures shorter { OnOk result (length cursor.new < length cursor.old) }
 {
     let mut regions = RegionNames::new(alloc);
-    regions.push(cursor.region(alloc)?)?;
-    'more: while cursor.is_sign(Sign::Comma) {
-        cursor.sign(Sign::Comma)?;
+    'more: loop {
         regions.push(cursor.region(alloc)?)?;
+        if !cursor.eat(Sign::Comma) {
+            return Ok(regions);
+        }
     }
-    Ok(regions)
 }

@@ -7,12 +7,14 @@ use Rattle.cyc_tree.specs.View.{name_tree, expression_tree, suffix_tree, link_tr
 use Rattle.cyc_tree.proofs.Forms.{link_parts}
 use Rattle.cyc_parser.specs.declared.operator.Level.{Level}
 use Rattle.cyc_parser.specs.Levels.{levels_from, levels_left}
+use Rattle.cyc_parser.specs.Reading.{next_place}
 use Rattle.cyc_parser.specs.Tests.{is_sign, is_operator, begins_suffix, begins_unary}
-use Rattle.cyc_parser.specs.Reader.{Fails, Gives, next_is, passes, behind, listed, sign as sign_at}
+use Rattle.cyc_parser.specs.Reader.{Fails, Gives, next_is, passes, behind}
 use Rattle.cyc_parser.specs.ReadExpressions.{level_over, all_of, any_of, suffix_by, suffixes_by, links_by, chain_by, all_of_by, any_of_by, expression_at, unary_at}
 use Rattle.cyc_parser.proofs.Chains.{is_all_of, is_any_of, is_one_of_all, is_one_of_any}
 use Rattle.cyc_parser.proofs.ReadLoops.{pushed, fails_so, is_done}
-use Rattle.cyc_parser.proofs.ReadSteps.{is_too_deep, then_fails, other_fails, other_pushed, others_done}
+use Rattle.cyc_parser.proofs.ReadSome.{refused, last_pushed, goes_behind}
+use Rattle.cyc_parser.proofs.ReadSteps.{is_too_deep, other_fails, other_pushed, others_done}
 use Rattle.cyc_parser.proofs.ReadChains.{link_by, above, operator_stands, no_operator_stands, operand_fails, link_read, chain_none, chain_first_fails, chain_links_fail, chain_read, expression_none, unary_none, expression_below, unary_below}
 use Rattle.cyc_parser.proofs.expression.+expression.Goals as goal
 
@@ -47,67 +49,67 @@ unfolding any_of_by
 any_of-returns-in_err-all_of-clause-reads t c =
     let p = err_from_is_err_and c.from_residual-in_err-all_of.result c.from_residual-in_err-all_of.ensures.1 in
     rw (p.1, p.2) (other_fails sign.OrOr (all_of_by (unary_at c.args.depth)) any_of c.args.cursor.now c.all_of.new.cursor c.others.cursor
-    c.sign.new.self _ (map expression_tree c.others.others.items) c.in_ok-sign.field-0 c.in_err-all_of.field-0.0 c.others.invariant.first (sym c.others-test.ensures)
-    c.in_ok-sign.ensures.reads c.in_err-all_of.ensures.reads c.others.invariant.read)
+    c.eat.new.self _ (map expression_tree c.others.others.items) (next_place c.others.cursor) c.in_err-all_of.field-0.0 c.others.invariant.first (sym c.others-test.ensures.next)
+    c.others-test.ensures.reads c.in_err-all_of.ensures.reads c.others.invariant.read)
 
 pub any_of-others-preserved : goal.any_of-others-preserved
 any_of-others-preserved t c = record {
   first = c.others.invariant.first;
-  shorter = omega (arith, c.in_ok-all_of.ensures.shorter, c.in_ok-sign.ensures.shorter, c.others.invariant.shorter);
-  read = other_pushed expression_tree sign.OrOr (all_of_by (unary_at c.args.depth)) c.others.cursor c.sign.new.self c.all_of-in-others.new.cursor
-      c.others.others.items c.push.new.self.items c.in_ok-all_of.field-0 c.in_ok-sign.field-0 _ c.in_ok-push.ensures.items (sym c.others-test.ensures)
-      c.in_ok-sign.ensures.reads c.in_ok-all_of.ensures.reads (omega (
+  shorter = omega (arith, c.in_ok-all_of.ensures.shorter, c.others-test.ensures.shorter, c.others.invariant.shorter);
+  read = other_pushed expression_tree sign.OrOr (all_of_by (unary_at c.args.depth)) c.others.cursor c.eat.new.self c.all_of-in-others.new.cursor
+      c.others.others.items c.push.new.self.items c.in_ok-all_of.field-0 (next_place c.others.cursor) _ c.in_ok-push.ensures.items (sym c.others-test.ensures.next)
+      c.others-test.ensures.reads c.in_ok-all_of.ensures.reads (omega (
         arith,
         c.in_ok-all_of.ensures.shorter,
-        c.in_ok-sign.ensures.shorter,
+        c.others-test.ensures.shorter,
       )) c.others.invariant.read;
 }
 
 pub any_of-returns-then-is_empty-clause-reads : goal.any_of-returns-then-is_empty-clause-reads
 unfolding any_of_by
 any_of-returns-then-is_empty-clause-reads t c =
-    others_done sign.OrOr (all_of_by (unary_at c.args.depth)) any_of c.args.cursor.now c.all_of.new.cursor c.others.cursor _
-    (map expression_tree c.others.others.items) _ c.others.invariant.first (sym c.others-test.ensures) c.others.invariant.read
-    (is_one_of_any c.others.others _ c.if-is_empty.ensures)
+    rw c.others-test.ensures.reads (others_done sign.OrOr (all_of_by (unary_at c.args.depth)) any_of c.args.cursor.now c.all_of.new.cursor c.others.cursor _
+    (map expression_tree c.others.others.items) _ c.others.invariant.first (sym c.others-test.ensures.next) c.others.invariant.read
+    (is_one_of_any c.others.others _ c.if-is_empty.ensures))
 
 pub any_of-returns-in_ok-new-clause-reads : goal.any_of-returns-in_ok-new-clause-reads
 unfolding any_of_by
 any_of-returns-in_ok-new-clause-reads t c =
-    others_done sign.OrOr (all_of_by (unary_at c.args.depth)) any_of c.args.cursor.now c.all_of.new.cursor c.others.cursor _
-    (map expression_tree c.others.others.items) _ c.others.invariant.first (sym c.others-test.ensures) c.others.invariant.read
-    (is_any_of c.in_ok-new.field-0 c.others.others _ c.in_ok-new.ensures.ok c.if-is_empty.ensures)
+    rw c.others-test.ensures.reads (others_done sign.OrOr (all_of_by (unary_at c.args.depth)) any_of c.args.cursor.now c.all_of.new.cursor c.others.cursor _
+    (map expression_tree c.others.others.items) _ c.others.invariant.first (sym c.others-test.ensures.next) c.others.invariant.read
+    (is_any_of c.in_ok-new.field-0 c.others.others _ c.in_ok-new.ensures.ok c.if-is_empty.ensures))
 
 pub all_of-returns-in_err-chain-clause-reads : goal.all_of-returns-in_err-chain-clause-reads
 unfolding all_of_by
 all_of-returns-in_err-chain-clause-reads t c =
     let p = err_from_is_err_and c.from_residual-in_err-chain.result c.from_residual-in_err-chain.ensures.1 in
     rw (p.1, p.2) (other_fails sign.AndAnd (chain_by (unary_at c.args.depth) 8) all_of c.args.cursor.now c.chain.new.cursor
-    c.others.cursor c.sign.new.self _ (map expression_tree c.others.others.items) c.in_ok-sign.field-0 c.in_err-chain.field-0.0 c.others.invariant.first (sym c.others-test.ensures)
-    c.in_ok-sign.ensures.reads c.in_err-chain.ensures.reads c.others.invariant.read)
+    c.others.cursor c.eat.new.self _ (map expression_tree c.others.others.items) (next_place c.others.cursor) c.in_err-chain.field-0.0 c.others.invariant.first (sym c.others-test.ensures.next)
+    c.others-test.ensures.reads c.in_err-chain.ensures.reads c.others.invariant.read)
 
 pub all_of-others-preserved : goal.all_of-others-preserved
 all_of-others-preserved t c = record {
   first = c.others.invariant.first;
-  shorter = omega (arith, c.in_ok-chain.ensures.shorter, c.in_ok-sign.ensures.shorter, c.others.invariant.shorter);
-  read = other_pushed expression_tree sign.AndAnd (chain_by (unary_at c.args.depth) 8) c.others.cursor c.sign.new.self c.chain-in-others.new.cursor
-      c.others.others.items c.push.new.self.items c.in_ok-chain.field-0 c.in_ok-sign.field-0 _ c.in_ok-push.ensures.items (sym c.others-test.ensures)
-      c.in_ok-sign.ensures.reads c.in_ok-chain.ensures.reads (omega (arith, c.in_ok-chain.ensures.shorter, c.in_ok-sign.ensures.shorter))
+  shorter = omega (arith, c.in_ok-chain.ensures.shorter, c.others-test.ensures.shorter, c.others.invariant.shorter);
+  read = other_pushed expression_tree sign.AndAnd (chain_by (unary_at c.args.depth) 8) c.others.cursor c.eat.new.self c.chain-in-others.new.cursor
+      c.others.others.items c.push.new.self.items c.in_ok-chain.field-0 (next_place c.others.cursor) _ c.in_ok-push.ensures.items (sym c.others-test.ensures.next)
+      c.others-test.ensures.reads c.in_ok-chain.ensures.reads (omega (arith, c.in_ok-chain.ensures.shorter, c.others-test.ensures.shorter))
       c.others.invariant.read;
 }
 
 pub all_of-returns-then-is_empty-clause-reads : goal.all_of-returns-then-is_empty-clause-reads
 unfolding all_of_by
 all_of-returns-then-is_empty-clause-reads t c =
-    others_done sign.AndAnd (chain_by (unary_at c.args.depth) 8) all_of c.args.cursor.now c.chain.new.cursor c.others.cursor _
-    (map expression_tree c.others.others.items) _ c.others.invariant.first (sym c.others-test.ensures) c.others.invariant.read
-    (is_one_of_all c.others.others _ c.if-is_empty.ensures)
+    rw c.others-test.ensures.reads (others_done sign.AndAnd (chain_by (unary_at c.args.depth) 8) all_of c.args.cursor.now c.chain.new.cursor c.others.cursor _
+    (map expression_tree c.others.others.items) _ c.others.invariant.first (sym c.others-test.ensures.next) c.others.invariant.read
+    (is_one_of_all c.others.others _ c.if-is_empty.ensures))
 
 pub all_of-returns-in_ok-new-clause-reads : goal.all_of-returns-in_ok-new-clause-reads
 unfolding all_of_by
 all_of-returns-in_ok-new-clause-reads t c =
-    others_done sign.AndAnd (chain_by (unary_at c.args.depth) 8) all_of c.args.cursor.now c.chain.new.cursor c.others.cursor _
-    (map expression_tree c.others.others.items) _ c.others.invariant.first (sym c.others-test.ensures) c.others.invariant.read
-    (is_all_of c.in_ok-new.field-0 c.others.others _ c.in_ok-new.ensures.ok c.if-is_empty.ensures)
+    rw c.others-test.ensures.reads (others_done sign.AndAnd (chain_by (unary_at c.args.depth) 8) all_of c.args.cursor.now c.chain.new.cursor c.others.cursor _
+    (map expression_tree c.others.others.items) _ c.others.invariant.first (sym c.others-test.ensures.next) c.others.invariant.read
+    (is_all_of c.in_ok-new.field-0 c.others.others _ c.in_ok-new.ensures.ok c.if-is_empty.ensures))
 
 -- ---- chains
 
@@ -188,30 +190,28 @@ links-returns-clause-reads t c =
 
 -- ---- arguments and suffixes
 
-pub listed-returns-in_err-expression-2-clause-reads : goal.listed-returns-in_err-expression-2-clause-reads
-listed-returns-in_err-expression-2-clause-reads t c =
-    let p = err_from_is_err_and c.from_residual-in_err-expression-2.result c.from_residual-in_err-expression-2.ensures.1 in
-    rw (p.1, p.2) (fails_so (is_sign sign.Comma) (behind sign.Comma (expression_at c.args.depth)) (map expression_tree
-    c.more.expressions.items) c.more.cursor
-    c.in_err-expression-2.field-0.0 (listed (expression_at c.args.depth) c.args.cursor.now) (sym c.more-test.ensures)
-    (then_fails c.in_err-expression-2.field-0.0 (sign_at sign.Comma c.more.cursor) (λ x. expression_at c.args.depth x.1)
-    c.in_ok-sign.field-0 c.sign.new.self
-    c.in_ok-sign.ensures.reads c.in_err-expression-2.ensures.reads) c.more.invariant.read)
+pub listed-returns-in_err-expression-clause-reads : goal.listed-returns-in_err-expression-clause-reads
+listed-returns-in_err-expression-clause-reads t c =
+    let p = err_from_is_err_and c.from_residual.result c.from_residual.ensures.1 in
+    let one = expression_at c.args.depth in
+    rw (p.1, p.2) (refused one (is_sign sign.Comma) (behind sign.Comma one) c.args.cursor.now (map expression_tree c.more.expressions.items) c.more.cursor
+    c.in_err-expression.field-0.0 c.more.invariant.read c.in_err-expression.ensures.reads)
+
+pub listed-returns-then-not-eat-clause-reads : goal.listed-returns-then-not-eat-clause-reads
+listed-returns-then-not-eat-clause-reads t c =
+    let one = expression_at c.args.depth in
+    rw c.if-not-eat.ensures.reads (last_pushed expression_tree one (is_sign sign.Comma) (behind sign.Comma one) c.args.cursor.now
+    c.more.expressions.items c.push.new.self.items c.in_ok-expression.field-0 c.more.cursor c.expression.new.cursor c.more.invariant.read
+    c.in_ok-push.ensures.items c.in_ok-expression.ensures.reads c.in_ok-expression.ensures.shorter (sym c.if-not-eat.ensures.next))
 
 pub listed-more-preserved : goal.listed-more-preserved
 listed-more-preserved t c = record {
-  shorter = omega (arith, c.in_ok-expression-2.ensures.shorter, c.in_ok-sign.ensures.shorter, c.more.invariant.shorter);
-  read = other_pushed expression_tree sign.Comma (expression_at c.args.depth) c.more.cursor c.sign.new.self c.expression-in-more.new.cursor
-      c.more.expressions.items c.push-in-more.new.self.items c.in_ok-expression-2.field-0 c.in_ok-sign.field-0 (listed (expression_at
-      c.args.depth) c.args.cursor.now)
-      c.in_ok-push-2.ensures.items (sym c.more-test.ensures) c.in_ok-sign.ensures.reads c.in_ok-expression-2.ensures.reads
-      (omega (arith, c.in_ok-expression-2.ensures.shorter, c.in_ok-sign.ensures.shorter)) c.more.invariant.read;
+  shorter = omega (arith, c.if-not-eat.ensures.shorter, c.in_ok-expression.ensures.shorter, c.more.invariant.shorter);
+  read = goes_behind expression_tree (expression_at c.args.depth) c.args.cursor.now c.more.expressions.items c.push.new.self.items
+      c.in_ok-expression.field-0 c.more.cursor c.expression.new.cursor c.eat.new.self (next_place c.expression.new.cursor) c.more.invariant.read
+      c.in_ok-push.ensures.items c.in_ok-expression.ensures.reads c.in_ok-expression.ensures.shorter (sym c.if-not-eat.ensures.next)
+      c.if-not-eat.ensures.reads c.if-not-eat.ensures.shorter;
 }
-
-pub listed-returns-clause-reads : goal.listed-returns-clause-reads
-listed-returns-clause-reads t c =
-    is_done (is_sign sign.Comma) (behind sign.Comma (expression_at c.args.depth)) (map expression_tree c.more.expressions.items) c.more.cursor
-    (listed (expression_at c.args.depth) c.args.cursor.now) (sym c.more-test.ensures) c.more.invariant.read
 
 pub suffixes-returns-in_err-suffix-clause-reads : goal.suffixes-returns-in_err-suffix-clause-reads
 suffixes-returns-in_err-suffix-clause-reads t c =

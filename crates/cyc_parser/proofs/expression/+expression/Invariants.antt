@@ -1,11 +1,12 @@
-use Rattle.std.proofs.Common.{◌≡◌, ◌≤◌, ◌<◌, length, map, option_map, Ok, ◌+◌, ◌*◌, ◌-◌}
+use Rattle.std.proofs.Common.{◌≡◌, ◌≤◌, length, map, option_map, Ok, ◌+◌, ◌*◌, ◌-◌}
 use Rattle.cyc_lexer.specs.declared.token.Sign.TheVariants as sign
 use Rattle.cyc_tree.specs.View.{name_tree, expression_tree, link_tree, suffix_tree}
 use Rattle.cyc_parser.specs.Levels.{levels_from, levels_left}
 use Rattle.cyc_parser.specs.Tests.{is_sign, begins_suffix}
-use Rattle.cyc_parser.specs.Reader.{many, behind, listed}
+use Rattle.cyc_parser.specs.Reader.{many, behind}
 use Rattle.cyc_parser.specs.ReadExpressions.{expression_at, unary_at, all_of_by, chain_by, links_by, suffix_by, suffixes_by}
 use Rattle.cyc_parser.proofs.ReadLoops.{with_front}
+use Rattle.cyc_parser.proofs.ReadSome.{Before}
 use Rattle.cyc_parser.proofs.expression.+expression.Given as goal
 
 abbrev pub decreases-expression : goal.decreases-expression
@@ -97,9 +98,9 @@ decreases-listed l = 64 * l.depth + 9
 
 abbrev pub invariant-listed-more : goal.invariant-listed-more
 invariant-listed-more l = record {
-  shorter : length l.cursor < length l.fn.cursor;
-  read : with_front (map expression_tree l.expressions.items) (many (is_sign sign.Comma) (behind sign.Comma (expression_at l.depth)) l.cursor)
-      ≡ listed (expression_at l.depth) l.fn.cursor;
+  shorter : length l.cursor ≤ length l.fn.cursor;
+  read : Before (expression_at l.depth) (is_sign sign.Comma) (behind sign.Comma (expression_at l.depth)) l.fn.cursor
+      (map expression_tree l.expressions.items) l.cursor;
 }
 
 abbrev pub decreases-listed-more : goal.decreases-listed-more

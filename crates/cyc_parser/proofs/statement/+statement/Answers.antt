@@ -10,6 +10,7 @@ use Rattle.std.specs.Prelude.{if◌then◌else◌}
 use Rattle.cyc_parser.specs.ReadExpressions.{expression_at}
 use Rattle.cyc_parser.specs.ReadStatements.{item_by, items_by, clause_by, clauses_by, statement_at}
 use Rattle.cyc_parser.proofs.ReadLoops.{pushed, fails_so, is_done}
+use Rattle.cyc_parser.proofs.ReadSome.{refused, last_pushed, goes_further}
 use Rattle.cyc_parser.proofs.Depths.{refuses, statement_none, statement_below}
 use Rattle.cyc_parser.proofs.statement.+statement.Goals as goal
 
@@ -63,30 +64,29 @@ block_items-returns-clause-reads t c =
 
 -- ---- clauses
 
-pub clauses-returns-in_err-clause-2-clause-reads : goal.clauses-returns-in_err-clause-2-clause-reads
-clauses-returns-in_err-clause-2-clause-reads t c =
-    let p = err_from_is_err_and c.from_residual-in_err-clause-2.result c.from_residual-in_err-clause-2.ensures.1 in
-    let next : next_is begins_clause c.more.cursor ≡ true =
-    ap (passes begins_clause) (sym c.kind.ensures.next) ∙ sym c.begins_clause.ensures ∙ c.more-test.true in
-    rw (p.1, p.2)
-    (fails_so begins_clause (clause_by (expression_at c.args.depth) (statement_at c.args.depth)) (map clause_tree c.more.clauses.items) c.more.cursor
-    c.in_err-clause-2.field-0.0 (clauses_by (expression_at c.args.depth) (statement_at c.args.depth) c.args.cursor.now) next
-    c.in_err-clause-2.ensures.reads c.more.invariant.0)
+pub clauses-returns-in_err-clause-clause-reads : goal.clauses-returns-in_err-clause-clause-reads
+unfolding clauses_by
+clauses-returns-in_err-clause-clause-reads t c =
+    let p = err_from_is_err_and c.from_residual.result c.from_residual.ensures.1 in
+    let one = clause_by (expression_at c.args.depth) (statement_at c.args.depth) in
+    rw (p.1, p.2) (refused one begins_clause one c.args.cursor.now (map clause_tree c.more.clauses.items) c.more.cursor c.in_err-clause.field-0.0
+    c.more.invariant.0 c.in_err-clause.ensures.reads)
+
+pub clauses-returns-then-not-begins_clause-clause-reads : goal.clauses-returns-then-not-begins_clause-clause-reads
+unfolding clauses_by
+clauses-returns-then-not-begins_clause-clause-reads t c =
+    let one = clause_by (expression_at c.args.depth) (statement_at c.args.depth) in
+    let next : next_is begins_clause c.clause.new.cursor ≡ false =
+    ap (passes begins_clause) (sym c.kind.ensures.next) ∙ sym c.begins_clause.ensures ∙ c.if-not-begins_clause.true in
+    last_pushed clause_tree one begins_clause one c.args.cursor.now c.more.clauses.items c.push.new.self.items c.in_ok-clause.field-0 c.more.cursor
+    c.clause.new.cursor c.more.invariant.0 c.in_ok-push.ensures.items c.in_ok-clause.ensures.reads c.in_ok-clause.ensures.shorter next
 
 pub clauses-more-preserved : goal.clauses-more-preserved
 clauses-more-preserved t c =
-    let next : next_is begins_clause c.more.cursor ≡ true =
-    ap (passes begins_clause) (sym c.kind.ensures.next) ∙ sym c.begins_clause.ensures ∙ c.more-test.true in (
-      pushed clause_tree begins_clause (clause_by (expression_at c.args.depth) (statement_at c.args.depth)) c.more.clauses.items
-          c.push-in-more.new.self.items c.in_ok-clause-2.field-0 c.more.cursor c.clause-in-more.new.cursor
-          (clauses_by (expression_at c.args.depth) (statement_at c.args.depth) c.args.cursor.now) c.in_ok-push-2.ensures.items next
-          c.in_ok-clause-2.ensures.reads c.in_ok-clause-2.ensures.shorter c.more.invariant.0,
-      omega (arith, c.in_ok-clause-2.ensures.shorter, c.more.invariant.1),
+    let one = clause_by (expression_at c.args.depth) (statement_at c.args.depth) in
+    let next : next_is begins_clause c.clause.new.cursor ≡ true =
+    ap (passes begins_clause) (sym c.kind.ensures.next) ∙ sym c.begins_clause.ensures ∙ c.if-not-begins_clause.false in (
+      goes_further clause_tree one begins_clause c.args.cursor.now c.more.clauses.items c.push.new.self.items c.in_ok-clause.field-0 c.more.cursor
+          c.clause.new.cursor c.more.invariant.0 c.in_ok-push.ensures.items c.in_ok-clause.ensures.reads c.in_ok-clause.ensures.shorter next,
+      omega (arith, c.in_ok-clause.ensures.shorter, c.more.invariant.1),
     )
-
-pub clauses-returns-clause-reads : goal.clauses-returns-clause-reads
-clauses-returns-clause-reads t c =
-    let next : next_is begins_clause c.more.cursor ≡ false =
-    ap (passes begins_clause) (sym c.kind.ensures.next) ∙ sym c.begins_clause.ensures ∙ c.more-test.false in
-    is_done begins_clause (clause_by (expression_at c.args.depth) (statement_at c.args.depth)) (map clause_tree c.more.clauses.items) c.more.cursor
-    (clauses_by (expression_at c.args.depth) (statement_at c.args.depth) c.args.cursor.now) next c.more.invariant.0

@@ -1,10 +1,10 @@
-use Rattle.std.proofs.Common.{◌≡◌, ◌<◌, ◌≤◌, length, map, ◌+◌, ◌*◌}
+use Rattle.std.proofs.Common.{◌≡◌, ◌≤◌, length, map, ◌+◌, ◌*◌}
 use Rattle.cyc_tree.specs.View.{item_tree, clause_tree}
 use Rattle.cyc_parser.specs.Tests.{begins_clause}
-use Rattle.cyc_parser.specs.Reader.{many}
 use Rattle.cyc_parser.specs.ReadExpressions.{expression_at}
-use Rattle.cyc_parser.specs.ReadStatements.{items_by, clause_by, clauses_by, statement_at}
+use Rattle.cyc_parser.specs.ReadStatements.{items_by, clause_by, statement_at}
 use Rattle.cyc_parser.proofs.ReadLoops.{with_front}
+use Rattle.cyc_parser.proofs.ReadSome.{Before}
 use Rattle.cyc_parser.proofs.statement.+statement.Given as goal
 
 abbrev pub decreases-statement : goal.decreases-statement
@@ -31,6 +31,9 @@ invariant-block_items-items l =
 abbrev pub decreases-block_items-items : goal.decreases-block_items-items
 decreases-block_items-items l = length l.cursor
 
+abbrev pub decreases-boxed : goal.decreases-boxed
+decreases-boxed l = 8 * l.depth + 1
+
 abbrev pub decreases-conditional : goal.decreases-conditional
 decreases-conditional l = 8 * l.depth + 6
 
@@ -45,9 +48,9 @@ decreases-clauses l = 8 * l.depth + 5
 
 abbrev pub invariant-clauses-more : goal.invariant-clauses-more
 invariant-clauses-more l =
-    (with_front (map clause_tree l.clauses.items) (many begins_clause (clause_by (expression_at l.depth) (statement_at l.depth)) l.cursor)
-    ≡ clauses_by (expression_at l.depth) (statement_at l.depth) l.fn.cursor)
-    × (length l.cursor < length l.fn.cursor)
+    Before (clause_by (expression_at l.depth) (statement_at l.depth)) begins_clause (clause_by (expression_at l.depth) (statement_at l.depth))
+    l.fn.cursor (map clause_tree l.clauses.items) l.cursor
+    × (length l.cursor ≤ length l.fn.cursor)
 
 abbrev pub decreases-clauses-more : goal.decreases-clauses-more
 decreases-clauses-more l = length l.cursor

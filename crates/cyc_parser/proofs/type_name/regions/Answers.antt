@@ -1,30 +1,32 @@
-use Rattle.std.proofs.Common.{◌<◌, map, length, sym, ◌∙◌, arith}
+use Rattle.std.proofs.Common.{map, sym, arith}
 use Rattle.std.proofs.lemmas.Result.{err_from_is_err_and}
 use Rattle.cyc_lexer.specs.declared.token.Sign.TheVariants as sign
 use Rattle.cyc_tree.specs.View.{region_tree}
+use Rattle.cyc_parser.specs.Reading.{next_place}
 use Rattle.cyc_parser.specs.Tests.{is_sign}
 use Rattle.cyc_parser.specs.Reader.{behind}
 use Rattle.cyc_parser.specs.ReadTypes.{region, regions}
-use Rattle.cyc_parser.proofs.ReadLoops.{is_done}
-use Rattle.cyc_parser.proofs.ReadLists.{comma_pushed, comma_fails}
+use Rattle.cyc_parser.proofs.ReadSome.{refused, last_pushed, goes_behind}
 use Rattle.cyc_parser.proofs.type_name.regions.Goals as goal
 
-pub returns-in_err-region-2-clause-reads : goal.returns-in_err-region-2-clause-reads
-returns-in_err-region-2-clause-reads c =
-    let p = err_from_is_err_and c.from_residual-in_err-region-2.result c.from_residual-in_err-region-2.ensures.1 in
-    rw (p.1, p.2) (comma_fails region (map region_tree c.more.regions.items) c.in_ok-sign.field-0 c.more.cursor c.sign.new.self c.in_err-region-2.field-0.0
-    (regions c.args.cursor.now) (sym c.is_sign.ensures ∙ c.more-test.true) c.in_ok-sign.ensures.reads c.in_err-region-2.ensures.reads c.more.invariant.0)
+pub returns-in_err-region-clause-reads : goal.returns-in_err-region-clause-reads
+unfolding regions
+returns-in_err-region-clause-reads c =
+    let p = err_from_is_err_and c.from_residual.result c.from_residual.ensures.1 in
+    rw (p.1, p.2) (refused region (is_sign sign.Comma) (behind sign.Comma region) c.args.cursor.now (map region_tree c.more.regions.items) c.more.cursor
+    c.in_err-region.field-0.0 c.more.invariant.0 c.in_err-region.ensures.reads)
+
+pub returns-then-not-eat-clause-reads : goal.returns-then-not-eat-clause-reads
+unfolding regions
+returns-then-not-eat-clause-reads c =
+    rw c.if-not-eat.ensures.reads (last_pushed region_tree region (is_sign sign.Comma) (behind sign.Comma region) c.args.cursor.now c.more.regions.items
+    c.push.new.self.items c.in_ok-region.field-0 c.more.cursor c.region.new.self c.more.invariant.0 c.in_ok-push.ensures.ok c.in_ok-region.ensures.reads
+    c.in_ok-region.ensures.shorter (sym c.if-not-eat.ensures.next))
 
 pub more-preserved : goal.more-preserved
-more-preserved c =
-    let shorter : length c.region-in-more.new.self < length c.more.cursor = omega (arith, c.in_ok-sign.ensures.shorter, c.in_ok-region-2.ensures.shorter) in (
-      comma_pushed region_tree region c.more.regions.items c.push-in-more.new.self.items c.in_ok-region-2.field-0 c.in_ok-sign.field-0 c.more.cursor c.sign.new.self
-          c.region-in-more.new.self (regions c.args.cursor.now) c.in_ok-push-2.ensures.ok (sym c.is_sign.ensures ∙ c.more-test.true) c.in_ok-sign.ensures.reads
-          c.in_ok-region-2.ensures.reads shorter c.more.invariant.0,
-      omega (arith, shorter, c.more.invariant.1),
-    )
-
-pub returns-clause-reads : goal.returns-clause-reads
-returns-clause-reads c =
-    is_done (is_sign sign.Comma) (behind sign.Comma region) (map region_tree c.more.regions.items) c.more.cursor (regions c.args.cursor.now)
-    (sym c.is_sign.ensures ∙ c.more-test.false) c.more.invariant.0
+more-preserved c = (
+  goes_behind region_tree region c.args.cursor.now c.more.regions.items c.push.new.self.items c.in_ok-region.field-0 c.more.cursor c.region.new.self
+      c.eat.new.self (next_place c.region.new.self) c.more.invariant.0 c.in_ok-push.ensures.ok c.in_ok-region.ensures.reads c.in_ok-region.ensures.shorter
+      (sym c.if-not-eat.ensures.next) c.if-not-eat.ensures.reads c.if-not-eat.ensures.shorter,
+  omega (arith, c.if-not-eat.ensures.shorter, c.in_ok-region.ensures.shorter, c.more.invariant.1),
+)

@@ -1,0 +1,16 @@
+use Rattle.std.proofs.Common.{◌≤◌, map, length}
+use Rattle.cyc_lexer.specs.declared.token.Sign.TheVariants as sign
+use Rattle.cyc_tree.specs.View.{bound_tree}
+use Rattle.cyc_parser.specs.Tests.{is_sign}
+use Rattle.cyc_parser.specs.Reader.{behind}
+use Rattle.cyc_parser.specs.ReadPrograms.{bound}
+use Rattle.cyc_parser.proofs.ReadSome.{Before}
+use Rattle.cyc_parser.proofs.function.listed_bounds.Given as goal
+
+abbrev pub invariant-more : goal.invariant-more
+invariant-more l =
+    Before bound (is_sign sign.Comma) (behind sign.Comma bound) l.fn.cursor (map bound_tree l.bounds.items) l.cursor
+    × (length l.cursor ≤ length l.fn.cursor)
+
+abbrev pub decreases-more : goal.decreases-more
+decreases-more l = length l.cursor

@@ -5,7 +5,7 @@ ghost use Rattle.std.specs.Prelude.{◌≡◌, ◌≤◌, ◌↔◌, IsSome, IfS
 use std::marker::Model;
 
 /// A number of arena pages, 1 to 4,096.
-#[derive(Clone, Copy, PartialEq, Eq, Debug)]
+#[derive(Clone, Copy, Debug)]
 pub struct Pages {
     number: u32,
 }
@@ -46,7 +46,7 @@ impl Pages {
 }
 
 /// A command, with its words.
-#[derive(Clone, Copy, PartialEq, Eq, Debug)]
+#[derive(Clone, Copy, Debug)]
 pub enum Command<'a> {
     /// Says whether a source is accepted.
     Check {

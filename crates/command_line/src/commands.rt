@@ -1,25 +1,75 @@
 // The commands, and the words that each takes.
 
 use crate::texts::{IMAGE_FAULTS, SOURCE_FAULTS};
+use clap::builder::ValueParser;
 
-/// A word or an option of a command.
+/// What a word or an option of a command takes.
 #[derive(Clone, Copy)]
-pub enum Choice {
-    /// The source file.
-    Source,
-    /// The image file that is read.
-    Image,
-    /// The image file that is written.
-    Output,
-    /// The arena's pages.
-    Pages,
-    /// The most instructions.
-    Steps,
-    /// The most units of fuel.
-    Fuel,
-    /// Whether it is said how the run ended.
-    Ending,
+pub enum Takes {
+    /// A path, which has to be given; help calls it so.
+    Path(&'static str),
+    /// A number of such a form, and the one where none is given.
+    Number(ValueParser<'static>, &'static str),
+    /// Nothing.
+    Nothing,
 }
+
+/// A word or an option of a command: its name, what help says of it, and what it takes.
+#[derive(Clone, Copy)]
+pub struct Choice {
+    pub name: &'static str,
+    pub help: &'static str,
+    pub takes: Takes,
+}
+
+/// The source file.
+const SOURCE: Choice = Choice {
+    name: "file",
+    help: "The source file",
+    takes: Takes::Path("IN"),
+};
+
+/// The image file that is read.
+const IMAGE: Choice = Choice {
+    name: "file",
+    help: "The image file",
+    takes: Takes::Path("IMAGE"),
+};
+
+/// The image file that is written.
+const OUTPUT: Choice = Choice {
+    name: "output",
+    help: "The image file, written only where the source is accepted",
+    takes: Takes::Path("OUT"),
+};
+
+/// The arena's pages.
+const PAGES: Choice = Choice {
+    name: "pages",
+    help: "Pages of the arena, of 4,096 bytes: 1 to 4,096",
+    takes: Takes::Number(ValueParser::Signed(1, 4096), "1024"),
+};
+
+/// The most instructions.
+const STEPS: Choice = Choice {
+    name: "steps",
+    help: "The most instructions that are executed",
+    takes: Takes::Number(ValueParser::Unsigned(0, u64::MAX), "4294967295"),
+};
+
+/// The most units of fuel.
+const FUEL: Choice = Choice {
+    name: "steps",
+    help: "The most units of fuel: turns of loops, and calls",
+    takes: Takes::Number(ValueParser::Unsigned(0, u64::MAX), "4294967295"),
+};
+
+/// Whether it is said how the run ended.
+const ENDING: Choice = Choice {
+    name: "ending",
+    help: "Says on standard error how the run ended",
+    takes: Takes::Nothing,
+};
 
 /// A command: its name, what help says of it and below it, and its words.
 #[derive(Clone, Copy)]
@@ -35,36 +85,36 @@ pub const COMMANDS: [Words; 6] = [
         name: "check",
         about: "Says whether a source is accepted",
         faults: SOURCE_FAULTS,
-        choices: &[Choice::Source],
+        choices: &[SOURCE],
     },
     Words {
         name: "compile",
         about: "Writes the image of a source",
         faults: SOURCE_FAULTS,
-        choices: &[Choice::Source, Choice::Output, Choice::Pages],
+        choices: &[SOURCE, OUTPUT, PAGES],
     },
     Words {
         name: "run",
         about: "Compiles a source and runs it",
         faults: SOURCE_FAULTS,
-        choices: &[Choice::Source, Choice::Pages, Choice::Steps, Choice::Ending],
+        choices: &[SOURCE, PAGES, STEPS, ENDING],
     },
     Words {
         name: "eval",
         about: "Runs a source by its meaning",
         faults: SOURCE_FAULTS,
-        choices: &[Choice::Source, Choice::Fuel, Choice::Ending],
+        choices: &[SOURCE, FUEL, ENDING],
     },
     Words {
         name: "exec",
         about: "Runs an image",
         faults: IMAGE_FAULTS,
-        choices: &[Choice::Image, Choice::Steps, Choice::Ending],
+        choices: &[IMAGE, STEPS, ENDING],
     },
     Words {
         name: "dump",
         about: "Prints an image's header and its instructions",
         faults: IMAGE_FAULTS,
-        choices: &[Choice::Image],
+        choices: &[IMAGE],
     },
 ];

@@ -11,6 +11,7 @@ pub mod status;
 mod texts;
 mod words;
 
+pub use clap::Error;
 pub use command::{Command, Pages};
 pub use given::{shown, shown_error, words_of};
 pub use words::command_of;

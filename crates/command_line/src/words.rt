@@ -1,117 +1,146 @@
 // From the words of the command line to a command.
 
 use crate::command::{Command, Pages};
-use crate::commands::{COMMANDS, Choice, Words};
+use crate::commands::{COMMANDS, Choice, Takes, Words};
 use crate::texts::STATUSES;
+use clap::builder::ValueParser;
 use clap::error::ErrorKind;
-use clap::{Arg, ArgAction, ArgMatches, Command as Parser, Error, value_parser};
+use clap::{Arg, ArgAction, ArgMatches, Command as Parser, Error};
 use std::alloc::{AllocError, Global};
 use std::convert::AsStr;
 
-/// A word that has to be given, and is a path.
-fn path<'a>(alloc: Global, id: &'a str, name: &'a str, help: &'a str) -> Arg<'a> {
-    Arg::new(alloc, id)
-        .required(true)
-        .value_name(name)
-        .help(help)
-}
-
-/// The option on the arena's pages.
-fn pages<'a>(alloc: Global) -> Arg<'a> {
-    Arg::new(alloc, "pages")
-        .long("pages")
+/// The option with a number of such a form.
+fn number<'a>(option: Arg<'a>, name: &'a str, form: ValueParser<'a>, default: &'a str) -> Arg<'a> {
+    option
+        .long(name)
         .value_name("N")
-        .value_parser(value_parser!(u32).range(1..=4096))
-        .default_value("1024")
-        .help("Pages of the arena, of 4,096 bytes: 1 to 4,096")
+        .value_parser(form)
+        .default_value(default)
 }
 
-/// The option on the number of steps, or on fuel.
-fn steps<'a>(alloc: Global, help: &'a str) -> Arg<'a> {
-    Arg::new(alloc, "steps")
-        .long("steps")
-        .value_name("N")
-        .value_parser(value_parser!(u64))
-        .default_value("4294967295")
-        .help(help)
-}
-
-/// The words of a choice.
-fn arg_of<'a>(alloc: Global, choice: Choice) -> Arg<'a> {
-    match choice {
-        Choice::Source => path(alloc, "file", "IN", "The source file"),
-        Choice::Image => path(alloc, "file", "IMAGE", "The image file"),
-        Choice::Output => path(
-            alloc,
-            "output",
-            "OUT",
-            "The image file, written only where the source is accepted",
-        ),
-        Choice::Pages => pages(alloc),
-        Choice::Steps => steps(alloc, "The most instructions that are executed"),
-        Choice::Fuel => steps(alloc, "The most units of fuel: turns of loops, and calls"),
-        Choice::Ending => Arg::new(alloc, "ending")
-            .long("ending")
-            .action(ArgAction::SetTrue)
-            .help("Says on standard error how the run ended"),
+/// A word or an option.
+fn arg_of<'a>(alloc: Global, choice: &Choice) -> Arg<'a> {
+    let arg = Arg::new(alloc, choice.name).help(choice.help);
+    match choice.takes {
+        Takes::Path(name) => arg.required(true).value_name(name),
+        Takes::Number(form, default) => number(arg, choice.name, form, default),
+        Takes::Nothing => arg.long(choice.name).action(ArgAction::SetTrue),
     }
+}
+
+/// A parser with what help says of it, and below it.
+fn described<'a>(alloc: Global, name: &'a str, about: &'a str, below: &'a str) -> Parser<'a> {
+    Parser::new(alloc, name).about(about).after_help(below)
+}
+
+/// The words and options of a command.
+fn args_of<'a>(alloc: Global, choices: &[Choice]) -> Result<Vec<Arg<'a>>, AllocError> {
+    let mut args = Vec::new(alloc);
+    for choice in choices {
+        args.push(arg_of(alloc, choice))?;
+    }
+    Ok(args)
 }
 
 /// The parser of a command's words.
 fn parser_of<'a>(alloc: Global, words: &Words) -> Result<Parser<'a>, AllocError> {
-    let mut parser = Parser::new(alloc, words.name)
-        .about(words.about)
-        .after_help(words.faults);
-    for choice in words.choices {
-        parser = parser.arg(arg_of(alloc, *choice))?;
+    let args = args_of(alloc, words.choices)?;
+    described(alloc, words.name, words.about, words.faults).args(args)
+}
+
+/// The parsers of the commands.
+fn parsers<'a>(alloc: Global) -> Result<Vec<Parser<'a>>, AllocError> {
+    let mut parsers = Vec::new(alloc);
+    for words in COMMANDS.iter() {
+        parsers.push(parser_of(alloc, words)?)?;
     }
-    Ok(parser)
+    Ok(parsers)
+}
+
+/// The parser of the program's words, without its commands.
+fn program<'a>(alloc: Global) -> Result<Parser<'a>, AllocError> {
+    let about = "Checks, compiles and runs a source in a safe C with regions";
+    described(alloc, "cycc", about, STATUSES)
+        .subcommand_required(true)
+        .bin_name("cycc")
 }
 
 /// The commands and their words.
 fn parser<'a>(alloc: Global) -> Result<Parser<'a>, AllocError> {
-    let mut parser = Parser::new(alloc, "cycc")
-        .bin_name("cycc")?
-        .about("Checks, compiles and runs a source in a safe C with regions")
-        .after_help(STATUSES)
-        .subcommand_required(true);
-    for words in COMMANDS.iter() {
-        parser = parser.subcommand(parser_of(alloc, words)?)?;
-    }
-    Ok(parser)
+    let commands = parsers(alloc)?;
+    program(alloc)?.subcommands(commands)
+}
+
+/// The pages of words that have them.
+fn pages_of(matches: &ArgMatches<'_>) -> Option<Pages> {
+    Pages::new(matches.get_one("pages")?)
+}
+
+/// What `compile` is given.
+fn compile<'a>(input: &'a str, matches: &ArgMatches<'a>) -> Option<Command<'a>> {
+    let output = matches.get_str("output")?;
+    let pages = pages_of(matches)?;
+    Some(Command::Compile {
+        input,
+        output,
+        pages,
+    })
+}
+
+/// What `run` is given.
+fn run<'a>(input: &'a str, matches: &ArgMatches<'a>) -> Option<Command<'a>> {
+    let pages = pages_of(matches)?;
+    let steps = matches.get_one("steps")?;
+    Some(Command::Run {
+        input,
+        pages,
+        steps,
+        shows_ending: matches.get_flag("ending"),
+    })
 }
 
 /// The command of words that the parser has taken, which has checked their ranges and put in what is left out.
 fn read<'a>(name: &str, matches: &ArgMatches<'a>) -> Option<Command<'a>> {
     let input = matches.get_str("file")?;
-    let pages = matches.get_one::<u32>("pages").and_then(Pages::new);
-    let steps = matches.get_one::<u64>("steps");
-    let shows_ending = matches.get_flag("ending");
     match name {
         "check" => Some(Command::Check { input }),
-        "compile" => Some(Command::Compile {
-            input,
-            output: matches.get_str("output")?,
-            pages: pages?,
-        }),
-        "run" => Some(Command::Run {
-            input,
-            pages: pages?,
-            steps: steps?,
-            shows_ending,
-        }),
+        "compile" => compile(input, matches),
+        "run" => run(input, matches),
         "eval" => Some(Command::Eval {
             input,
-            fuel: steps?,
-            shows_ending,
+            fuel: matches.get_one("steps")?,
+            shows_ending: matches.get_flag("ending"),
         }),
         "exec" => Some(Command::Exec {
             input,
-            steps: steps?,
-            shows_ending,
+            steps: matches.get_one("steps")?,
+            shows_ending: matches.get_flag("ending"),
         }),
         "dump" => Some(Command::Dump { input }),
         _ => None,
+    }
+}
+
+/// The command that the parser has found.
+fn found<'a>(matches: &ArgMatches<'a>) -> Option<Command<'a>> {
+    let (name, words) = matches.subcommand()?;
+    read(name, words)
+}
+
+/// That the words are no command.
+fn no_command(parser: &mut Parser<'_>) -> Error {
+    match parser.error(ErrorKind::MissingSubcommand, "no such command") {
+        Ok(error) => error,
+        Err(error) => Error::from(error),
+    }
+}
+
+/// The command of the words, by this parser.
+fn parsed<'a, S: AsStr>(parser: &mut Parser<'a>, words: &'a [S]) -> Result<Command<'a>, Error> {
+    let matches = parser.try_get_matches_from_mut(words)?;
+    match found(&matches) {
+        Some(command) => Ok(command),
+        None => Err(no_command(parser)),
     }
 }
 
@@ -119,11 +148,5 @@ fn read<'a>(name: &str, matches: &ArgMatches<'a>) -> Option<Command<'a>> {
 /// was asked for, else what is wrong with the words, or that no memory is left.
 pub fn command_of<'a, S: AsStr>(alloc: Global, words: &'a [S]) -> Result<Command<'a>, Error> {
     let mut parser = parser(alloc)?;
-    let matches = parser.try_get_matches_from_mut(words)?;
-    if let Some((name, words)) = matches.subcommand() {
-        if let Some(command) = read(name, words) {
-            return Ok(command);
-        }
-    }
-    Err(parser.error(ErrorKind::MissingSubcommand, "no such command")?)
+    parsed(&mut parser, words)
 }

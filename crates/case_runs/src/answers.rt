@@ -1,7 +1,9 @@
 // What the commands of cases answer.
 
+use crate::plain::run_over_plain;
 use crate::rules;
 use command_line::command_of;
+use command_line::status::{MEMORY, USAGE, usage_status};
 use cycc_answer::{Counted, answer};
 use std::alloc::{AllocError, Global};
 use std::io;
@@ -27,6 +29,14 @@ impl Found {
     }
 }
 
+/// What is found, with this status. No case is done where memory is wanting.
+pub fn with_status(found: Found, status: u8) -> Result<Found, AllocError> {
+    if status == MEMORY {
+        return Err(AllocError);
+    }
+    Ok(Found { status, ..found })
+}
+
 /// The pages of an image, as its header has them.
 fn pages_of(image: &[u8]) -> Option<u32> {
     let (_, rest) = image.split_at_checked(20)?;
@@ -36,9 +46,10 @@ fn pages_of(image: &[u8]) -> Option<u32> {
 
 /// What `cycc` answers to the words of its command line.
 fn cycc(alloc: Global, words: &[&str], source: &[u8], input: &[u8]) -> Result<Found, AllocError> {
-    let mut found = Found::nothing(alloc, 9);
-    let Ok(command) = command_of(alloc, words) else {
-        return Ok(found);
+    let mut found = Found::nothing(alloc, USAGE);
+    let command = match command_of(alloc, words) {
+        Ok(command) => command,
+        Err(error) => return with_status(found, usage_status(&error)),
     };
     let mut reader = Counted::new(input);
     let mut writer = Counted::new(Vec::new(alloc));
@@ -50,10 +61,9 @@ fn cycc(alloc: Global, words: &[&str], source: &[u8], input: &[u8]) -> Result<Fo
         &mut writer,
         &mut found.said,
     )?;
-    found.status = answer.status;
     found.pages = answer.image.as_ref().and_then(|image| pages_of(image));
     found.written = writer.into_inner();
-    Ok(found)
+    with_status(found, answer.status)
 }
 
 /// What a command answers on a source and an input: the words of `cycc`, or one of the commands that look at a source alone.
@@ -66,5 +76,19 @@ pub fn answer_to(alloc: Global, command: &str, source: &[u8], input: &[u8]) -> i
             let words: Vec<&str> = command.split(' ').collect(alloc)?;
             Ok(cycc(alloc, &words, source, input)?)
         }
+    }
+}
+
+/// What a command answers on a source and an input where it runs over a plain store; none where it runs nothing.
+pub fn plain_answer_to(
+    alloc: Global,
+    command: &str,
+    source: &[u8],
+    input: &[u8],
+) -> Result<Option<Found>, AllocError> {
+    let words: Vec<&str> = command.split(' ').collect(alloc)?;
+    match command_of(alloc, &words) {
+        Ok(command) => run_over_plain(alloc, &command, source, input),
+        Err(_) => Ok(None),
     }
 }

@@ -8,10 +8,11 @@
 mod answers;
 mod cases;
 mod differences;
+mod plain;
 mod rules;
 mod texts;
 
-use crate::answers::{Found, answer_to};
+use crate::answers::{Found, answer_to, plain_answer_to};
 use crate::cases::{Case, Part};
 use crate::differences::{Difference, is_as_wanted};
 use crate::texts::{bytes_of, pieced_bytes, plain_bytes};
@@ -51,26 +52,36 @@ fn source_of(rt: &HostRuntime, case: Case<'_>) -> io::Result<Vec<u8>> {
     Ok(bytes_of(rt.alloc(), case.part("bytes"))?)
 }
 
-/// What a command answers to a case.
-fn answered(rt: &HostRuntime, command: &str, case: Case<'_>) -> io::Result<Found> {
-    let source = source_of(rt, case)?;
-    let input = bytes_of(rt.alloc(), case.part("input"))?;
-    answer_to(rt.alloc(), command, &source, &input)
-}
-
-/// Whether a command answers to a case what it expects. Where it doesn't, that is printed.
-fn holds(rt: &HostRuntime, command: &str, head: Case<'_>, case: Case<'_>) -> io::Result<bool> {
-    let found = answered(rt, command, case)?;
-    let holds = is_as_wanted(rt.alloc(), &found, head, case)?;
+/// Whether what a command answers to a case is what it expects. Where it isn't, that is printed.
+fn is_expected(
+    rt: &HostRuntime,
+    command: &str,
+    head: Case<'_>,
+    case: Case<'_>,
+    found: &Found,
+) -> io::Result<bool> {
+    let holds = is_as_wanted(rt.alloc(), found, head, case)?;
     if !holds {
         let difference = Difference {
             case,
             command,
-            found: &found,
+            found,
         };
         println!(rt; "{difference}")?;
     }
     Ok(holds)
+}
+
+/// Whether a command answers to a case what it expects, over a plain store too where it runs an image.
+fn holds(rt: &HostRuntime, command: &str, head: Case<'_>, case: Case<'_>) -> io::Result<bool> {
+    let source = source_of(rt, case)?;
+    let input = bytes_of(rt.alloc(), case.part("input"))?;
+    let found = answer_to(rt.alloc(), command, &source, &input)?;
+    let holds = is_expected(rt, command, head, case, &found)?;
+    match plain_answer_to(rt.alloc(), command, &source, &input)? {
+        Some(plain) => Ok(is_expected(rt, command, head, case, &plain)? && holds),
+        None => Ok(holds),
+    }
 }
 
 /// Whether each command of a case answers what it expects, and there is one, and no part that means nothing.

@@ -1,4 +1,4 @@
-// What is read of a text: how expressions are grouped, how deep the phrases nest, where parts stand, and the parts of the other forms.
+// What is read of a text: how deep the phrases nest, where parts stand, and the parts of forms. How expressions are grouped is seen in the cases of `case_runs`.
 
 use cyc_lexer::{LexFault, tokens};
 use cyc_parser::parse;
@@ -13,59 +13,6 @@ use std::test::Fail;
 fn program_of(alloc: Global, text: &str) -> Result<Program, Fail> {
     let tokens = tokens(alloc, text.as_bytes())?;
     Ok(parse(alloc, &tokens)?)
-}
-
-// Writes an expression with parentheses round each group that the grammar makes.
-fn write_groups(expression: &Expression, out: &mut String) -> Result<(), AllocError> {
-    match expression {
-        Expression::Variable(name) => {
-            for byte in name.text.iter() {
-                out.push(char::from(*byte))?;
-            }
-        }
-        Expression::Prefixed(_, operator, operand) => {
-            write!(out, "({operator:?} ")?;
-            write_groups(operand, out)?;
-            out.push(')')?;
-        }
-        Expression::Chain(first, links) => {
-            out.push('(')?;
-            write_groups(first, out)?;
-            for link in links {
-                let operator = link.operator;
-                write!(out, " {operator:?} ")?;
-                write_groups(&link.operand, out)?;
-            }
-            out.push(')')?;
-        }
-        Expression::AllOf(first, others) => {
-            out.push('(')?;
-            write_groups(first, out)?;
-            for other in others {
-                out.push_str(" && ")?;
-                write_groups(other, out)?;
-            }
-            out.push(')')?;
-        }
-        Expression::AnyOf(first, others) => {
-            out.push('(')?;
-            write_groups(first, out)?;
-            for other in others {
-                out.push_str(" || ")?;
-                write_groups(other, out)?;
-            }
-            out.push(')')?;
-        }
-        Expression::Assign(place, value) => {
-            out.push('(')?;
-            write_groups(place, out)?;
-            out.push_str(" = ")?;
-            write_groups(value, out)?;
-            out.push(')')?;
-        }
-        _ => out.push('?')?,
-    }
-    Ok(())
 }
 
 // The first statement of a program's first item.
@@ -153,15 +100,6 @@ fn is_named(program: &Program, part: &str) -> bool {
     }
 }
 
-// The groups of a program's first statement.
-fn groups_of(alloc: Global, program: &Program) -> Result<String, AllocError> {
-    let mut found = String::new(alloc);
-    if let Some(Statement::Run(expression)) = first_statement(program) {
-        write_groups(expression, &mut found)?;
-    }
-    Ok(found)
-}
-
 // The pointers of a program's first global.
 fn pointers_of(alloc: Global, program: &Program) -> Result<String, AllocError> {
     match program.items().first() {
@@ -222,7 +160,6 @@ fn function_shown(alloc: Global, program: &Program, part: &str) -> Result<String
 // What a part of a program is shown as.
 fn shown(alloc: Global, program: &Program, part: &str) -> Result<String, AllocError> {
     match part {
-        "groups" => groups_of(alloc, program),
         "pointers" => pointers_of(alloc, program),
         "nesting" => format!(in alloc; "{}", nesting(program)),
         "signature" | "places" => function_shown(alloc, program, part),
@@ -253,24 +190,6 @@ fn expect_rows(alloc: Global, table: &str) -> Result<(), Fail> {
         expect(text_shown(alloc, text, part)?, wanted)?;
     }
     Ok(())
-}
-
-// How expressions are grouped.
-const GROUPS: &str = "\
-groups$int main() { a = b = c; }$(a = (b = c))
-groups$int main() { a - b - c; }$(a Subtract b Subtract c)
-groups$int main() { a * b / c % d; }$(a Multiply b Divide c Remainder d)
-groups$int main() { a || b && c | d ^ e & f == g < h << i + j * -k; }$(a || (b && (c BitOr (d BitXor (e BitAnd (f Equal (g Less (h ShiftLeft (i Add (j \
-Multiply (Negate k)))))))))))
-groups$int main() { *a / b - c >> d >= e != f & g ^ h | i && j || k; }$(((((((((((Dereference a) Divide b) Subtract c) ShiftRight d) GreaterEqual e) \
-NotEqual f) BitAnd g) BitXor h) BitOr i) && j) || k)
-groups$int main() { a <= b > c; }$(a LessEqual b Greater c)
-groups$int main() { !a = b || c; }$((Not a) = (b || c))
-groups$int main() { ~a * &b; }$((Complement a) Multiply (AddressOf b))";
-
-#[test]
-fn groups(rt: HostRuntime) -> Result<(), Fail> {
-    expect_rows(rt.alloc(), GROUPS)
 }
 
 // The pointers of a global. How many parameters, regions in its effect and bounds a function has, and its last brace. How deep phrases nest: what

@@ -1,6 +1,6 @@
 // A reader and a writer that stumble.
 
-use crate::machines::parted;
+use crate::rows::parted;
 use cyc_words::Counted;
 use std::io;
 use std::io::{Error, ErrorKind, Read, Write};

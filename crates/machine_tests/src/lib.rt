@@ -1,15 +1,23 @@
-//! Tests of the machine and of its runs between devices: what no clause of theirs says, and each public call once, by tables.
+//! Tests of words, images, instructions, the machine and its runs between devices: what no clause of theirs says, by tables.
 //!
-//! A crate with tests is proved twice, so those of the machine and the host stand here, where nothing else is proved.
+//! A crate with tests is proved twice, so those of the crates that take long stand here, where nothing else is proved.
 #![tactic(auto)]
 
 #[cfg(test)]
+mod counted_calls;
+#[cfg(test)]
 mod devices;
 #[cfg(test)]
-mod hosted;
+mod images;
+#[cfg(test)]
+mod instructions;
 #[cfg(test)]
 mod machine;
 #[cfg(test)]
-mod machines;
-#[cfg(test)]
 mod programs;
+#[cfg(test)]
+mod rows;
+#[cfg(test)]
+mod runs;
+#[cfg(test)]
+mod words;

@@ -1,23 +1,53 @@
-// Runs of short images over a plain store, worked out by hand.
+// Short images on a machine over either store, worked out by hand.
 
-use crate::machines::{machine_of, parted};
-use cyc_arena::{BlockStore, PlainStore};
-use cyc_image::{Parts, load, write};
+use crate::rows::{Rows, expect, hex, number_of, parted};
+use cyc_arena::{BlockStore, PagedStore, PlainStore};
+use cyc_image::{Image, Parts, load, write};
 use rv32_machine::{Event, Machine};
 use std::alloc::{AllocError, Global};
 use std::test::Fail;
 
+// the data of images
+const DATA: &[u8] = &[0x80, 0x81, 0x82, 0x83];
+
+/// The image of so many pages with this code.
+pub fn image_of(alloc: Global, code: &[u8], pages: u32) -> Result<Image, Fail> {
+    let parts = Parts {
+        entry: 0,
+        code,
+        statics: DATA,
+        pages,
+    };
+    if parts.fits() {
+        Ok(load(alloc, &write(alloc, &parts)?)?)
+    } else {
+        Err(Fail::new("the parts do not fit"))
+    }
+}
+
+/// The machine of an image over a store, at its first instruction.
+pub fn machine_over<S: BlockStore + Drop>(
+    alloc: Global,
+    image: &Image,
+    store: S,
+) -> Result<Machine<S>, Fail> {
+    match Machine::new(alloc, image, store) {
+        Ok(machine) => Ok(machine),
+        Err(_) => Err(Fail::new("no memory for the machine")),
+    }
+}
+
 // the code of words in hexadecimal, one space apart
-fn code_of(alloc: Global, text: &str) -> Result<Vec<u8>, Fail> {
+fn code_of(alloc: Global, text: &str) -> Result<Vec<u8>, AllocError> {
     let mut code = Vec::new(alloc);
     for digits in text.split(' ') {
-        code.extend_from_slice(&u32::from_str_radix(digits, 16)?.to_le_bytes())?;
+        code.extend_from_slice(&hex(digits).to_le_bytes())?;
     }
     Ok(code)
 }
 
 // the event that is not Next, of at most 20 steps
-fn event_of(machine: &mut Machine<PlainStore>) -> Event {
+fn event_of<S: BlockStore>(machine: &mut Machine<S>) -> Event {
     for _ in 0..20 {
         let event = machine.step();
         if event != Event::Next {
@@ -27,87 +57,27 @@ fn event_of(machine: &mut Machine<PlainStore>) -> Event {
     Event::Next
 }
 
-// How a machine of one page stops and where, what x10 has then, and its words: the smallest image of each fault; loads from the arena, stores to it and jumps
-// there; calls of the store, in order or not; and frames, as long as the stack, which fits, of one byte more, and of the most bytes.
-const STOPS: &str = "\
-Fault(Access) at 10004 with 0 <- 00000893
-Fault(Illegal) at 10000 with 0 <- 00000000
-Fault(Break) at 10000 with 0 <- 00100073
-Fault(Misaligned) at 10000 with 0 <- 00102083
-Fault(Access) at 10000 with 0 <- 00002083
-Fault(Misaligned) at 10000 with 0 <- 0020006F
-Ended(0) at 10008 with 0 <- 00001163 00000893 00000073
-Fault(BadCall) at 10008 with 3 <- 00300893 00300513 00000073
-Exhausted at 10008 with ffffffff <- 00D00893 FFF00513 00000073
-Fault(BadCall) at 10008 with 1 <- 00D00893 00100513 00000073
-Fault(BadCall) at 10004 with 0 <- 00E00893 00000073
-Fault(Access) at 10008 with 0 <- 100012B7 FE028FA3 00028023
-Fault(Access) at 10000000 with 0 <- 100002B7 00028067
-Fault(Access) at 10004 with 0 <- 100002B7 FFF28083
-Fault(Misaligned) at 10004 with 0 <- 100002B7 0022A083
-Fault(Access) at 10004 with 0 <- 100012B7 0002D083
-Fault(Access) at 1000c with 500000 <- 100012B7 FE22AE23 FFC2A503 0002A083
-Exhausted at 10008 with 1 <- 00400893 00000073 00000073 00000073
-Exhausted at 10008 with 1 <- 00400893 00000073 00000073
-Exhausted at 10008 with 1 <- 00900893 00000073 00000073
-Fault(BadCall) at 1000c with 9 <- 00500893 00900513 00800593 00000073
-Fault(BadCall) at 10010 with 9 <- 00500893 00900513 000015B7 00158593 00000073
-Exhausted at 1000c with 0 <- 00500893 000015B7 00158593 00000073
-Exhausted at 1000c with 1001 <- 00700893 00001537 00150513 00000073
-Fault(BadCall) at 10004 with 0 <- 00600893 00000073
-Fault(BadCall) at 10008 with 9 <- 00600893 00900513 00000073
-Fault(BadCall) at 10010 with 1 <- 00400893 00000073 00600893 00000073 00000073
-Fault(BadCall) at 10018 with 1 <- 00400893 00000073 00600893 00000073 00500893 00800593 00000073
-Fault(BadCall) at 10008 with 10000000 <- 00800893 10000537 00000073
-Fault(BadCall) at 10014 with 10000000 <- 00700893 00800513 00000073 00800893 00000073 00000073
-Fault(BadCall) at 10014 with 10000008 <- 00700893 00800513 00000073 00850513 00800893 00000073
-Fault(BadCall) at 10008 with 1 <- 00A00893 00100513 00000073
-Fault(BadCall) at 10008 with 1 <- 00B00893 00100513 00000073
-Fault(BadCall) at 10008 with 1 <- 00C00893 00100513 00000073
-Fault(BadCall) at 1000c with 1 <- 00900893 00000073 00600893 00000073
-Fault(BadCall) at 1000c with 1 <- 00900893 00000073 00B00893 00000073
-Fault(BadCall) at 10010 with 1 <- 00900893 00000073 00500893 00800593 00000073
-Fault(BadCall) at 10010 with 1 <- 00900893 00000073 00A00893 00000073 00000073
-Fault(BadCall) at 10014 with 1 <- 00900893 00000073 00A00893 00000073 00C00893 00000073
-Ended(1) at 10014 with 1 <- 00900893 00000073 00C00893 00000073 00000893 00000073
-Fault(BadCall) at 10008 with 100000 <- 00D00893 00100537 00000073
-Exhausted at 1000c with 100001 <- 00D00893 00100537 00150513 00000073
-Exhausted at 10008 with ffffffff <- 00D00893 FFF00513 00000073";
-
-// region_new, again and a third time, of two pages
-const TWO_PAGES: &str = "Exhausted at 1000c with 2 <- 00400893 00000073 00000073 00000073";
-
-// whether a machine stops so, and again where it is stepped once more
-fn stops(
-    alloc: Global,
-    machine: &mut Machine<PlainStore>,
-    wanted: &str,
-) -> Result<bool, AllocError> {
-    for _ in 0..2 {
-        let event = event_of(machine);
-        let (pc, number) = (machine.pc(), machine.reg(10));
-        let shown = format!(in alloc; "{event:?} at {pc:x} with {number:x}")?;
-        if shown.as_str() != wanted || machine.reg(1) != 0 {
-            return Ok(false);
-        }
-    }
-    Ok(true)
-}
-
-// whether a number in hexadecimal is this one
-fn is_number(text: &str, number: u32) -> bool {
-    u32::from_str_radix(text, 16) == Ok(number)
-}
-
 // whether an event is shown so
 fn is_event(alloc: Global, event: Event, wanted: &str) -> Result<bool, AllocError> {
-    let shown = format!(in alloc; "{event:?}")?;
-    Ok(shown.as_str() == wanted)
+    Ok(format!(in alloc; "{event:?}")?.as_str() == wanted)
+}
+
+/// Whether a machine has this, in hexadecimal, in a register `x` with a number, or as the address `pc` of its instruction.
+pub fn has<S: BlockStore>(machine: &Machine<S>, place: &str, wanted: &str) -> bool {
+    let found = match place.strip_prefix("x") {
+        Some(register) => machine.reg(register.parse().unwrap_or(0)),
+        None => machine.pc(),
+    };
+    found == hex(wanted)
 }
 
 // whether it is so what a part of a row says: `step` says the event of a step, `until` that of the next step that is not Next, `give` and `refuse` what becomes
 // of an answer, `pc` and `x` with a number what the machine has
-fn is_so(alloc: Global, machine: &mut Machine<PlainStore>, text: &str) -> Result<bool, AllocError> {
+fn is_so<S: BlockStore>(
+    alloc: Global,
+    machine: &mut Machine<S>,
+    text: &str,
+) -> Result<bool, AllocError> {
     let (name, wanted) = parted(text);
     match name {
         "step" => is_event(alloc, machine.step(), wanted),
@@ -117,19 +87,16 @@ fn is_so(alloc: Global, machine: &mut Machine<PlainStore>, text: &str) -> Result
         }
         "give" => Ok(machine.give(wanted.parse().ok())),
         "refuse" => Ok(!machine.give(wanted.parse().ok())),
-        "pc" => Ok(is_number(wanted, machine.pc())),
-        _ => match name.strip_prefix("x") {
-            Some(register) => {
-                let found = machine.reg(register.parse().unwrap_or(0));
-                Ok(is_number(wanted, found))
-            }
-            None => Ok(false),
-        },
+        _ => Ok(has(machine, name, wanted)),
     }
 }
 
-// whether all that a row says is so
-fn are_so(alloc: Global, machine: &mut Machine<PlainStore>, row: &str) -> Result<bool, AllocError> {
+// whether all is so that a row says of a machine
+fn are_so<S: BlockStore>(
+    alloc: Global,
+    machine: &mut Machine<S>,
+    row: &str,
+) -> Result<bool, AllocError> {
     for text in row.split("; ") {
         if !is_so(alloc, machine, text)? {
             return Ok(false);
@@ -138,36 +105,81 @@ fn are_so(alloc: Global, machine: &mut Machine<PlainStore>, row: &str) -> Result
     Ok(true)
 }
 
-// whether a row holds of the machine of its words, with this data and so many pages: how it stops, or behind ` <- ` in other tables what is done with it
-fn holds(alloc: Global, row: &str, data: &[u8], pages: u32) -> Result<bool, Fail> {
-    let (wanted, words) = row.split_once(" <- ").ok_or("no words")?;
-    let code = code_of(alloc, words)?;
-    let mut machine = machine_of(alloc, &code, data, pages)?;
-    if data.is_empty() {
-        Ok(stops(alloc, &mut machine, wanted)?)
-    } else {
-        Ok(are_so(alloc, &mut machine, wanted)?)
-    }
+// whether it is so what a row says of an image's machine over a store
+fn is_done_over<S: BlockStore + Drop>(
+    alloc: Global,
+    wanted: &str,
+    image: &Image,
+    store: S,
+) -> Result<bool, Fail> {
+    let mut machine = machine_over(alloc, image, store)?;
+    Ok(are_so(alloc, &mut machine, wanted)?)
 }
 
-// refuses a table with a row that doesn't hold
-fn expect(alloc: Global, table: &str, data: &[u8], pages: u32) -> Result<(), Fail> {
-    for row in table.lines() {
-        if !holds(alloc, row, data, pages)? {
-            return Err(Fail::new(row));
-        }
-    }
-    Ok(())
+/// Whether it is so what a row says of the machine of the words behind it, of one page or of as many as stand behind these, over both stores.
+pub fn is_done(alloc: Global, row: &str) -> Result<bool, Fail> {
+    let (wanted, words) = row.split_once(" <- ").unwrap_or((row, ""));
+    let (words, pages) = words.split_once(" | ").unwrap_or((words, "1"));
+    let code = code_of(alloc, words)?;
+    let pages = number_of(pages);
+    let image = image_of(alloc, &code, pages)?;
+    let plain = is_done_over(alloc, wanted, &image, PlainStore::new(alloc, pages)?)?;
+    let paged = is_done_over(alloc, wanted, &image, PagedStore::new(alloc, pages)?)?;
+    Ok(plain && paged)
 }
+
+// How a machine stops and where, what x10 has then, and that it stays so: the smallest image of each fault; loads from the arena, stores to it and jumps
+// there; calls of the store, in order or not; and frames, as long as the stack, which fits, of one byte more, and of the most bytes.
+const STOPS: &str = "\
+until Fault(Access); pc 10004; x10 0; step Fault(Access); pc 10004 <- 00000893
+until Fault(Illegal); pc 10000; x10 0; step Fault(Illegal); pc 10000 <- 00000000
+until Fault(Break); pc 10000; x10 0; step Fault(Break); pc 10000 <- 00100073
+until Fault(Misaligned); pc 10000; x10 0; step Fault(Misaligned); pc 10000; x1 0 <- 00102083
+until Fault(Access); pc 10000; x10 0; step Fault(Access); pc 10000; x1 0 <- 00002083
+until Fault(Misaligned); pc 10000; x10 0; step Fault(Misaligned); pc 10000 <- 0020006F
+until Ended(0); pc 10008; x10 0; step Ended(0); pc 10008 <- 00001163 00000893 00000073
+until Fault(BadCall); pc 10008; x10 3; step Fault(BadCall); pc 10008 <- 00300893 00300513 00000073
+until Exhausted; pc 10008; x10 ffffffff; step Exhausted; pc 10008 <- 00D00893 FFF00513 00000073
+until Fault(BadCall); pc 10008; x10 1; step Fault(BadCall); pc 10008 <- 00D00893 00100513 00000073
+until Fault(BadCall); pc 10004; x10 0; step Fault(BadCall); pc 10004 <- 00E00893 00000073
+until Fault(Access); pc 10008; x10 0; step Fault(Access); pc 10008 <- 100012B7 FE028FA3 00028023
+until Fault(Access); pc 10000000; x10 0; step Fault(Access); pc 10000000 <- 100002B7 00028067
+until Fault(Access); pc 10004; x10 0; step Fault(Access); pc 10004; x1 0 <- 100002B7 FFF28083
+until Fault(Misaligned); pc 10004; x10 0; step Fault(Misaligned); pc 10004; x1 0 <- 100002B7 0022A083
+until Fault(Access); pc 10004; x10 0; step Fault(Access); pc 10004; x1 0 <- 100012B7 0002D083
+until Fault(Access); pc 1000c; x10 500000; step Fault(Access); pc 1000c; x1 0 <- 100012B7 FE22AE23 FFC2A503 0002A083
+until Exhausted; pc 10008; x10 1; step Exhausted; pc 10008 <- 00400893 00000073 00000073 00000073
+until Exhausted; pc 10008; x10 1; step Exhausted; pc 10008 <- 00400893 00000073 00000073
+until Exhausted; pc 10008; x10 1; step Exhausted; pc 10008 <- 00900893 00000073 00000073
+until Fault(BadCall); pc 1000c; x10 9; step Fault(BadCall); pc 1000c <- 00500893 00900513 00800593 00000073
+until Fault(BadCall); pc 10010; x10 9; step Fault(BadCall); pc 10010 <- 00500893 00900513 000015B7 00158593 00000073
+until Exhausted; pc 1000c; x10 0; step Exhausted; pc 1000c <- 00500893 000015B7 00158593 00000073
+until Exhausted; pc 1000c; x10 1001; step Exhausted; pc 1000c <- 00700893 00001537 00150513 00000073
+until Fault(BadCall); pc 10004; x10 0; step Fault(BadCall); pc 10004 <- 00600893 00000073
+until Fault(BadCall); pc 10008; x10 9; step Fault(BadCall); pc 10008 <- 00600893 00900513 00000073
+until Fault(BadCall); pc 10010; x10 1; step Fault(BadCall); pc 10010 <- 00400893 00000073 00600893 00000073 00000073
+until Fault(BadCall); pc 10018; x10 1; step Fault(BadCall); pc 10018 <- 00400893 00000073 00600893 00000073 00500893 00800593 00000073
+until Fault(BadCall); pc 10008; x10 10000000; step Fault(BadCall); pc 10008 <- 00800893 10000537 00000073
+until Fault(BadCall); pc 10014; x10 10000000; step Fault(BadCall); pc 10014 <- 00700893 00800513 00000073 00800893 00000073 00000073
+until Fault(BadCall); pc 10014; x10 10000008; step Fault(BadCall); pc 10014 <- 00700893 00800513 00000073 00850513 00800893 00000073
+until Fault(BadCall); pc 10008; x10 1; step Fault(BadCall); pc 10008 <- 00A00893 00100513 00000073
+until Fault(BadCall); pc 10008; x10 1; step Fault(BadCall); pc 10008 <- 00B00893 00100513 00000073
+until Fault(BadCall); pc 10008; x10 1; step Fault(BadCall); pc 10008 <- 00C00893 00100513 00000073
+until Fault(BadCall); pc 1000c; x10 1; step Fault(BadCall); pc 1000c <- 00900893 00000073 00600893 00000073
+until Fault(BadCall); pc 1000c; x10 1; step Fault(BadCall); pc 1000c <- 00900893 00000073 00B00893 00000073
+until Fault(BadCall); pc 10010; x10 1; step Fault(BadCall); pc 10010 <- 00900893 00000073 00500893 00800593 00000073
+until Fault(BadCall); pc 10010; x10 1; step Fault(BadCall); pc 10010 <- 00900893 00000073 00A00893 00000073 00000073
+until Fault(BadCall); pc 10014; x10 1; step Fault(BadCall); pc 10014 <- 00900893 00000073 00A00893 00000073 00C00893 00000073
+until Ended(1); pc 10014; x10 1; step Ended(1); pc 10014 <- 00900893 00000073 00C00893 00000073 00000893 00000073
+until Fault(BadCall); pc 10008; x10 100000; step Fault(BadCall); pc 10008 <- 00D00893 00100537 00000073
+until Exhausted; pc 1000c; x10 100001; step Exhausted; pc 1000c <- 00D00893 00100537 00150513 00000073
+until Exhausted; pc 10008; x10 ffffffff; step Exhausted; pc 10008 <- 00D00893 FFF00513 00000073
+until Exhausted; pc 1000c; x10 2; step Exhausted; pc 1000c <- 00400893 00000073 00000073 00000073 | 2";
 
 #[test]
 fn a_stop_is_before_the_instruction(rt: HostRuntime) -> Result<(), Fail> {
-    expect(rt.alloc(), STOPS, b"", 1)?;
-    expect(rt.alloc(), TWO_PAGES, b"", 2)
+    expect(rt.alloc(), Rows::Steps, STOPS)
 }
-
-// The data of these images.
-const DATA: &[u8] = &[0x80, 0x81, 0x82, 0x83];
 
 // A program that ends; getchar, and again; loads from the data, which extend the sign; what is stored is loaded again, and nothing stands behind the stack;
 // putchar, and a raise. In the last one a region, a block of 8 bytes in it, whose address goes to x5, and 0x12345000 stored there; the region is freed, and the
@@ -183,27 +195,18 @@ until Fault(Break); x12 0; x13 50; x14 34; x15 0 <- 00400893 00000073 00050313 0
 
 #[test]
 fn a_machine_goes_on_step_by_step(rt: HostRuntime) -> Result<(), Fail> {
-    expect(rt.alloc(), STEPS, DATA, 1)
+    expect(rt.alloc(), Rows::Steps, STEPS)
 }
 
 // whether a machine is made, or where memory lacks, as under rt try --test --fail-alloc, its store comes back as it was
 fn is_made_or_given_back(alloc: Global) -> Result<bool, Fail> {
-    let parts = Parts {
-        entry: 0,
-        code: &[0x73, 0, 0x10, 0],
-        statics: b"",
-        pages: 1,
-    };
-    if !parts.fits() {
-        return Err(Fail::new("the parts do not fit"));
-    }
-    let image = load(alloc, &write(alloc, &parts)?)?;
+    let image = image_of(alloc, &[0x73, 0, 0x10, 0], 1)?;
     let mut store = PlainStore::new(alloc, image.pages())?;
     let is_stored = store.store8(0x1000_0000, 7);
     match Machine::new(alloc, &image, store) {
-        Ok(machine) => Ok(
-            is_stored && (machine.pc(), machine.reg(2)) == (0x0001_0000, 0x0050_0000),
-        ),
+        Ok(machine) => {
+            Ok(is_stored && (machine.pc(), machine.reg(2)) == (0x0001_0000, 0x0050_0000))
+        }
         Err(back) => Ok(back.load8(0x1000_0000) == Some(7)),
     }
 }

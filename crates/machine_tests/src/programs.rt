@@ -1,6 +1,6 @@
 // Programs as words with what an assembler reads them as.
 
-use rv32_isa::decode;
+use crate::instructions::word_of;
 use std::alloc::Global;
 use std::test::Fail;
 
@@ -87,8 +87,8 @@ fe029ce3 bne x5, x0, -8
 00000893 addi x17, x0, 0
 00000073 ecall";
 
-/// The program of a name, none of another one.
-pub fn program_of(name: &str) -> &'static str {
+// the program of a name, none of another one
+fn program_of(name: &str) -> &'static str {
     match name {
         "echo" => ECHO,
         "twice" => TWICE,
@@ -102,24 +102,12 @@ pub fn program_of(name: &str) -> &'static str {
     }
 }
 
-// the word of a line, which has to be decoded to the text behind it
-fn word_of(alloc: Global, line: &str) -> Result<u32, Fail> {
-    let (digits, text) = line.split_once(' ').unwrap_or((line, ""));
-    let word = u32::from_str_radix(digits, 16)?;
-    let instr = decode(word).ok_or("no instruction")?;
-    let shown = format!(in alloc; "{instr}")?;
-    if shown.as_str() == text {
-        Ok(word)
-    } else {
-        Err(Fail::new(format_args!("another text: {line}")))
-    }
-}
-
 /// The code of a program.
-pub fn code_of(alloc: Global, program: &str) -> Result<Vec<u8>, Fail> {
+pub fn code_of(alloc: Global, name: &str) -> Result<Vec<u8>, Fail> {
     let mut code = Vec::new(alloc);
-    for line in program.lines() {
-        code.extend_from_slice(&word_of(alloc, line)?.to_le_bytes())?;
+    for row in program_of(name).lines() {
+        let word = word_of(alloc, row)?.ok_or("another text")?;
+        code.extend_from_slice(&word.to_le_bytes())?;
     }
     Ok(code)
 }

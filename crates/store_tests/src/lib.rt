@@ -1,24 +1,16 @@
-//! Tests of the stores of regions: what no clause of theirs says, and each public call once.
+//! Tests of the stores of regions: what no clause of theirs says, and each public call once, by tables of calls.
 //!
 //! A crate with tests is proved twice, so those of the stores stand here, where nothing else is proved.
 #![tactic(auto)]
 
 #[cfg(test)]
-mod driven;
+mod asked;
 #[cfg(test)]
-mod edges;
-#[cfg(test)]
-mod keys;
-#[cfg(test)]
-mod pool;
-#[cfg(test)]
-mod raw;
+mod parts;
 #[cfg(test)]
 mod rows;
 #[cfg(test)]
 mod tables;
-#[cfg(test)]
-mod unique;
 
 // the arena's first address
 #[cfg(test)]

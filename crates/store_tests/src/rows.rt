@@ -1,218 +1,163 @@
-// What each crate answers call by call, by the tables.
+// What is said call by call, by the tables.
 
-use crate::tables::{Asked, COUNTED_PAGES, MANY_PAGES, ONE_PAGE, TWO_PAGES, counted, unlike};
-use cyc_arena::{BlockStore, PagedStore, PagesFault, PlainStore, StoreRefusal};
-use dynamic_region::{Blocks, Handle, Key, KeyRefusal, Keys, Pool, Refusal, Regions, UniqueBlocks};
+use crate::BASE;
+use crate::asked::{Asked, Said};
+use crate::tables::{EDGES, ONE_PAGE, OPEN_PAGES, POOLED, REGIONS, SLOTS};
+use cyc_arena::{PagedStore, PagesFault, PlainStore};
+use dynamic_region::{Pool, UniqueBlocks};
+use std::alloc::Global;
 use std::test::Fail;
-use unique_blocks::UniqueRefusal;
 
-// a region's refusal, as a store's
-fn of_region(why: Refusal) -> StoreRefusal {
-    match why {
-        Refusal::Full => StoreRefusal::Full,
-        Refusal::BadHandle => StoreRefusal::BadHandle,
-    }
+// what calls are made on: the region or key that was made last, at first the heap, and the block, at first the arena's first address
+#[derive(Clone, Copy)]
+struct Last {
+    region: u32,
+    block: u32,
 }
 
-// a key's refusal, as a store's
-fn of_key(why: KeyRefusal) -> StoreRefusal {
-    match why {
-        KeyRefusal::Full => StoreRefusal::Full,
-        KeyRefusal::BadKey => StoreRefusal::BadKey,
-        KeyRefusal::Open => StoreRefusal::Open,
-        KeyRefusal::NotOpen => StoreRefusal::NotOpen,
-    }
-}
-
-// a unique block's refusal, as a store's
-fn of_block(why: UniqueRefusal) -> StoreRefusal {
-    match why {
-        UniqueRefusal::Full => StoreRefusal::Full,
-        UniqueRefusal::NotABlock => StoreRefusal::NotABlock,
-    }
-}
-
-// a call of regions
-fn ask_regions<R: Regions>(
-    regions: &mut R,
-    call: &str,
-    last: u32,
-    number: u32,
-) -> Result<u32, StoreRefusal> {
-    let handle = Handle(last);
-    match call {
-        "region_new" => match regions.region_new() {
-            Some(made) => Ok(made.0),
-            None => Err(StoreRefusal::Full),
-        },
-        "region_alloc" => regions.region_alloc(handle, number).map_err(of_region),
-        "region_free" => regions.region_free(handle).map(|()| 0).map_err(of_region),
-        "free_pages" => counted(regions.free_pages(), number),
-        "fresh_pages" => counted(regions.fresh_pages(), number),
-        _ => Err(StoreRefusal::Memory),
-    }
-}
-
-// a call of a store
-fn ask_store<S: BlockStore>(
-    store: &mut S,
-    call: &str,
-    last: u32,
-    number: u32,
-) -> Result<u32, StoreRefusal> {
-    match call {
-        "region_new" => store.region_new(),
-        "region_alloc" => store.region_alloc(last, number),
-        "region_free" => store.region_free(last).map(|()| 0),
-        "unique_alloc" => store.unique_alloc(number),
-        "unique_free" => store.unique_free(last.wrapping_add(number)).map(|()| 0),
-        "key_new" => store.key_new(),
-        "key_open" => store.key_open(last),
-        "key_close" => store.key_close(last).map(|()| 0),
-        "key_free" => store.key_free(last).map(|()| 0),
-        _ => Err(StoreRefusal::Memory),
-    }
-}
-
-impl Asked for Pool {
-    fn ask(&mut self, call: &str, last: u32, number: u32) -> Result<u32, StoreRefusal> {
-        ask_regions(self, call, last, number)
-    }
-
-    fn put(&mut self, at: u32, byte: u8) -> bool {
-        self.store8(at, byte)
-    }
-}
-
-impl Asked for UniqueBlocks {
-    fn ask(&mut self, call: &str, last: u32, number: u32) -> Result<u32, StoreRefusal> {
-        ask_regions(self, call, last, number)
-    }
-
-    fn put(&mut self, at: u32, byte: u8) -> bool {
-        UniqueBlocks::store8(self, at, byte)
-    }
-}
-
-impl<R: Blocks> Asked for Keys<R> {
-    fn ask(&mut self, call: &str, last: u32, number: u32) -> Result<u32, StoreRefusal> {
-        let (handle, key) = (Handle(last), Key(last));
+impl Last {
+    // what a call is made on
+    fn base(self, call: &str) -> u32 {
         match call {
-            "region_new" => match self.region_new() {
-                Some(made) => Ok(made.0),
-                None => Err(StoreRefusal::Full),
-            },
-            "region_alloc" => self.region_alloc(handle, number).map_err(of_region),
-            "region_free" => self.region_free(handle).map(|()| 0).map_err(of_region),
-            "unique_alloc" => self.unique_alloc(number).map_err(of_block),
-            "unique_free" => self
-                .unique_free(last.wrapping_add(number))
-                .map(|()| 0)
-                .map_err(of_block),
-            "key_new" => self.key_new().map(|key| key.0).map_err(of_key),
-            "key_open" => self.key_open(key).map(|handle| handle.0).map_err(of_key),
-            "key_close" => self.key_close(key).map(|()| 0).map_err(of_key),
-            "key_free" => self.key_free(key).map(|()| 0).map_err(of_key),
-            "free_pages" => counted(self.free_pages(), number),
-            "fresh_pages" => counted(self.fresh_pages(), number),
-            _ => Err(StoreRefusal::Memory),
+            "unique_free" | "load8" | "store8" | "live" => self.block,
+            _ => self.region,
         }
     }
 
-    fn put(&mut self, at: u32, byte: u8) -> bool {
-        self.store8(at, byte)
+    // the same behind a call that was said this
+    fn after(self, call: &str, said: Said) -> Last {
+        let Last { region, block } = self;
+        match (said, call) {
+            (Ok(region), "region_new" | "key_new") => Last { region, block },
+            (Ok(block), "region_alloc" | "unique_alloc") => Last { region, block },
+            _ => self,
+        }
     }
 }
 
-impl Asked for PlainStore {
-    fn ask(&mut self, call: &str, last: u32, number: u32) -> Result<u32, StoreRefusal> {
-        ask_store(self, call, last, number)
-    }
-
-    fn put(&mut self, at: u32, byte: u8) -> bool {
-        self.store8(at, byte)
-    }
-}
-
-impl<R: Blocks> Asked for PagedStore<R> {
-    fn ask(&mut self, call: &str, last: u32, number: u32) -> Result<u32, StoreRefusal> {
-        ask_store(self, call, last, number)
-    }
-
-    fn put(&mut self, at: u32, byte: u8) -> bool {
-        self.store8(at, byte)
+// stores FF to every byte of the arena, of at most 64 pages
+fn fill<A: Asked>(asked: &mut A) {
+    for place in 0..64 * 4096 {
+        if !asked.put(BASE + place, 255) {
+            return;
+        }
     }
 }
 
-// fails with the first line of a table that is answered otherwise
-fn answers<A: Asked>(asked: &mut A, text: &str) -> Result<(), Fail> {
-    match unlike(asked, text)? {
-        Some(line) => Err(Fail::from(line)),
-        None => Ok(()),
+// whether this is what a row wants: `Ok` is any number
+fn is_wanted(said: Said, wanted: &str) -> bool {
+    match said {
+        Ok(number) => wanted == "Ok" || wanted.parse() == Ok(number),
+        Err(why) => why == wanted,
     }
 }
 
-// pages and a table of calls on them
-const STORE_ROWS: [(u32, &str); 3] = [(2, TWO_PAGES), (1, ONE_PAGE), (64, MANY_PAGES)];
+// a number, or the greatest one where a text is none
+fn number_of(text: &str) -> u32 {
+    text.parse().unwrap_or(u32::MAX)
+}
 
-#[test]
-fn a_plain_store_answers_by_its_laws(rt: HostRuntime) -> Result<(), Fail> {
-    for (pages, text) in STORE_ROWS {
-        answers(&mut PlainStore::new(rt.alloc(), pages)?, text)?;
+// makes a call so often as a row says, and fills the arena before one that may change what is held: what is last then, if all that is said is wanted
+fn done<A: Asked>(asked: &mut A, last: Last, row: &str) -> Option<Last> {
+    let (times, rest) = row.split_once(' ')?;
+    let (call, rest) = rest.split_once(' ')?;
+    let (number, wanted) = rest.split_once(' ')?;
+    let (mut last, number) = (last, number_of(number));
+    if call.contains('_') {
+        fill(asked);
+    }
+    for _ in 0..number_of(times) {
+        let said = asked.ask(call, last.base(call), number);
+        if !is_wanted(said, wanted) {
+            return None;
+        }
+        last = last.after(call, said);
+    }
+    Some(last)
+}
+
+// the first row that is answered otherwise, or none
+fn unlike<'t, A: Asked>(asked: &mut A, rows: &'t str) -> Option<&'t str> {
+    let mut last = Last {
+        region: 0,
+        block: BASE,
+    };
+    for row in rows.lines() {
+        last = match done(asked, last, row) {
+            Some(last) => last,
+            None => return Some(row),
+        };
+    }
+    None
+}
+
+// what a table's calls are made on
+#[derive(Clone, Copy)]
+enum Sort {
+    Plain,
+    Paged,
+    Blocks,
+}
+
+// the first row of a table that is answered otherwise, or none
+fn wrong_row(alloc: Global, sort: Sort, table: &str) -> Result<Option<&str>, PagesFault> {
+    let (pages, rows) = table.split_once(" pages\n").unwrap_or((table, "no rows"));
+    let pages = number_of(pages);
+    match sort {
+        Sort::Plain => Ok(unlike(&mut PlainStore::new(alloc, pages)?, rows)),
+        Sort::Paged => Ok(unlike(&mut PagedStore::new(alloc, pages)?, rows)),
+        Sort::Blocks => {
+            let mut blocks = UniqueBlocks::new(Pool::new(alloc, pages)?);
+            Ok(unlike(&mut blocks, rows))
+        }
+    }
+}
+
+// refuses tables with a row that is answered otherwise
+fn expect(alloc: Global, sort: Sort, tables: &str) -> Result<(), Fail> {
+    for table in tables.split("\n\n") {
+        if let Some(row) = wrong_row(alloc, sort, table)? {
+            return Err(Fail::new(row));
+        }
     }
     Ok(())
 }
 
-#[test]
-fn a_paged_store_answers_by_its_laws(rt: HostRuntime) -> Result<(), Fail> {
-    for (pages, text) in STORE_ROWS {
-        answers(&mut PagedStore::new(rt.alloc(), pages)?, text)?;
+// whether nothing is made for want of memory, or what is made answers by its laws
+fn answers_if_made(alloc: Global, sort: Sort) -> bool {
+    match wrong_row(alloc, sort, ONE_PAGE) {
+        Ok(row) => row.is_none(),
+        Err(fault) => fault == PagesFault::Memory,
     }
-    Ok(())
-}
-
-#[test]
-fn keys_over_unique_blocks_answer_by_their_laws(rt: HostRuntime) -> Result<(), Fail> {
-    for (pages, text) in [(2, TWO_PAGES), (1, ONE_PAGE), (64, COUNTED_PAGES)] {
-        let blocks = UniqueBlocks::new(Pool::new(rt.alloc(), pages)?);
-        answers(&mut Keys::new(blocks), text)?;
-    }
-    Ok(())
-}
-
-#[test]
-fn regions_answer_by_their_laws(rt: HostRuntime) -> Result<(), Fail> {
-    for (pages, text) in [(2, TWO_PAGES), (64, COUNTED_PAGES), (64, MANY_PAGES)] {
-        answers(&mut Pool::new(rt.alloc(), pages)?, text)?;
-        let mut blocks = UniqueBlocks::new(Pool::new(rt.alloc(), pages)?);
-        answers(&mut blocks, text)?;
-    }
-    Ok(())
-}
-
-#[test]
-fn a_region_is_freed_by_few_words(rt: HostRuntime) -> Result<(), Fail> {
-    let mut store = PagedStore::new(rt.alloc(), 64)?;
-    let handle = store.region_new()?;
-    for _ in 0..60 {
-        store.region_alloc(handle, 4096)?;
-    }
-    assert!(rt; store.region_free(handle) == Ok(()));
-    assert!(rt; store.touched() <= 8);
-    Ok(())
 }
 
 // Where memory lacks as under rt try --test --fail-alloc, no store is made, and one that is made never lacks any.
 #[test]
-fn where_memory_lacks_no_store_is_made(rt: HostRuntime) -> Result<(), Fail> {
-    answers_or_lacks_memory(PlainStore::new(rt.alloc(), 1))?;
-    answers_or_lacks_memory(PagedStore::new(rt.alloc(), 1))
+fn where_memory_lacks_no_store_is_made(rt: HostRuntime) {
+    assert!(rt;
+        answers_if_made(rt.alloc(), Sort::Plain) && answers_if_made(rt.alloc(), Sort::Paged)
+    );
 }
 
-fn answers_or_lacks_memory<A: Asked + Drop>(made: Result<A, PagesFault>) -> Result<(), Fail> {
-    match made {
-        Ok(mut store) => answers(&mut store, ONE_PAGE),
-        Err(PagesFault::Memory) => Ok(()),
-        Err(_) => Err(Fail::new("another fault")),
-    }
+// Makes the same two stores, and wants both.
+#[test]
+fn stores_of_a_page_have_their_edges(rt: HostRuntime) -> Result<(), Fail> {
+    expect(rt.alloc(), Sort::Plain, EDGES)?;
+    expect(rt.alloc(), Sort::Paged, EDGES)
+}
+
+#[test]
+fn stores_answer_by_their_laws(rt: HostRuntime) -> Result<(), Fail> {
+    expect(rt.alloc(), Sort::Plain, REGIONS)?;
+    expect(rt.alloc(), Sort::Plain, ONE_PAGE)?;
+    expect(rt.alloc(), Sort::Paged, REGIONS)?;
+    expect(rt.alloc(), Sort::Paged, ONE_PAGE)?;
+    expect(rt.alloc(), Sort::Paged, OPEN_PAGES)
+}
+
+#[test]
+fn unique_blocks_answer_by_their_laws(rt: HostRuntime) -> Result<(), Fail> {
+    expect(rt.alloc(), Sort::Blocks, EDGES)?;
+    expect(rt.alloc(), Sort::Blocks, POOLED)?;
+    expect(rt.alloc(), Sort::Blocks, SLOTS)
 }

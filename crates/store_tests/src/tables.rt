@@ -1,79 +1,12 @@
-// Tables of calls with the answers that each crate owes: a line a call, whatever the bytes of the arena are.
+// Tables of calls with what each has to say.
+//
+// A table begins with how many pages there are. A row has how often a call is made, its name, a number, and what is said. The number is how many bytes are asked
+// for, the tag that is set, or how many bytes behind the last block an address lies, where 4294967295 is the byte before it.
 
-use crate::BASE;
-use cyc_arena::StoreRefusal;
-use std::test::Fail;
-
-/// What the calls of a table are made on.
-pub trait Asked {
-    /// A call by its name, with a number, on the region, key or unique block that was made last.
-    fn ask(&mut self, call: &str, last: u32, number: u32) -> Result<u32, StoreRefusal>;
-
-    /// Stores a byte of the arena; false outside it.
-    fn put(&mut self, at: u32, byte: u8) -> bool;
-}
-
-/// What a count came to: Ok where it is the number of its line.
-pub fn counted(count: u32, number: u32) -> Result<u32, StoreRefusal> {
-    if count == number {
-        Ok(count)
-    } else {
-        Err(StoreRefusal::Memory)
-    }
-}
-
-// stores FF to every byte of the arena, of at most 64 pages
-fn fill<A: Asked>(asked: &mut A) {
-    for place in 0..64 * 4096 {
-        if !asked.put(BASE + place, 255) {
-            return;
-        }
-    }
-}
-
-// the refusal of a name, and none for Ok
-fn refusal_named(name: &str) -> Option<StoreRefusal> {
-    match name {
-        "Ok" => None,
-        "Full" => Some(StoreRefusal::Full),
-        "BadHandle" => Some(StoreRefusal::BadHandle),
-        "NotABlock" => Some(StoreRefusal::NotABlock),
-        "BadKey" => Some(StoreRefusal::BadKey),
-        "Open" => Some(StoreRefusal::Open),
-        "NotOpen" => Some(StoreRefusal::NotOpen),
-        _ => Some(StoreRefusal::Memory),
-    }
-}
-
-/// Makes the calls of a text, and stores FF to all of the arena after each: its first line that was
-/// answered otherwise, or none. A line has how often a call is made, its name, a number, and the
-/// refusal or Ok.
-pub fn unlike<'t, A: Asked>(asked: &mut A, text: &'t str) -> Result<Option<&'t str>, Fail> {
-    let mut last = 0;
-    for line in text.lines() {
-        let mut words = line.split(' ');
-        let times = words.next().unwrap_or("").parse::<u32>()?;
-        let call = words.next().unwrap_or("");
-        let number = words.next().unwrap_or("").parse::<u32>()?;
-        let wanted = refusal_named(words.next().unwrap_or(""));
-        for _ in 0..times {
-            let said = asked.ask(call, last, number);
-            if said.err() != wanted {
-                return Ok(Some(line));
-            }
-            if let Ok(made) = said {
-                if call.ends_with("new") || call == "unique_alloc" {
-                    last = made;
-                }
-            }
-            fill(asked);
-        }
-    }
-    Ok(None)
-}
-
-/// Regions of two pages.
-pub const TWO_PAGES: &str = "1 region_new 0 Ok
+/// Regions of two pages; regions of 64 pages; and the heap of one page, which its first block takes.
+pub const REGIONS: &str = "\
+2 pages
+1 region_new 0 Ok
 1 region_alloc 4097 Full
 1 region_alloc 4096 Ok
 1 region_alloc 1 Ok
@@ -83,10 +16,31 @@ pub const TWO_PAGES: &str = "1 region_new 0 Ok
 1 region_free 0 Ok
 1 region_free 0 BadHandle
 1 region_alloc 4097 BadHandle
-1 region_new 0 Ok";
+1 region_new 0 Ok
+
+64 pages
+1 region_new 0 Ok
+60 region_alloc 4096 Ok
+1 region_free 0 Ok
+1 region_new 0 Ok
+64 region_alloc 4096 Ok
+1 region_alloc 1 Full
+1 region_free 0 Ok
+64 region_new 0 Ok
+1 region_new 0 Full
+
+1 pages
+1 region_free 0 BadHandle
+1 region_alloc 0 Ok
+1 region_new 0 Full
+1 region_alloc 4088 Ok
+1 region_alloc 1 Full
+1 key_open 0 BadKey";
 
 /// Keys and unique blocks of one page.
-pub const ONE_PAGE: &str = "1 key_new 0 Ok
+pub const ONE_PAGE: &str = "\
+1 pages
+1 key_new 0 Ok
 1 key_new 0 Full
 1 key_close 0 NotOpen
 1 region_free 0 BadHandle
@@ -110,8 +64,71 @@ pub const ONE_PAGE: &str = "1 key_new 0 Ok
 1 unique_alloc 32 Full
 1 unique_alloc 33 Full";
 
-/// Regions of 64 pages.
-pub const MANY_PAGES: &str = "1 region_new 0 Ok
+/// The arena of one page, whose bytes are 0 at first.
+pub const EDGES: &str = "\
+1 pages
+1 pages 0 1
+1 load8 0 0
+1 load8 4095 0
+1 load8 4096 none
+1 load8 4294967295 none
+1 live 0 0
+1 store8 4095 1
+1 load8 4095 9
+1 load8 4094 0
+1 store8 4096 0
+1 store8 4294967295 0";
+
+/// A key's region of 64 pages, which are all given back by a few words.
+pub const OPEN_PAGES: &str = "\
+64 pages
+1 key_new 0 Ok
+1 key_open 0 Ok
+64 region_alloc 4096 Ok
+1 region_alloc 1 Full
+1 store8 4095 1
+1 store8 4096 0
+1 key_close 0 Ok
+1 key_free 0 Ok
+1 touched 0 Ok
+1 load8 4095 255
+1 load8 4096 none
+1 region_new 0 Ok
+60 region_alloc 4096 Ok
+1 region_free 0 Ok
+1 touched 0 Ok
+64 region_new 0 Ok
+1 region_new 0 Full";
+
+/// Regions of two pages; of 64 pages, with the counts of pages and of the words of headers that are touched, and without; tags of regions of one page, where
+/// the heap has none; and freed pages of which a new region has one, of three pages.
+pub const POOLED: &str = "\
+2 pages
+1 region_new 0 Ok
+1 region_alloc 4097 Full
+1 region_alloc 4096 Ok
+1 region_alloc 1 Ok
+1 region_alloc 4089 Full
+1 region_alloc 4080 Ok
+1 region_new 0 Full
+1 region_free 0 Ok
+1 region_free 0 BadHandle
+1 region_alloc 4097 BadHandle
+1 region_new 0 Ok
+
+64 pages
+1 free 0 64
+1 region_new 0 Ok
+60 region_alloc 4096 Ok
+1 free 0 4
+1 fresh 0 4
+1 region_free 0 Ok
+1 touched 0 Ok
+1 free 0 64
+1 fresh 0 4
+
+64 pages
+1 region_new 0 Ok
 60 region_alloc 4096 Ok
 1 region_free 0 Ok
 1 region_new 0 Ok
@@ -119,14 +136,96 @@ pub const MANY_PAGES: &str = "1 region_new 0 Ok
 1 region_alloc 1 Full
 1 region_free 0 Ok
 64 region_new 0 Ok
-1 region_new 0 Full";
+1 region_new 0 Full
 
-/// Regions of 64 pages, with the counts of pages and of the words of headers that are touched.
-pub const COUNTED_PAGES: &str = "1 free_pages 64 Ok
+1 pages
+1 tag 0 none
+1 set_tag 7 0
 1 region_new 0 Ok
-60 region_alloc 4096 Ok
-1 free_pages 4 Ok
-1 fresh_pages 4 Ok
+1 tag 0 0
+1 set_tag 7 1
+1 tag 0 7
 1 region_free 0 Ok
-1 free_pages 64 Ok
-1 fresh_pages 4 Ok";
+1 tag 0 none
+1 set_tag 7 0
+1 region_new 0 Ok
+1 tag 0 0
+
+3 pages
+1 region_new 0 Ok
+2 region_alloc 4096 Ok
+1 live 0 1
+1 region_free 0 Ok
+1 live 0 0
+1 live 4294963200 0
+2 region_new 0 Ok
+1 live 0 0
+1 live 4294963200 0
+1 region_alloc 8 Ok
+1 live 7 1";
+
+/// Unique blocks of eight pages, in slots of the smallest class that holds them; the 128 slots of 32 bytes of one page, of which the first and the last are
+/// given back; a slot that is freed at its first address, of two pages; pages that stay with their class, of two; and a region beside unique blocks, of three.
+pub const SLOTS: &str = "\
+8 pages
+1 unique_alloc 0 268435456
+1 unique_alloc 32 268435488
+1 live 0 1
+1 live 31 1
+1 live 32 0
+1 unique_alloc 33 268439552
+1 unique_alloc 4096 268443648
+1 live 4095 1
+1 free 0 5
+1 unique_alloc 4097 Full
+1 free 0 5
+
+1 pages
+128 unique_alloc 12 Ok
+1 unique_alloc 12 Full
+1 unique_free 0 Ok
+1 unique_free 4294963232 Ok
+1 unique_alloc 12 268435456
+1 unique_alloc 12 268439520
+1 unique_alloc 1 Full
+
+2 pages
+1 unique_free 0 NotABlock
+1 unique_alloc 100 268435456
+1 unique_free 8 NotABlock
+1 unique_free 128 NotABlock
+1 unique_free 4026531840 NotABlock
+1 unique_free 4026531839 NotABlock
+1 live 0 1
+1 unique_free 0 Ok
+1 live 0 0
+1 unique_free 0 NotABlock
+
+2 pages
+1 unique_alloc 4096 268435456
+1 unique_free 0 Ok
+1 free 0 1
+1 unique_alloc 32 268439552
+1 unique_alloc 64 Full
+1 region_new 0 Full
+1 unique_alloc 3000 268435456
+
+3 pages
+1 region_new 0 Ok
+1 region_alloc 4096 268435456
+1 live 0 1
+1 unique_free 0 NotABlock
+1 unique_alloc 8 268439552
+1 store8 0 1
+1 tag 0 0
+1 set_tag 5 1
+1 tag 0 5
+1 store8 0 1
+1 region_free 0 Ok
+1 touched 0 Ok
+1 live 0 1
+1 live 4294963200 0
+1 load8 0 255
+1 free 0 2
+1 fresh 0 1
+1 pages 0 3";

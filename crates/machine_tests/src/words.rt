@@ -3,6 +3,7 @@
 // A line of a table is a function, two words in hexadecimal, and the word that it gives of them: ffffffff is -1, fffffff9 is -7, 80000000 is the
 // least number and 7fffffff the greatest one. A comparison that holds gives 1.
 
+use crate::rows::{Rows, expect, hex, parted};
 use cyc_words::{
     add32, div32, divu32, lt32, ltu32, mul32, mulh32, mulhsu32, mulhu32, rem32, remu32, sar32,
     shl32, shr32, sub32,
@@ -38,52 +39,22 @@ fn bits_of(name: &str, a: u32, b: u32) -> Option<u32> {
     }
 }
 
-// three words in hexadecimal, one space apart
-fn three_of(text: &str) -> Option<[u32; 3]> {
-    let mut three = [0; 3];
-    let mut words = text.split(' ');
-    for number in three.iter_mut() {
-        *number = u32::from_str_radix(words.next()?, 16).ok()?;
-    }
-    Some(three)
+/// Whether the function of a row gives its last word.
+pub fn is_result(row: &str) -> bool {
+    let (name, rest) = parted(row);
+    let (first, rest) = parted(rest);
+    let (second, wanted) = parted(rest);
+    result_of(name, hex(first), hex(second)) == Some(hex(wanted))
 }
 
-// refuses a line that is none, or whose function gives another word
-fn expect_result(line: &str) -> Result<(), Fail> {
-    let (name, words) = line.split_once(' ').unwrap_or((line, ""));
-    let three = three_of(words);
-    let [a, b, wanted] = three.unwrap_or([0; 3]);
-    let found = result_of(name, a, b);
-    if three.is_some() && found == Some(wanted) {
-        Ok(())
-    } else {
-        Err(Fail::new(format_args!("found {found:?}: {line}")))
-    }
-}
-
-// refuses a table with a line that is not so
-fn expect_results(table: &str) -> Result<(), Fail> {
-    for line in table.lines() {
-        expect_result(line)?;
-    }
-    Ok(())
-}
-
-#[test]
-fn sums_and_differences_wrap() -> Result<(), Fail> {
-    let table = "\
+// Sums and differences wrap, products have both halves, division rounds towards zero, shifts take the count modulo 32, and comparisons cross the sign.
+const RESULTS: &str = "\
 add32 ffffffff 1 0
 add32 80000000 80000000 0
 add32 7fffffff 1 80000000
 sub32 0 1 ffffffff
 sub32 80000000 1 7fffffff
-sub32 5 5 0";
-    expect_results(table)
-}
-
-#[test]
-fn products_have_both_halves() -> Result<(), Fail> {
-    let table = "\
+sub32 5 5 0
 mul32 ffffffff ffffffff 1
 mul32 10000 10000 0
 mul32 80000000 3 80000000
@@ -96,13 +67,7 @@ mulhsu32 80000000 80000000 c0000000
 mulhsu32 1 ffffffff 0
 mulhu32 ffffffff ffffffff fffffffe
 mulhu32 80000000 2 1
-mulhu32 1 ffffffff 0";
-    expect_results(table)
-}
-
-#[test]
-fn division_rounds_towards_zero() -> Result<(), Fail> {
-    let table = "\
+mulhu32 1 ffffffff 0
 div32 7 0 ffffffff
 div32 80000000 ffffffff 80000000
 div32 fffffff9 2 fffffffd
@@ -120,13 +85,7 @@ rem32 fffffff9 fffffffe ffffffff
 remu32 7 0 7
 remu32 fffffff9 2 1
 remu32 ffffffff ffffffff 0
-remu32 5 7 5";
-    expect_results(table)
-}
-
-#[test]
-fn shifts_take_the_count_modulo_32() -> Result<(), Fail> {
-    let table = "\
+remu32 5 7 5
 shl32 1 1f 80000000
 shl32 1 20 1
 shl32 3 21 6
@@ -139,13 +98,7 @@ sar32 80000000 1f ffffffff
 sar32 80000000 20 80000000
 sar32 80000000 24 f8000000
 sar32 7fffffff 3f 0
-sar32 fffffff9 1 fffffffc";
-    expect_results(table)
-}
-
-#[test]
-fn comparisons_cross_the_sign() -> Result<(), Fail> {
-    let table = "\
+sar32 fffffff9 1 fffffffc
 lt32 ffffffff 0 1
 ltu32 ffffffff 0 0
 lt32 0 ffffffff 0
@@ -156,5 +109,8 @@ lt32 7fffffff 80000000 0
 ltu32 7fffffff 80000000 1
 lt32 5 5 0
 ltu32 5 5 0";
-    expect_results(table)
+
+#[test]
+fn words_wrap_and_have_signs(rt: HostRuntime) -> Result<(), Fail> {
+    expect(rt.alloc(), Rows::Words, RESULTS)
 }

@@ -1,0 +1,93 @@
+// Runs over a plain store, which are those of `cycc` over a paged one.
+
+use crate::answers::{Found, with_status};
+use command_line::Command;
+use command_line::status::SUCCESS;
+use cycc_answer::{Counted, ended};
+use cycc_driver::{Image, Machine, PlainStore, compile, load, run};
+use std::alloc::{AllocError, Global};
+
+/// How far an image is run, and what is told of it: its ending, and where it ended.
+#[derive(Clone, Copy)]
+struct Told {
+    steps: u64,
+    shows_ending: bool,
+    shows_place: bool,
+}
+
+impl Told {
+    /// What is told of a source's run.
+    fn of_run(steps: u64, shows_ending: bool) -> Told {
+        Told {
+            steps,
+            shows_ending,
+            shows_place: false,
+        }
+    }
+
+    /// What is told of an image's run: its place too.
+    fn of_exec(steps: u64, shows_ending: bool) -> Told {
+        Told {
+            steps,
+            shows_ending,
+            shows_place: true,
+        }
+    }
+}
+
+/// How the run of an image ends, and what it writes.
+fn image_run(alloc: Global, image: &Image, input: &[u8], told: Told) -> Result<Found, AllocError> {
+    let mut found = Found::nothing(alloc, SUCCESS);
+    let Ok(store) = PlainStore::new(alloc, image.pages()) else {
+        return Err(AllocError);
+    };
+    let Ok(mut machine) = Machine::new(alloc, image, store) else {
+        return Err(AllocError);
+    };
+    let mut reader = Counted::new(input);
+    let mut writer = Counted::new(Vec::new(alloc));
+    let ending = run(&mut machine, &mut reader, &mut writer, told.steps);
+    let place = told.shows_place.then_some(machine.pc());
+    let status = ended(alloc, ending, place, told.shows_ending, &mut found.said)?;
+    found.written = writer.into_inner();
+    with_status(found, status)
+}
+
+/// The same of the image that bytes are, or none where they are no image.
+fn bytes_run(
+    alloc: Global,
+    bytes: &[u8],
+    input: &[u8],
+    told: Told,
+) -> Result<Option<Found>, AllocError> {
+    match load(alloc, bytes) {
+        Ok(image) => Ok(Some(image_run(alloc, &image, input, told)?)),
+        Err(_) => Ok(None),
+    }
+}
+
+/// What a command answers that runs an image, where the run is over a plain store; none of another command, and where nothing runs.
+pub fn run_over_plain(
+    alloc: Global,
+    command: &Command<'_>,
+    source: &[u8],
+    input: &[u8],
+) -> Result<Option<Found>, AllocError> {
+    match *command {
+        Command::Run {
+            pages,
+            steps,
+            shows_ending,
+            ..
+        } => match compile(alloc, source, pages.number()) {
+            Ok(bytes) => bytes_run(alloc, &bytes, input, Told::of_run(steps, shows_ending)),
+            Err(_) => Ok(None),
+        },
+        Command::Exec {
+            steps,
+            shows_ending,
+            ..
+        } => bytes_run(alloc, source, input, Told::of_exec(steps, shows_ending)),
+        _ => Ok(None),
+    }
+}

@@ -1,0 +1,58 @@
+// Tables, and the parts of their rows.
+
+use crate::images::{are_limits, is_refused};
+use crate::instructions::word_of;
+use crate::machine::is_done;
+use crate::runs::is_run;
+use crate::words::is_result;
+use std::alloc::Global;
+use std::test::Fail;
+
+/// What the rows of a table say: what a function on words gives, how an image is refused, which parts an image may have, how an instruction is written, what
+/// a machine does, or how a run ends.
+#[derive(Clone, Copy)]
+pub enum Rows {
+    Words,
+    Refusals,
+    Limits,
+    Instructions,
+    Steps,
+    Runs,
+}
+
+/// A text up to the first space, and behind it.
+pub fn parted(text: &str) -> (&str, &str) {
+    text.split_once(' ').unwrap_or((text, ""))
+}
+
+/// A number in hexadecimal, or one that no row has where a text is none.
+pub fn hex(text: &str) -> u32 {
+    u32::from_str_radix(text, 16).unwrap_or(0xdead_beef)
+}
+
+/// A number, or the greatest one where a text is none.
+pub fn number_of(text: &str) -> u32 {
+    text.parse().unwrap_or(u32::MAX)
+}
+
+// whether it is so what a row says
+fn holds(alloc: Global, rows: Rows, row: &'static str) -> Result<bool, Fail> {
+    match rows {
+        Rows::Words => Ok(is_result(row)),
+        Rows::Refusals => Ok(is_refused(alloc, row)?),
+        Rows::Limits => Ok(are_limits(alloc, row)?),
+        Rows::Instructions => Ok(word_of(alloc, row)?.is_some()),
+        Rows::Steps => is_done(alloc, row),
+        Rows::Runs => is_run(alloc, row),
+    }
+}
+
+/// Refuses a table with a row that isn't so.
+pub fn expect(alloc: Global, rows: Rows, table: &'static str) -> Result<(), Fail> {
+    for row in table.lines() {
+        if !holds(alloc, rows, row)? {
+            return Err(Fail::new(row));
+        }
+    }
+    Ok(())
+}

@@ -1,0 +1,201 @@
+// What the calls of tables are made on: stores, and the unique blocks over a pool below them.
+
+use cyc_arena::{BlockStore, PagedStore, PlainStore, StoreRefusal};
+use dynamic_region::{Handle, Refusal, Regions, UniqueBlocks};
+use unique_blocks::UniqueRefusal;
+
+/// What is said to a call: a number, where none is granted 0, and 1 for what holds; or the name of a refusal.
+pub type Said = Result<u32, &'static str>;
+
+/// What calls are made on.
+pub trait Asked {
+    /// A call by its name, on the region or key of this number, or at the address so many bytes behind a block.
+    fn ask(&mut self, call: &str, base: u32, number: u32) -> Said;
+
+    /// Stores a byte of the arena; false outside it.
+    fn put(&mut self, at: u32, byte: u8) -> bool;
+}
+
+// a store's refusal
+fn of_store(why: StoreRefusal) -> &'static str {
+    match why {
+        StoreRefusal::Full => "Full",
+        StoreRefusal::BadHandle => "BadHandle",
+        StoreRefusal::NotABlock => "NotABlock",
+        StoreRefusal::BadKey => "BadKey",
+        StoreRefusal::Open => "Open",
+        StoreRefusal::NotOpen => "NotOpen",
+        StoreRefusal::Memory => "Memory",
+    }
+}
+
+// what a store says with a number
+fn numbered(said: Result<u32, StoreRefusal>) -> Said {
+    match said {
+        Ok(number) => Ok(number),
+        Err(why) => Err(of_store(why)),
+    }
+}
+
+// what a store says without one
+fn done(said: Result<(), StoreRefusal>) -> Said {
+    match said {
+        Ok(()) => Ok(0),
+        Err(why) => Err(of_store(why)),
+    }
+}
+
+// a number, if there is one
+fn given(said: Option<u32>) -> Said {
+    match said {
+        Some(number) => Ok(number),
+        None => Err("none"),
+    }
+}
+
+// a byte, if there is one
+fn byte_given(said: Option<u8>) -> Said {
+    match said {
+        Some(byte) => Ok(u32::from(byte)),
+        None => Err("none"),
+    }
+}
+
+// a count of touched words, if it is small
+fn few(count: u64) -> Said {
+    if count <= 8 { Ok(0) } else { Err("many") }
+}
+
+// a call on a store
+fn ask_store<S: BlockStore>(store: &mut S, call: &str, base: u32, number: u32) -> Said {
+    let at = base.wrapping_add(number);
+    match call {
+        "region_new" => numbered(store.region_new()),
+        "region_alloc" => numbered(store.region_alloc(base, number)),
+        "region_free" => done(store.region_free(base)),
+        "unique_alloc" => numbered(store.unique_alloc(number)),
+        "unique_free" => done(store.unique_free(at)),
+        "key_new" => numbered(store.key_new()),
+        "key_open" => numbered(store.key_open(base)),
+        "key_close" => done(store.key_close(base)),
+        "key_free" => done(store.key_free(base)),
+        "load8" => byte_given(store.load8(at)),
+        "store8" => Ok(u32::from(store.store8(at, 9))),
+        "live" => Ok(u32::from(store.is_live(at))),
+        "pages" => Ok(store.pages()),
+        _ => Err("another call"),
+    }
+}
+
+impl Asked for PlainStore {
+    fn ask(&mut self, call: &str, base: u32, number: u32) -> Said {
+        ask_store(self, call, base, number)
+    }
+
+    fn put(&mut self, at: u32, byte: u8) -> bool {
+        self.store8(at, byte)
+    }
+}
+
+impl Asked for PagedStore<UniqueBlocks> {
+    fn ask(&mut self, call: &str, base: u32, number: u32) -> Said {
+        if call == "touched" {
+            return few(self.touched());
+        }
+        ask_store(self, call, base, number)
+    }
+
+    fn put(&mut self, at: u32, byte: u8) -> bool {
+        self.store8(at, byte)
+    }
+}
+
+// a region's refusal
+fn of_region(why: Refusal) -> &'static str {
+    match why {
+        Refusal::Full => "Full",
+        Refusal::BadHandle => "BadHandle",
+    }
+}
+
+// what is said to a call that makes a region
+fn region_made(said: Option<Handle>) -> Said {
+    match said {
+        Some(handle) => Ok(handle.0),
+        None => Err("Full"),
+    }
+}
+
+// what is said to a call that asks for a region's block
+fn region_placed(said: Result<u32, Refusal>) -> Said {
+    match said {
+        Ok(at) => Ok(at),
+        Err(why) => Err(of_region(why)),
+    }
+}
+
+// what is said to a call that frees a region
+fn region_freed(said: Result<(), Refusal>) -> Said {
+    match said {
+        Ok(()) => Ok(0),
+        Err(why) => Err(of_region(why)),
+    }
+}
+
+// a call on regions
+fn ask_regions<R: Regions>(regions: &mut R, call: &str, base: u32, number: u32) -> Said {
+    let (handle, at) = (Handle(base), base.wrapping_add(number));
+    match call {
+        "region_new" => region_made(regions.region_new()),
+        "region_alloc" => region_placed(regions.region_alloc(handle, number)),
+        "region_free" => region_freed(regions.region_free(handle)),
+        "tag" => given(regions.tag(handle)),
+        "set_tag" => Ok(u32::from(regions.set_tag(handle, number))),
+        "free" => Ok(regions.free_pages()),
+        "fresh" => Ok(regions.fresh_pages()),
+        "touched" => few(u64::from(regions.touched())),
+        "load8" => byte_given(regions.load8(at)),
+        "store8" => Ok(u32::from(regions.store8(at, 9))),
+        "live" => Ok(u32::from(regions.is_live(at))),
+        "pages" => Ok(regions.pages()),
+        _ => Err("another call"),
+    }
+}
+
+// a unique block's refusal
+fn of_block(why: UniqueRefusal) -> &'static str {
+    match why {
+        UniqueRefusal::Full => "Full",
+        UniqueRefusal::NotABlock => "NotABlock",
+    }
+}
+
+// what is said to a call that asks for a unique block
+fn block_placed(said: Result<u32, UniqueRefusal>) -> Said {
+    match said {
+        Ok(at) => Ok(at),
+        Err(why) => Err(of_block(why)),
+    }
+}
+
+// what is said to a call that frees a unique block
+fn block_freed(said: Result<(), UniqueRefusal>) -> Said {
+    match said {
+        Ok(()) => Ok(0),
+        Err(why) => Err(of_block(why)),
+    }
+}
+
+impl Asked for UniqueBlocks {
+    fn ask(&mut self, call: &str, base: u32, number: u32) -> Said {
+        match call {
+            "unique_alloc" => block_placed(self.unique_alloc(number)),
+            "unique_free" => block_freed(self.unique_free(base.wrapping_add(number))),
+            _ => ask_regions(self, call, base, number),
+        }
+    }
+
+    fn put(&mut self, at: u32, byte: u8) -> bool {
+        UniqueBlocks::store8(self, at, byte)
+    }
+}

@@ -20,7 +20,7 @@ use Rattle.source_typing.specs.Types.{is_element, is_key, is_void}
 use Rattle.source_typing.specs.Verdicts.{Faulty, Of, Unjudged, Verdict, after, faults_of, if_fits, refuse}
 use Rattle.source_typing.specs.Faults.{type_rule}
 use Rattle.source_typing.specs.Written.{RegionNamed, Spot, spots_of, tag_of, written}
-use Rattle.accepted_proof.proofs.Heads.{SameTags, spots_same, written_same}
+use Rattle.source_typing.proofs.SameTags.{SameTags, spots_same, written_same}
 use Rattle.accepted_proof.proofs.Named.{AreNamed}
 
 -- ---- entries
@@ -207,10 +207,10 @@ module _ (g h : Tables) (k : AreAligned g h) (i : ℕ) where
   type_same x =
       let names : List RegionNamed = foreign_names (spots_of h x.of) in
       let s : SameTags g h = same_tags g h k in
-      ap (λ (ss : List Spot). global_type_by (at_item false g i) x (foreign_names ss)) (spots_same g h x.of s)
+      ap (λ (ss : List Spot). global_type_by (at_item false g i) x (foreign_names ss)) (spots_same g h s x.of)
       ∙ (ap (λ (v : Verdict PartialType). after (after v (settled_alone x.of.at))
       (fitting_global (at_item false g i) x.of.at (count_of x.initial) (has_none names)))
-      (written_same g h names x.of s)
+      (written_same g h s names x.of)
       ∙ after_same (after (written h names x.of) (settled_alone x.of.at)) (fitting_global (at_item false g i) x.of.at (count_of x.initial) (has_none names))
       (fitting_global (at_item false h i) x.of.at (count_of x.initial) (has_none names))
       (λ t. fitting_same x.of.at (count_of x.initial) (has_none names) t))

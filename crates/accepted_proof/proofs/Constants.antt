@@ -1,5 +1,5 @@
 -- The constant of a global without fault: a number, where it is an integer, and `NULL` or a string, where it is a pointer.
-use Rattle.std.proofs.Common.{◌≡◌, ℕ, ◌<◌, ◌%◌, ◌^◌, Bool, true, false, Option, Some, None, List, [], refl, sym, ap, subst}
+use Rattle.std.proofs.Common.{◌≡◌, ℕ, ◌<◌, ◌%◌, ◌^◌, Bool, true, false, List, [], refl, sym, ap, subst}
 use Rattle.std.specs.Prelude.{◌++◌, length, nat_lt}
 use Rattle.cyc_tree.specs.Tree.{Constant, Initial}
 use Rattle.cyc_words.specs.Words.{difference_of}
@@ -18,7 +18,7 @@ use Rattle.source_typing.specs.Regions.{Region, Regions, TheHeap}
 use Rattle.source_typing.specs.Scope.{Env}
 use Rattle.source_typing.specs.Types.{Fat, Handle, Char, Int, Key, Null, StaticType, Struct, Thin, Union, Unique, Unsigned, integer_type, is_integer, shape_of}
 use Rattle.source_typing.specs.Verdicts.{Of, faults_of}
-use Rattle.source_typing.proofs.Converting.{conversion_is}
+use Rattle.source_typing.proofs.Converting.{broken_is, conversion_is}
 
 -- what the meaning and lowering want of a first value
 pub record ConstantGood (u : StaticType) (c : Constant) : Type 0 where
@@ -68,10 +68,6 @@ null_good r at place _ w e = absurd w
 
 -- ---- strings
 
-not_broken : (at : ℕ) (o : Option ℕ) → broken at o ≡ [] → o ≡ None
-not_broken at None e = refl
-not_broken at (Some rule) e = absurd cc
-
 -- a string converts to pointers to chars
 text_first : (r : Regions) (t : StaticType) (place : ℕ) (bytes : List ℕ) (u : StaticType) → IsObjectType u → t ≡ Fat TheHeap Char → Converts r t u
     → ConstantGood u (Constant.Text place bytes)
@@ -99,7 +95,7 @@ text_good : (g : Env) (at : ℕ) (bytes : List ℕ) (u : StaticType) (b : Bool) 
     → faults_of (string_sized b at) ++ converted_to g (string_sized b at) (Of u) ≡ [] → ConstantGood u (Constant.Text at bytes)
 text_good g at bytes u true w e =
     text_first g.regions (Fat TheHeap Char) at bytes u w refl
-    (conversion_is g.regions (Fat TheHeap Char) u (not_broken at (conversion g.regions (Fat TheHeap Char) u) e))
+    (conversion_is g.regions (Fat TheHeap Char) u (broken_is at (conversion g.regions (Fat TheHeap Char) u) e))
 text_good g at bytes u false w e = absurd cc
 
 -- ---- all of them

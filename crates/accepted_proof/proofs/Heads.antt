@@ -1,42 +1,26 @@
 -- The head of a function without fault: it takes objects and gives one or nothing, its types, effect and bounds speak of its region variables and the heap
 -- alone, and it is read alike by tables that have the same tags.
 use Rattle.std.proofs.Common.{◌≡◌, ℕ, zero, suc, ◌<◌, ◌≤◌, Bool, true, false, Option, Some, None, List, [], ◌∷◌, refl, sym, subst, ap, ap₂, ◌∙◌, arith}
-use Rattle.std.specs.Prelude.{◌||◌, ◌++◌, if◌then◌else◌, length, map, not, replicate}
+use Rattle.std.specs.Prelude.{◌||◌, ◌++◌, if◌then◌else◌, length, map, not}
 use Rattle.cyc_tree.specs.Places.{region_place}
 use Rattle.cyc_tree.specs.Tree as tree
-use Rattle.cyc_tree.specs.Tree.{TypeName}
 use Rattle.source_meaning.specs.Shapes.{part_of, part_shapes}
 use Rattle.source_meaning.specs.Shapes as shapes
 use Rattle.type_proof.specs.Entries.{AreObjects}
 use Rattle.source_typing.specs.Named.{AllBelow, Below, BoundsBelow, TypesBelow}
-use Rattle.source_typing.specs.Faults.{Fault, is_clean, own_after, test, type_rule}
-use Rattle.source_typing.specs.Functions.{AllSpotted, Parameters, Reading, Variables, all_faults, all_of, and_known, and_parameter, bounds_of, effect_of}
+use Rattle.source_typing.specs.Faults.{Fault, is_clean, type_rule}
+use Rattle.source_typing.specs.Functions.{AllSpotted, Parameters, Reading, Variables, all_faults, all_of, and_known, bounds_of, effect_of}
 use Rattle.source_typing.specs.Functions.{effect_region, head_after, if_no_key, pair_of, used_named, used_region}
-use Rattle.source_typing.specs.Functions.{
-  Head,
-  body_scope,
-  end_reached,
-  function_faults,
-  head_judged,
-  head_of,
-  if_parameter,
-  if_result,
-  is_main,
-  key_regions,
-  levels_but,
-  main_faults,
-  main_form,
-}
+use Rattle.source_typing.specs.Functions.{head_judged, head_of, if_result, is_main, key_regions, levels_but, main_faults, main_form}
 use Rattle.source_typing.specs.Functions.{parameter_type, read_parameters, result_type, take_spots, variables}
 use Rattle.source_typing.specs.Regions.{Level, Region, is_among}
-use Rattle.source_typing.specs.Statements.{items_faults}
-use Rattle.source_typing.specs.Tables.{Tables, Tag, find, tag_in}
+use Rattle.source_typing.specs.Tables.{Tables}
 use Rattle.source_typing.specs.Tags.{repeated, settled_alone}
 use Rattle.source_typing.specs.Types.{Int, PartialType, StaticType, shape_of}
 use Rattle.source_typing.specs.Verdicts.{Faulty, Of, Unjudged, Verdict, after, both, faults_of, known}
-use Rattle.source_typing.specs.Written.{Found, RegionNamed, Spot, all_found, argument_spots, base_of, base_spots, find_region, regions_of_tag, spot, spots_of}
-use Rattle.source_typing.specs.Written.{tag_of, written, written_on, written_with}
+use Rattle.source_typing.specs.Written.{RegionNamed, base_spots, find_region, spots_of}
 use Rattle.source_typing.proofs.Inversion.{none_of_both, of_is, own_is, test_is}
+use Rattle.source_typing.proofs.SameTags.{SameTags, parameters_same, written_same}
 use Rattle.accepted_proof.specs.Good.{IsGoodSignature, NamesBelow}
 use Rattle.accepted_proof.proofs.HeadTypes.{PlainGood, ResultGood, SpotsGood, ObjectGood, parameter_good, result_facts, result_good}
 use Rattle.accepted_proof.proofs.HeadTypes.{find_below, type_spots_good, object_more}
@@ -241,63 +225,7 @@ head_good g f tags p =
       names = q.names;
     }
 
--- where a function has no fault, its head has none
-pub body_head_clean : (g : Tables) (i : ℕ) (f : tree.Function) → function_faults false g i f ≡ [] → (head_of false g f).faults ≡ []
-body_head_clean g i f p =
-    let h : Head = head_of false g f in
-    (none_of_both h.faults (own_after (test (not (end_reached f h)) type_rule f.end) (items_faults (body_scope false g i f h) true f.body)) p).0
-
 -- ---- other tables
-
--- tables in which each name in a type means the same
-pub record SameTags (g h : Tables) : Type 0 where
-  pub tags : (x : List ℕ) (union : Bool) (at : ℕ) → tag_of (find g x) union at ≡ tag_of (find h x) union at
-  pub regions : (x : List ℕ) → tag_in g x ≡ tag_in h x
-
-module _ (g h : Tables) (k : SameTags g h) where
-  base_same : (b : tree.Base) → base_of g b ≡ base_of h b
-  base_same tree.Int = refl
-  base_same tree.Unsigned = refl
-  base_same tree.Char = refl
-  base_same tree.Void = refl
-  base_same (tree.Struct tag rs) = k.tags tag.text false tag.at
-  base_same (tree.Union tag rs) = k.tags tag.text true tag.at
-  base_same (tree.Handle r) = refl
-  base_same (tree.Key r) = refl
-
-  arguments_same : (tag : tree.Name) (rs : List tree.RegionName) → argument_spots g tag rs ≡ argument_spots h tag rs
-  arguments_same tag [] = ap (λ (o : Option Tag). replicate (regions_of_tag o) (spot false None)) (k.regions tag.text)
-  arguments_same tag (r ∷ rs) = refl
-
-  base_spots_same : (b : tree.Base) → base_spots g b ≡ base_spots h b
-  base_spots_same tree.Int = refl
-  base_spots_same tree.Unsigned = refl
-  base_spots_same tree.Char = refl
-  base_spots_same tree.Void = refl
-  base_spots_same (tree.Struct tag rs) = arguments_same tag rs
-  base_spots_same (tree.Union tag rs) = arguments_same tag rs
-  base_spots_same (tree.Handle r) = refl
-  base_spots_same (tree.Key r) = refl
-
-pub spots_same : (g h : Tables) (t : TypeName) → SameTags g h → spots_of g t ≡ spots_of h t
-spots_same g h t k = ap (λ (ss : List Spot). ss ++ map (λ (p : tree.Pointer). spot true p.region) t.pointers) (base_spots_same g h k t.base)
-
-built_same : (g h : Tables) (t : TypeName) (fs : List Found × List Fault) → SameTags g h → written_with g t fs ≡ written_with h t fs
-built_same g h t (fs, bad) k = ap (λ (v : Verdict ℕ). written_on t fs bad v) (base_same g h k t.base)
-
-pub written_same : (g h : Tables) (names : List RegionNamed) (t : TypeName) → SameTags g h → written g names t ≡ written h names t
-written_same g h names t k =
-    ap (λ (ss : List Spot). written_with g t (all_found names ss)) (spots_same g h t k) ∙ built_same g h t (all_found names (spots_of h t)) k
-
-parameters_same : (g h : Tables) (vs : Variables) (ms : List tree.Member) → SameTags g h → read_parameters g vs ms ≡ read_parameters h vs ms
-parameters_same g h vs [] k = refl
-parameters_same g h vs (m ∷ ms) k =
-    let s : AllSpotted = take_spots vs (spots_of h m.of) in
-    ap (λ (ss : List Spot). and_parameter (parameter_type g m.of (take_spots vs ss)) (read_parameters g (take_spots vs ss).after_all ms))
-    (spots_same g h m.of k)
-    ∙ ap (λ (v : Verdict PartialType). and_parameter (after (after v (settled_alone m.of.at)) (if_parameter m.of.at)) (read_parameters g s.after_all ms))
-    (built_same g h m.of (s.found, s.faults) k)
-    ∙ ap (λ (ps : Parameters). and_parameter (parameter_type h m.of s) ps) (parameters_same g h s.after_all ms k)
 
 -- a head as it is read, with the type of its result
 abbrev reading : Bool → tree.Function → Parameters → Verdict StaticType → Reading
@@ -312,6 +240,6 @@ reading l f ps r = record {
 pub head_same : (l : Bool) (g h : Tables) (f : tree.Function) → SameTags g h → head_of l g f ≡ head_of l h f
 head_same l g h f k =
     let ps : Parameters = read_parameters h (variables [] 0) f.parameters in
-    ap (λ (z : Parameters). head_after l g f z) (parameters_same g h (variables [] 0) f.parameters k)
+    ap (λ (z : Parameters). head_after l g f z) (parameters_same g h k (variables [] 0) f.parameters)
     ∙ ap (λ (v : Verdict PartialType). head_judged f (reading l f ps (after (after v (settled_alone f.result.at)) (if_result f.result.at))))
-    (written_same g h ps.variables_after.names f.result k)
+    (written_same g h k ps.variables_after.names f.result)

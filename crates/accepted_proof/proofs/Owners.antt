@@ -32,7 +32,7 @@ other_shape (Some t) = shape_of t
 abbrev pub settled_from : Shape → Option StaticType → Shape
 settled_from s u = settled_by s (other_shape u)
 
-by_void : (s : Shape) → settled_by s VoidShape ≡ settled s
+pub by_void : (s : Shape) → settled_by s VoidShape ≡ settled s
 by_void (ThinShape b o s) = refl
 by_void (FatShape s) = refl
 by_void _ = refl

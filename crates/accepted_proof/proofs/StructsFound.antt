@@ -9,6 +9,7 @@ use Rattle.cyc_tree.specs.Tree.{Item, Program}
 use Rattle.source_lowering.specs.Lowerable.{AreStructs}
 use Rattle.source_meaning.specs.Programs.{layout_of, unions_of, world_of}
 use Rattle.source_meaning.specs.Shapes.{Layout, has_tag, part_of, parts_of}
+use Rattle.source_meaning.proofs.Layouts.{no_parts}
 use Rattle.type_proof.specs.Structs.{StructsJudged, UnionsJudged}
 use Rattle.source_typing.specs.Extents.{layouts_of, layouts_onto}
 use Rattle.source_typing.specs.Faults.{name_rule, test}
@@ -134,14 +135,6 @@ not_made p x e h q n = by (has_tag (world_of p).structs x) (h.tags x)
 
 -- ---- unions in another order
 
-none_of_tag : (ls : List Layout) (x : List ℕ) → has_tag ls x ≡ false → parts_of ls x ≡ []
-none_of_tag [] x e = refl
-none_of_tag (l ∷ ls) x e = by (bytes_eq l.tag x) (λ q. none_of_tag ls x q) e
-  where
-    by : (b : Bool) → (has_tag ls x ≡ false → parts_of ls x ≡ []) → (if b then true else has_tag ls x) ≡ false → (if b then l.parts else parts_of ls x) ≡ []
-    by true others e = absurd cc
-    by false others e = others e
-
 -- an item that is no union
 later : (y : tree.Name) (is : List Item) (found : List Layout) (seen : List (List ℕ)) (x : List ℕ)
     → test (not (is_seen seen y.text)) name_rule y.at ++ second_names (y.text ∷ seen) is ≡ [] → (has_tag found x ≡ true → is_seen seen x ≡ true)
@@ -163,7 +156,7 @@ turned [] found seen x p h = by (has_tag found x) refl
   where
     by : (b : Bool) → has_tag found x ≡ b → parts_of found x ≡ (if b then parts_of found x else [])
     by true e = refl
-    by false e = none_of_tag found x e
+    by false e = no_parts found x e
 turned (tree.StructItem s ∷ is) found seen x p h = later s.tag is found seen x p h (λ q k. turned is found (s.tag.text ∷ seen) x q k)
 turned (tree.GlobalItem y ∷ is) found seen x p h = later y.name is found seen x p h (λ q k. turned is found (y.name.text ∷ seen) x q k)
 turned (tree.FunctionItem f ∷ is) found seen x p h = later f.name is found seen x p h (λ q k. turned is found (f.name.text ∷ seen) x q k)

@@ -1,6 +1,6 @@
 -- What types locals have by the structs and unions that are known in code, and by the rules.
 use Rattle.std.proofs.Common.{◌≡◌, ℕ, ◌*◌, Bool, true, false, List, Option, Some, None, refl, sym, ap, ◌∙◌}
-use Rattle.std.specs.Prelude.{nat_lt, not, if◌then◌else◌, ◌&&◌, ◌||◌}
+use Rattle.std.specs.Prelude.{nat_lt, not, option_map, if◌then◌else◌, ◌&&◌, ◌||◌}
 use Rattle.cyc_types.proofs.Converting.{by_none, by_outer}
 use Rattle.cyc_types.proofs.Sameness.{beginning_same, size_same}
 use Rattle.cyc_types.specs.Layers.{outermost, pointed, pointer_to}
@@ -15,12 +15,12 @@ use Rattle.check_scopes.specs.Means.{Means}
 use Rattle.check_scopes.specs.Means as means
 use Rattle.check_scopes.specs.declared.meaning.Meaning.{Meaning}
 use Rattle.check_scopes.specs.declared.scope.Scope.{Scope}
-use Rattle.source_typing.specs.Declarations.{can_be, fitting_local, local_type, stands_earlier, tag_earlier, taken_from}
+use Rattle.source_typing.specs.Declarations.{as_tagged, can_be, faulty_tag, fitting_local, local_type, stands_earlier, tag_earlier, taken_from}
 use Rattle.source_typing.specs.Extents.{fits_bytes, size_of, variable_size}
 use Rattle.source_typing.specs.Faults.{Fault}
 use Rattle.source_typing.specs.Scope.{Env}
 use Rattle.source_typing.specs.Scope as judged
-use Rattle.source_typing.specs.Tables.{Entry, Tables, has_beginning, tag_in}
+use Rattle.source_typing.specs.Tables.{Entry, OfFunction, Tables, has_beginning, tag_in}
 use Rattle.source_typing.specs.Types.{Char, Fat, Handle, Int, Key, Null, PartialType, StaticType}
 use Rattle.source_typing.specs.Types.{Struct, Thin, Union, Unique, Unsigned, Void, is_element, is_void}
 use Rattle.source_typing.specs.Verdicts as verdict
@@ -38,7 +38,7 @@ use Rattle.check_statements.proofs.Answered.{of_short}
 -- ---- tags
 
 -- what a name means where a tag is wanted
-pub tag_meant : (e : Option Entry) (m : Option Meaning) → Means e m → tag_name_of e ≡ tag_of_meaning m
+pub tag_meant : (e : Option Entry) (m : Option Meaning) → Means e m → tag_name_of (option_map as_tagged e) ≡ tag_of_meaning m
 tag_meant e m means.NoName = refl
 tag_meant e m (means.Variable t r) = refl
 tag_meant e m (means.Array t r) = refl
@@ -46,7 +46,7 @@ tag_meant e m means.CounterValue = refl
 tag_meant e m (means.Function s) = refl
 tag_meant e m (means.Builtin n) = refl
 tag_meant e m means.UnknownValue = refl
-tag_meant e m (means.UnsoundFunction s u) = refl
+tag_meant e m (means.UnsoundFunction s u) = ap (λ (b : Bool). tag_name_of (Some (if b then OfFunction s else faulty_tag))) u
 tag_meant e m (means.SoundTag t u) = ap (λ (b : Bool). if b then tag.Tag t.is_union t.regions else tag.NotJudged t.regions) u
 tag_meant e m (means.UnsoundTag t u) = ap (λ (b : Bool). if b then tag.Tag t.is_union t.regions else tag.NotJudged t.regions) u
 

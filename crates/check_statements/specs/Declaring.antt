@@ -46,6 +46,7 @@ abbrev pub tag_of_meaning : Option Meaning → TagName
 tag_of_meaning None = tag.NoName
 tag_of_meaning (Some (meaning.Tag u n)) = tag.Tag u n
 tag_of_meaning (Some (meaning.FaultyTag n)) = tag.NotJudged n
+tag_of_meaning (Some meaning.NotKnown) = tag.NotJudged 0
 tag_of_meaning (Some m) = tag.Other
 
 -- ---- declarations

@@ -5,9 +5,9 @@ ghost use Rattle.cyc_tree.specs.View.{type_tree};
 ghost use Rattle.cyc_types.specs.Bases.{base_type};
 ghost use Rattle.cyc_types.specs.Tables.{tables_of};
 ghost use Rattle.cyc_types.specs.Types.{static_type};
-ghost use Rattle.source_typing.specs.Declarations.{tag_earlier};
+ghost use Rattle.source_typing.specs.Declarations.{tag_earlier, tags_in_scope};
 ghost use Rattle.source_typing.specs.Extents.{fits_bytes, variable_size};
-ghost use Rattle.source_typing.specs.Scope.{Env, in_scope};
+ghost use Rattle.source_typing.specs.Scope.{Env};
 ghost use Rattle.source_typing.specs.Tables.{tag_in};
 ghost use Rattle.check_faults.specs.Verdicts.{short_of, shortened};
 ghost use Rattle.check_scopes.specs.Knows.{Knows};
@@ -21,7 +21,7 @@ use check_types::{TagName, type_tag};
 use cyc_tree::TypeName;
 use cyc_types::{BaseType, CType, MOST_BYTES, Tables};
 
-/// What a name means where a tag is wanted, by what it means in scope.
+/// What a name means where a tag is wanted, by what it means in scope. One whose declaration is at fault isn't judged, whatever it is.
 fn tag_name(named: Option<Named<'_, '_>>) -> TagName
     ensures { result ≡ tag_of_meaning (option_map meaning_of named.entry) }
 {
@@ -29,20 +29,20 @@ fn tag_name(named: Option<Named<'_, '_>>) -> TagName
         None => TagName::NoName,
         Some(Named::Tag { is_union, regions }) => TagName::Tag { is_union, regions },
         Some(Named::FaultyTag(regions)) => TagName::NotJudged(regions),
+        Some(Named::NotKnown) => TagName::NotJudged(0),
         Some(
             Named::Variable(_, _)
             | Named::Array(_, _)
             | Named::Counter
             | Named::Function(_)
-            | Named::Builtin(_)
-            | Named::NotKnown,
+            | Named::Builtin(_),
         ) => TagName::Other,
     }
 }
 
 /// What the tag means in scope that a type of structs or unions has.
 pub(crate) fn local_tag(scope: &Scope<'_, '_>, of: &TypeName) -> TagName
-    ensures { (g : Env) → Knows scope.now g → TagIs (in_scope g) (type_tree of.now) result }
+    ensures { (g : Env) → Knows scope.now g → TagIs (tags_in_scope g) (type_tree of.now) result }
 {
     match type_tag(of) {
         Some(name) => tag_name(scope.meaning(&name.text)),

@@ -121,7 +121,7 @@ partial_missing : (n : ℕ) → partial_regions (replicate n None) ≡ replicate
 partial_missing zero = refl
 partial_missing (suc n) = ap (λ rs. None ∷ rs) (partial_missing n)
 
-some_there : (n : ℕ) → (suc n == 0) ≡ true → ⊥
+pub some_there : (n : ℕ) → (suc n == 0) ≡ true → ⊥
 some_there n h = let e : suc n ≡ 0 = eqb-true (suc n) 0 h in absurd (omega (arith, e))
 
 pub all_missing : (names : List RegionNamed) (n : ℕ) (rs : List code.RegionName) → (length rs == 0) ≡ true

@@ -40,7 +40,7 @@ pub enum TagName {
         /// How many region parameters it has.
         regions: u32,
     },
-    /// A struct or union whose declaration is at fault; how many region parameters it has.
+    /// What is declared by a declaration at fault; how many region parameters it has, which are none where it is no struct or union.
     NotJudged(u32),
     /// What is neither struct nor union.
     Other,

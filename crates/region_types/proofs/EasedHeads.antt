@@ -3,8 +3,7 @@ use Rattle.std.proofs.Common.{◌≡◌, ℕ, Bool, true, false, Option, Some, N
 use Rattle.std.specs.Prelude.{map, not}
 use Rattle.cyc_tree.specs.Places.{region_place}
 use Rattle.cyc_tree.specs.Tree as tree
-use Rattle.cyc_tree.specs.Tree.{TypeName}
-use Rattle.source_typing.proofs.Inversion.{both_none, none_of_both, own_is}
+use Rattle.source_typing.proofs.Inversion.{body_head_clean, both_none, none_of_both, own_is}
 use Rattle.source_typing.specs.Faults.{own_after, test, type_rule}
 use Rattle.source_typing.specs.Functions.{Head, Parameters, Variables, all_faults, body_faults, body_scope, bounds_of, effect_of}
 use Rattle.source_typing.specs.Functions.{effect_region, end_reached, function_faults, function_scope, head_judged, head_of, if_no_key}
@@ -111,14 +110,4 @@ body_clean g i f h none =
 
 pub function_clean : (g : Tables) (i : ℕ) (f : tree.Function) → function_faults false g i f ≡ [] → function_faults true g i f ≡ []
 function_clean g i f none =
-    let h = head_of false g f in
-    let inner = items_faults (body_scope false g i f h) true f.body in
-    let clean = (none_of_both h.faults (own_after (test (not (end_reached f h)) type_rule f.end) inner) none).0 in
-    ap (body_faults true g i f) (head_same g f (effect_clean g f clean)) ∙ body_clean g i f h none
-
--- the head of a function without fault has no fault
-pub head_clean : (g : Tables) (i : ℕ) (f : tree.Function) → function_faults false g i f ≡ [] → (head_of false g f).faults ≡ []
-head_clean g i f none =
-    let h = head_of false g f in
-    let inner = items_faults (body_scope false g i f h) true f.body in
-    (none_of_both h.faults (own_after (test (not (end_reached f h)) type_rule f.end) inner) none).0
+    ap (body_faults true g i f) (head_same g f (effect_clean g f (body_head_clean g i f none))) ∙ body_clean g i f (head_of false g f) none

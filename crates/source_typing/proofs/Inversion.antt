@@ -1,10 +1,13 @@
 -- What a phrase without fault says of its parts.
 use Rattle.std.proofs.Common.{◌≡◌, ℕ, Bool, true, false, List, [], ◌∷◌, refl}
-use Rattle.std.specs.Prelude.{None, Option, Some, ◌++◌}
+use Rattle.std.specs.Prelude.{None, Option, Some, not, ◌++◌}
 use Rattle.cyc_tree.specs.declared.expression.Prefix.{Prefix}
 use Rattle.cyc_tree.specs.Tree as tree
 use Rattle.cyc_tree.specs.Tree.{Expression, Expressions, NoExpressions, MoreExpressions, Links, NoLinks, MoreLinks, Suffixes, NoSuffixes, Index, Dot, Arrow}
-use Rattle.source_typing.specs.Faults.{Fault, earliest, sooner_of, test, own_after}
+use Rattle.source_typing.specs.Faults.{Fault, earliest, sooner_of, test, own_after, type_rule}
+use Rattle.source_typing.specs.Functions.{Head, body_scope, end_reached, function_faults, head_of}
+use Rattle.source_typing.specs.Statements.{items_faults}
+use Rattle.source_typing.specs.Tables.{Tables}
 use Rattle.source_typing.specs.Verdicts.{Verdict, Faulty, Unjudged, Of, faults_of, unless_faulty, after, both, if_fits}
 use Rattle.source_typing.specs.Scope.{Env, Value, meant}
 use Rattle.source_typing.specs.Places.{assigned, member, arrow, indexed}
@@ -134,3 +137,12 @@ sooner_is f (Some g) e = cc
 pub none_is : (fs : List Fault) → earliest fs ≡ None → fs ≡ []
 none_is [] e = refl
 none_is (f ∷ fs) e = absurd (sooner_is f (earliest fs) e)
+
+-- ---- functions
+
+-- the head of a function without fault has no fault
+pub body_head_clean : (g : Tables) (i : ℕ) (f : tree.Function) → function_faults false g i f ≡ [] → (head_of false g f).faults ≡ []
+body_head_clean g i f none =
+    let h : Head = head_of false g f in
+    let inner = items_faults (body_scope false g i f h) true f.body in
+    (none_of_both h.faults (own_after (test (not (end_reached f h)) type_rule f.end) inner) none).0

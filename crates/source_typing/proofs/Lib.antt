@@ -8,4 +8,5 @@ pub mod OperatorsFit
 pub mod CallsFit
 pub mod RegionNames
 pub mod NamedBelow
+pub mod SameTags
 mod samples

@@ -1,5 +1,5 @@
 -- How declarations are judged, and what is in scope after them.
-use Rattle.std.specs.Prelude.{Bool, List, None, Option, Some, false, is_some, nat_lt, not, true, ℕ, ◌&&◌, ◌||◌, [], ◌∷◌, ◌++◌}
+use Rattle.std.specs.Prelude.{Bool, List, None, Option, Some, false, if◌then◌else◌, is_some, nat_lt, not, true, ℕ, ◌&&◌, ◌||◌, [], ◌∷◌, ◌++◌}
 use Rattle.cyc_tree.specs.Places.{region_place}
 use Rattle.cyc_tree.specs.Tree.{Initializer, TypeName}
 use Rattle.source_typing.specs.Conversions.{converts}
@@ -11,7 +11,7 @@ use Rattle.source_typing.specs.Missing.{settled}
 use Rattle.source_typing.specs.Places.{variable}
 use Rattle.source_typing.specs.Regions.{Region, Regions, TheHeap, opened, same_id, with_name, with_scope}
 use Rattle.source_typing.specs.Scope.{Env, Value, in_scope, meant, next_region, second, with_local}
-use Rattle.source_typing.specs.Tables.{Arrayed, Stored, Tag, Unknown, What, has_beginning, tag_in}
+use Rattle.source_typing.specs.Tables.{Arrayed, Entry, OfFunction, OfTag, OfValue, Stored, Tables, Tag, Unknown, What, has_beginning, tag_in}
 use Rattle.source_typing.specs.Types.{Handle, Key, PartialType, StaticType, Struct, Thin, Union, Unique, is_element, is_key, is_same, is_unique, is_void}
 use Rattle.source_typing.specs.Verdicts.{Faulty, Of, Unjudged, Verdict, after, faults_of, if_fits, refuse, unless_faulty}
 use Rattle.source_typing.specs.Written.{RegionNamed, any_missing, find_region, spots_of, written}
@@ -82,11 +82,28 @@ abbrev pub converted_to : Env → Verdict Value → Verdict StaticType → List 
 converted_to g (Of v) (Of t) = converts g v t
 converted_to g v t = []
 
+-- A use of a name whose declaration is at fault isn't judged, whatever it is used as: where a tag is wanted, a global, a function or a local at fault
+-- counts as a struct or union at fault.
+abbrev pub faulty_tag : Entry
+faulty_tag = OfTag (record { text = []; is_union = false; order = 0; regions = 0; parts = []; sound = false })
+
+abbrev pub as_tagged : Entry → Entry
+as_tagged (OfValue Unknown) = faulty_tag
+as_tagged (OfFunction f) = (if f.sound then OfFunction f else faulty_tag)
+as_tagged e = e
+
+abbrev pub tagged : Tables → Tables
+tagged [] = []
+tagged (n ∷ ns) = record { name = n.name; entry = as_tagged n.entry } ∷ tagged ns
+
+abbrev pub tags_in_scope : Env → Tables
+tags_in_scope g = tagged (in_scope g)
+
 abbrev pub type_in_scope : Env → TypeName → Verdict PartialType
-type_in_scope g t = written (in_scope g) g.names t
+type_in_scope g t = written (tags_in_scope g) g.names t
 
 abbrev pub misses_region : Env → TypeName → Bool
-misses_region g t = any_missing (spots_of (in_scope g) t)
+misses_region g t = any_missing (spots_of (tags_in_scope g) t)
 
 abbrev pub set_type : Env → TypeName → Verdict Value → Verdict StaticType
 set_type g t v = after (type_in_scope g t) (taken_from g t.at (misses_region g t) v)

@@ -133,7 +133,7 @@ if_sound true v = v
 if_sound false v = Unjudged
 
 -- The tag of a type, with its count of region parameters: an unknown name is Name at it, a name of another kind Type at it, whether or not its own
--- declaration is at fault.
+-- declaration is at fault. For the type of a local `tagged` goes before.
 abbrev pub tag_of : Option Entry → Bool → ℕ → Verdict ℕ
 tag_of None union at = refuse name_rule at
 tag_of (Some (OfTag t)) union at = if_sound t.sound (of_kind (same_bool t.is_union union) t at)

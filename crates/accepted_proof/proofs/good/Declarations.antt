@@ -11,7 +11,7 @@ use Rattle.source_typing.specs.Converts.{Converts}
 use Rattle.source_typing.specs.Declarations.{converted_to, declare, region_declared, set_faults, set_type, unset_type, what_after, what_of, with_region}
 use Rattle.source_typing.specs.Expressions.{judge}
 use Rattle.source_typing.specs.Regions.{with_scope}
-use Rattle.source_typing.specs.Scope.{Env, Value, next_region, second, with_local}
+use Rattle.source_typing.specs.Scope.{Env, Value, in_scope, next_region, second, with_local}
 use Rattle.source_typing.specs.Tables.{Arrayed, Stored}
 use Rattle.source_typing.specs.Types.{Handle, StaticType}
 use Rattle.source_typing.specs.Verdicts.{Of, Verdict, faults_of}
@@ -19,7 +19,7 @@ use Rattle.source_typing.proofs.Converting.{broken_is, conversion_is}
 use Rattle.source_typing.proofs.Inversion.{none_of_both}
 use Rattle.accepted_proof.specs.Good.{ExpressionsJudged, IsGood, IsGoodValue, IsStructTag, NamesStructs}
 use Rattle.accepted_proof.proofs.kinds.Perhaps.{perhaps_is}
-use Rattle.accepted_proof.proofs.kinds.Types.{set_named, unset_named}
+use Rattle.accepted_proof.proofs.kinds.Types.{TagsAreMeant, set_named, unset_named}
 use Rattle.accepted_proof.proofs.Sure.{surely_is}
 use Rattle.accepted_proof.proofs.StructMembers.{struct_members}
 use Rattle.accepted_proof.proofs.good.Scopes.{good_array, good_local, good_region, one_more}
@@ -27,6 +27,7 @@ use Rattle.accepted_proof.proofs.good.Uniques.{alias_good}
 pub use Rattle.accepted_proof.proofs.good.Keys.{GoodDeclaration}
 use Rattle.accepted_proof.proofs.good.Keys.{key_good, open_good}
 use Rattle.accepted_proof.proofs.good.Locals.{IsLocalType, local_begins, set_good, unset_good, unset_shape}
+use Rattle.accepted_proof.proofs.good.Types.{good_tags, tagged_same}
 
 -- ---- expressions
 
@@ -56,10 +57,15 @@ module _ (expressions : ExpressionsJudged) where
 
 -- ---- locals
 
+-- no name in scope is of a declaration at fault
+tags_meant : (g : Env) → IsGood g → TagsAreMeant g
+tags_meant g h x = tagged_same (in_scope g) (good_tags g.regions.count (in_scope g) h.names) x
+
 -- the structs that its type names
 unset_kind : (g : Env) (t : TypeName) (count : Option ℕ) (u : StaticType) → IsGood g → unset_type g t count ≡ Of u → NamesStructs (IsStructTag g.tables) u
 unset_kind g t count u h e =
-    perhaps_is (λ z. NamesStructs (IsStructTag g.tables) z) (unset_type g t count) u (unset_named (IsStructTag g.tables) g t count h.kinds) e
+    perhaps_is (λ z. NamesStructs (IsStructTag g.tables) z) (unset_type g t count) u
+    (unset_named (IsStructTag g.tables) g t count (tags_meant g h) h.kinds) e
 
 unset_declared : (g : Env) (t : TypeName) (x : tree.Name) → IsGood g → (declare g (tree.Local t x Initializer.Unset)).faults ≡ []
     → GoodDeclaration g (tree.Local t x Initializer.Unset)
@@ -115,7 +121,8 @@ set_declared g t x e h a p q =
     let z = surely_is (λ u. IsLocalType g t true (Some v.type) u) (set_type g t (Of v)) (set_good g t v h a.good.type a.good.below) c.0 in
     let d : converts g v z.0 ≡ [] = subst (λ w. converted_to g (Of v) w ≡ []) z.1 b.1 in
     let kind : NamesStructs (IsStructTag g.tables) z.0 =
-    perhaps_is (λ u. NamesStructs (IsStructTag g.tables) u) (set_type g t (Of v)) z.0 (set_named (IsStructTag g.tables) g t (Of v) h.kinds) z.1 in
+    perhaps_is (λ u. NamesStructs (IsStructTag g.tables) u) (set_type g t (Of v)) z.0
+    (set_named (IsStructTag g.tables) g t (Of v) (tags_meant g h) h.kinds) z.1 in
     let type_is : set_type g t (judge g e) ≡ Of z.0 = ap (λ w. set_type g t w) a.accepted.judged ∙ z.1 in
     let scope : (declare g (tree.Local t x (Initializer.Value e))).scope ≡ extended g x z.0 =
     ap (λ fs. with_local x (what_after fs (what_of g.frame None (set_type g t (judge g e)))) g) p

@@ -12,7 +12,7 @@ use Rattle.type_proof.specs.Entries.{IsObjectType}
 use Rattle.source_typing.specs.Named.{AllBelow, Below, TypeBelow}
 use Rattle.type_proof.proofs.expressions.Fixed.{PartBelow, same_below}
 use Rattle.source_typing.specs.Declarations.{can_be, fitting, fitting_local, if_sized, local_type, misses_region, set_type, taken_from, type_in_scope}
-use Rattle.source_typing.specs.Declarations.{unset_type}
+use Rattle.source_typing.specs.Declarations.{tags_in_scope, unset_type}
 use Rattle.source_typing.specs.Extents.{fits_bytes, variable_size}
 use Rattle.source_typing.specs.Missing.{arguments_of, as_type, fat_with, filled_arguments, filled_from, or_found, outer_region, pointee_of, settled, thin_with}
 use Rattle.source_typing.specs.Missing.{unique_with}
@@ -28,7 +28,7 @@ use Rattle.accepted_proof.proofs.good.Operators.{object_value}
 use Rattle.accepted_proof.proofs.FoundRegions.{FoundBelow}
 use Rattle.accepted_proof.proofs.good.Pointers.{IsPartialObject, IsWritten, RegionBelow, RegionsBelow, WritesKey, WritesNothing, WritesObject}
 use Rattle.accepted_proof.proofs.good.Pointers.{WrittenKey, WrittenObject}
-use Rattle.accepted_proof.proofs.good.Types.{good_tags, scope_written}
+use Rattle.accepted_proof.proofs.good.Types.{good_tags, scope_written, tagged_known}
 use Rattle.accepted_proof.proofs.Owners.{IsSaid, ShapedIfSome, Writes, filled_shaped, said_alone, settled_alone_is, settled_from}
 
 -- ---- missing regions
@@ -248,7 +248,7 @@ local_good g of at count set s p (WritesNothing v e) k =
 pub unset_good : (g : Env) (t : TypeName) (count : Option ℕ) → IsGood g → Surely (λ u. IsLocalType g t false None u) (unset_type g t count)
 unset_good g t count h =
     surely_after (λ p. IsWritten true g.regions.count t p) (λ u. IsLocalType g t false None u) (type_in_scope g t) (local_type g t.at count false None)
-    (scope_written g.regions.count (in_scope g) g.names t (good_tags g.regions.count (in_scope g) h.names) h.regions)
+    (scope_written g.regions.count (tags_in_scope g) g.names t (tagged_known (in_scope g) (good_tags g.regions.count (in_scope g) h.names)) h.regions)
     (λ p w. local_good g t t.at count false None p w tt)
 
 -- a type of which no region is missing
@@ -297,7 +297,7 @@ later_missing (s ∷ ss) zs e = later_missing ss zs (by (is_none s.written) e)
 none_missing : (g : Env) (of : TypeName) → misses_region g of ≡ false → IsSaid (shapes.written of)
 none_missing g of e =
     pointers_said of.pointers (shapes.base_shape of.base)
-    (later_missing (base_spots (in_scope g) of.base) (map (λ (p : tree.Pointer). spot true p.region) of.pointers) e) (base_said of.base)
+    (later_missing (base_spots (tags_in_scope g) of.base) (map (λ (p : tree.Pointer). spot true p.region) of.pointers) e) (base_said of.base)
 
 from_good : (g : Env) (of : TypeName) (b : Bool) (v : Value) (p : PartialType) → misses_region g of ≡ b → SourceBelow g.regions.count (Some v.type)
     → IsWritten true g.regions.count of p
@@ -318,7 +318,7 @@ pub set_good : (g : Env) (t : TypeName) (v : Value) → IsGood g → IsValueType
 set_good g t v h k b =
     surely_after (λ p. IsWritten true g.regions.count t p) (λ u. IsLocalType g t true (Some v.type) u) (type_in_scope g t)
     (taken_from g t.at (misses_region g t) (Of v))
-    (scope_written g.regions.count (in_scope g) g.names t (good_tags g.regions.count (in_scope g) h.names) h.regions)
+    (scope_written g.regions.count (tags_in_scope g) g.names t (tagged_known (in_scope g) (good_tags g.regions.count (in_scope g) h.names)) h.regions)
     (λ p w. from_good g t (misses_region g t) v p refl (k, b) w)
 
 -- ---- beginnings

@@ -18,12 +18,12 @@ use Rattle.source_typing.specs.Scope.{at_item}
 use Rattle.source_typing.specs.Tables.{Entry, Named, OfOther, OfValue, Tables}
 use Rattle.source_typing.specs.Types.{StaticType}
 use Rattle.source_typing.specs.Verdicts.{Of}
-use Rattle.source_typing.proofs.Inversion.{none_of_both}
+use Rattle.source_typing.proofs.Inversion.{body_head_clean, none_of_both}
 use Rattle.accepted_proof.specs.Good.{AllGood, IsGoodEntry}
 use Rattle.accepted_proof.proofs.AlignedTables.{AreAligned, global_faults_same, same_tags}
 use Rattle.accepted_proof.proofs.Globals.{GlobalGood, global_good}
 use Rattle.accepted_proof.proofs.good.Types.{KnowsTags}
-use Rattle.accepted_proof.proofs.Heads.{body_head_clean, head_good, head_same}
+use Rattle.accepted_proof.proofs.Heads.{head_good, head_same}
 use Rattle.accepted_proof.proofs.Named.{AreNamed, TagKnown}
 
 -- ---- the faults of a program

@@ -1,12 +1,13 @@
--- The type of a local of these forms that is in order: an object's, whose region names are in scope, with the shape that it has as it is written.
-use Rattle.std.proofs.Common.{◌≡◌, ℕ, Bool, true, false, Option, Some, None, List, [], ◌∷◌, refl, sym, subst, ◌∙◌}
-use Rattle.std.specs.Prelude.{length}
+-- The type of a local that is in order: an object's, whose region names are in scope, with the shape that it has as it is written.
+use Rattle.std.proofs.Common.{◌≡◌, ℕ, Bool, true, false, Option, Some, None, List, [], ◌∷◌, refl, sym, subst, ap, ◌∙◌}
+use Rattle.std.specs.Prelude.{if◌then◌else◌, length, option_map}
 use Rattle.std.proofs.lemmas.Bool.{eqb-true}
 use Rattle.std.proofs.lemmas.List.{length-map, length-replicate}
 use Rattle.cyc_tree.specs.Tree as tree
 use Rattle.cyc_tree.specs.Tree.{Pointer, TypeName}
 use Rattle.source_meaning.specs.Shapes as shapes
 use Rattle.source_meaning.specs.Shapes.{pointed}
+use Rattle.source_typing.specs.Declarations.{as_tagged, faulty_tag, tagged}
 use Rattle.source_typing.specs.Faults.{Fault}
 use Rattle.source_typing.specs.Tables.{Arrayed, Counter, Entry, OfBuiltin, OfFunction, OfOther, OfTag, OfValue, Stored, Tables, Unknown, as_tag, find}
 use Rattle.source_typing.specs.Tables.{tag_in}
@@ -35,6 +36,7 @@ use Rattle.source_typing.specs.Written.{
   written,
   written_with,
 }
+use Rattle.source_typing.proofs.Entries.{find_tagged}
 use Rattle.accepted_proof.specs.Good.{AllGood, IsGoodEntry, NamesBelow, Surely}
 use Rattle.accepted_proof.proofs.FoundRegions.{AreAllFound, AreFound, base_arguments, spots_found}
 use Rattle.accepted_proof.proofs.good.Names.{MeansGood, found_good}
@@ -62,6 +64,27 @@ MeansKnown (Some e) = IsKnownEntry e
 
 abbrev pub KnowsTags : Tables → Type 0
 KnowsTags g = (x : List ℕ) → MeansKnown (find g x)
+
+-- so each name means the same where a tag is wanted
+entry_tagged : (e : Entry) → IsKnownEntry e → as_tagged e ≡ e
+entry_tagged (OfTag t) h = refl
+entry_tagged (OfFunction s) h = ap (λ (b : Bool). if b then OfFunction s else faulty_tag) h
+entry_tagged (OfValue (Stored t r)) h = refl
+entry_tagged (OfValue (Arrayed t r)) h = refl
+entry_tagged (OfValue Counter) h = refl
+entry_tagged (OfValue Unknown) h = absurd h
+entry_tagged (OfBuiltin n) h = refl
+entry_tagged OfOther h = refl
+
+pub tagged_same : (g : Tables) → KnowsTags g → (x : List ℕ) → find (tagged g) x ≡ find g x
+tagged_same g k x = find_tagged g x ∙ by (find g x) (k x)
+  where
+    by : (o : Option Entry) → MeansKnown o → option_map as_tagged o ≡ o
+    by None h = refl
+    by (Some e) h = ap (λ (d : Entry). Some d) (entry_tagged e h)
+
+pub tagged_known : (g : Tables) → KnowsTags g → KnowsTags (tagged g)
+tagged_known g k x = subst (λ (o : Option Entry). MeansKnown o) (sym (tagged_same g k x)) (k x)
 
 -- a tag has its count of region parameters, or is at fault
 tag_judged : (at : ℕ) (union : Bool) (o : Option Entry) → MeansKnown o → Surely (λ n. n ≡ regions_of_tag (as_tag o)) (tag_of o union at)

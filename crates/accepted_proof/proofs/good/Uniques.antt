@@ -12,7 +12,7 @@ use Rattle.type_proof.specs.Entries.{IsObjectType}
 use Rattle.type_proof.specs.Judged.{AliasOpened, UniqueOperand, extended}
 use Rattle.source_typing.specs.Named.{TypeBelow}
 use Rattle.source_typing.specs.Declarations.{alias_fits, alias_type, aliased, declare, if_type, misses_region, operand, region_declared, type_in_scope}
-use Rattle.source_typing.specs.Declarations.{type_of_alias, what_of, with_region}
+use Rattle.source_typing.specs.Declarations.{tags_in_scope, type_of_alias, what_of, with_region}
 use Rattle.source_typing.specs.Exchanges.{acts, exchangeable, exchanged}
 use Rattle.source_typing.specs.Expressions.{judge}
 use Rattle.source_typing.specs.Faults.{Fault, own_after, region_rule, test, type_rule}
@@ -35,7 +35,7 @@ use Rattle.accepted_proof.proofs.good.Names.{found_good}
 use Rattle.accepted_proof.proofs.good.Places.{variable_judged}
 use Rattle.accepted_proof.proofs.good.Scopes.{good_alias, good_local, one_more, region_names}
 use Rattle.accepted_proof.proofs.good.Pointers.{IsWritten, WritesKey, WritesNothing, WritesObject}
-use Rattle.accepted_proof.proofs.good.Types.{good_tags, scope_written}
+use Rattle.accepted_proof.proofs.good.Types.{good_tags, scope_written, tagged_known}
 
 -- ---- what is of a unique pointer
 
@@ -133,7 +133,8 @@ module _ (g : Env) (h : IsGood g) (at : ℕ) (r : tree.RegionName) (of : TypeNam
       let unique : v.type ≡ Unique n to = k.held.is in
       let rule : Verdict Value → PartialType → Verdict StaticType = alias_type of.at (next_region g) (misses_region g of) in
       let written : Surely (λ z. IsWritten true (g.regions.count + 1) of z) (type_in_scope inside of) =
-      scope_written (g.regions.count + 1) (in_scope g) (names_with r g) of (good_tags g.regions.count (in_scope g) h.names) (region_names r g h) in
+      scope_written (g.regions.count + 1) (tags_in_scope g) (names_with r g) of
+      (tagged_known (in_scope g) (good_tags g.regions.count (in_scope g) h.names)) (region_names r g h) in
       let w = surely_is (λ z. IsWritten true (g.regions.count + 1) of z) (type_in_scope inside of) written
       (after_clean (type_in_scope inside of) (rule (operand g p is_unique)) q) in
       let object : IsObjectType to = subst (λ z. IsValueType z) unique k.good.type in

@@ -8,7 +8,7 @@ use Rattle.accepted_proof.specs.Good.{IsStructTag, MeansNamed}
 use Rattle.accepted_proof.proofs.AlignedTables.{same_tags, tables_aligned}
 use Rattle.accepted_proof.proofs.good.Functions.{KindsKnown}
 use Rattle.accepted_proof.proofs.HeadTags.{TablesAlike}
-use Rattle.accepted_proof.proofs.Heads.{SameTags}
+use Rattle.source_typing.proofs.SameTags.{SameTags}
 use Rattle.accepted_proof.proofs.kinds.Tables.{AllTypes, MeansTypes, all_alike, entries_types, found_types, known_alike, list_types}
 use Rattle.accepted_proof.proofs.kinds.Types.{KnowsStructs}
 use Rattle.accepted_proof.proofs.Named.{AreNamed}

@@ -1,12 +1,12 @@
 -- Types as they are written: each struct that one names has a struct's tag, where the tables know which tags are structs'.
-use Rattle.std.proofs.Common.{◌≡◌, ℕ, zero, suc, Bool, true, false, Option, Some, None, List, [], ◌∷◌, refl, subst}
+use Rattle.std.proofs.Common.{◌≡◌, ℕ, zero, suc, Bool, true, false, Option, Some, None, List, [], ◌∷◌, refl, sym, subst}
 use Rattle.std.specs.Prelude.{◌&&◌, ◌++◌, ◌||◌, map, not}
 use Rattle.cyc_tree.specs.declared.name.Sign.{Sign}
 use Rattle.cyc_tree.specs.declared.name.Sign.TheVariants as sign
 use Rattle.cyc_tree.specs.Tree as tree
 use Rattle.cyc_tree.specs.Tree.{Pointer, TypeName}
 use Rattle.source_typing.specs.Declarations.{can_be, fitting, fitting_local, if_sized, local_type, misses_region, set_type, stands_earlier, taken_from}
-use Rattle.source_typing.specs.Declarations.{type_in_scope, unset_type}
+use Rattle.source_typing.specs.Declarations.{tags_in_scope, type_in_scope, unset_type}
 use Rattle.source_typing.specs.Extents.{fits_bytes, variable_size}
 use Rattle.source_typing.specs.Faults.{Fault}
 use Rattle.source_typing.specs.Functions.{AllSpotted, Variables, fits_parameter, if_parameter, if_result, parameter_type, read_parameters, result_type}
@@ -14,7 +14,7 @@ use Rattle.source_typing.specs.Functions.{take_spots}
 use Rattle.source_typing.specs.Globals.{count_of, fitting_global, foreign_names, global_type, has_none}
 use Rattle.source_typing.specs.Missing.{as_type, fat_with, filled_from, or_found, outer_region, pointee_of, settled, thin_with, unique_with}
 use Rattle.source_typing.specs.Regions.{Region}
-use Rattle.source_typing.specs.Scope.{Env, Value, in_scope}
+use Rattle.source_typing.specs.Scope.{Env, Value, meant}
 use Rattle.source_typing.specs.Tables.{Entry, OfBuiltin, OfFunction, OfOther, OfTag, OfValue, Tables, Tag, find, has_beginning}
 use Rattle.source_typing.specs.Tags.{fits_member, member_fitting, member_type, settled_alone}
 use Rattle.source_typing.specs.Types.{Char, Fat, Handle, Int, Key, PartialType, StaticType, Struct, Thin, TypeIn, Union, Unique, Unsigned, Void, is_key}
@@ -34,8 +34,12 @@ pub structs_known : (P : List ℕ → Type 0) (g : Tables) → ((x : List ℕ) �
 structs_known P g k x t e u =
     let h : MeansNamed P x (Some (OfTag t)) = subst (λ (o : Option Entry). MeansNamed P x o) e (k x) in h.struct u
 
-pub scope_known : (P : List ℕ → Type 0) (g : Env) → KnowsKinds P g → KnowsStructs P (in_scope g)
-scope_known P g k = structs_known P (in_scope g) (λ x. meant_named P g x k)
+-- each name in scope means the same where a tag is wanted
+abbrev pub TagsAreMeant : Env → Type 0
+TagsAreMeant g = (x : List ℕ) → find (tags_in_scope g) x ≡ meant g x
+
+scope_known : (P : List ℕ → Type 0) (g : Env) → TagsAreMeant g → KnowsKinds P g → KnowsStructs P (tags_in_scope g)
+scope_known P g same k = structs_known P (tags_in_scope g) (λ x. subst (λ (o : Option Entry). MeansNamed P x o) (sym (same x)) (meant_named P g x k))
 
 abbrev pub TypesName : (List ℕ → Type 0) → List StaticType → Type 0
 TypesName P [] = Unit {0}
@@ -231,10 +235,10 @@ module _ (P : List ℕ → Type 0) where
       perhaps_after (λ u. NamesStructs P u) (λ u. NamesStructs P u) (settled at p s) (fitting_local g at count set) (settled_named at p s h)
       (λ u k. fitting_named g at count (set || has_beginning g.tables u) u k)
 
-  pub unset_named : (g : Env) (t : TypeName) (count : Option ℕ) → KnowsKinds P g → Named (unset_type g t count)
-  unset_named g t count k =
+  pub unset_named : (g : Env) (t : TypeName) (count : Option ℕ) → TagsAreMeant g → KnowsKinds P g → Named (unset_type g t count)
+  unset_named g t count same k =
       perhaps_after (λ p. NamesStructs P p) (λ u. NamesStructs P u) (type_in_scope g t) (local_type g t.at count false None)
-      (written_named (in_scope g) g.names t (scope_known P g k)) (λ p h. local_named g t.at count false None p h)
+      (written_named (tags_in_scope g) g.names t (scope_known P g same k)) (λ p h. local_named g t.at count false None p h)
 
   from_named : (g : Env) (at : ℕ) (b : Bool) (v : Verdict Value) (p : PartialType) → NamesStructs P p → Named (taken_from g at b v p)
   from_named g at true (Faulty f fs) p h = tt
@@ -242,10 +246,10 @@ module _ (P : List ℕ → Type 0) where
   from_named g at true (Of v) p h = local_named g at None true (Some v.type) p h
   from_named g at false v p h = local_named g at None true None p h
 
-  pub set_named : (g : Env) (t : TypeName) (v : Verdict Value) → KnowsKinds P g → Named (set_type g t v)
-  set_named g t v k =
+  pub set_named : (g : Env) (t : TypeName) (v : Verdict Value) → TagsAreMeant g → KnowsKinds P g → Named (set_type g t v)
+  set_named g t v same k =
       perhaps_after (λ p. NamesStructs P p) (λ u. NamesStructs P u) (type_in_scope g t) (taken_from g t.at (misses_region g t) v)
-      (written_named (in_scope g) g.names t (scope_known P g k)) (λ p h. from_named g t.at (misses_region g t) v p h)
+      (written_named (tags_in_scope g) g.names t (scope_known P g same k)) (λ p h. from_named g t.at (misses_region g t) v p h)
 
   pub global_named : (g : Env) (x : tree.Global) → KnowsStructs P g.tables → Named (global_type g x)
   global_named g x k =

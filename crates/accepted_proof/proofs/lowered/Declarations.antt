@@ -13,11 +13,12 @@ use Rattle.source_meaning.specs.Shapes.{ArrayShape, Shape, settled, settled_by, 
 use Rattle.source_meaning.specs.Steps.{World}
 use Rattle.type_proof.specs.Judged.{AliasOpened, DeclarationJudged, KeyDeclared, KeyOpened, LocalArray, LocalSet, LocalUnset, RegionOpened}
 use Rattle.source_typing.specs.Converts.{Converts}
-use Rattle.source_typing.specs.Declarations.{converted_to, declare, local_type, misses_region, set_faults, set_type, taken_from, unset_type, with_region}
+use Rattle.source_typing.specs.Declarations.{converted_to, declare, local_type, misses_region, set_faults, set_type, tags_in_scope, taken_from, unset_type}
+use Rattle.source_typing.specs.Declarations.{with_region}
 use Rattle.source_typing.specs.Expressions.{judge}
 use Rattle.source_typing.specs.Extents.{size_of}
 use Rattle.source_typing.specs.Regions.{Region, Regions, opened, with_name, with_scope}
-use Rattle.source_typing.specs.Scope.{Env, Value, in_scope, next_region, second}
+use Rattle.source_typing.specs.Scope.{Env, Value, next_region, second}
 use Rattle.source_typing.specs.Types.{Handle, Key, StaticType, Struct, Thin, Union, Unique, shape_of}
 use Rattle.source_typing.specs.Verdicts.{after, faults_of}
 use Rattle.source_typing.specs.Written.{all_found, spots_of}
@@ -96,7 +97,7 @@ module _ (w : World) where
   unset_takes names index g u x scope j p =
       let f = none_of_both (faults_of (unset_type g u None)) (second g x) p in
       let there : BaseThere w u.base =
-      base_there w (in_scope g) u (all_found g.names (spots_of (in_scope g) u)) (λ v. after v (local_type g u.at None false None))
+      base_there w (tags_in_scope g) u (all_found g.names (spots_of (tags_in_scope g) u)) (λ v. after v (local_type g u.at None false None))
       (scope_tags w names g scope) (scope_sound w names g scope) (once_keeps (local_type g u.at None false None)) f.0 in
       record {
         takes = (
@@ -115,7 +116,7 @@ module _ (w : World) where
   array_takes names index g u x n scope j p =
       let f = none_of_both (faults_of (unset_type g u (Some n))) (second g x) p in
       let there : BaseThere w u.base =
-      base_there w (in_scope g) u (all_found g.names (spots_of (in_scope g) u)) (λ v. after v (local_type g u.at (Some n) false None))
+      base_there w (tags_in_scope g) u (all_found g.names (spots_of (tags_in_scope g) u)) (λ v. after v (local_type g u.at (Some n) false None))
       (scope_tags w names g scope) (scope_sound w names g scope) (once_keeps (local_type g u.at (Some n) false None)) f.0 in
       let known : IsKnown w (shape_of j.type) = written_known w u j.type there j.object j.shape in
       record {
@@ -141,7 +142,7 @@ module _ (w : World) where
       let b = none_of_both (faults_of (set_type g u (judge g e)) ++ faults_of (judge g e)) (converted_to g (judge g e) (set_type g u (judge g e))) a.0 in
       let c = none_of_both (faults_of (set_type g u (judge g e))) (faults_of (judge g e)) b.0 in
       let there : BaseThere w u.base =
-      base_there w (in_scope g) u (all_found g.names (spots_of (in_scope g) u)) (λ z. after z (taken_from g u.at (misses_region g u) (judge g e)))
+      base_there w (tags_in_scope g) u (all_found g.names (spots_of (tags_in_scope g) u)) (λ z. after z (taken_from g u.at (misses_region g u) (judge g e)))
       (scope_tags w names g scope) (scope_sound w names g scope) (once_keeps (taken_from g u.at (misses_region g u) (judge g e))) c.0 in
       let k : IsTaken w names e v = taken_is w names g scope e v j.fitting.accepted.operands j.fitting.accepted.judged in
       let known : IsKnown w (shape_of j.type) = settled_known w u (shape_of v.type) j.type there j.object j.shape in

@@ -63,6 +63,7 @@ pub record KnownFunction (w : World) (x : List ℕ) (s : Signature) : Type 0 whe
   pub not_read : bytes_eq x (codes "getchar") ≡ false
   pub not_written : bytes_eq x (codes "putchar") ≡ false
   pub not_made : has_tag w.structs x ≡ false
+  pub sound : s.sound ≡ true
   pub types : List StaticType
   pub parameters : s.parameters ≡ map (λ t. Some t) types
   pub words : AreWords types

@@ -1,6 +1,6 @@
 -- A scope in which all is known of each name stays one: after a local, where a block, a loop or an element begins, where a region begins or is opened, and
 -- with a function's parameters.
-use Rattle.std.proofs.Common.{◌≡◌, ℕ, suc, Bool, true, false, Option, Some, List, [], ◌∷◌, refl, subst, ap, ◌∙◌}
+use Rattle.std.proofs.Common.{◌≡◌, ℕ, suc, Bool, true, false, Option, Some, None, List, [], ◌∷◌, refl, sym, subst, ap, ◌∙◌}
 use Rattle.std.specs.Prelude.{bytes_eq, if◌then◌else◌, map}
 use Rattle.cyc_tree.specs.Tree as tree
 use Rattle.source_lowering.specs.Lowered.{Named, local_named, named_shape, number_named, shape_by}
@@ -11,7 +11,7 @@ use Rattle.source_meaning.specs.Shapes.{ArrayShape, Part, Shape, UnsignedShape, 
 use Rattle.source_meaning.specs.Steps.{Entity, World}
 use Rattle.type_proof.specs.Judged.{arrayed, extended, named}
 use Rattle.type_proof.specs.Programs.{name_alone, with_all}
-use Rattle.source_typing.specs.Declarations.{with_region}
+use Rattle.source_typing.specs.Declarations.{tags_in_scope, with_region}
 use Rattle.source_typing.specs.Making.{Goal, inside, with_counter}
 use Rattle.source_typing.specs.Regions.{Region, Regions, opened}
 use Rattle.source_typing.specs.Scope.{Env, block_entered, in_scope, meant}
@@ -19,9 +19,10 @@ use Rattle.source_typing.specs.Statements.{in_a_loop, in_a_switch}
 use Rattle.source_typing.specs.Tables.{Arrayed, Counter, Entry, OfBuiltin, OfFunction, OfOther, OfTag, OfValue, Stored, Tag, Unknown, What}
 use Rattle.source_typing.specs.Types.{StaticType, shape_of}
 use Rattle.source_typing.specs.Verdicts.{Verdict}
+use Rattle.accepted_proof.proofs.good.Types.{IsKnownEntry, KnowsTags, MeansKnown, tagged_known, tagged_same}
 use Rattle.accepted_proof.proofs.Known.{IsKnown}
 use Rattle.accepted_proof.proofs.lowered.Forms.{AreKnown, IsKnownScope, KnownEntry, KnownKind}
-use Rattle.accepted_proof.proofs.lowered.Types.{AreSound, TagThere, TagsThere}
+use Rattle.accepted_proof.proofs.lowered.Types.{AreSound, TagThere, TagsThere, known_sound}
 use Rattle.accepted_proof.proofs.lowered.Stands.{StandsAs, stands_from, stands_same}
 
 -- a name of a shape, wherever it is
@@ -42,7 +43,7 @@ module _ (w : World) where
   entry_kept names others x (OfBuiltin n) q h = h
   entry_kept names others x OfOther q h = h
 
-  -- each tag in scope is the program's
+  -- what is known of a tag, of either kind
   kind_there : (b : Bool) (x : List ℕ) (t : Tag) → KnownKind w b x t → TagThere w b x
   kind_there false x t k = k.there
   kind_there true x t k = k.there
@@ -51,12 +52,32 @@ module _ (w : World) where
   kind_sound false x t k = k.sound
   kind_sound true x t k = k.sound
 
-  pub scope_tags : (names : List Named) (g : Env) → IsKnownScope w names g → TagsThere w (in_scope g)
-  scope_tags names g scope x t e = kind_there t.is_union x t (scope.entries x (OfTag t) e)
+  -- no name in scope is of a declaration at fault
+  entry_clean : (names : List Named) (x : List ℕ) (e : Entry) → KnownEntry w names x e → IsKnownEntry e
+  entry_clean names x (OfValue (Stored t r)) k = tt
+  entry_clean names x (OfValue (Arrayed t r)) k = tt
+  entry_clean names x (OfValue Counter) k = tt
+  entry_clean names x (OfValue Unknown) k = k
+  entry_clean names x (OfTag t) k = kind_sound t.is_union x t k
+  entry_clean names x (OfFunction s) k = k.sound
+  entry_clean names x (OfBuiltin n) k = tt
+  entry_clean names x OfOther k = tt
+
+  scope_known : (names : List Named) (g : Env) → IsKnownScope w names g → KnowsTags (in_scope g)
+  scope_known names g scope x = by (meant g x) (scope.entries x)
+    where
+      by : (o : Option Entry) → ((e : Entry) → o ≡ Some e → KnownEntry w names x e) → MeansKnown o
+      by None k = tt
+      by (Some e) k = entry_clean names x e (k e refl)
+
+  -- each tag in scope is the program's
+  pub scope_tags : (names : List Named) (g : Env) → IsKnownScope w names g → TagsThere w (tags_in_scope g)
+  scope_tags names g scope x t e =
+      kind_there t.is_union x t (scope.entries x (OfTag t) (sym (tagged_same (in_scope g) (scope_known names g scope) x) ∙ e))
 
   -- and without fault
-  pub scope_sound : (names : List Named) (g : Env) → IsKnownScope w names g → AreSound (in_scope g)
-  scope_sound names g scope x t e = kind_sound t.is_union x t (scope.entries x (OfTag t) e)
+  pub scope_sound : (names : List Named) (g : Env) → IsKnownScope w names g → AreSound (tags_in_scope g)
+  scope_sound names g scope = known_sound (tags_in_scope g) (tagged_known (in_scope g) (scope_known names g scope))
 
   -- ---- one more local
 

@@ -41,6 +41,7 @@ use Rattle.accepted_proof.proofs.StructsFound.{StructsFound, not_made}
 -- ---- the types of each entry
 
 pub record SignatureKnown (w : World) (s : Signature) : Type 0 where
+  pub sound : s.sound ≡ true
   pub types : List StaticType
   pub parameters : s.parameters ≡ map (λ (t : StaticType). Some t) types
   pub words : AreWords types
@@ -83,6 +84,7 @@ types_known w g h i (j ∷ js) (tree.FunctionItem x ∷ is) tags sound k p =
     let u : HeadLowered w g tags sound x k.0.good.head = head_lowered w g tags sound x k.0.good.head k.0.good.clean in
     let s : SignatureKnown w (head_of false g x).signature =
     record {
+      sound = k.0.good.head.signature.sound;
       types = k.0.good.head.signature.types;
       parameters = k.0.good.head.signature.parameters;
       words = u.parameters.words;
@@ -242,6 +244,7 @@ module _ (p : Program) (judged : ProgramJudged p (tables_of false p)) (found : S
           not_read = f.not_read;
           not_written = f.not_written;
           not_made = f.not_made;
+          sound = k.sound;
           types = k.types;
           parameters = k.parameters;
           words = k.words;

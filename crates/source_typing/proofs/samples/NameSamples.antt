@@ -102,3 +102,11 @@ name_12 : typing_fault false
     (Expression.Call (name_at 35 "S") (MoreExpressions (number 37 3) NoExpressions))))) (Execute (returns 41 (number 48 0)) NoItems))) 51) ∷ [])
     ≡ Some (fault name_rule 35)
 name_12 = refl
+
+-- int main() { struct f *x; return 0; } int f(struct nope *p) { return 0; }
+name_13 : typing_fault false
+    ((main_at 0 (Declare (tree.Local (type_at 13 (tree.Struct (name_at 20 "f") []) ((pointer sign.Nullable None) ∷ [])) (name_at 23 "x") Initializer.Unset)
+    (Execute (returns 26 (number 33 0)) NoItems)) 36) ∷ (tree.FunctionItem (routine (int_at 38) (name_at 42 "f") ((member (type_at 44 (tree.Struct (name_at 51
+    "nope") []) ((pointer sign.Nullable None) ∷ [])) (name_at 57 "p")) ∷ []) None [] (Execute (returns 62 (number 69 0)) NoItems) 72)) ∷ [])
+    ≡ Some (fault name_rule 51)
+name_13 = refl

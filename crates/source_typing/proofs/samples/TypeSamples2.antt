@@ -8,7 +8,7 @@ use Rattle.cyc_tree.specs.Tree.{Expression, NoExpressions, MoreExpressions, NoLi
 use Rattle.cyc_tree.specs.Tree.{NoItems, Declare, Execute, Constant, Initial}
 use Rattle.source_meaning.proofs.Trees.{pointer}
 use Rattle.source_typing.specs.Faults.{fault, type_rule}
-use Rattle.source_typing.specs.Programs.{typing_fault}
+use Rattle.source_typing.specs.Programs.{typing_fault, typing_faults}
 use Rattle.source_typing.proofs.samples.SampleTrees.{name_at, region_at, type_at, int_at, number, variable_at, returns, member, global, routine, main_at}
 use Rattle.source_typing.proofs.samples.SampleTrees.{main_returns}
 
@@ -160,3 +160,34 @@ type_51 : typing_fault false
     NoLinks))) (Execute (returns 27 (number 34 0)) NoItems)) 37) ∷ [])
     ≡ Some (fault type_rule 13)
 type_51 = refl
+
+-- ---- names of other declarations, where a local's type wants a tag
+
+-- int main() { struct g *x; return 0; } void g;
+type_52 : typing_fault false
+    ((main_at 0 (Declare (tree.Local (type_at 13 (tree.Struct (name_at 20 "g") []) ((pointer sign.Nullable None) ∷ [])) (name_at 23 "x") Initializer.Unset)
+    (Execute (returns 26 (number 33 0)) NoItems)) 36) ∷ (tree.GlobalItem (global (type_at 38 tree.Void []) (name_at 43 "g") Initial.Unset)) ∷ [])
+    ≡ Some (fault type_rule 38)
+type_52 = refl
+
+-- all of its faults
+-- int main() { void v; struct v *x; return 0; }
+type_53 : typing_faults false
+    ((main_at 0 (Declare (tree.Local (type_at 13 tree.Void []) (name_at 18 "v") Initializer.Unset) (Declare (tree.Local (type_at 21 (tree.Struct (name_at 28
+    "v") []) ((pointer sign.Nullable None) ∷ [])) (name_at 31 "x") Initializer.Unset) (Execute (returns 34 (number 41 0)) NoItems))) 44) ∷ [])
+    ≡ fault type_rule 13 ∷ []
+type_53 = refl
+
+-- int g; int main() { struct g *x; return 0; }
+type_54 : typing_fault false
+    ((tree.GlobalItem (global (int_at 0) (name_at 4 "g") Initial.Unset)) ∷ (main_at 7 (Declare (tree.Local (type_at 20 (tree.Struct (name_at 27 "g") [])
+    ((pointer sign.Nullable None) ∷ [])) (name_at 30 "x") Initializer.Unset) (Execute (returns 33 (number 40 0)) NoItems)) 43) ∷ [])
+    ≡ Some (fault type_rule 27)
+type_54 = refl
+
+-- int main() { int v; struct v *x; return 0; }
+type_55 : typing_fault false
+    ((main_at 0 (Declare (tree.Local (int_at 13) (name_at 17 "v") Initializer.Unset) (Declare (tree.Local (type_at 20 (tree.Struct (name_at 27 "v") [])
+    ((pointer sign.Nullable None) ∷ [])) (name_at 30 "x") Initializer.Unset) (Execute (returns 33 (number 40 0)) NoItems))) 43) ∷ [])
+    ≡ Some (fault type_rule 27)
+type_55 = refl

@@ -3,9 +3,9 @@ use Rattle.std.specs.Prelude.{None, true}
 use Rattle.cyc_tree.specs.View.{name_tree, region_tree, type_tree}
 use Rattle.cyc_types.specs.Types.{static_type}
 use Rattle.check_operators.specs.Values.{value_of}
-use Rattle.source_typing.specs.Declarations.{alias_type, operand, region_declared, type_in_scope, type_of_alias, what_of}
+use Rattle.source_typing.specs.Declarations.{alias_type, operand, region_declared, tagged, tags_in_scope, type_in_scope, type_of_alias, what_of}
 use Rattle.source_typing.specs.Regions.{with_name}
-use Rattle.source_typing.specs.Scope.{in_scope, next_region}
+use Rattle.source_typing.specs.Scope.{next_region}
 use Rattle.source_typing.specs.Tables.{Tables}
 use Rattle.source_typing.specs.Types.{is_unique}
 use Rattle.source_typing.specs.Verdicts as verdict
@@ -34,10 +34,10 @@ returns-clause-judged c = λ g at x known suits.
     let source = c.in_ok-source.ensures g known in
     let tag = c.local_tag-tag.ensures g known in
     let is_written =
-    c.in_ok-written.ensures (in_scope g) tag
-    ∙ ap (λ ns. shortened (written (in_scope g) ns t)) (c.in_ok-next.ensures.named g (with_name true) known suits.names)
-    ∙ ap (λ (ts : Tables). shortened (written ts inside.names t)) (sym (begun_tables g r (with_name true))) in
-    let misses = c.misses_region_in-misses_region.ensures (in_scope g) tag in
+    c.in_ok-written.ensures (tags_in_scope g) tag
+    ∙ ap (λ ns. shortened (written (tags_in_scope g) ns t)) (c.in_ok-next.ensures.named g (with_name true) known suits.names)
+    ∙ ap (λ (ts : Tables). shortened (written (tagged ts) inside.names t)) (sym (begun_tables g r (with_name true))) in
+    let misses = c.misses_region_in-misses_region.ensures (tags_in_scope g) tag in
     let of =
     c.in_ok-of.ensures w v is_written source
     ∙ ap (λ q. shortened (verdict.after w (alias_type t.at q c.misses_region_in-misses_region.result v))) (c.in_ok-next.ensures.next g known)

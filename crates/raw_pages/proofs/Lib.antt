@@ -1,0 +1,3 @@
+mod Rooms
+mod Lodging
+mod Owned

@@ -1,2 +1,4 @@
 pub mod Raw
 pub mod Lending
+pub mod Block
+pub mod Seated

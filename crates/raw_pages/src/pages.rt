@@ -1,31 +1,48 @@
-// Pages of memory, as two vectors.
+// Pages of memory, as two rows of one block.
 
-ghost use Rattle.std.specs.Prelude.{◌≡◌, ◌+◌, ◌*◌, ◌<◌, ◌≤◌, IfOk, length, slice_index, slice_set, drop, take, ◌-◌};
+ghost use Rattle.std.specs.Prelude.{◌≡◌, ◌+◌, ◌*◌, ◌<◌, ◌≤◌, IfOk, length, nat_lt, slice_get, slice_set, drop, take, ◌-◌};
 ghost use Rattle.std.specs.Borrow.{sem};
 ghost use Rattle.raw_pages.specs.Lending.{LendsBytes};
 ghost use Rattle.raw_pages.specs.Raw.{AreZero, count, is_no_page_count, is_pages_fault, word_at};
 
+use crate::block::{Block, allocate, filled, free};
 use crate::fault::PagesFault;
 use std::alloc::Global;
 use std::marker::Model;
 use std::ops::Range;
+use std_alloc::vec::Lodged;
 
 /// So many pages of sixteen header words and 4,096 payload bytes, freed when dropped. Header words
 /// are named by page and field, payload bytes by their place in the whole payload.
-#[derive(Drop)]
 pub struct RawPages {
-    words: Vec<u32>,
-    bytes: Vec<u8>,
+    words: Vec<u32, Lodged>,
+    bytes: Vec<u8, Lodged>,
+    block: Block<Global>,
+    alloc: Global,
 }
 
 impl Model for RawPages {
+    ghost use Rattle.std.specs.Prelude.{◌≡◌};
     ghost use Rattle.raw_pages.specs.Raw.{Raw, IsWhole};
+    ghost use Rattle.raw_pages.specs.Seated.{IsSeated};
 
     ghost Value = { Raw };
 
     ghost view = { λ r. record { words = r.words.items; bytes = r.bytes.items } };
 
-    ghost invariant = { λ r. IsWhole r.words.items r.bytes.items };
+    ghost invariant = { λ r. IsWhole r.words.items r.bytes.items × IsSeated r.words r.bytes r.block × (r.block.alloc ≡ r.alloc) };
+}
+
+impl Drop for RawPages {
+    fn drop(self) {
+        let RawPages {
+            words,
+            bytes,
+            block,
+            alloc,
+        } = self;
+        free(&alloc, words, bytes, block);
+    }
 }
 
 impl RawPages {
@@ -38,14 +55,15 @@ impl RawPages {
         if pages == 0 || pages > 4096 {
             return Err(PagesFault::Pages);
         }
-        let count = pages as usize;
-        let Ok(words) = vec![in alloc; 0u32; count * 16] else {
+        let Ok((words, bytes, block)) = allocate(&alloc, pages as usize) else {
             return Err(PagesFault::Memory);
         };
-        let Ok(bytes) = vec![in alloc; 0u8; count * 4096] else {
-            return Err(PagesFault::Memory);
-        };
-        Ok(RawPages { words, bytes })
+        Ok(RawPages {
+            words: filled(words, 0),
+            bytes: filled(bytes, 0),
+            block,
+            alloc,
+        })
     }
 
     /// How many pages there are.
@@ -75,21 +93,31 @@ impl RawPages {
         self.words[16 * page as usize + field as usize] = value;
     }
 
-    /// The payload's byte at a place.
-    pub fn byte(&self, at: u32) -> u8
-        requires { at < length self.now.bytes }
-        ensures { result ≡ slice_index self.now.bytes at }
+    /// The payload's byte at a place; none behind the payload.
+    pub fn byte(&self, at: u32) -> Option<u8>
+        ensures { result ≡ slice_get self.now.bytes at }
     {
-        self.bytes[at as usize]
+        let place = at as usize;
+        if place < self.bytes.len() {
+            Some(self.bytes[place])
+        } else {
+            None
+        }
     }
 
-    /// Sets the payload's byte at a place. Nothing else changes.
-    pub fn set_byte(&mut self, at: u32, value: u8)
-        requires { at < length self.old.bytes }
+    /// Sets the payload's byte at a place; false and nothing changed behind the payload. Nothing else changes.
+    pub fn set_byte(&mut self, at: u32, value: u8) -> bool
+        ensures says { result ≡ nat_lt at (length self.old.bytes) }
         ensures words { self.new.words ≡ self.old.words }
         ensures bytes { self.new.bytes ≡ slice_set self.old.bytes at value }
     {
-        self.bytes[at as usize] = value;
+        let place = at as usize;
+        if place < self.bytes.len() {
+            self.bytes[place] = value;
+            true
+        } else {
+            false
+        }
     }
 
     /// The payload's bytes from `range.start` to before `range.end`.

@@ -71,10 +71,6 @@ next_within p s f = (granted (shape_of p) s.ordered f).within
 pub pages_few : (p : Pooled) → IsSound p → length p.words / 16 ≤ 4096
 pages_few p s = s.ordered.few
 
--- pages never used are blank
-pub still_blank : (fields value : Pooled) → fields ≡ value → IsSound fields → AreBlank value.ever_used (word_in value.words)
-still_blank fields value v s = subst (λ p. AreBlank p.ever_used (word_in p.words)) v s.ordered.unused
-
 -- ---- a region is made
 
 pub record GrantSays (old new : Pooled) (p : ℕ) : Type 0 where

@@ -76,15 +76,6 @@ unfolding reads_number
 number_beyond pages h l =
     let z : nat_eq h 0 ≡ false = grind (arith, nat_tests) in let m : pages ≤ h - 1 = omega arith in rw z (page_beyond pages (h - 1) m)
 
-pub number_most : (pages h : ℕ) → reads_number pages h ≤ 1
-unfolding reads_number reads_page one_if
-number_most pages h = by_test (nat_eq h 0) (nat_lt (h - 1) pages)
-  where
-    by_test : (b c : Bool) → (if b then 0 else if c then 1 else 0) ≤ 1
-    by_test true c = omega arith
-    by_test false true = omega arith
-    by_test false false = omega arith
-
 -- ---- a block: from whose number it is, from what is left, and from the page that is written
 
 pub cut_words : (h last r n link : ℕ) → 0 < last → (h ≡ 0 → r ≡ 0) → (0 < h → r ≡ 1) →

@@ -1,8 +1,11 @@
 -- Bytes are loaded and stored by their addresses, and addresses are live.
-use Rattle.std.proofs.Common.{◌≡◌, ℕ, ◌-◌, ◌/◌, ◌<◌, ◌≤◌, Bool, true, false, length, Option, Some, None, nat_lt, refl, sym, ap, subst, ◌∙◌, arith, length-set}
-use Rattle.std.specs.Prelude.{slice_index, slice_set}
+use Rattle.std.proofs.Common.{◌≡◌, ℕ, ◌-◌, ◌/◌, ◌<◌, ◌≤◌, Bool, true, false, length, Option, Some, None, nat_lt, refl, sym, ap, subst, ◌∙◌, arith}
+use Rattle.std.specs.Prelude.{if◌then◌else◌, slice_get, slice_index, slice_set}
+use Rattle.std.proofs.lemmas.Bool.{ltb-true, ltb-false}
 use Rattle.std.proofs.lemmas.Bool.Decides.{nat_tests}
 use Rattle.std.proofs.lemmas.Grind.{common_steps}
+use Rattle.std.proofs.lemmas.List.{set_past}
+use Rattle.std.proofs.lemmas.Option.{slice_get-get_or, slice_get_past}
 use Rattle.arena_laws.specs.Counts.{put}
 use Rattle.arena_laws.specs.Holdings.{arena_base, is_in_arena, is_live_in, is_some}
 use Rattle.arena_laws.specs.Laws.{loaded, stored}
@@ -14,33 +17,50 @@ use Rattle.region_runtime.proofs.Words.{word_beyond}
 use Rattle.region_runtime.proofs.Ordered.{live_within}
 use Rattle.region_runtime.proofs.Owners.{owner_below, owner_there, owned_nothing}
 
-pub in_payload : (p : Pooled) → IsSound p → (at : ℕ) → arena_base ≤ at → (at - arena_base) / 4096 < length p.words / 16 → at - arena_base < length p.bytes
-in_payload p s at b l = let a = s.whole.payload in let h = s.whole.headers in omega (arith, a, h, l)
-
-in_arena : (p : Pooled) → IsSound p → (at : ℕ) → arena_base ≤ at → (at - arena_base) / 4096 < length p.words / 16 → is_in_arena (held p) at ≡ true
-in_arena p s at b l = grind (arith, nat_tests)
-
 byte_in : (p : Pooled) (at : ℕ) → arena_base ≤ at → byte_at p at ≡ slice_index p.bytes (at - arena_base)
 unfolding byte_at
 byte_in p at b = grind (arith, nat_tests)
 
-pub load_in : (fields value : Pooled) → fields ≡ value → IsSound fields → (at x : ℕ) → arena_base ≤ at → (at - arena_base) / 4096 < length fields.words / 16 →
-    x ≡ slice_index fields.bytes (at - arena_base) → Some x ≡ loaded at (held value) (byte_at value)
-load_in fields value v s at x b l e =
-    let i = in_arena fields s at b l in
-    subst (λ m. Some x ≡ loaded at (held m) (byte_at m)) v (rw i (ap Some (e ∙ sym (byte_in fields at b))))
+-- an address from the arena's first on is in it where its place is in the payload
+in_payload : (p : Pooled) → IsSound p → (at : ℕ) → arena_base ≤ at → is_in_arena (held p) at ≡ nat_lt (at - arena_base) (length p.bytes)
+in_payload p s at b = let a = s.whole.payload in let h = s.whole.headers in grind (arith, nat_tests, a, h)
+
+pub load_by : (fields value : Pooled) → fields ≡ value → IsSound fields → (at : ℕ) → arena_base ≤ at → (r : Option ℕ) →
+    r ≡ slice_get fields.bytes (at - arena_base) → r ≡ loaded at (held value) (byte_at value)
+load_by fields value v s at b r e =
+    e ∙ by (nat_lt (at - arena_base) (length fields.bytes)) refl ∙ ap (λ (p : Pooled). loaded at (held p) (byte_at p)) v
+  where
+    by : (t : Bool) → nat_lt (at - arena_base) (length fields.bytes) ≡ t → slice_get fields.bytes (at - arena_base) ≡ loaded at (held fields) (byte_at fields)
+    by true t =
+        rw (in_payload fields s at b ∙ t) (slice_get-get_or fields.bytes (at - arena_base) 0 (ltb-true (at - arena_base) (length fields.bytes) t)
+        ∙ ap Some (sym (byte_in fields at b)))
+    by false t =
+        rw (in_payload fields s at b ∙ t) (slice_get_past fields.bytes (at - arena_base) (ltb-false (at - arena_base) (length fields.bytes) t))
+
+same_bytes : (old new : Pooled) → new.bytes ≡ old.bytes → byte_at new ≡ byte_at old
+unfolding byte_at
+same_bytes old new e = ap (λ bs. λ q. if nat_lt q arena_base then 0 else slice_index bs (q - arena_base)) e
 
 byte_set : (old new : Pooled) (at x : ℕ) → arena_base ≤ at → at - arena_base < length old.bytes → new.bytes ≡ slice_set old.bytes (at - arena_base) x →
     (q : ℕ) → byte_at new q ≡ put at x (byte_at old) q
 unfolding byte_at
 byte_set old new at x b l e q = let d = ap (λ bs. slice_index bs (q - arena_base)) e in grind (arith, nat_tests, common_steps)
 
-pub store_in : (fields value new : Pooled) → fields ≡ value → IsSound fields → (at x : ℕ) → arena_base ≤ at →
-    (at - arena_base) / 4096 < length fields.words / 16 → new.bytes ≡ slice_set fields.bytes (at - arena_base) x → byte_at new ≡ stored at x (held value)
-    (byte_at value)
-store_in fields value new v s at x b l e =
-    let i = in_arena fields s at b l in let n = in_payload fields s at b l in
-    subst (λ m. byte_at new ≡ stored at x (held m) (byte_at m)) v (rw i (λ j q. byte_set fields new at x b n e q j))
+pub said_by : (fields value : Pooled) → fields ≡ value → IsSound fields → (at : ℕ) → arena_base ≤ at
+    → nat_lt (at - arena_base) (length fields.bytes) ≡ is_in_arena (held value) at
+said_by fields value v s at b = sym (in_payload fields s at b) ∙ ap (λ (p : Pooled). is_in_arena (held p) at) v
+
+pub store_by : (fields value new : Pooled) → fields ≡ value → IsSound fields → (at x : ℕ) → arena_base ≤ at →
+    new.bytes ≡ slice_set fields.bytes (at - arena_base) x → byte_at new ≡ stored at x (held value) (byte_at value)
+store_by fields value new v s at x b e =
+    by (nat_lt (at - arena_base) (length fields.bytes)) refl ∙ ap (λ (p : Pooled). stored at x (held p) (byte_at p)) v
+  where
+    by : (t : Bool) → nat_lt (at - arena_base) (length fields.bytes) ≡ t → byte_at new ≡ stored at x (held fields) (byte_at fields)
+    by true t =
+        rw (in_payload fields s at b ∙ t) (λ j q. byte_set fields new at x b (ltb-true (at - arena_base) (length fields.bytes) t) e q j)
+    by false t =
+        rw (in_payload fields s at b ∙ t) (same_bytes fields new (e ∙ set_past fields.bytes (at - arena_base) x
+        (ltb-false (at - arena_base) (length fields.bytes) t)))
 
 pub store_out : (fields value new : Pooled) → fields ≡ value → (at x : ℕ) → is_in_arena (held fields) at ≡ false → byte_at new ≡ byte_at fields →
     byte_at new ≡ stored at x (held value) (byte_at value)
@@ -48,15 +68,6 @@ store_out fields value new v at x i e = subst (λ m. byte_at new ≡ stored at x
 
 pub below_out : (p : Pooled) (at : ℕ) → at < arena_base → is_in_arena (held p) at ≡ false
 below_out p at l = grind (arith, nat_tests)
-
-pub above_out : (p : Pooled) (at : ℕ) → arena_base ≤ at → length p.words / 16 ≤ (at - arena_base) / 4096 → is_in_arena (held p) at ≡ false
-above_out p at b l = grind (arith, nat_tests)
-
-pub stored_sound : (p : Pooled) (k x n : ℕ) → IsSound p → IsSound (record p { bytes = slice_set p.bytes k x; touched = n })
-stored_sound p k x n s = record {
-  whole = record { payload = length-set p.bytes k x ∙ s.whole.payload; headers = s.whole.headers; within = s.whole.within };
-  ordered = s.ordered;
-}
 
 -- ---- live addresses
 

@@ -19,9 +19,6 @@ pub owner_there : (holder : ℕ → Option ℕ) (used : ℕ → ℕ) (q : ℕ) �
 unfolding owner_at
 owner_there holder used q e = rw e refl
 
-pub owned_none : (b : Bool) → owned None b ≡ None
-owned_none b = refl
-
 pub owned_nothing : (o : Option ℕ) → owned o false ≡ None
 owned_nothing None = refl
 owned_nothing (Some h) = refl

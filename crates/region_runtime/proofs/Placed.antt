@@ -69,9 +69,6 @@ granted s h bytes at t l f r after e = rw (t, l, f, r) (record { says = refl; ho
 pub refused : (s : Holdings) (h bytes : ℕ) → is_block_refused h bytes s ≡ true → Does (Err Full) s (region_alloc h bytes Refuses s)
 refused s h bytes e = rw e (record { says = refl; holds = refl })
 
-pub bad_handle : (s : Holdings) (h bytes : ℕ) → takes_blocks h (s.standing h) ≡ false → Does (Err BadHandle) s (region_alloc h bytes Refuses s)
-bad_handle s h bytes e = rw e (record { says = refl; holds = refl })
-
 -- a room is a multiple of 8, from 8 to 4,096 bytes
 pub record IsRoom (room : ℕ) : Type 0 where
   pub eights : room % 8 ≡ 0

@@ -25,9 +25,6 @@ use Rattle.region_runtime.proofs.Granted.{page_untaken, page_words}
 pub frees : (s : Holdings) (h : ℕ) → s.standing h ≡ Some Lexical → (after : Holdings) → after ≡ without_number h s → Does (Ok 0) after (region_free h s)
 frees s h e after d = rw e (record { says = refl; holds = d })
 
-pub frees_none : (t : Shape) (h : ℕ) → is_live_number (owner_of t.word) h ≡ false → Does (Err BadHandle) (holdings_of t) (region_free h (holdings_of t))
-frees_none t h e = let n : standing_by (owner_of t.word) h ≡ None = rw e refl in rw n (record { says = refl; holds = refl })
-
 pub record IsFreed (t after : Shape) (h : ℕ) : Type 0 where
   pub ordered : IsOrdered after no_page
   pub does : Does (Ok 0) (holdings_of after) (region_free h (holdings_of t))

@@ -93,14 +93,6 @@ pub live_own : (owner : ℕ → ℕ) (h : ℕ) → is_live_number owner h ≡ tr
 unfolding is_live_number
 live_own owner h e = grind (arith, nat_tests)
 
-pub live_made : (owner : ℕ → ℕ) (h : ℕ) → 0 < h → owner (h - 1) ≡ h → is_live_number owner h ≡ true
-unfolding is_live_number
-live_made owner h l e = grind (arith, nat_tests)
-
-pub live_not : (owner : ℕ → ℕ) (h : ℕ) → nat_eq (owner (h - 1)) h ≡ false → is_live_number owner h ≡ false
-unfolding is_live_number
-live_not owner h e = grind (arith, nat_tests)
-
 pub live_none : (owner : ℕ → ℕ) → is_live_number owner 0 ≡ false
 unfolding is_live_number
 live_none owner = grind (arith, nat_tests)
@@ -169,9 +161,6 @@ dead_seen before now h b e v t = ap (λ k. is_live_number (owner_of k.word) h) (
 
 pub free_seen : (before now : Shape) (b : Bool) → now ≡ before → b ≡ nat_eq (free_in now) 0 → b ≡ false → nat_eq (free_in before) 0 ≡ false
 free_seen before now b e v t = ap (λ k. nat_eq (free_in k) 0) (sym e) ∙ sym v ∙ t
-
-pub full_seen : (before now : Shape) (b : Bool) → now ≡ before → b ≡ nat_eq (free_in now) 0 → b ≡ true → nat_eq (free_in before) 0 ≡ true
-full_seen before now b e v t = ap (λ k. nat_eq (free_in k) 0) (sym e) ∙ sym v ∙ t
 
 -- a taken page is there
 pub taken_page : (ws : List ℕ) (p : ℕ) → is_taken_by (word_in ws) p ≡ true → p < length ws / 16

@@ -304,10 +304,7 @@ impl Pool {
         if at < BASE {
             return None;
         }
-        if (at - BASE) / PAGE >= self.pages() {
-            return None;
-        }
-        Some(self.book.raw.byte(at - BASE))
+        self.book.raw.byte(at - BASE)
     }
 
     /// Stores a byte; false and nothing changed outside the arena.
@@ -327,10 +324,6 @@ impl Pool {
         if at < BASE {
             return false;
         }
-        if (at - BASE) / PAGE >= self.pages() {
-            return false;
-        }
-        self.book.raw.set_byte(at - BASE, byte);
-        true
+        self.book.raw.set_byte(at - BASE, byte)
     }
 }

@@ -6,23 +6,52 @@ use raw_pages::RawPages;
 use std::alloc::Global;
 use std::test::Fail;
 
-// whether a write to two pages changes its place alone
+// whether a write to a word and a byte of two pages changes its place alone
 fn are_written(alloc: Global) -> bool {
     let Ok(mut pages) = RawPages::new(alloc, 2) else {
         return false;
     };
     pages.set_word(1, 0, 7);
-    pages.set_byte(4096, 9);
-    for byte in pages.slice_mut(4097..4099) {
+    let is_kept = pages.word(1, 0) == 7 && pages.word(0, 15) == 0;
+    let is_set = pages.set_byte(4096, 9) && pages.byte(4096) == Some(9);
+    is_kept && is_set && pages.byte(4095) == Some(0) && pages.byte(4097) == Some(0)
+}
+
+// whether a range that is lent is its part of two pages alone
+fn is_lent(alloc: Global) -> bool {
+    let Ok(mut pages) = RawPages::new(alloc, 2) else {
+        return false;
+    };
+    let is_zero = pages.slice(4095..4100) == [0; 5].as_slice();
+    for byte in pages.slice_mut(4095..4097) {
         *byte = 5;
     }
-    let is_kept = pages.word(1, 0) == 7 && pages.word(0, 15) == 0 && pages.byte(4096) == 9;
-    is_kept && pages.pages() == 2 && pages.slice(4095..4100) == [0, 9, 5, 5, 0].as_slice()
+    let is_written = pages.byte(4095) == Some(5) && pages.byte(4096) == Some(5);
+    is_zero && is_written && pages.byte(4094) == Some(0) && pages.byte(4097) == Some(0)
+}
+
+// whether a byte is read where it was written, and none behind the payload
+fn are_within(alloc: Global) -> bool {
+    let Ok(mut pages) = RawPages::new(alloc, 1) else {
+        return false;
+    };
+    let is_set = pages.set_byte(4095, 9) && !pages.set_byte(4096, 9);
+    is_set && pages.byte(4095) == Some(9) && pages.byte(4096).is_none() && pages.pages() == 1
 }
 
 #[test]
 fn a_write_changes_its_place_alone(rt: HostRuntime) {
     assert!(rt; are_written(rt.alloc()));
+}
+
+#[test]
+fn a_range_is_lent_alone(rt: HostRuntime) {
+    assert!(rt; is_lent(rt.alloc()));
+}
+
+#[test]
+fn a_byte_behind_the_payload_is_none(rt: HostRuntime) {
+    assert!(rt; are_within(rt.alloc()));
 }
 
 // whether the one page of a pool has words once it is taken, and then no region has it

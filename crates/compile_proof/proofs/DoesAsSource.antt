@@ -89,9 +89,9 @@ module _ (p : Program) (lowerable : IsLowerable p) (input : List ℕ) (bytes : A
 
 -- Lines of the Core of a program that is taken do what its source does, where no two functions have one name.
 pub does_as_source : (p : Program) → IsLowerable p → AreNamedApart (world_of p).functions → DoesAsSource p
-does_as_source p lowerable named_apart lines are n places s input bytes begins sound =
+does_as_source p lowerable named_apart lines are wide each n places s input bytes begins sound =
     let names = names_of (world_of p).functions in
     let bound = frame_bound_of (world_of p) in
     implements_same bound n s input (core_meaning names (program_code p) input) (meaning_of p input) (core_is_source p lowerable input bytes sound)
-    (are.does (selectable p lowerable) names bound n places s input bytes (frames_bounded p lowerable named_apart) begins
+    (are.does (selectable p lowerable) wide each names bound n places s input bytes (frames_bounded p lowerable named_apart) begins
     (core_sound p lowerable input bytes sound))

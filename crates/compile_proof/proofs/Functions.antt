@@ -28,7 +28,9 @@ use Rattle.compile_proof.proofs.Naming.{both_name, all_name}
 use Rattle.compile_proof.proofs.Layouts.{object_layout, variable_layout}
 use Rattle.compile_proof.proofs.Parts.{LocalsLie, GlobalsLie, Around, stored_local}
 use Rattle.compile_proof.proofs.Texts.{TextsLie}
-use Rattle.compile_proof.proofs.Statements.{AreVariables, layouts_taken, objects_are, items_are, as_many, items_names}
+use Rattle.source_lowering.specs.Objects.{AreVariables}
+use Rattle.source_lowering.proofs.statements.BlockVariables.{block_variables}
+use Rattle.compile_proof.proofs.Statements.{layouts_taken, objects_are, as_many, items_names}
 
 -- ---- functions
 
@@ -85,7 +87,7 @@ body_names n w f globals texts plain is =
     let many = as_many w shapes in
     let room = as_many w (routine_values w f) in
     let variables = parameters_are w.unions w.structs f.parameters declared is.parameters
-    (items_are w f.result names (length f.parameters) f.body is.body) in
+    (block_variables w f.result names (length f.parameters) f.body is.body) in
     let words = all_words (part_shapes f.parameters) in
     let all = many_shapes f.parameters declared in
     let a : Around (k ∷ []) n w names =

@@ -36,6 +36,8 @@ use Rattle.source_lowering.proofs.values.Integers.{value_object, object_target}
 use Rattle.source_lowering.proofs.expressions.Names.{IsPlainWorld}
 use Rattle.source_lowering.proofs.memory.ObjectShapes.{object_named}
 use Rattle.source_lowering.proofs.statements.Blocks.{objects_outward}
+use Rattle.source_lowering.specs.Objects.{AreVariables}
+use Rattle.source_lowering.proofs.statements.BlockVariables.{block_variables}
 use Rattle.source_lowering.proofs.statements.EachDeclaration.{shape_object}
 use Rattle.source_lowering.proofs.statements.WrittenTypes.{object_settled, object_by}
 use Rattle.source_lowering.proofs.bounds.PartCosts.{results_many}
@@ -50,10 +52,6 @@ use Rattle.compile_proof.proofs.WholeNames.{source_names, run_names}
 
 -- ---- layouts
 
-abbrev pub AreVariables : (unions structs : List Layout) → List Shape → Type 0
-AreVariables unions structs [] = Unit {0}
-AreVariables unions structs (s ∷ ss) = IsVariable unions structs s × AreVariables unions structs ss
-
 pub layouts_taken : (w : World) (ss : List Shape) → IsPlainWorld w → AreVariables w.unions w.structs ss → AreLayouts (locals_of w ss)
 layouts_taken w [] plain h = tt
 layouts_taken w (s ∷ ss) plain h = ((variable_layout w s plain h.0).lies, layouts_taken w ss plain h.1)
@@ -61,14 +59,6 @@ layouts_taken w (s ∷ ss) plain h = ((variable_layout w s plain h.0).lies, layo
 pub objects_are : (unions structs : List Layout) (ss : List Shape) → AreObjects unions structs ss → AreVariables unions structs ss
 objects_are unions structs [] h = tt
 objects_are unions structs (s ∷ ss) h = (object_named unions structs s h.0, objects_are unions structs ss h.1)
-
--- the locals of a block
-pub items_are : (w : World) (result : Shape) (names : List Named) (index : ℕ) (items : BlockItems) → TakesItems w result names index items
-    → AreVariables w.unions w.structs (block_shapes w names index items)
-items_are w result names index NoItems h = tt
-items_are w result names index (Declare d others) h =
-    (shape_object w names d h.0, items_are w result (names_behind w names index d) (suc index) others h.1)
-items_are w result names index (Execute s others) h = items_are w result names index others h.1
 
 pub as_many : (w : World) (ss : List Shape) → length (locals_of w ss) ≡ length ss
 as_many w [] = refl
@@ -212,7 +202,7 @@ mutual
       let k = length (locals_of w shapes) in
       let many = as_many w shapes in (
         (
-          layouts_taken w shapes plain (items_are w result (outward names) 0 items h),
+          layouts_taken w shapes plain (block_variables w result (outward names) 0 items h),
           all_name (k ∷ blocks) own n _ (items_names k blocks own n w result (outward names) plain (further_in blocks n k w names a) t r 0 next items h
               (omega (arith, many)) f),
         ),
@@ -329,7 +319,7 @@ mutual
             (
               (
                 (
-                  layouts_taken w shapes plain (variable, items_are w result inside 1 body h.1.0),
+                  layouts_taken w shapes plain (variable, block_variables w result inside 1 body h.1.0),
                   all_name (k ∷ blocks) own n _
                       (both_name (k ∷ blocks) own n _ _ (held_names (k ∷ blocks) own n s r.all)
                       (both_name (k ∷ blocks) own n _ _ (stored_local (k ∷ blocks) own n s (r.all + words_in s) r.all 0 0 (omega (arith, count)))
@@ -358,7 +348,7 @@ mutual
       let k = length (locals_of w shapes) in
       let count = as_many w shapes in (
         (
-          layouts_taken w shapes plain (items_are w result (outward names) 0 body h.0),
+          layouts_taken w shapes plain (block_variables w result (outward names) 0 body h.0),
           all_name (k ∷ blocks) own n _
               (items_names k blocks own n w result (outward names) plain (further_in blocks n k w names a) t r 0 next body h.0 (omega (arith, count)) g),
         ),

@@ -1,5 +1,5 @@
 -- What is promised of lines for a program's lowered Core, whichever they are: a machine that begins with them does what the source does.
-use Rattle.std.specs.Prelude.{◌≡◌, ℕ, ◌≤◌, false, List, [], ◌∷◌, Option, Some, None, slice_get, bytes_eq}
+use Rattle.std.specs.Prelude.{◌≡◌, ℕ, ◌≤◌, Bool, false, List, [], ◌∷◌, length, Option, Some, None, slice_get, bytes_eq}
 use Rattle.std.specs.List.{All}
 use Rattle.cyc_words.specs.Events.{AreBytes}
 use Rattle.cyc_tree.specs.Tree.{Program}
@@ -11,6 +11,7 @@ use Rattle.rv32_machine.specs.Implements.{Meaning, Implements}
 use Rattle.core_lines.specs.declared.line.Line.{Line}
 use Rattle.core_meaning.specs.Bounds.{core_code}
 use Rattle.core_lines.specs.Promise.{AreLinesOf}
+use Rattle.core_lines.specs.Relaxed.{shortened}
 use Rattle.core_lines.specs.Running.{Begins, IsNeverStuck}
 use Rattle.source_lowering.specs.Programs as lower
 use Rattle.source_lowering.specs.Bounds.{frame_bound, code_bound}
@@ -46,12 +47,13 @@ frame_bound_of w name = bound_in w (function_of w.functions name)
 
 -- ---- the promise
 
--- A machine that begins with lines of the program's lowered Core and with its data does what the source does, on each input of bytes on which the source is
--- never stuck, whatever its store answers.
+-- A machine that begins with lines of the program's lowered Core, whichever of their jumps on zero are of two words, and with its data does what the source
+-- does, on each input of bytes on which the source is never stuck, whatever its store answers.
 abbrev pub DoesAsSource : Program → Type 0
 DoesAsSource p =
-    (lines : List Line) → AreLinesOf (lower.program_code p) lines → (n : Areas) (places : ℕ → ℕ) (s : State) (input : List ℕ) → AreBytes input
-    → Begins n places lines (lower.program_code p).data_objects s → IsNeverStuck (meaning_of p input)
+    (lines : List Line) → AreLinesOf (lower.program_code p) lines → (wide : List Bool) → length wide ≡ length lines
+    → (n : Areas) (places : ℕ → ℕ) (s : State) (input : List ℕ) → AreBytes input
+    → Begins n places (shortened wide lines) (lower.program_code p).data_objects s → IsNeverStuck (meaning_of p input)
     → Implements (frame_bound_of (world_of p)) n s input (meaning_of p input)
 
 -- What holds of a program that is lowered where no two functions have one name: its lines do what it does, and the bound on their bytes is within that of its

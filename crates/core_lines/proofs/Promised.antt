@@ -1,17 +1,18 @@
 -- The lines that are selected are lines of their program.
-use Rattle.std.proofs.Common.{ℕ, ◌<◌, Bool, arith}
+use Rattle.std.proofs.Common.{◌<◌, arith}
 use Rattle.core_meaning.specs.Core.{Program}
 use Rattle.core_lines.specs.Lines.{code_length}
+use Rattle.core_lines.specs.Choosing.{far}
 use Rattle.core_lines.specs.Selected.{program_code}
 use Rattle.core_lines.specs.Promise.{AreLinesOf}
-use Rattle.core_lines.proofs.DoesAsCore.{does_as_core}
 use Rattle.core_lines.proofs.Lengths.{lines_within}
 use Rattle.core_lines.proofs.labels.LabelsOnce.{program_labels_once}
+use Rattle.core_lines.proofs.labels.Shortening.{shortened_do_as_core}
 
-pub lines_do_as_core : (p : Program) (wide : ℕ → Bool) → AreLinesOf p (program_code wide p)
-lines_do_as_core p wide = record {
-  once = program_labels_once wide p;
+pub lines_do_as_core : (p : Program) → AreLinesOf p (program_code far p)
+lines_do_as_core p = record {
+  once = program_labels_once far p;
   some = omega arith;
-  within = lines_within p wide;
-  does = does_as_core p wide;
+  within = lines_within p far;
+  does = shortened_do_as_core p;
 }

@@ -3,6 +3,7 @@ pub mod Relaxed
 pub mod Frames
 pub mod Loops
 pub mod Choosing
+pub mod LocalPlaces
 pub mod Selected
 pub mod Machines
 pub mod Homes

@@ -6,6 +6,7 @@ use Rattle.arena_laws.specs.Holdings.{Holdings, fresh}
 use Rattle.compile_proof.proofs.AcceptedDo.{accepted_do}
 use Rattle.core_lines.specs.declared.line.Line.{Line}
 use Rattle.core_lines.specs.Promise.{AreLinesOf}
+use Rattle.core_lines.specs.Relaxed.{shortened}
 use Rattle.core_lines.specs.Running.{Begins, data_offsets}
 use Rattle.core_lines.specs.Statics.{data_bytes}
 use Rattle.core_lines.proofs.Images.{IsFirst, begins_as, data_length}
@@ -83,10 +84,11 @@ module _ (program : Program) (code statics : List ℕ) (parts : Contents) (layer
       let all = accepted_do program accepted few in
       let does = all.promised in
       let places = layers.has.places in
-      let begun : Begins (areas_of start) places layers.lines (program_code program).data_objects (state_of start) =
-      begins_as start places layers.lines (program_code program).data_objects (first_machine arena start small starts) all.plain
+      let placed = shortened layers.has.wide layers.lines in
+      let begun : Begins (areas_of start) places placed (program_code program).data_objects (state_of start) =
+      begins_as start places placed (program_code program).data_objects (first_machine arena start small starts) all.plain
       (starts.statics ∙ is_statics ∙ layers.statics_are) layers.has.labels (layers.has.has start (starts.code ∙ is_code)) in
-      does.does layers.lines layers.are (areas_of start) places (state_of start) input are_bytes begun
+      does.does layers.lines layers.are layers.has.wide layers.has.each (areas_of start) places (state_of start) input are_bytes begun
       (λ fuel. never_stuck program accepted input fuel)
 
 -- ---- sizes

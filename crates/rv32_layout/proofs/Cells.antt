@@ -1,47 +1,20 @@
 -- The bytes of objects of many cells, which begin as their layouts do: zeros.
 use Rattle.std.specs.Prelude.{slice_get}
-use Rattle.std.proofs.Common.{◌≡◌, ℕ, zero, suc, ◌+◌, ◌*◌, inl, inr, List, [], ◌∷◌, ◌++◌, map, refl, sym, ap, ◌∙◌, subst, arith}
+use Rattle.std.proofs.Common.{◌≡◌, ℕ, zero, suc, ◌+◌, List, [], ◌∷◌, ◌++◌, map, refl, ap, ◌∙◌, arith}
 use Rattle.core_meaning.specs.Memory.{Content, Blank, Word, Null, Pointer, Birth, PartShape, shape_in}
 use Rattle.cyc_core.specs.declared.operation.Cell.{Cell}
 use Rattle.cyc_core.specs.declared.operation.Cell.TheVariants as cell
 use Rattle.cyc_core.specs.declared.layout.CellLayout.{CellLayout}
-use Rattle.cyc_core.specs.Trees.{cell_bytes, blank_words, made_parts, cell_parts, padding_parts, part_first}
+use Rattle.cyc_core.specs.Trees.{cell_bytes, made_parts, cell_parts, padding_parts, part_first}
 use Rattle.core_lines.specs.Layouts.{IsNothing}
-use Rattle.core_lines.specs.Statics.{number_bytes, number_in, parts_bytes, cells_bytes, zeros, AreJoined, parts_end, AreCellsJoined, cells_end}
+use Rattle.core_lines.specs.Statics.{number_bytes, number_in, parts_bytes, cells_bytes, zeros, parts_end, cells_end}
 use Rattle.rv32_layout.specs.Sizes.{cell_size, cells_size}
 
--- ---- cells that lie one behind the other
-
-padding_joined : (at at' n : ℕ) → at' ≡ at → AreJoined at (padding_parts at' n)
-padding_joined at at' zero e = tt
-padding_joined at at' (suc n) e = (e, inl refl, padding_joined (at + 1) (at' + 1) n (ap (λ k. k + 1) e))
+-- ---- where cells end that lie one behind the other
 
 padding_end : (at at' n : ℕ) → parts_end at (padding_parts at' n) ≡ at + n
 padding_end at at' zero = omega arith
 padding_end at at' (suc n) = let rest = padding_end (at + 1) (at' + 1) n in omega (arith, rest)
-
--- words that hold nothing, and the parts behind them
-words_joined : (at at' n : ℕ) (others : List PartShape) → at' ≡ at → AreJoined (at + n * 4) others → AreJoined at (blank_words at' n ++ others)
-words_joined at at' zero others e joined = let end : at + 0 ≡ at = omega arith in subst (λ k. AreJoined k others) end joined
-words_joined at at' (suc n) others e joined =
-    let end : at + suc n * 4 ≡ at + 4 + n * 4 = omega arith in
-    (e, inr refl, words_joined (at + 4) (at' + 4) n others (ap (λ k. k + 4) e) (subst (λ k. AreJoined k others) end joined))
-
--- the parts of what a cell is made for, and those behind them
-made_joined : (c : Cell) (at at' : ℕ) (others : List PartShape) → at' ≡ at → AreJoined (at + cell_bytes c) others → AreJoined at (made_parts c at' ++ others)
-made_joined cell.Byte at at' others e joined = (e, inl refl, joined)
-made_joined cell.Word at at' others e joined = (e, inr refl, joined)
-made_joined cell.Pointer at at' others e joined = (e, inr refl, joined)
-made_joined cell.Fat at at' others e joined =
-    let end : at + 12 ≡ at + 4 + 4 + 4 = omega arith in
-    (e, inr refl, (ap (λ k. k + 4) e, inr refl, (ap (λ k. k + 4 + 4) e, inr refl, subst (λ k. AreJoined k others) end joined)))
-made_joined cell.Handle at at' others e joined = (e, inr refl, joined)
-made_joined cell.Tagged at at' others e joined =
-    let end : at + 8 ≡ at + 4 + 4 = omega arith in
-    (e, inr refl, words_joined (at + 4) (at' + 4) 1 others (ap (λ k. k + 4) e) (subst (λ k. AreJoined k others) end joined))
-made_joined cell.TaggedFat at at' others e joined =
-    let end : at + 16 ≡ at + 4 + 12 = omega arith in
-    (e, inr refl, words_joined (at + 4) (at' + 4) 3 others (ap (λ k. k + 4) e) (subst (λ k. AreJoined k others) end joined))
 
 made_end : (c : Cell) (at at' : ℕ) (others : List PartShape) → parts_end at (made_parts c at' ++ others) ≡ parts_end (at + cell_bytes c) others
 made_end cell.Byte at at' others = refl
@@ -52,28 +25,12 @@ made_end cell.Handle at at' others = refl
 made_end cell.Tagged at at' others = let end : at + 4 + 4 ≡ at + 8 = omega arith in ap (λ k. parts_end k others) end
 made_end cell.TaggedFat at at' others = let end : at + 4 + 4 + 4 + 4 ≡ at + 16 = omega arith in ap (λ k. parts_end k others) end
 
-cell_joined : (c : CellLayout) (at : ℕ) → c.offset ≡ at → AreJoined at (cell_parts c)
-cell_joined c at e =
-    let w = cell_bytes c.cell in
-    made_joined c.cell at c.offset (padding_parts (c.offset + w) c.padding) e
-    (padding_joined (at + w) (c.offset + w) c.padding (ap (λ k. k + w) e))
-
 cell_end : (c : CellLayout) (at : ℕ) → parts_end at (cell_parts c) ≡ at + cell_size c
 cell_end c at =
     let w = cell_bytes c.cell in
     let made = made_end c.cell at c.offset (padding_parts (c.offset + w) c.padding) in
     let rest = padding_end (at + w) (c.offset + w) c.padding in
     omega (arith, made, rest)
-
--- with one cell more, right behind the others
-pub more_joined : (c : CellLayout) (cs : List CellLayout) (at next : ℕ) → c.offset ≡ at → next ≡ at + cell_size c
-    → AreCellsJoined next (map cell_parts cs) → AreCellsJoined at (map cell_parts (c ∷ cs))
-more_joined c cs at next e is rest =
-    (cell_joined c at e, subst (λ k. AreCellsJoined k (map cell_parts cs)) (is ∙ sym (cell_end c at)) rest)
-
-pub more_end : (c : CellLayout) (cs : List CellLayout) (at next : ℕ) → next ≡ at + cell_size c
-    → cells_end next (map cell_parts cs) ≡ cells_end at (map cell_parts (c ∷ cs))
-more_end c cs at next is = ap (λ k. cells_end k (map cell_parts cs)) (is ∙ sym (cell_end c at))
 
 pub end_is : (at : ℕ) (cs : List CellLayout) → cells_end at (map cell_parts cs) ≡ at + cells_size cs
 end_is at [] = omega arith

@@ -1,6 +1,6 @@
 -- Why each jump of lines that aren't too large reaches its label: the first one since its label stands before the end, and any behind it since it may go to
 -- any place.
-use Rattle.std.proofs.Common.{◌≡◌, ℕ, zero, suc, ◌+◌, ◌<◌, ◌≤◌, true, List, [], ◌∷◌, Some, drop, refl, sym, subst, arith, ⊎_elim}
+use Rattle.std.proofs.Common.{◌≡◌, ℕ, ◌+◌, ◌<◌, ◌≤◌, true, List, [], ◌∷◌, Some, refl, sym, subst, arith, ⊎_elim}
 use Rattle.std.proofs.lemmas.Bool.{cases_lt, false≢true}
 use Rattle.std.proofs.lemmas.Bool.Decides.{nat_tests}
 use Rattle.core_lines.specs.declared.line.Line.{Line}
@@ -8,9 +8,9 @@ use Rattle.core_lines.specs.declared.line.Line.TheVariants.{Plain, Label, Jump, 
 use Rattle.core_lines.specs.Lines.{code_length, size_of}
 use Rattle.core_lines.proofs.memory.Access.{of_words}
 use Rattle.cyc_image.specs.Format.{code_limit}
-use Rattle.rv32_select.specs.Beginning.{first_target, leads_to_code, leads_if_some, begins_within, are_long}
-use Rattle.core_lines.specs.Relaxed.{place_of}
-use Rattle.rv32_layout.specs.Placing.{IsInReach, Reaches}
+use Rattle.rv32_select.specs.Beginning.{first_target, leads_to_code, leads_if_some, begins_within}
+use Rattle.core_lines.specs.Relaxed.{place_of, is_in_reach, AllReach}
+use Rattle.rv32_layout.specs.Placing.{IsInReach, IsInBranch, Reaches}
 use Rattle.rv32_layout.proofs.Lines.{place_is_of_words, place_within_length}
 
 -- ---- the first instruction
@@ -52,15 +52,24 @@ module _ (lines rest : List Line) (within : code_length lines ≤ code_limit) (b
       let from_start : at ≤ 0 → place_of lines label < code_length lines = λ start. first_before_end lines label begins (first (omega arith)) in
       in_reach label at whole (⊎_elim (λ later. omega arith) (λ start. let here = from_start start in omega arith) (cases_lt 0 at))
 
+  branch_reaches : (label at : ℕ) → at + (4 + code_length rest) ≡ code_length lines → is_in_reach (place_of lines label) at ≡ true
+      → IsInBranch (place_of lines label) at
+  branch_reaches label at whole near =
+      let all = of_words lines in
+      let others = of_words rest in
+      let place_within = place_within_length lines label in
+      let word = place_is_of_words lines label in
+      record { word = omega arith; within = omega arith; place_word = word; place_within = omega arith; near = near }
+
   pub line_reaches : (line : Line) (at : ℕ) → at + (size_of line + code_length rest) ≡ code_length lines
-      → (at ≡ 0 → first_target (line ∷ rest) ≡ first_target lines) → are_long (line ∷ rest) ≡ true → Reaches (place_of lines) at line
-  line_reaches (Plain instr) at whole first long = tt
-  line_reaches (Label label) at whole first long = tt
-  line_reaches (Jump label) at whole first long = jump_reaches label at whole (λ start. sym (first start))
-  line_reaches (JumpIfZero register label) at whole first long =
+      → (at ≡ 0 → first_target (line ∷ rest) ≡ first_target lines) → AllReach (place_of lines) at (line ∷ rest) → Reaches (place_of lines) at line
+  line_reaches (Plain instr) at whole first reach = tt
+  line_reaches (Label label) at whole first reach = tt
+  line_reaches (Jump label) at whole first reach = jump_reaches label at whole (λ start. sym (first start))
+  line_reaches (JumpIfZero register label) at whole first reach =
       let place_within = place_within_length lines label in in_reach label (at + 4) (omega arith) (omega arith)
-  line_reaches (BranchIfZero register label) at whole first long = absurd (false≢true long)
-  line_reaches (CallTo label) at whole first long = jump_reaches label at whole (λ start. sym (first start))
+  line_reaches (BranchIfZero register label) at whole first reach = branch_reaches label at whole reach.0
+  line_reaches (CallTo label) at whole first reach = jump_reaches label at whole (λ start. sym (first start))
 
 -- a line of no bytes is a label, and the first jump is behind it
 pub first_behind : (line : Line) (lines : List Line) → size_of line ≡ 0 → first_target lines ≡ first_target (line ∷ lines)
@@ -70,17 +79,6 @@ first_behind (Jump label) lines none = absurd (omega arith)
 first_behind (JumpIfZero register label) lines none = absurd (omega arith)
 first_behind (BranchIfZero register label) lines none = absurd (omega arith)
 first_behind (CallTo label) lines none = absurd (omega arith)
-
--- no line from one on is a branch alone, where none of all is
-pub others_long : (lines : List Line) (i : ℕ) → are_long lines ≡ true → are_long (drop i lines) ≡ true
-others_long lines zero long = long
-others_long [] (suc i) long = refl
-others_long (Plain instr ∷ lines) (suc i) long = others_long lines i long
-others_long (Label label ∷ lines) (suc i) long = others_long lines i long
-others_long (Jump label ∷ lines) (suc i) long = others_long lines i long
-others_long (JumpIfZero register label ∷ lines) (suc i) long = others_long lines i long
-others_long (BranchIfZero register label ∷ lines) (suc i) long = absurd (false≢true long)
-others_long (CallTo label ∷ lines) (suc i) long = others_long lines i long
 
 -- the same, where a table says where labels stand
 pub same_reaches : (f g : ℕ → ℕ) (at : ℕ) (line : Line) → ((label : ℕ) → f label ≡ g label) → Reaches f at line → Reaches g at line

@@ -1,8 +1,8 @@
 -- The bytes of a global, and of those behind it.
 use Rattle.std.specs.Prelude.{length, slice_get, unwrap_or}
-use Rattle.std.proofs.Common.{◌≡◌, ℕ, suc, ◌+◌, ◌-◌, ◌*◌, ◌%◌, ◌<◌, ◌≤◌, ◌^◌, inl, inr, List, [], ◌∷◌, ◌++◌}
+use Rattle.std.proofs.Common.{◌≡◌, ℕ, suc, ◌+◌, ◌-◌, ◌*◌, ◌%◌, ◌<◌, ◌≤◌, List, [], ◌∷◌, ◌++◌}
 use Rattle.std.proofs.Common.{map, refl, sym, ap, subst, ◌∙◌, arith, append_assoc, length-append}
-use Rattle.core_meaning.specs.Memory.{Content, Word, Null, shape_in}
+use Rattle.core_meaning.specs.Memory.{Content, Word, shape_in}
 use Rattle.core_meaning.specs.Core as core
 use Rattle.cyc_core.specs.declared.layout.Layout.{Layout}
 use Rattle.cyc_core.specs.declared.program.Datum.{Datum}
@@ -10,8 +10,8 @@ use Rattle.cyc_core.specs.declared.program.Datum.TheVariants as datum
 use Rattle.cyc_core.specs.Trees.{layout_tree, part_first, datum_tree}
 use Rattle.core_lines.specs.Selected.{rounded}
 use Rattle.core_lines.specs.Layouts.{IsNothing}
-use Rattle.core_lines.specs.Statics.{zeros, element_bytes, datum_bytes, data_bytes, AreCellsJoined, cells_end, IsPlainDatum, ArePlainData}
-use Rattle.core_lines.proofs.memory.DataBytes.{zeros_length, one_part_plain, zero_plain}
+use Rattle.core_lines.specs.Statics.{zeros, element_bytes, datum_bytes, data_bytes, IsPlainDatum, ArePlainData}
+use Rattle.core_lines.proofs.memory.DataBytes.{zeros_length}
 use Rattle.rv32_layout.specs.Sizes.{cells_size, datum_size}
 use Rattle.rv32_layout.proofs.Cells.{begins_with_nothing}
 use Rattle.rv32_layout.proofs.Elements.{elements_are_zeros}
@@ -94,23 +94,8 @@ zero_joined old new k n less is =
     let more : suc (n - (k + 1)) ≡ n - k = omega (arith, less) in
     ap (λ x. x ++ zeros (n - (k + 1))) is ∙ append_assoc old (0 ∷ []) (zeros (n - (k + 1))) ∙ ap (λ m. old ++ zeros m) more
 
--- ---- what globals hold fits
+-- ---- where they are plain, the first one is, and those behind it
 
-pub byte_is_plain : (os : List ℕ) (b : ℕ) → b < 2 ^ 8 → IsPlainDatum os (datum_tree (datum.Byte b))
-byte_is_plain os b small = one_part_plain os 1 (Word 0) (datum_tree (datum.Byte b)) (inl refl) refl (λ cell. small)
-
-pub word_is_plain : (os : List ℕ) (w : ℕ) → w < 2 ^ 32 → IsPlainDatum os (datum_tree (datum.Word w))
-word_is_plain os w small = one_part_plain os 4 (Word 0) (datum_tree (datum.Word w)) (inr refl) refl (λ cell. small)
-
-pub null_is_plain : (os : List ℕ) → IsPlainDatum os (datum_tree datum.Null)
-null_is_plain os = one_part_plain os 4 Null (datum_tree datum.Null) (inr refl) refl (λ cell. tt)
-
-pub whole_is_plain : (os : List ℕ) (l : Layout) (count : ℕ) → AreCellsJoined 0 (layout_tree l).cells → cells_end 0 (layout_tree l).cells ≡ l.bytes
-    → IsPlainDatum os (record { layout = layout_tree l; count = count; first = whole_first l })
-whole_is_plain os l count joined whole =
-    zero_plain os (record { layout = layout_tree l; count = count; first = whole_first l }) joined whole (first_is_nothing l)
-
--- what follows a list of globals that fit, with one more
-pub more_plain : (os : List ℕ) (globals : List Datum) (d : Datum) (others all : List Datum) → globals ≡ d ∷ others → IsPlainDatum os (datum_tree d)
-    → (ArePlainData os (map datum_tree globals) → ArePlainData os (map datum_tree all)) → ArePlainData os (map datum_tree others) → ArePlainData os (map datum_tree all)
-more_plain os globals d others all here this so_far rest = so_far (subst (λ gs. ArePlainData os (map datum_tree gs)) (sym here) (this, rest))
+pub first_plain : (os : List ℕ) (globals : List Datum) (d : Datum) (others : List Datum) → globals ≡ d ∷ others → ArePlainData os (map datum_tree globals)
+    → IsPlainDatum os (datum_tree d) × ArePlainData os (map datum_tree others)
+first_plain os globals d others here plain = subst (λ gs. ArePlainData os (map datum_tree gs)) here plain

@@ -1,19 +1,16 @@
 -- The bytes of strings, and of pointers into the data.
-use Rattle.std.specs.Prelude.{length, slice_get, unwrap_or}
+use Rattle.std.specs.Prelude.{length, slice_get, slice_index_or, unwrap_or}
 use Rattle.std.specs.declared.vec.Vec.{Vec}
 use Rattle.std.specs.declared.alloc.Global.{Global}
-use Rattle.std.proofs.Common.{◌≡◌, ℕ, zero, suc, ◌+◌, ◌/◌, ◌%◌, ◌^◌, ◌<◌, inl, inr, Some, List, [], ◌∷◌, ◌++◌, refl, sym, ap, ◌∙◌, subst, arith, append_assoc}
-use Rattle.std.proofs.Math.Nat.{mod-one}
-use Rattle.std.proofs.lemmas.Option.{same_Some, none-some}
+use Rattle.std.proofs.Common.{◌≡◌, ℕ, zero, suc, ◌+◌, ◌/◌, ◌%◌, ◌^◌, ◌<◌, List, [], ◌∷◌, ◌++◌, refl, sym, ap, ◌∙◌, arith, append_assoc}
 use Rattle.cyc_image.specs.Format.{u32_bytes}
 use Rattle.rv32_machine.specs.State.{data_base}
-use Rattle.core_meaning.specs.Memory.{Content, Word, Null, PartShape, shape_in}
+use Rattle.core_meaning.specs.Memory.{Content, Word, Null}
 use Rattle.cyc_core.specs.declared.operation.Cell.TheVariants as cell
 use Rattle.cyc_core.specs.declared.program.Datum.TheVariants as datum
-use Rattle.cyc_core.specs.Trees.{part_layout, bounds_first, datum_tree}
+use Rattle.cyc_core.specs.Trees.{part_layout, first_element, datum_tree}
 use Rattle.core_lines.specs.Selected.{nth}
 use Rattle.core_lines.specs.Statics.{zeros, element_bytes, datum_bytes, IsPlain, IsPlainDatum}
-use Rattle.core_lines.proofs.memory.DataBytes.{one_part_plain}
 use Rattle.rv32_layout.specs.Addresses.{AreChars, IsAddress}
 
 -- ---- strings
@@ -46,15 +43,6 @@ pub text_bytes : (os : List ℕ) (text : Vec ℕ Global) → AreChars text.items
 text_bytes os text small =
     chars_are os text.items text.items 0 (λ i. let same : 0 + i ≡ i = omega arith in ap (slice_get text.items) same) small
 
-char_small : (bs : List ℕ) (k : ℕ) → AreChars bs → unwrap_or (slice_get bs k) 0 < 2 ^ 8
-char_small [] k small = omega arith
-char_small (b ∷ bs) zero small = small.0
-char_small (b ∷ bs) (suc k) small = char_small bs k small.1
-
-pub text_is_plain : (os : List ℕ) (text : Vec ℕ Global) → AreChars text.items → IsPlainDatum os (datum_tree (datum.Text text))
-text_is_plain os text small =
-    one_part_plain os 1 (Word 0) (datum_tree (datum.Text text)) (inl refl) refl (λ k. char_small text.items k small)
-
 -- ---- pointers
 
 word_bytes_same : (x y : ℕ) → x ≡ y + 0 → x < 2 ^ 32
@@ -85,24 +73,22 @@ module _ (os : List ℕ) (object address : ℕ) (a : IsAddress os object address
       is ∙ ap (λ xs. xs ++ zeros 4) two ∙ append_assoc first (u32_bytes count) (zeros 4) ∙ ap (λ xs. xs ++ (u32_bytes count ++ zeros 4)) one
       ∙ append_assoc old (u32_bytes address) (u32_bytes count ++ zeros 4) ∙ ap (λ xs. old ++ xs) (sym (bounds_bytes count few))
 
-  first_plain : IsPlain os 4 (bounds_first object 0 0)
-  first_plain = record { wide = refl; heap = refl; has = a.has; small = subst (λ n. n < 2 ^ 32) is_behind a.small }
+-- where a pointer is plain, the object that it names has an address
+index_is : (os : List ℕ) (k : ℕ) → slice_index_or os k 0 ≡ nth os k
+index_is [] zero = refl
+index_is [] (suc k) = refl
+index_is (x ∷ os) zero = refl
+index_is (x ∷ os) (suc k) = index_is os k
 
-  pub address_is_plain : IsPlainDatum os (datum_tree (datum.Address object))
-  address_is_plain = one_part_plain os 4 Null (datum_tree (datum.Address object)) (inr refl) refl (λ k. first_plain)
+module _ (os : List ℕ) (object : ℕ) where
+  pub address_small : IsPlain os 4 (first_element object) → data_base + slice_index_or os object 0 < 2 ^ 32
+  address_small p = let is = index_is os object in let small = p.small in omega (arith, is, small)
 
-  pub bounds_is_plain : (count : ℕ) → count < 2 ^ 32 → IsPlainDatum os (datum_tree (datum.Bounds object count))
-  bounds_is_plain count few = record {
-    joined = ((refl, inr refl, (refl, inr refl, (refl, inr refl, tt))), tt);
-    whole = refl;
-    plain = λ k j s has. by j s (ap (λ n. shape_in (slice_get (part_layout cell.Fat).cells n) j) (sym (mod-one k)) ∙ has.is);
-  }
-    where
-      none : 0 < 2 ^ 32
-      none = omega arith
+  pub address_is : IsPlain os 4 (first_element object) → IsAddress os object (data_base + slice_index_or os object 0)
+  address_is p = record { has = p.has; is = ap (λ offset. data_base + offset) (index_is os object); small = address_small p }
 
-      by : (j : ℕ) (s : PartShape) → shape_in (slice_get (part_layout cell.Fat).cells 0) j ≡ Some s → IsPlain os s.width (bounds_first object count j)
-      by zero s e = subst (λ (x : PartShape). IsPlain os x.width (bounds_first object count 0)) (same_Some _ s e) first_plain
-      by (suc zero) s e = subst (λ (x : PartShape). IsPlain os x.width (bounds_first object count 1)) (same_Some _ s e) few
-      by (suc (suc zero)) s e = subst (λ (x : PartShape). IsPlain os x.width (bounds_first object count 2)) (same_Some _ s e) none
-      by (suc (suc (suc j))) s e = absurd (none-some s e)
+  pub address_named : IsPlainDatum os (datum_tree (datum.Address object)) → IsPlain os 4 (first_element object)
+  address_named d = d.plain 0 0 (record { offset = 0; width = 4; first = Null }) (record { is = refl })
+
+  pub bounds_named : (count : ℕ) → IsPlainDatum os (datum_tree (datum.Bounds object count)) → IsPlain os 4 (first_element object)
+  bounds_named count d = d.plain 0 0 (record { offset = 0; width = 4; first = Null }) (record { is = refl })

@@ -1,11 +1,13 @@
 -- What the parts of `place` say: where the table has a label, and what they append.
-use Rattle.std.specs.Prelude.{◌≡◌, ℕ, ◌+◌, ◌%◌, ◌≤◌, List, ◌++◌, true, nat_eq, unwrap_or}
+use Rattle.std.specs.Prelude.{◌≡◌, ℕ, ◌+◌, ◌%◌, ◌≤◌, Bool, true, ◌&&◌, List, [], ◌∷◌, ◌++◌, nat_eq, if◌then◌else◌, unwrap_or}
 use Rattle.indexmap.specs.IndexMap.{get}
 use Rattle.rv32_isa.specs.declared.instruction.Instr.{Instr}
 use Rattle.core_lines.specs.declared.line.Line.{Line}
-use Rattle.core_lines.specs.Relaxed.{is_in_reach}
+use Rattle.core_lines.specs.Lines.{size_of, code_length}
+use Rattle.core_lines.specs.Relaxed.{place_of, is_in_reach, AllReach}
 use Rattle.core_lines.specs.declared.line.Line.TheVariants.{Plain, Label, Jump, JumpIfZero, BranchIfZero, CallTo}
 use Rattle.cyc_image.specs.Format.{code_limit}
+use Rattle.rv32_select.specs.Beginning.{begins_within}
 use Rattle.rv32_layout.specs.Placed.{AreWords}
 use Rattle.rv32_layout.specs.declared.places.Places.{Places}
 
@@ -37,6 +39,40 @@ Reaches places at (Jump label) = IsInReach (places label) at
 Reaches places at (JumpIfZero register label) = IsInReach (places label) (at + 4)
 Reaches places at (BranchIfZero register label) = IsInBranch (places label) at
 Reaches places at (CallTo label) = IsInReach (places label) at
+
+-- a line at an address is no branch alone, or one that reaches its label
+abbrev pub reaches : (ℕ → ℕ) → ℕ → Line → Bool
+reaches places at (Plain instr) = true
+reaches places at (Label label) = true
+reaches places at (Jump label) = true
+reaches places at (JumpIfZero register label) = true
+reaches places at (BranchIfZero register label) = is_in_reach (places label) at
+reaches places at (CallTo label) = true
+
+abbrev pub all_reach : (ℕ → ℕ) → ℕ → List Line → Bool
+all_reach places at [] = true
+all_reach places at (line ∷ lines) = reaches places at line && all_reach places (at + size_of line) lines
+
+-- a line as a round leaves it at an address: a branch alone that doesn't reach its label becomes a branch over a jump
+abbrev pub lengthen : (ℕ → ℕ) → ℕ → Line → Line
+lengthen places at (Plain instr) = Plain instr
+lengthen places at (Label label) = Label label
+lengthen places at (Jump label) = Jump label
+lengthen places at (JumpIfZero register label) = JumpIfZero register label
+lengthen places at (BranchIfZero register label) =
+    (if is_in_reach (places label) at then BranchIfZero register label else JumpIfZero register label)
+lengthen places at (CallTo label) = CallTo label
+
+abbrev pub lengthened : (ℕ → ℕ) → ℕ → List Line → List Line
+lengthened places at [] = []
+lengthened places at (line ∷ lines) = lengthen places at line ∷ lengthened places (at + size_of line) lines
+
+-- lines whose jumps, calls and branches all reach their labels, and the table of where these stand
+pub record ArePlaceable (lines : List Line) (places : Places) : Type 0 where
+  pub within : code_length lines ≤ code_limit
+  pub begins : begins_within lines ≡ true
+  pub reach : AllReach (place_of lines) 0 lines
+  pub table : (label : ℕ) → place_in places label ≡ place_of lines label
 
 -- the instructions' words are appended to the bytes
 pub record Appends (instrs : List Instr) (old new : List ℕ) : Type 0 where

@@ -2,11 +2,11 @@
 
 ghost use Rattle.std.specs.Prelude.{◌≡◌, ◌-◌, ◌<◌, ◌≤◌, ◌↔◌, ◌++◌, ◌∷◌, [], ◌+◌, ◌*◌, ◌^◌, Err, IfOk, IfSome, IfNone, OnOk, IsTrue, length, map, vec_len};
 ghost use Rattle.cyc_image.specs.Format.{data_limit};
-ghost use Rattle.cyc_core.specs.Trees.{datum_tree, layout_tree, program_tree};
+ghost use Rattle.cyc_core.specs.Trees.{datum_tree, first_element, program_tree};
 ghost use Rattle.cyc_core.specs.declared.program.Datum.TheVariants as datum;
 ghost use Rattle.core_lines.specs.Selected.{rounded};
 ghost use Rattle.core_lines.specs.Running.{data_offsets};
-ghost use Rattle.core_lines.specs.Statics.{zeros, datum_bytes, data_bytes, AreCellsJoined, cells_end, IsPlainDatum, ArePlainData};
+ghost use Rattle.core_lines.specs.Statics.{zeros, datum_bytes, data_bytes, IsPlain, IsPlainDatum, ArePlainData};
 ghost use Rattle.rv32_layout.specs.Addresses.{AreChars, IsAddress};
 ghost use Rattle.rv32_layout.specs.Sizes.{cell_size, cells_size, datum_size};
 
@@ -116,37 +116,11 @@ fn put_zeros(bytes: &mut Vec<u8>, count: usize) -> Result<(), AllocError>
     Ok(())
 }
 
-/// The bytes of a layout, if each of its cells lies right behind the one before it and the last one ends where it does.
-#[tactic(auto, using(crate::proofs::Cells::more_joined, crate::proofs::Cells::more_end, crate::proofs::Cells::end_is))]
-fn joined_bytes(layout: &Layout) -> Option<u32>
-    ensures { IfSome result (λ bytes. AreCellsJoined 0 (layout_tree layout.now).cells × (cells_end 0 (layout_tree layout.now).cells ≡ layout.now.bytes)
-        × (bytes ≡ cells_size layout.now.cells.items)) }
-{
-    let cells: &[CellLayout] = &layout.cells;
-    let mut at = 0;
-    'each: for cell in cells {
-        if cell.offset as usize != at {
-            return None;
-        }
-        at += cell_size(*cell);
-    }
-    if at == layout.bytes as usize {
-        Some(layout.bytes)
-    } else {
-        None
-    }
-}
-
-/// Appends the zeros of so many elements of a layout. Fails also where its cells don't lie one behind the other: no lowered program has such.
+/// Appends a zero for each byte of so many elements of a layout.
 fn put_whole(bytes: &mut Vec<u8>, layout: &Layout, count: u32) -> Result<(), AllocError>
-    ensures bytes { OnOk result (bytes.new.items ≡ bytes.old.items ++ zeros (count * cells_size layout.now.cells.items)) }
-    ensures joined { OnOk result (AreCellsJoined 0 (layout_tree layout.now).cells) }
-    ensures whole { OnOk result (cells_end 0 (layout_tree layout.now).cells ≡ layout.now.bytes) }
+    ensures { OnOk result (bytes.new.items ≡ bytes.old.items ++ zeros (count * layout.now.bytes)) }
 {
-    match joined_bytes(layout) {
-        Some(element) => put_zeros(bytes, count as usize * element as usize),
-        None => Err(AllocError),
-    }
+    put_zeros(bytes, count as usize * layout.bytes as usize)
 }
 
 /// Appends a string's bytes, and a 0 behind them.
@@ -161,57 +135,44 @@ fn put_text(bytes: &mut Vec<u8>, text: &[u8]) -> Result<(), AllocError>
     Ok(())
 }
 
-/// The address of the global or string of a number. Fails where there is none, or it is no word: no lowered program has such.
-#[tactic(auto, using(rv32_select::proofs::Numbers::nth_some))]
-fn address(offsets: &[u64], object: u32) -> Result<u32, AllocError>
-    ensures { IfOk result (λ address. IsAddress offsets.now object address) }
+/// The address of the global or string of a number, to which a pointer is plain.
+fn address(offsets: &[u64], object: u32) -> u32
+    requires { IsPlain offsets.now 4 (first_element object) }
+    ensures { IsAddress offsets.now object result }
 {
-    let Some(offset) = offsets.get(object as usize) else {
-        return Err(AllocError);
-    };
-    let Some(address) = DATA_BASE.checked_add(*offset) else {
-        return Err(AllocError);
-    };
-    match u32::try_from(address) {
-        Ok(address) => Ok(address),
-        Err(_) => Err(AllocError),
-    }
+    (DATA_BASE + offsets[object as usize]) as u32
 }
 
 /// Appends a pointer to the global or string of a number.
-#[tactic(auto, using(crate::proofs::Strings::address_bytes, crate::proofs::Strings::address_is_plain))]
+#[tactic(auto, using(crate::proofs::Strings::address_bytes))]
 fn put_address(bytes: &mut Vec<u8>, offsets: &[u64], object: u32) -> Result<(), AllocError>
-    ensures bytes { OnOk result (bytes.new.items ≡ bytes.old.items ++ datum_bytes offsets.now (datum_tree (datum.Address object))) }
-    ensures plain { OnOk result (IsPlainDatum offsets.now (datum_tree (datum.Address object))) }
+    requires { IsPlain offsets.now 4 (first_element object) }
+    ensures { OnOk result (bytes.new.items ≡ bytes.old.items ++ datum_bytes offsets.now (datum_tree (datum.Address object))) }
 {
-    let address = address(offsets, object)?;
-    bytes.extend_from_slice(&word_bytes(address))?;
+    bytes.extend_from_slice(&word_bytes(address(offsets, object)))?;
     Ok(())
 }
 
 /// Appends a fat pointer to the first of so many elements of the global or string of a number.
-#[tactic(auto, using(crate::proofs::Strings::bounds_joined, crate::proofs::Strings::bounds_is_plain))]
 fn put_bounds(
     bytes: &mut Vec<u8>,
     offsets: &[u64],
     object: u32,
     count: u32,
 ) -> Result<(), AllocError>
-    ensures bytes { OnOk result (bytes.new.items ≡ bytes.old.items ++ datum_bytes offsets.now (datum_tree (datum.Bounds object count))) }
-    ensures plain { OnOk result (IsPlainDatum offsets.now (datum_tree (datum.Bounds object count))) }
+    requires { IsPlain offsets.now 4 (first_element object) }
+    ensures { OnOk result (bytes.new.items ≡ bytes.old.items ++ datum_bytes offsets.now (datum_tree (datum.Bounds object count))) }
 {
-    let address = address(offsets, object)?;
-    bytes.extend_from_slice(&word_bytes(address))?;
+    bytes.extend_from_slice(&word_bytes(address(offsets, object)))?;
     bytes.extend_from_slice(&word_bytes(count))?;
     put_zeros(bytes, 4)?;
     Ok(())
 }
 
 /// Appends what a global or a string holds at the start: numbers that fit, addresses of objects, or zeros.
-#[tactic(auto, using(crate::proofs::Statics::byte_is_plain, crate::proofs::Statics::word_is_plain, crate::proofs::Statics::null_is_plain))]
 fn put_datum(bytes: &mut Vec<u8>, offsets: &[u64], global: &Datum) -> Result<(), AllocError>
-    ensures bytes { OnOk result (bytes.new.items ≡ bytes.old.items ++ datum_bytes offsets.now (datum_tree global.now)) }
-    ensures plain { OnOk result (IsPlainDatum offsets.now (datum_tree global.now)) }
+    requires { IsPlainDatum offsets.now (datum_tree global.now) }
+    ensures { OnOk result (bytes.new.items ≡ bytes.old.items ++ datum_bytes offsets.now (datum_tree global.now)) }
 {
     match global {
         Datum::Byte(byte) => bytes.push(*byte)?,
@@ -227,10 +188,10 @@ fn put_datum(bytes: &mut Vec<u8>, offsets: &[u64], global: &Datum) -> Result<(),
 
 /// Appends a global or a string, from the next multiple of 4 on. The bytes begin at the offset 0.
 fn put_global(bytes: &mut Vec<u8>, offsets: &[u64], global: &Datum) -> Result<(), AllocError>
-    requires { vec_len bytes.old ≤ data_limit }
-    ensures bytes { OnOk result
+    requires within { vec_len bytes.old ≤ data_limit }
+    requires plain { IsPlainDatum offsets.now (datum_tree global.now) }
+    ensures { OnOk result
         (bytes.new.items ≡ bytes.old.items ++ (zeros (rounded (vec_len bytes.old) - vec_len bytes.old) ++ datum_bytes offsets.now (datum_tree global.now))) }
-    ensures plain { OnOk result (IsPlainDatum offsets.now (datum_tree global.now)) }
 {
     let padding = rounded(bytes.len()) - bytes.len();
     put_zeros(bytes, padding)?;
@@ -240,9 +201,9 @@ fn put_global(bytes: &mut Vec<u8>, offsets: &[u64], global: &Datum) -> Result<()
 
 /// The bytes of globals and strings that aren't too large, of which pointers name those that begin at these offsets.
 fn globals_bytes(alloc: Global, offsets: &[u64], globals: &[Datum]) -> Result<Vec<u8>, AllocError>
-    requires { length (data_bytes offsets.now 0 (map datum_tree globals.now)) ≤ data_limit }
-    ensures bytes { IfOk result (λ bytes. bytes.items ≡ data_bytes offsets.now 0 (map datum_tree globals.now)) }
-    ensures plain { IfOk result (λ bytes. ArePlainData offsets.now (map datum_tree globals.now)) }
+    requires within { length (data_bytes offsets.now 0 (map datum_tree globals.now)) ≤ data_limit }
+    requires plain { ArePlainData offsets.now (map datum_tree globals.now) }
+    ensures { IfOk result (λ bytes. bytes.items ≡ data_bytes offsets.now 0 (map datum_tree globals.now)) }
 {
     let mut bytes = Vec::new(alloc);
     'each: for global in globals {
@@ -251,12 +212,12 @@ fn globals_bytes(alloc: Global, offsets: &[u64], globals: &[Datum]) -> Result<Ve
     Ok(bytes)
 }
 
-/// The bytes of a program's globals and strings, each from a multiple of 4 on; a pointer to one of them is its address. An `Err`
-/// is `TooLarge` exactly where they would be over 1,048,576 bytes, and else `Memory`, also where the cells of an object don't lie one
-/// behind the other, or a pointer names no object: no lowered program has such.
+/// The bytes of a program's globals and strings, each from a multiple of 4 on; a pointer to one of them is its address. The cells of
+/// an object lie one behind the other, and hold numbers that fit, nothing, or pointers that name objects of the data. An `Err` is
+/// `TooLarge` exactly where they would be over 1,048,576 bytes, and else `Memory`: no host memory is left.
 pub fn data(alloc: Global, program: &Program) -> Result<Vec<u8>, LayoutFault>
+    requires plain { let ds = (program_tree program.now).data_objects in ArePlainData (data_offsets ds) ds }
     ensures bytes { let ds = (program_tree program.now).data_objects in IfOk result (λ bytes. bytes.items ≡ data_bytes (data_offsets ds) 0 ds) }
-    ensures plain { let ds = (program_tree program.now).data_objects in IfOk result (λ bytes. ArePlainData (data_offsets ds) ds) }
     ensures within { IfOk result (λ bytes. vec_len bytes ≤ data_limit) }
     ensures too_large { let ds = (program_tree program.now).data_objects in
         (result ≡ Err LayoutFault.TooLarge) ↔ (data_limit < length (data_bytes (data_offsets ds) 0 ds)) }

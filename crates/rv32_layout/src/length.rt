@@ -6,7 +6,6 @@ ghost use Rattle.core_lines.specs.Lines.{size_of, code_length};
 
 use core_lines::Line;
 use cyc_image::CODE_LIMIT;
-use rv32_select::Labelled;
 
 /// How many bytes a line takes.
 pub(crate) fn size(line: Line) -> u32
@@ -23,13 +22,13 @@ pub(crate) fn size(line: Line) -> u32
 }
 
 /// The length of the lines' code in bytes, or `None` where it is over the limit.
-pub(crate) fn length(labelled: &Labelled) -> Option<u32>
-    ensures length { IfSome result (λ n. n ≡ code_length labelled.now) }
+pub(crate) fn length(lines: &[Line]) -> Option<u32>
+    ensures length { IfSome result (λ n. n ≡ code_length lines.now) }
     ensures within { IfSome result (λ n. n ≤ code_limit) }
-    ensures over { (result ≡ None) ↔ (code_limit < code_length labelled.now) }
+    ensures over { (result ≡ None) ↔ (code_limit < code_length lines.now) }
 {
     let mut length = 0;
-    'each: for line in labelled.lines() {
+    'each: for line in lines {
         length += size(*line);
         if length as usize > CODE_LIMIT {
             return None;

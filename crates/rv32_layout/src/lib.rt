@@ -1,10 +1,12 @@
 //! From the lines of a program of Core to its code, and from its globals and strings to the bytes of its data.
 //!
 //! `place` gives each line its words, and each jump and call its offset from where its label stands:
-//! each machine with the code has the lines. The code is refused as too large exactly where it is
-//! over 1,048,576 bytes. `data` gives each global and string its bytes. Stands on `rv32_select`, `cyc_core`,
-//! `rv32_isa`, `byteorder`, `indexmap` and `thiserror`, and its clauses on the definitions of
-//! `core_lines`, `rv32_machine` and `cyc_image`.
+//! each machine with the code has the lines. A jump on zero is a branch of one word where its label is in
+//! reach. The code is refused as too large only where it is over 1,048,576 bytes. `data` gives each global
+//! and string its bytes, and asks for plain ones: their parts lie one behind the other, and hold numbers
+//! that fit, nothing, or pointers to them. Stands on `rv32_select`, `cyc_core`, `rv32_isa`, `byteorder`,
+//! `indexmap` and `thiserror`, and its clauses on the definitions of `core_lines`, `rv32_machine` and
+//! `cyc_image`.
 #![tactic(auto)]
 
 mod code;
@@ -12,6 +14,7 @@ mod fault;
 mod globals;
 mod length;
 mod places;
+mod relaxed;
 mod words;
 
 pub use code::{Code, place};

@@ -11,7 +11,6 @@ ghost use Rattle.rv32_layout.specs.Placing.{place_in};
 use crate::length::size;
 use core_lines::Line;
 use indexmap::IndexMap;
-use rv32_select::Labelled;
 use std::alloc::{AllocError, Global};
 
 /// The places of labels, in bytes from the first line on.
@@ -58,13 +57,13 @@ fn note_line(by_label: &mut IndexMap<usize, u32>, line: Line, at: u32) -> Result
 }
 
 /// The places of all labels.
-pub(crate) fn find_places(alloc: Global, labelled: &Labelled) -> Result<Places, AllocError>
-    requires { code_length labelled.now ≤ code_limit }
-    ensures { IfOk result (λ places. (label : ℕ) → place_in places label ≡ place_of labelled.now label) }
+pub(crate) fn find_places(alloc: Global, lines: &[Line]) -> Result<Places, AllocError>
+    requires { code_length lines.now ≤ code_limit }
+    ensures { IfOk result (λ places. (label : ℕ) → place_in places label ≡ place_of lines.now label) }
 {
     let mut by_label = IndexMap::new(alloc);
     let mut at = 0;
-    'each: for line in labelled.lines() {
+    'each: for line in lines {
         note_line(&mut by_label, *line, at)?;
         at += size(*line);
     }

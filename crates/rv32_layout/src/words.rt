@@ -1,17 +1,16 @@
 // The words of lines.
 
-ghost use Rattle.std.specs.Prelude.{◌≡◌, ◌+◌, ◌∷◌, [], pos, ◌≤◌, vec_len, OnOk, IfOk};
+ghost use Rattle.std.specs.Prelude.{◌≡◌, ◌+◌, ◌∷◌, [], pos, vec_len, OnOk, IfOk};
 ghost use Rattle.rv32_isa.specs.declared.instruction.Instr.TheVariants.{Jal, Beq, Bne};
-ghost use Rattle.cyc_image.specs.Format.{code_limit, u32_bytes};
+ghost use Rattle.cyc_image.specs.Format.{u32_bytes};
 ghost use Rattle.core_lines.specs.Lines.{code_length, offset_to, instructions_of};
 ghost use Rattle.rv32_layout.specs.Placed.{ArePlaced};
-ghost use Rattle.rv32_layout.specs.Placing.{place_in, IsInReach, IsInBranch, Reaches, Appends};
+ghost use Rattle.rv32_layout.specs.Placing.{place_in, IsInReach, IsInBranch, Reaches, ArePlaceable, Appends};
 
-use crate::places::{Places, find_places};
+use crate::places::Places;
 use byteorder::{ByteOrder, LittleEndian};
 use core_lines::Line;
 use rv32_isa::{BranchOffset, Instr, JumpOffset, Register, encode};
-use rv32_select::Labelled;
 use std::alloc::{AllocError, Global};
 
 /// The bytes of a word, the lowest first.
@@ -83,16 +82,15 @@ fn put_line(bytes: &mut Vec<u8>, line: Line, places: &Places) -> Result<(), Allo
     Ok(())
 }
 
-/// The bytes of all lines.
-pub(crate) fn words(alloc: Global, labelled: &Labelled) -> Result<Vec<u8>, AllocError>
-    requires { code_length labelled.now ≤ code_limit }
-    ensures placed { IfOk result (λ bytes. ArePlaced labelled.now bytes.items) }
-    ensures length { IfOk result (λ bytes. vec_len bytes ≡ code_length labelled.now) }
+/// The bytes of all lines, whose labels stand at these places.
+pub(crate) fn words(alloc: Global, lines: &[Line], places: &Places) -> Result<Vec<u8>, AllocError>
+    requires { ArePlaceable lines.now places.now }
+    ensures placed { IfOk result (λ bytes. ArePlaced lines.now bytes.items) }
+    ensures length { IfOk result (λ bytes. vec_len bytes ≡ code_length lines.now) }
 {
-    let places = find_places(alloc, labelled)?;
     let mut bytes = Vec::new(alloc);
-    'each: for line in labelled.lines() {
-        put_line(&mut bytes, *line, &places)?;
+    'each: for line in lines {
+        put_line(&mut bytes, *line, places)?;
     }
     Ok(bytes)
 }

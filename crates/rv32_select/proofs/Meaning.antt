@@ -8,4 +8,4 @@ use Rattle.core_lines.specs.Promise.{AreLinesOf}
 use Rattle.core_lines.proofs.Promised.{lines_do_as_core}
 
 pub lines_are : (p : Program) (lines : List Line) → lines ≡ program_code far p → AreLinesOf p lines
-lines_are p lines is = subst (λ ls. AreLinesOf p ls) (sym is) (lines_do_as_core p far)
+lines_are p lines is = subst (λ ls. AreLinesOf p ls) (sym is) (lines_do_as_core p)

@@ -5,8 +5,9 @@
 //! works there, and saves the result; a choice and a loop are jumps to labels, a call is a jump to
 //! the function's label, whose number is the function's, and a return one to its end. The lines are
 //! those of `program_code` in `core_lines`, with no local in a register and no branch alone: no label
-//! is placed twice, and a machine that begins with them does what the program does. Stands on
-//! `cyc_core`, `cyc_words`, `core_lines`, `rv32_isa` and `rv32_machine`.
+//! is placed twice, and a machine that begins with them does what the program does. `select` asks for
+//! a program whose `main` is one of its functions. Stands on `cyc_core`, `cyc_words`, `core_lines`,
+//! `rv32_isa` and `rv32_machine`.
 #![tactic(auto)]
 
 mod emit;

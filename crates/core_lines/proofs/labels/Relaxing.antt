@@ -34,13 +34,13 @@ round_grows places at (w ∷ ws) (line ∷ lines) = by w (reaches places at line
     by false false new (inl same) = inr (let e = ap count same in omega (arith, e))
     by false false new (inr more) = inr (omega (arith, more))
 
-as_long : (places : ℕ → ℕ) (at : ℕ) (ws : List Bool) (lines : List Line) → length (widened places at ws lines) ≡ length ws
+pub as_long : (places : ℕ → ℕ) (at : ℕ) (ws : List Bool) (lines : List Line) → length (widened places at ws lines) ≡ length ws
 as_long places at [] lines = refl
 as_long places at (w ∷ ws) [] = refl
 as_long places at (w ∷ ws) (line ∷ lines) = ap suc (as_long places (at + size_of (shorten w line)) ws lines)
 
 -- once nothing changes, nothing does later
-still : (n : ℕ) (lines : List Line) (ws : List Bool) → next_round lines ws ≡ ws → rounds n lines ws ≡ ws
+pub still : (n : ℕ) (lines : List Line) (ws : List Bool) → next_round lines ws ≡ ws → rounds n lines ws ≡ ws
 still zero lines ws same = refl
 still (suc n) lines ws same = ap (λ xs. rounds n lines xs) same ∙ still n lines ws same
 
@@ -60,7 +60,7 @@ settles (suc n) lines ws enough = ⊎_elim
     settles n lines (next_round lines ws) (omega (arith, more, long, enough)))
     (round_grows (place_of (shortened ws lines)) 0 ws lines)
 
-none_long : (lines : List Line) → length (none_wide lines) ≡ length lines
+pub none_long : (lines : List Line) → length (none_wide lines) ≡ length lines
 none_long [] = refl
 none_long (line ∷ lines) = ap suc (none_long lines)
 
@@ -121,12 +121,41 @@ rounds_long : (n : ℕ) (lines : List Line) (ws : List Bool) → length (rounds 
 rounds_long zero lines ws = refl
 rounds_long (suc n) lines ws = rounds_long n lines (next_round lines ws) ∙ as_long (place_of (shortened ws lines)) 0 ws lines
 
+-- each line is said to be wide or not
+pub all_said : (lines : List Line) → length (wide_in lines) ≡ length lines
+all_said lines = rounds_long (length lines) lines (none_wide lines) ∙ none_long lines
+
 -- all branches alone reach their labels in the placed code
 pub all_reach : (lines : List Line) → AreLong lines → AllReach (place_of (shortened (wide_in lines) lines)) 0 (shortened (wide_in lines) lines)
-all_reach lines long = reach_all (place_of (shortened (wide_in lines) lines)) 0 (wide_in lines) lines long
-    (rounds_long (length lines) lines (none_wide lines) ∙ none_long lines) (settled lines)
+all_reach lines long = reach_all (place_of (shortened (wide_in lines) lines)) 0 (wide_in lines) lines long (all_said lines) (settled lines)
 
--- the code isn't longer
+-- ---- how long the code is
+
+-- a line that is said to be wide too isn't shorter
+pub size_grows : (w v : Bool) (line : Line) → size_of (shorten w line) ≤ size_of (shorten (w || v) line)
+size_grows true v line = omega arith
+size_grows false false line = omega arith
+size_grows false true (Plain instr) = omega arith
+size_grows false true (Label label) = omega arith
+size_grows false true (Jump label) = omega arith
+size_grows false true (JumpIfZero register label) = omega arith
+size_grows false true (BranchIfZero register label) = omega arith
+size_grows false true (CallTo label) = omega arith
+
+-- no round makes the code shorter
+pub round_longer : (places : ℕ → ℕ) (at : ℕ) (ws : List Bool) (lines : List Line)
+    → code_length (shortened ws lines) ≤ code_length (shortened (widened places at ws lines) lines)
+round_longer places at [] lines = omega arith
+round_longer places at (w ∷ ws) [] = omega arith
+round_longer places at (w ∷ ws) (line ∷ lines) =
+    omega (arith, size_grows w (not (reaches places at line)) line, round_longer places (at + size_of (shorten w line)) ws lines)
+
+pub rounds_longer : (n : ℕ) (lines : List Line) (ws : List Bool) → code_length (shortened ws lines) ≤ code_length (shortened (rounds n lines ws) lines)
+rounds_longer zero lines ws = omega arith
+rounds_longer (suc n) lines ws =
+    omega (arith, round_longer (place_of (shortened ws lines)) 0 ws lines, rounds_longer n lines (next_round lines ws))
+
+-- the code isn't longer than where all jumps on zero are two words
 pub no_longer : (ws : List Bool) (lines : List Line) → code_length (shortened ws lines) ≤ code_length lines
 no_longer [] lines = omega arith
 no_longer (w ∷ ws) [] = omega arith

@@ -5,6 +5,6 @@ use Rattle.rv32_layout.proofs.length.length.Given as goal
 
 abbrev pub invariant-each : goal.invariant-each
 invariant-each l = record {
-  whole : l.length + code_length (drop l.line-index l.line-items) ≡ code_length l.line-items;
+  whole : l.length + code_length (drop l.line-index l.lines) ≡ code_length l.lines;
   within : l.length ≤ code_limit;
 }

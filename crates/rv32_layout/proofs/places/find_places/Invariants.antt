@@ -6,6 +6,6 @@ use Rattle.rv32_layout.proofs.places.find_places.Given as goal
 
 abbrev pub invariant-each : goal.invariant-each
 invariant-each l = record {
-  whole : l.at + code_length (drop l.line-index l.line-items) ≡ code_length l.line-items;
-  placed : (label : ℕ) → unwrap_or (get nat_eq l.by_label label) (l.at + place_of (drop l.line-index l.line-items) label) ≡ place_of l.line-items label;
+  whole : l.at + code_length (drop l.line-index l.lines) ≡ code_length l.lines;
+  placed : (label : ℕ) → unwrap_or (get nat_eq l.by_label label) (l.at + place_of (drop l.line-index l.lines) label) ≡ place_of l.lines label;
 }

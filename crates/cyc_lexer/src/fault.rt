@@ -7,7 +7,7 @@ use std::alloc::AllocFailed;
 use thiserror::Error;
 
 /// Why `tokens` refuses a text.
-#[derive(Clone, Copy, PartialEq, Eq, Debug, Error)]
+#[derive(Clone, Copy, Debug, Error)]
 pub enum LexFault {
     /// The first token or comment that is none, by the offset of its first byte. Offset 0 for a text
     /// of over 1,048,576 bytes.

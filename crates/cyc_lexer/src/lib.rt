@@ -2,7 +2,7 @@
 //!
 //! `tokens` answers the one list of tokens of a text, each the longest at its place, or the place of
 //! the first token or comment that is none. `place_of` turns an offset into a line and a column.
-//! The rules are in specs/. Stands on std alone.
+//! The rules are in specs/. Stands on `thiserror`.
 #![tactic(auto)]
 
 mod bytes;

@@ -121,7 +121,7 @@ pub enum Sign {
 }
 
 /// What a token is.
-#[derive(Clone, Copy, PartialEq, Eq, Debug)]
+#[derive(Clone, Copy, Debug)]
 pub enum TokenKind {
     Keyword(Keyword),
     /// A name that is no keyword.
@@ -138,7 +138,7 @@ pub enum TokenKind {
 }
 
 /// A token: its kind, the offset of its first byte in the text, and its bytes there.
-#[derive(Clone, Copy, PartialEq, Eq, Debug)]
+#[derive(Clone, Copy)]
 pub struct Token<'a> {
     pub kind: TokenKind,
     pub at: u32,

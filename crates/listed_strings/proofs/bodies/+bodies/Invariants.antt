@@ -1,12 +1,12 @@
 use Rattle.std.proofs.Common.{map}
 use Rattle.cyc_tree.specs.View.{clause_tree, clauses_of, item_tree, items_of}
 use Rattle.source_meaning.specs.Strings.{clauses_strings, items_strings}
-use Rattle.listed_strings.specs.Listing.{AddsTo}
+use Rattle.listed_strings.specs.Listing.{ListsTo}
 use Rattle.listed_strings.proofs.bodies.+bodies.Given as goal
 
 -- those so far and the rest are all
 abbrev pub invariant-list_items-each : goal.invariant-list_items-each
-invariant-list_items-each l = AddsTo (λ is. items_strings (items_of (map item_tree is))) l.initial.literals.items l.items l.item-index l.literals.items
+invariant-list_items-each l = ListsTo (λ is. items_strings (items_of (map item_tree is))) l.initial.literals l.items l.item-index l.literals
 
 abbrev pub invariant-list_clauses-each : goal.invariant-list_clauses-each
-invariant-list_clauses-each l = AddsTo (λ cs. clauses_strings (clauses_of (map clause_tree cs))) l.initial.literals.items l.clauses l.clause-index l.literals.items
+invariant-list_clauses-each l = ListsTo (λ cs. clauses_strings (clauses_of (map clause_tree cs))) l.initial.literals l.clauses l.clause-index l.literals

@@ -1,4 +1,4 @@
-use Rattle.std.proofs.Common.{◌≡◌, ◌++◌, drop}
+use Rattle.std.proofs.Common.{◌≡◌, ◌++◌, drop, false}
 use Rattle.cyc_tree.specs.View.{program_tree}
 use Rattle.source_meaning.specs.Strings.{program_strings}
 use Rattle.listed_strings.specs.Listing.{listed}
@@ -6,4 +6,5 @@ use Rattle.listed_strings.proofs.items.strings_of.Given as goal
 
 -- those so far and the rest are all
 abbrev pub invariant-each : goal.invariant-each
-invariant-each l = listed l.literals.items ++ program_strings (program_tree (drop l.item-index l.items)) ≡ program_strings (program_tree l.items)
+invariant-each l =
+    l.literals.failed ≡ false → listed l.literals.all.items ++ program_strings (program_tree (drop l.item-index l.items)) ≡ program_strings (program_tree l.items)

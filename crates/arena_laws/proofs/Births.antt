@@ -105,9 +105,6 @@ pub out_of_order : (result : Result ℕ StoreRefusal) (why : StoreRefusal) → i
     is_granted_or_full (Err why) ≡ false → ⊥
 out_of_order result why g e n = let x : is_granted_or_full (Err why) ≡ true = sym (ap is_granted_or_full e) ∙ g in cc
 
-is_standing : (o : Option Standing) (x : Standing) → o ≡ Some x → is_some o ≡ true
-is_standing o x e = ap is_some e
-
 pub record IsFreed (h : ℕ) (s : Holdings) (result : Result ℕ StoreRefusal) (after : Holdings) : Type 0 where
   pub was : is_some (s.standing h) ≡ true
   pub gives : Gives 0 (without_number h s) result after

@@ -42,10 +42,6 @@ gave names q b n left r after short g a = record {
       (counted q b) h) (sym g.holds) a);
 }
 
-takes_there : (a b : Bool) → (a && b) ≡ true → b ≡ true
-takes_there true b e = e
-takes_there false b e = absurd (cc)
-
 module _ (names : Names) (b : ByBirth) (s after : Holdings) (a : Agree names b s) where
   is_full_same : is_full s.counts ≡ is_full b.counts
   is_full_same = ap (λ n. nat_eq n 0) a.free

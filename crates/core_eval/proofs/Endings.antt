@@ -79,16 +79,6 @@ wrote_then ending.ReadFault old middle new front rest p q = Appends-trans _ _ _ 
 wrote_then ending.WriteFault old middle new front rest p q = some_then old middle new front rest p q
 wrote_then ending.HostMemory old middle new front rest p q = Appends-trans _ _ _ _ _ p q
 
--- no read fault: the reader has failed as often as before
-pub unread_fault : (why : EvalEnding) (count : ℕ) → why ≢ ending.ReadFault → reads_failed why count ≡ count
-unread_fault (ending.Ended status) count other = refl
-unread_fault (ending.Raised kind) count other = refl
-unread_fault ending.Running count other = refl
-unread_fault ending.Stuck count other = refl
-unread_fault ending.ReadFault count other = absurd (other refl)
-unread_fault ending.WriteFault count other = refl
-unread_fault ending.HostMemory count other = refl
-
 -- no write fault: the writer has failed as often as before
 pub written_well : (why : EvalEnding) (count : ℕ) → why ≢ ending.WriteFault → writes_failed why count ≡ count
 written_well (ending.Ended status) count other = refl

@@ -69,32 +69,6 @@ same_state task ws next ws' known goes fewer = record {
 }
 
 module _ (known : Known) (ws : List Wait) where
-  pub none_follows : IsMove (Follow NoStatements) ws known (Go (Leave steps.Falls)) ws known
-  none_follows = same_state _ ws _ ws known (λ main marks c h. (h, refl)) (omega arith)
-
-  pub more_follow : (s : core.Statement) (ss : Statements) → IsMove (Follow (MoreStatements s ss)) ws known (Go (Execute s)) (Then ss ∷ ws) known
-  more_follow s ss =
-      same_state (Follow (MoreStatements s ss)) ws (Go (Execute s)) (Then ss ∷ ws) known
-      (λ main marks c h. (
-        record { temps = h.temps; fresh = h.fresh; globals = h.globals; nested = h.nested; entered = h.entered; live = h.live; owned = h.owned; called = h.called; values_live = h.values_live; born = h.born },
-        refl,
-      )) (omega arith)
-
-  pub break_leaves : IsMove (Execute core.Break) ws known (Go (Leave steps.Breaks)) ws known
-  break_leaves = same_state _ ws _ ws known (λ main marks c h. (h, refl)) (omega arith)
-
-  pub continue_leaves : IsMove (Execute core.Continue) ws known (Go (Leave steps.Continues)) ws known
-  continue_leaves = same_state _ ws _ ws known (λ main marks c h. (h, refl)) (omega arith)
-
-  pub loop_enters : (test : Statements) (flag : ℕ) (body : Statements)
-      → IsMove (Execute (core.While test flag body)) ws known (Go (Follow test)) (Test test flag body ∷ ws) known
-  loop_enters test flag body =
-      same_state (Execute (core.While test flag body)) ws (Go (Follow test)) (Test test flag body ∷ ws) known
-      (λ main marks c h. (
-        record { temps = h.temps; fresh = h.fresh; globals = h.globals; nested = h.nested; entered = h.entered; live = h.live; owned = h.owned; called = h.called; values_live = h.values_live; born = h.born },
-        refl,
-      )) (omega arith)
-
   pub breakable_enters : (body : Statements) → IsMove (Execute (core.Leave body)) ws known (Go (Follow body)) (Breakable ∷ ws) known
   breakable_enters body =
       same_state (Execute (core.Leave body)) ws (Go (Follow body)) (Breakable ∷ ws) known
@@ -114,19 +88,6 @@ module _ (known : Known) (ws : List Wait) where
         refl,
       )) (omega arith)
 
-  values_same : (temps temps' : ℕ → Content) (ts : List ℕ) → ((k : ℕ) → temps k ≡ temps' k) → values_of temps ts ≡ values_of temps' ts
-  values_same temps temps' [] h = refl
-  values_same temps temps' (t ∷ ts) h = ap (λ x. x ∷ values_of temps ts) (h t) ∙ ap (λ xs. temps' t ∷ xs) (values_same temps temps' ts h)
-
-  pub return_leaves : (ts : List ℕ) (vs : List Content) → values_of (temp_of known.temps) ts ≡ vs
-      → IsMove (Execute (core.Return ts)) ws known (Go (Leave (steps.Returns vs))) ws known
-  return_leaves ts vs read =
-      same_state (Execute (core.Return ts)) ws (Go (Leave (steps.Returns vs))) ws known
-      (λ main marks c h. (h, ap (λ xs. rest_of main ws marks (steps.Returns xs) c) (values_same c.temps (temp_of known.temps) ts h.temps ∙ read))) (omega arith)
-
-  pub raise_ends : (kind : Kind) → IsMove (Execute (core.Raise kind)) ws known (Raised kind) ws known
-  raise_ends kind = same_state (Execute (core.Raise kind)) ws (Raised kind) ws known (λ main marks c h. (h, refl)) (omega arith)
-
   module _ (t : ℕ) (v : Value) (read : content_of v ≡ temp_of known.temps t) where
     pub if_goes : (these those : Statements) (b : Bool) → truth_of v ≡ Some b
         → IsMove (Execute (core.If t these those)) ws known (Go (Follow (if b then these else those))) ws known
@@ -141,15 +102,3 @@ module _ (known : Known) (ws : List Wait) where
     if_wrong these those is =
         same_state (Execute (core.If t these those)) ws Wrong ws known
         (λ main marks c h. (h, branches (c.temps t) v None _ _ (h.temps t ∙ sym read) is)) (omega arith)
-
-  -- ---- calls
-
-  pub call_comes : (results : List ℕ) (f : ℕ) (ts : List ℕ) (values : List Value) → AreRead known.temps ts values
-      → IsMove (Execute (core.Call results f ts)) ws known (CallDue results f (map content_of values)) ws known
-  call_comes results f ts values read =
-      same_state (Execute (core.Call results f ts)) ws (CallDue results f (map content_of values)) ws known
-      (λ main marks c h. (
-        h,
-        ap (λ vs. trees.Calls (record { function = f; arguments = vs }) (returned_to results c (rest_of main ws marks)) c.memory)
-            (values_same c.temps (temp_of known.temps) ts h.temps ∙ read),
-      )) (omega arith)

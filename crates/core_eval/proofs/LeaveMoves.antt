@@ -87,25 +87,6 @@ set_same (t ∷ ts) (v ∷ vs) temps temps' h k =
     set_same ts vs (set_temp t v temps) (set_temp t v temps') (λ l. ap (λ x. if nat_eq l t then v else x) (h l)) k
 
 module _ (known : Known) (ws : List Wait) where
-  -- ---- statements after one another
-
-  pub then_follow : (ss : Statements) → IsMove (Leave steps.Falls) (Then ss ∷ ws) known (Go (Follow ss)) ws known
-  then_follow ss =
-      same_state (Leave steps.Falls) (Then ss ∷ ws) (Go (Follow ss)) ws known (λ main marks c h. (behind (Then ss) known ws marks c h (λ n. n) (λ n. n), refl))
-      (omega arith)
-
-  pub then_leaves : (exit : Exit) (ss : Statements) → IsEarly exit → IsMove (Leave exit) (Then ss ∷ ws) known (Go (Leave exit)) ws known
-  then_leaves steps.Falls ss early = absurd early
-  then_leaves steps.Breaks ss early =
-      same_state (Leave steps.Breaks) (Then ss ∷ ws) (Go (Leave steps.Breaks)) ws known
-      (λ main marks c h. (behind (Then ss) known ws marks c h (λ n. n) (λ n. n), refl)) (omega arith)
-  then_leaves steps.Continues ss early =
-      same_state (Leave steps.Continues) (Then ss ∷ ws) (Go (Leave steps.Continues)) ws known
-      (λ main marks c h. (behind (Then ss) known ws marks c h (λ n. n) (λ n. n), refl)) (omega arith)
-  then_leaves (steps.Returns vs) ss early =
-      same_state (Leave (steps.Returns vs)) (Then ss ∷ ws) (Go (Leave (steps.Returns vs))) ws known
-      (λ main marks c h. (behind (Then ss) known ws marks c h (λ n. n) (λ n. n), refl)) (omega arith)
-
   -- ---- loops
 
   module _ (test : Statements) (flag : ℕ) (body : Statements) where
@@ -170,26 +151,6 @@ module _ (known : Known) (ws : List Wait) where
     turn_returns vs =
         same_state (Leave (steps.Returns vs)) (Body test flag body ∷ ws) (Go (Leave (steps.Returns vs))) ws known
         (λ main marks c h. (behind (Body test flag body) known ws marks c h (λ n. n) (λ n. n), refl)) (omega arith)
-
-  -- ---- a body that a break ends
-
-  body_ends : (exit exit' : Exit) → ((next : Exit → Config → Step) (c : Config) → left_by exit next c ≡ next exit' c)
-      → IsMove (Leave exit) (Breakable ∷ ws) known (Go (Leave exit')) ws known
-  body_ends exit exit' is =
-      same_state (Leave exit) (Breakable ∷ ws) (Go (Leave exit')) ws known
-      (λ main marks c h. (behind Breakable known ws marks c h (λ n. n) (λ n. n), is (rest_of main ws marks) c)) (omega arith)
-
-  pub body_falls : IsMove (Leave steps.Falls) (Breakable ∷ ws) known (Go (Leave steps.Falls)) ws known
-  body_falls = body_ends steps.Falls steps.Falls (λ next c. refl)
-
-  pub body_breaks : IsMove (Leave steps.Breaks) (Breakable ∷ ws) known (Go (Leave steps.Falls)) ws known
-  body_breaks = body_ends steps.Breaks steps.Falls (λ next c. refl)
-
-  pub body_continues : IsMove (Leave steps.Continues) (Breakable ∷ ws) known (Go (Leave steps.Continues)) ws known
-  body_continues = body_ends steps.Continues steps.Continues (λ next c. refl)
-
-  pub body_returns : (vs : List Content) → IsMove (Leave (steps.Returns vs)) (Breakable ∷ ws) known (Go (Leave (steps.Returns vs))) ws known
-  body_returns vs = body_ends (steps.Returns vs) (steps.Returns vs) (λ next c. refl)
 
   -- ---- the caller goes on
 
@@ -354,9 +315,3 @@ module _ (known : Known) where
       none_left : (o : Option ℕ) → next_cost (ends_as o) + 0 ≤ 0
       none_left None = omega arith
       none_left (Some n) = omega arith
-
-  pub main_wrong : (exit : Exit) → IsNoReturn exit → IsMove (Leave exit) [] known Wrong [] known
-  main_wrong steps.Falls h = same_state (Leave steps.Falls) [] Wrong [] known (λ main marks c h. (h, refl)) (omega arith)
-  main_wrong steps.Breaks h = same_state (Leave steps.Breaks) [] Wrong [] known (λ main marks c h. (h, refl)) (omega arith)
-  main_wrong steps.Continues h = same_state (Leave steps.Continues) [] Wrong [] known (λ main marks c h. (h, refl)) (omega arith)
-  main_wrong (steps.Returns vs) h = absurd h

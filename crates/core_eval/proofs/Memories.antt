@@ -238,14 +238,6 @@ pub other_number : (j k : ℕ) → j ≢ k → nat_eq j k ≡ false
 other_number j k h = grind (arith, nat_tests, h)
 
 module _ {m : Memory} {q : Region} {objects : List (List Slot)} (shows : Shows m q objects) (r : Region) (other : same_region q r ≡ false) where
-  -- a change of another region
-  pub shows_part : (i k j : ℕ) (p : Part) → Shows (with_part m (spot_of r i k) j p) q objects
-  shows_part i k j p = record {
-    live = shows.live;
-    holds = λ x y z.
-        ap (λ b. if (b && (nat_eq x i && nat_eq y k)) && nat_eq z j then Some p else m.parts (spot_of q x y) z) other ∙ shows.holds x y z;
-  }
-
   pub shows_standing : (now : Standing) → Shows (with_standing m r now) q objects
   shows_standing now = record { live = ap (λ b. is_live (if b then now else m.standing q)) other ∙ shows.live; holds = shows.holds }
 

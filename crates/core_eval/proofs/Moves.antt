@@ -80,12 +80,3 @@ goes_wrong o ws known does_so = record {
   still = all_stand _ ws known _ ws known (λ main marks c h. goes_here main marks c _ _ ws known h (does_so marks c h (rest_of main ws marks steps.Falls)));
   fewer = omega arith;
 }
-
--- a unit is due
-pub comes_due : (o : Operation) (ws : List Wait) (known : Known) (due : Next) → next_cost due ≡ 0
-    → ((next : Exit → Config → Step) (c : Config) (marks : List Mark) → Agrees known ws marks c → does o (next steps.Falls) c ≡ coming due next c)
-    → IsMove (Execute (Do o)) ws known due ws known
-comes_due o ws known due free does_so = record {
-  still = all_stand _ ws known _ ws known (λ main marks c h. goes_here main marks c _ _ ws known h (does_so (rest_of main ws marks) c marks h));
-  fewer = omega (arith, free);
-}

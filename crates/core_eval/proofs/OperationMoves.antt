@@ -17,7 +17,7 @@ use Rattle.core_eval.specs.Blocks.{global_place}
 use Rattle.core_eval.specs.Pendings.{Execute, Leave, Wait, Go, GetcharDue, PutcharDue, Wrong, Mark}
 use Rattle.core_eval.specs.Standing.{Known, Agrees, Gives}
 use Rattle.core_eval.specs.Costs.{IsMove}
-use Rattle.core_eval.proofs.Moves.{Becomes, becomes, goes_wrong, comes_due}
+use Rattle.core_eval.proofs.Moves.{Becomes, becomes, goes_wrong}
 
 -- what comes of a test for NULL
 abbrev pub null_step : (ℕ → Step) → Option Bool → Step
@@ -136,61 +136,8 @@ no_place (value.Pointer p) next h = absurd h
 no_place (value.Birth d) next h = refl
 
 module _ (known : Known) (ws : List Wait) (x : ℕ) (v : Value) (read : content_of v ≡ temp_of known.temps x) where
-  pub no_word_wrong : (o : core.Operation) (next' : Config → (Config → Step) → ℕ → Step)
-      → ((c : Config) (next : Config → Step) → does o next c ≡ word_of (c.temps x) (next' c next)) → IsNoWord v
-      → IsMove (Execute (core.Do o)) ws known Wrong ws known
-  no_word_wrong o next' is none =
-      goes_wrong o ws known (λ marks c h next. is c next ∙ ap (λ (u : Content). word_of u (next' c next)) (h.temps x ∙ sym read)
-      ∙ no_word v (next' c next) none)
-
-  pub no_place_wrong : (o : core.Operation) (next' : Config → (Config → Step) → Spot → ℕ → Step)
-      → ((c : Config) (next : Config → Step) → does o next c ≡ pointer_of (c.temps x) (next' c next)) → IsNoPlace v
-      → IsMove (Execute (core.Do o)) ws known Wrong ws known
-  no_place_wrong o next' is none =
-      goes_wrong o ws known (λ marks c h next. is c next ∙ ap (λ (u : Content). pointer_of u (next' c next)) (h.temps x ∙ sym read)
-      ∙ no_place v (next' c next) none)
-
-  pub offset_nowhere : (t cells bytes : ℕ) → IsNoPlace v → IsMove (Execute (core.Do (core.Offset t x cells bytes))) ws known Wrong ws known
-  offset_nowhere t cells bytes none = no_place_wrong (core.Offset t x cells bytes) _ (λ c next. refl) none
-
-  pub element_nowhere : (t i cells bytes : ℕ) → IsNoPlace v → IsMove (Execute (core.Do (core.Element t x i cells bytes))) ws known Wrong ws known
-  element_nowhere t i cells bytes none = no_place_wrong (core.Element t x i cells bytes) _ (λ c next. refl) none
-
-  pub load_nowhere : (t : ℕ) (d : core.Distance) → IsNoPlace v → IsMove (Execute (core.Do (core.Load t x d))) ws known Wrong ws known
-  load_nowhere t d none = no_place_wrong (core.Load t x d) _ (λ c next. refl) none
-
-  pub store_nowhere : (d : core.Distance) (y : ℕ) → IsNoPlace v → IsMove (Execute (core.Do (core.Store x d y))) ws known Wrong ws known
-  store_nowhere d y none = no_place_wrong (core.Store x d y) _ (λ c next. refl) none
-
-  pub narrow_wrong : (t : ℕ) → IsNoWord v → IsMove (Execute (core.Do (core.Narrow t x))) ws known Wrong ws known
-  narrow_wrong t none = no_word_wrong (core.Narrow t x) _ (λ c next. refl) none
-
-  pub left_wrong : (o : core.Binary) (t y : ℕ) → IsNoWord v → IsMove (Execute (core.Do (core.Apply o t x y))) ws known Wrong ws known
-  left_wrong o t y none = no_word_wrong (core.Apply o t x y) _ (λ c next. refl) none
-
-  pub right_wrong : (o : core.Binary) (t y a : ℕ) (u : Value) → content_of u ≡ temp_of known.temps y → v ≡ value.Word a → IsNoWord u
-      → IsMove (Execute (core.Do (core.Apply o t x y))) ws known Wrong ws known
-  right_wrong o t y a u second is none =
-      goes_wrong (core.Apply o t x y) ws known (λ marks c h next.
-      ap (λ (w : Content). word_of w (λ i. word_of (c.temps y) (λ j. next (with_temp t (memory.Word (two o i j)) c)))) (h.temps x ∙ sym read ∙ ap content_of is)
-      ∙ ap (λ (w : Content). word_of w (λ j. next (with_temp t (memory.Word (two o a j)) c))) (h.temps y ∙ sym second)
-      ∙ no_word u (λ j. next (with_temp t (memory.Word (two o a j)) c)) none)
-
   pub test_wrong : (t : ℕ) → null_of v ≡ None → IsMove (Execute (core.Do (core.IsNull t x))) ws known Wrong ws known
   test_wrong t is =
       goes_wrong (core.IsNull t x) ws known
       (λ marks c h next. ap (λ (u : Content). is_null u (λ n. next (with_temp t (memory.Word n) c))) (h.temps x ∙ sym read)
       ∙ null_is v (λ n. next (with_temp t (memory.Word n) c)) ∙ ap (null_step (λ n. next (with_temp t (memory.Word n) c))) is)
-
-  pub putchar_wrong : (t : ℕ) → IsNoWord v → IsMove (Execute (core.Do (core.Putchar t x))) ws known Wrong ws known
-  putchar_wrong t none = no_word_wrong (core.Putchar t x) _ (λ c next. refl) none
-
-  pub putchar_due : (t n : ℕ) → v ≡ value.Word n → IsMove (Execute (core.Do (core.Putchar t x))) ws known (PutcharDue t (n % 256)) ws known
-  putchar_due t n is =
-      comes_due (core.Putchar t x) ws known (PutcharDue t (n % 256)) refl
-      (λ next c marks h. ap (λ (u : Content). word_of u
-      (λ k. Pays (λ kept. says (events.ByteWritten (k % 256)) (next steps.Falls (with_temp t (memory.Word (k % 256)) kept))) c))
-      (h.temps x ∙ sym read ∙ ap content_of is))
-
-pub getchar_due : (known : Known) (ws : List Wait) (t : ℕ) → IsMove (Execute (core.Do (core.Getchar t))) ws known (GetcharDue t) ws known
-getchar_due known ws t = comes_due (core.Getchar t) ws known (GetcharDue t) refl (λ next c marks h. refl)

@@ -96,11 +96,6 @@ prepended_both first second o = ap (λ l. record { events = l; ending = o.ending
 -- ---- steps
 
 module _ {p : Program} {fuel left : ℕ} {is_over : Bool} {s : Step} {reader_old reader writer_old writer : Option (List ℕ)} {gathered : List ℕ} where
-  -- the same step
-  pub now_at : Progress p fuel left is_over s reader_old reader writer_old writer gathered → (s' : Step) → s ≡ s'
-      → Progress p fuel left is_over s' reader_old reader writer_old writer gathered
-  now_at x s' e = subst (λ (t : Step). Progress p fuel left is_over t reader_old reader writer_old writer gathered) e x
-
   -- events that were said and are no bytes
   pub settled : Progress p fuel left is_over s reader_old reader writer_old writer gathered → (es : List Event) (s' : Step) → AreAllSilent es → s ≡ saying es s'
       → Progress p fuel left is_over s' reader_old reader writer_old writer gathered

@@ -95,11 +95,6 @@ module _ (known : Known) (ws : List Wait) (x : ℕ) (v : Value) (read : content_
   at_place marks c h next =
       ap (λ (u : Content). pointer_of u (λ s b. checked (nat_eq b 0) (alone_freed s.region next c))) (h.temps x ∙ sym read ∙ ap content_of is)
 
-  pub inner_wrong : nat_eq p.byte 0 ≡ false → IsMove (Execute (core.Do (core.UniqueFree x))) ws known Wrong ws known
-  inner_wrong inner =
-      goes_wrong (core.UniqueFree x) ws known
-      (λ marks c h next. at_place marks c h next ∙ ap (λ b. checked b (alone_freed (region_of p.area) next c)) inner)
-
   module _ (first : nat_eq p.byte 0 ≡ true) where
     at_first : (a : Area) → p.area ≡ a → Becomes (core.UniqueFree x) ws known (λ next c. alone_freed (region_of a) next c)
     at_first a at marks c h next =

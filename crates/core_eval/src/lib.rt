@@ -3,7 +3,7 @@
 //! `evaluate_core` moves from one statement to the next, and keeps what is still to be done on a stack of its own, callers among
 //! it, so that no program drives the host's stack deeper, however deep its calls and statements are. Its promise is `IsEvaluated`
 //! of specs/Evaluated: what is written is the output of the program's run, and the ending is that run's. Stands on `cyc_core`,
-//! `cyc_host` and `cyc_words`, and on the definitions of `core_meaning`, `step_trees` and `rv32_machine`.
+//! `cyc_host` and `cyc_words`, and on the definitions of `core_meaning` and `step_trees`.
 #![tactic(auto)]
 
 mod arithmetic;

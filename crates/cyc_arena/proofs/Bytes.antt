@@ -25,32 +25,8 @@ pub load_in : (s : Plain) (at v : ℕ) → IsSound s → arena_base ≤ at → a
 load_in s at v sound b l e =
     subst (λ t. Some v ≡ (if t then Some (byte_at s.bytes at) else None)) (sym (in_arena s at sound b l)) (ap Some (e ∙ sym (byte_in s.bytes at b)))
 
-pub stored_there : (s : Plain) (at : ℕ) → IsSound s → arena_base ≤ at → at - arena_base < length s.bytes → true ≡ is_in_arena (holdings_of s) at
-stored_there s at sound b l = sym (in_arena s at sound b l)
-
 pub store_in : (s : Plain) (at x : ℕ) → IsSound s → arena_base ≤ at → at - arena_base < length s.bytes →
     byte_at (slice_set s.bytes (at - arena_base) x) ≡ stored at x (holdings_of s) (byte_at s.bytes)
 store_in s at x sound b l =
     subst (λ t. byte_at (slice_set s.bytes (at - arena_base) x) ≡ (if t then put at x (byte_at s.bytes) else byte_at s.bytes))
     (sym (in_arena s at sound b l)) (λ i q. byte_set s.bytes at x b l q i)
-
-pub bytes_sound : (s : Plain) (k x : ℕ) → IsSound s → IsSound (record s { bytes = slice_set s.bytes k x })
-bytes_sound s k x sound = record {
-  payload = length-set s.bytes k x ∙ sound.payload;
-  used_long = sound.used_long;
-  last_long = sound.last_long;
-  standing_long = sound.standing_long;
-  slots_long = sound.slots_long;
-  few = sound.few;
-  rounded = sound.rounded;
-  within = sound.within;
-  heap = sound.heap;
-  known = sound.known;
-  headed = sound.headed;
-  lived = sound.lived;
-  ended = sound.ended;
-  classes = sound.classes;
-  live = sound.live;
-  vacant = sound.vacant;
-  capacity = sound.capacity;
-}

@@ -1,8 +1,7 @@
 //! Core programs as the code has them: functions of structured statements over flat operations.
 //!
 //! A contract sees a `Program` as one of `core_meaning`, by the folds of specs/Trees: `program_tree`
-//! and its kin. It has the forms that have instructions; docs/CORE.md lists them all. Stands on
-//! the definitions of `core_meaning`.
+//! and its kin. docs/CORE.md lists its forms. Stands on the definitions of `core_meaning`.
 #![tactic(auto)]
 
 mod layout;

@@ -18,11 +18,6 @@ pub of_ok : {T E P : Type 0} (r : Result T E) → OnOk r P → is_err r ≡ fals
 of_ok (Ok v) p e = p
 of_ok (Err v) p e = absurd (cc)
 
--- how many calls have failed after each
-pub counted_err : {T E : Type 0} (r : Result T E) (old new : ℕ) → new ≡ failed_once r old → is_err r ≡ true → new ≡ one_more old
-counted_err (Ok v) old new p e = absurd (cc)
-counted_err (Err v) old new p e = p
-
 pub counted_ok : {T E : Type 0} (r : Result T E) (old new : ℕ) → new ≡ failed_once r old → is_err r ≡ false → new ≡ old
 counted_ok (Ok v) old new p e = p
 counted_ok (Err v) old new p e = absurd (cc)

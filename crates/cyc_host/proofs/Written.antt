@@ -8,17 +8,6 @@ use Rattle.cyc_host.specs.declared.ending.Ending.{Ending}
 use Rattle.cyc_host.specs.declared.ending.Ending.TheVariants as ending
 use Rattle.cyc_host.proofs.Transfers.{some_front, some_then}
 
--- bytes that were all written are what any ending wants
-pub written_all : (why : Ending) (old new : Option (List ℕ)) (bytes : List ℕ) → Appends old new bytes → Written why old new bytes
-written_all ending.WriteFault old new bytes p = subst (WritesSome old new) (append-nil bytes) (some_front old new bytes [] p)
-written_all (ending.Ended status) old new bytes p = p
-written_all (ending.Raised kind) old new bytes p = p
-written_all ending.Exhausted old new bytes p = p
-written_all ending.HostMemory old new bytes p = p
-written_all ending.StepLimit old new bytes p = p
-written_all (ending.Fault fault) old new bytes p = p
-written_all ending.ReadFault old new bytes p = p
-
 -- what an ending wants of the rest, after the front, it has of all
 pub written_then : (why : Ending) (old middle new : Option (List ℕ)) (front rest : List ℕ) → Appends old middle front
     → Written why middle new rest → Written why old new (front ++ rest)

@@ -2,8 +2,8 @@
 //!
 //! `parse` reads by recursive descent, one function for each phrase of the grammar; it goes no deeper
 //! than the nesting bound, and reads chains and lists in loops. It answers the one program that the tokens
-//! spell by the grammar of specs/Grammar.antt, and refuses where specs/Refusals.antt says. Stands on
-//! `cyc_lexer` and `cyc_tree`.
+//! spell by the grammar of `source_grammar`, and refuses where specs/Refusals.antt says. Stands on
+//! `source_grammar`, `cyc_lexer`, `cyc_tree` and `thiserror`.
 #![tactic(auto)]
 
 mod cursor;

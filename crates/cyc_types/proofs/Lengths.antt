@@ -1,5 +1,5 @@
 -- Regions are the same where there are as many and each is the same.
-use Rattle.std.proofs.Common.{◌≡◌, ℕ, false, List, [], ◌∷◌, length, refl, nat_eq, ap, ◌∙◌, arith, suc}
+use Rattle.std.proofs.Common.{◌≡◌, ℕ, false, List, [], ◌∷◌, length, refl, ap, ◌∙◌, arith, suc}
 use Rattle.std.proofs.Math.Bool.{and-false}
 use Rattle.std.specs.List.{list_all, zip}
 use Rattle.std.specs.Prelude.{◌&&◌}
@@ -21,6 +21,3 @@ other_lengths (r ∷ rs) [] h = refl
 other_lengths (r ∷ rs) (q ∷ qs) h =
     ap (λ b. same_id (region_of r) (region_of q) && b) (other_lengths rs qs (λ e. h (ap suc e)))
     ∙ and-false (same_id (region_of r) (region_of q))
-
-pub eq_false : (n m : ℕ) → (n ≡ m → ⊥) → nat_eq n m ≡ false
-eq_false n m h = grind (arith, h)

@@ -5,7 +5,7 @@
 //! blocks on where there are `Blocks`, as `unique_blocks`' `UniqueBlocks` has them. It takes no
 //! memory of its own: a key's state is its region's tag. Each call's contract is its law in
 //! `arena_laws`, and a refused call changes nothing. Stands on `unique_blocks`, `region_runtime`,
-//! `arena_laws`, `raw_pages` and `thiserror`.
+//! `arena_laws` and `thiserror`.
 #![tactic(auto)]
 
 mod blocks;

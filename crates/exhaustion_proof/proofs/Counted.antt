@@ -1,6 +1,6 @@
 -- A call of the store by its own numbers is the request by births that its event is: so it is refused exactly where the count by births refuses that.
 use Rattle.std.proofs.Common.{◌≡◌, ℕ, suc, ◌+◌, ◌≤◌, Bool, true, false, List, [], ◌∷◌, Some, None, Result, Ok, Err, refl, sym, ap, subst, ◌∙◌, arith}
-use Rattle.std.specs.Prelude.{◌&&◌, if◌then◌else◌}
+use Rattle.std.specs.Prelude.{if◌then◌else◌}
 use Rattle.arena_laws.specs.declared.refusal.StoreRefusal.{StoreRefusal}
 use Rattle.arena_laws.specs.declared.refusal.StoreRefusal.TheVariants.{Full}
 use Rattle.arena_laws.specs.declared.standing.Standing.TheVariants.{Lexical, Closed}
@@ -14,6 +14,7 @@ use Rattle.arena_laws.specs.Pages as pages
 use Rattle.arena_laws.specs.Pages.{ByBirth, unborn, counted, said, is_refused, refusals}
 use Rattle.arena_laws.specs.Calls.{Names, no_names, IsCall, named, Run, Done as NoCall, Call, IsRun, refused_in}
 use Rattle.arena_laws.proofs.Counting.{refused_by_count}
+use Rattle.arena_laws.proofs.Rooms.{and_left}
 use Rattle.rv32_machine.specs.Ledger.{Ledger, event_of, entered}
 use Rattle.rv32_machine.specs.Ledger as ledger
 use Rattle.exhaustion_proof.specs.Room.{asked}
@@ -92,10 +93,6 @@ granted_exactly law false s a n e is says = subst (λ (d : Done). Does (Ok n) (l
 refused_exactly : (law : Done) (short : Bool) (s : Holdings) → short ≡ true → Does (Err Full) s (if short then refuses Full s else law)
 refused_exactly law true s e = record { says = refl; holds = refl }
 refused_exactly law false s e = absurd cc
-
-takes_there : (a b : Bool) → (a && b) ≡ true → a ≡ true
-takes_there true b e = refl
-takes_there false b e = absurd cc
 
 -- what stands after a call that went well, which the count by births doesn't refuse
 pub record GoesOn (b : ByBirth) (l : Ledger) (a : Asked) (n : ℕ) (after : Holdings) : Type 0 where
@@ -253,7 +250,7 @@ module _ (names : Names) (b : ByBirth) (s : Holdings) (l : Ledger) (stands : Sta
   is_refused_too RegionNew short =
       refused_as pages.NewRegion (record { answers = record { law = refused_exactly (makes Lexical Refuses s) (is_full s.counts) s short; full = sym short }; in_order = refl })
   is_refused_too (RegionAlloc h bytes) short =
-      let takes = takes_there (takes_blocks h (s.standing h)) (is_full_for_block h bytes s.counts) short in
+      let takes = and_left (takes_blocks h (s.standing h)) (is_full_for_block h bytes s.counts) short in
       refused_as (pages.BlockIn (l.birth_of h) bytes) (record {
         answers = record {
           own = h;

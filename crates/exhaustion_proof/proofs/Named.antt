@@ -1,6 +1,8 @@
 -- The names that events give to what is live, beside the store's own numbers and addresses, and how each call keeps them.
 use Rattle.std.proofs.Common.{◌≡◌, ℕ, suc, ◌^◌, ◌≤◌, Bool, true, false, Option, Some, None, nat_eq, refl, sym, ap, subst, ◌∙◌, arith}
 use Rattle.std.specs.Prelude.{if◌then◌else◌, ◌&&◌, nat_le, nat_lt}
+use Rattle.std.proofs.lemmas.Option.{same_Some}
+use Rattle.std.proofs.lemmas.Bool.{ne_eqb}
 use Rattle.std.proofs.lemmas.Bool.Decides.{nat_tests}
 use Rattle.arena_laws.specs.declared.standing.Standing.{Standing}
 use Rattle.arena_laws.specs.declared.owner.Owner.TheVariants.{Region, Alone}
@@ -33,16 +35,6 @@ equal m n e = grind (arith, nat_tests)
 below : (m n : ℕ) → m ≤ n → nat_eq m (suc n) ≡ false
 below m n l = grind (arith, nat_tests)
 
-apart : (m n : ℕ) → (m ≡ n → ⊥) → nat_eq m n ≡ false
-apart m n f = by (nat_eq m n) refl
-  where
-    by : (t : Bool) → nat_eq m n ≡ t → t ≡ false
-    by true e = absurd (f (equal m n e))
-    by false e = refl
-
-some_same : (m n : ℕ) → Some m ≡ Some n → m ≡ n
-some_same m n e = cc
-
 -- what is put at one place is there, and nothing else changes
 put_here : {A : Type 0} (k : ℕ) (x : A) (f : ℕ → A) → put k x f k ≡ x
 put_here k x f = rw (same k) refl
@@ -70,7 +62,7 @@ module _ (names : Names) (s : Holdings) (l : Ledger) (are : AreNamed names s l) 
 
   -- live numbers have births of their own
   apart_births : (h k : ℕ) → is_some (s.standing h) ≡ true → is_some (s.standing k) ≡ true → l.birth_of h ≡ l.birth_of k → h ≡ k
-  apart_births h k some others is = some_same h k (sym (are.numbers h some) ∙ ap names.number is ∙ are.numbers k others)
+  apart_births h k some others is = same_Some h k (sym (are.numbers h some) ∙ ap names.number is ∙ are.numbers k others)
 
   -- ---- a region or a key is born, under the next birth
 
@@ -78,7 +70,7 @@ module _ (names : Names) (s : Holdings) (l : Ledger) (are : AreNamed names s l) 
       → m.birth_of ≡ put n (suc l.births) l.birth_of → m.alone_birth ≡ l.alone_birth
       → AreNamed (record names { number = put (suc l.births) (Some n) names.number }) (with_number n standing s) m
   born_named standing n m new births birth_of alone_birth = record {
-    heap = put_there (suc l.births) 0 (Some n) names.number (apart 0 (suc l.births) (λ e. absurd (omega (arith, e)))) ∙ are.heap;
+    heap = put_there (suc l.births) 0 (Some n) names.number (ne_eqb 0 (suc l.births) (λ e. absurd (omega (arith, e)))) ∙ are.heap;
     heap_birth = ap (λ (f : ℕ → ℕ). f 0) birth_of ∙ put_there n 0 (suc l.births) l.birth_of not_zero ∙ are.heap_birth;
     no_heap = put_there n 0 (Some standing) s.standing not_zero ∙ are.no_heap;
     numbers = λ h some. subst (λ (f : ℕ → ℕ). put (suc l.births) (Some n) names.number (f h) ≡ Some h) (sym birth_of) (number h (nat_eq h n) refl some);
@@ -94,7 +86,7 @@ module _ (names : Names) (s : Holdings) (l : Ledger) (are : AreNamed names s l) 
       not_zero : nat_eq 0 n ≡ false
       not_zero =
           let one : nat_le 1 n ≡ true = first (nat_le 1 n) (nat_lt n (2 ^ 32)) (is_none (s.standing n)) new in
-          apart 0 n (λ e. let z : nat_le 1 0 ≡ true = subst (λ (k : ℕ). nat_le 1 k ≡ true) (sym e) one in absurd cc)
+          ne_eqb 0 n (λ e. let z : nat_le 1 0 ≡ true = subst (λ (k : ℕ). nat_le 1 k ≡ true) (sym e) one in absurd cc)
 
       number : (h : ℕ) (b : Bool) → nat_eq h n ≡ b → is_some (put n (Some standing) s.standing h) ≡ true
           → put (suc l.births) (Some n) names.number (put n (suc l.births) l.birth_of h) ≡ Some h
@@ -113,7 +105,7 @@ module _ (names : Names) (s : Holdings) (l : Ledger) (are : AreNamed names s l) 
   freed_named h x stood = record {
     heap = put_there (l.birth_of h) 0 None names.number not_zero ∙ are.heap;
     heap_birth = are.heap_birth;
-    no_heap = put_there h 0 None s.standing (apart 0 h (not_heap h x stood)) ∙ are.no_heap;
+    no_heap = put_there h 0 None s.standing (ne_eqb 0 h (not_heap h x stood)) ∙ are.no_heap;
     numbers = λ k some. number k (nat_eq k h) refl some;
     low = are.low;
     blocks = λ at room owned. are.blocks at room (block at room (is_of h (s.owner at)) refl owned);
@@ -124,15 +116,15 @@ module _ (names : Names) (s : Holdings) (l : Ledger) (are : AreNamed names s l) 
       live = ap is_some stood
 
       not_zero : nat_eq 0 (l.birth_of h) ≡ false
-      not_zero = apart 0 (l.birth_of h)
-          (λ e. not_heap h x stood (some_same 0 h (sym are.heap ∙ ap names.number e ∙ are.numbers h live)))
+      not_zero = ne_eqb 0 (l.birth_of h)
+          (λ e. not_heap h x stood (same_Some 0 h (sym are.heap ∙ ap names.number e ∙ are.numbers h live)))
 
       number : (k : ℕ) (b : Bool) → nat_eq k h ≡ b → is_some (put h None s.standing k) ≡ true → put (l.birth_of h) None names.number (l.birth_of k) ≡ Some k
       number k true e some = absurd (let z : false ≡ true = rw e at some in cc)
       number k false e some =
           let was : is_some (s.standing k) ≡ true = rw e at some in
           let other : nat_eq (l.birth_of k) (l.birth_of h) ≡ false =
-          apart (l.birth_of k) (l.birth_of h) (λ f. let z = apart_births k h was live f in
+          ne_eqb (l.birth_of k) (l.birth_of h) (λ f. let z = apart_births k h was live f in
           let y : nat_eq h h ≡ false = subst (λ (j : ℕ). nat_eq j h ≡ false) z e in absurd (let w : true ≡ false = sym (same h) ∙ y in cc)) in
           put_there (l.birth_of h) (l.birth_of k) None names.number other ∙ are.numbers k was
 
@@ -146,7 +138,7 @@ module _ (names : Names) (s : Holdings) (l : Ledger) (are : AreNamed names s l) 
   turned_named h x now stood = record {
     heap = are.heap;
     heap_birth = are.heap_birth;
-    no_heap = put_there h 0 (Some now) s.standing (apart 0 h (not_heap h x stood)) ∙ are.no_heap;
+    no_heap = put_there h 0 (Some now) s.standing (ne_eqb 0 h (not_heap h x stood)) ∙ are.no_heap;
     numbers = λ k some. number k (nat_eq k h) refl some;
     low = are.low;
     blocks = are.blocks;
@@ -222,8 +214,8 @@ module _ (names : Names) (s : Holdings) (l : Ledger) (are : AreNamed names s l) 
           let was : s.owner q ≡ Some (Alone q of) = rw e at owns in
           let other : nat_eq q at ≡ false = sym (ap (is_alone at) was) ∙ e in
           let differs : nat_eq (l.alone_birth q) (l.alone_birth at) ≡ false =
-          apart (l.alone_birth q) (l.alone_birth at) (λ f.
-          let z = some_same q at (sym (are.blocks q of was) ∙ ap names.address f ∙ are.blocks at room owned) in
+          ne_eqb (l.alone_birth q) (l.alone_birth at) (λ f.
+          let z = same_Some q at (sym (are.blocks q of was) ∙ ap names.address f ∙ are.blocks at room owned) in
           let y : nat_eq at at ≡ false = subst (λ (j : ℕ). nat_eq j at ≡ false) z other in absurd (let w : true ≡ false = sym (same at) ∙ y in cc)) in
           put_there (l.alone_birth at) (l.alone_birth q) None names.address differs ∙ are.blocks q of was
 

@@ -1,7 +1,6 @@
 -- What the forms of expressions do, by what their parts do.
-use Rattle.std.proofs.Common.{Bool, List, [], ap, arith, false, length, map, refl, subst, suc, sym, true, ℕ, ◌≤◌, ◌∙◌, ◌∷◌, ◌≡◌}
+use Rattle.std.proofs.Common.{Bool, List, [], ap, arith, false, length, map, refl, subst, sym, true, ◌≤◌, ◌∙◌, ◌∷◌, ◌≡◌}
 use Rattle.std.specs.Prelude.{IfOk, Result, ◌==◌}
-use Rattle.std.proofs.lemmas.Bool.{eqb-true}
 use Rattle.std.proofs.lemmas.List.{length-map}
 use Rattle.std.specs.Vec.{vec_len}
 use Rattle.std.specs.declared.alloc.Global.{Global}
@@ -23,13 +22,11 @@ use Rattle.flow_effects.specs.declared.used.Usage.{Usage}
 use Rattle.flow_effects.specs.declared.used.Used.{Used}
 use Rattle.flow_check.proofs.Folds.{all_passed, links_after, suffixes_shortly, tests_after}
 use Rattle.flow_check.specs.Folded.{all_short_uses, passed_all, passed_links, passed_tests}
+use Rattle.check_types.proofs.Places.{some_there}
 
 -- whether a vector has items, from the test of its length
 pub tested_length : {A : Type 0} (v : Vec A Global) (b : Bool) → b ≡ (vec_len v == 0) → (length v.items == 0) ≡ b
 tested_length v b test = ap (λ n. n == 0) (sym v.ok.0) ∙ sym test
-
-not_none : (n : ℕ) → (suc n == 0) ≡ true → ⊥
-not_none n h = let e : suc n ≡ 0 = eqb-true (suc n) 0 h in absurd (omega (arith, e))
 
 module _ (g : Env) where
   -- what a function answers of a phrase that it takes apart
@@ -70,16 +67,16 @@ module _ (g : Env) where
   pub chain_alone : (e : Expression) (ls : List code_link.Link) → (length ls == 0) ≡ true
       → uses_of g (Expression.Chain e (links_of (map link_tree ls))) ≡ uses_of g e
   chain_alone e [] h = refl
-  chain_alone e (l ∷ ls) h = absurd (not_none (length ls) h)
+  chain_alone e (l ∷ ls) h = absurd (some_there (length ls) h)
 
   pub tested_alone : (u : Uses) (es : List code.Expression) → (length es == 0) ≡ true → uses_tests g u (expressions_of (map expression_tree es)) ≡ u
   tested_alone u [] h = refl
-  tested_alone u (e ∷ es) h = absurd (not_none (length es) h)
+  tested_alone u (e ∷ es) h = absurd (some_there (length es) h)
 
   pub suffixed_alone : (e : Expression) (xs : List code_suffix.Suffix) → (length xs == 0) ≡ true
       → uses_of g (Expression.Suffixed e (suffixes_of (map suffix_tree xs))) ≡ uses_of g e
   suffixed_alone e [] h = refl
-  suffixed_alone e (x ∷ xs) h = absurd (not_none (length xs) h)
+  suffixed_alone e (x ∷ xs) h = absurd (some_there (length xs) h)
 
   -- ---- calls
 

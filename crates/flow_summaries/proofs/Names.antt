@@ -1,5 +1,6 @@
 -- What is done to one local, by its name and by its number.
 use Rattle.std.specs.Prelude.{bytes_eq, length, ◌<◌, ◌≤◌, if◌then◌else◌}
+use Rattle.std.proofs.lemmas.Option.{same_Some}
 use Rattle.std.proofs.Common.{◌≡◌, ℕ, zero, suc, Bool, true, false, Option, Some, None, List, [], ◌∷◌, refl, sym, ap, ap₂, ◌∙◌, arith}
 use Rattle.source_typing.specs.Faults.{Fault, earliest}
 use Rattle.source_typing.specs.Scope.{Local, find_local}
@@ -157,9 +158,6 @@ does_assign ls x = does_use ls x need_unlent Held Holds (if_lent x.at) (λ b. re
 pub lent_anyway : (a : State) → unless_lent a Lent ≡ Lent
 lent_anyway = elim [ Plain ↦ refl | _ ↦ refl ]
 
-same_number : (i j : ℕ) → Some i ≡ Some j → i ≡ j
-same_number i j q = cc
-
 module _ (x : List ℕ) (i : ℕ) where
   -- what was lent before stays lent
   pub lent_already : (ls : List Local) (d : Effects) (s : States) → number_of ls x ≡ Some i → state_of ls x s ≡ Lent
@@ -179,7 +177,7 @@ module _ (x : List ℕ) (i : ℕ) where
       by true q h others below =
           ap (λ a. a ∷ states_after m d s) (lent_stays (d m) ∙ sym (ap (λ a. becomes Holds a) h))
           ∙ sym (states_at_number m Holds d b s)
-          ∙ ap (λ j. states_after (suc m) (with_number j Holds d) (b ∷ s)) (same_number m i q)
+          ∙ ap (λ j. states_after (suc m) (with_number j Holds d) (b ∷ s)) (same_Some m i q)
       by false q h others below =
           let less : IsBelow m (Some i) = subst_below q below in
           ap₂ (λ k t. becomes k b ∷ t) (sym (number_other i m Holds d (λ e. omega (arith, e, less)))) (others q h)
@@ -207,7 +205,7 @@ module _ (x : List ℕ) (i : ℕ) where
           ap (λ (t : Bool). if t then Held ∷ states_after m d s else becomes (d m) Lent ∷ with_state ls x Held (states_after m d s)) p
           ∙ ap (λ a. a ∷ states_after m d s) (sym h)
           ∙ sym (states_at_number m Holds d b s)
-          ∙ ap (λ j. states_after (suc m) (with_number j Holds d) (b ∷ s)) (same_number m i q)
+          ∙ ap (λ j. states_after (suc m) (with_number j Holds d) (b ∷ s)) (same_Some m i q)
       by false p q h others below =
           let less : i < m = subst_below q below in
           let inner : States = states_after m d (with_state ls x Lent s) in
@@ -248,7 +246,7 @@ module _ (x : List ℕ) (i : ℕ) where
         by true q others below =
             lent_by (c m).lent (caused_in m c s) b
             ∙ sym (caused_at_number m (lent_from at (c m).lent) c b s)
-            ∙ ap (λ j. caused_in (suc m) (with_number j (lent_from at (c j).lent) c) (b ∷ s)) (same_number m i q)
+            ∙ ap (λ j. caused_in (suc m) (with_number j (lent_from at (c j).lent) c) (b ∷ s)) (same_Some m i q)
         by false q others below =
             let less : i < m = subst_below q below in
             let own : Option CodeFault = need (state_of ls x s) in

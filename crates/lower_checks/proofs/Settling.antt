@@ -8,7 +8,6 @@ use Rattle.std.proofs.Common.{
   ◌*◌,
   ◌/◌,
   ◌%◌,
-  ◌^◌,
   ℕ,
   Bool,
   true,
@@ -49,7 +48,6 @@ use Rattle.source_meaning.specs.Shapes.{
   Shape,
   ThinShape,
   FatShape,
-  VoidShape,
   base_shape,
   first_owner,
   owner_of,
@@ -62,6 +60,7 @@ use Rattle.source_meaning.specs.Shapes.{
 }
 use Rattle.lower_checks.specs.Given.{bit_of, given_by, given_inwards, given_to, is_given, is_unique, owner_given, pointed_given}
 use Rattle.lower_checks.proofs.Pointers.{last_apart, outer_given, outer_pointed}
+use Rattle.accepted_proof.proofs.Owners.{by_void}
 
 -- ---- owners
 
@@ -97,10 +96,6 @@ not_null_owner (Some (tree.Unique at)) by = alone_stays by
 not_null_owner (Some (tree.Named name)) by = shared_stays by
 
 -- ---- shapes
-
-by_void : (s : Shape) → settled_by s VoidShape ≡ settled s
-by_void (ThinShape n owner to) = refl
-by_void s = refl
 
 base_settles : (b : Base) (by : Shape) → settled (base_shape b) ≡ settled_by (base_shape b) by
 base_settles (tree.Struct tag arguments) by = refl

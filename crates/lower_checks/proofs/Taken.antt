@@ -1,18 +1,13 @@
 -- What is taken can be a local.
-use Rattle.std.proofs.Common.{◌≡◌, ℕ, suc, sym, subst, List, [], ◌∷◌, ◌++◌, map}
-use Rattle.cyc_tree.specs.Tree as tree
-use Rattle.cyc_tree.specs.Tree.{BlockItems, NoItems, Declare, Execute, Initial, Member}
+use Rattle.std.proofs.Common.{◌≡◌, ℕ, sym, subst, List, [], ◌∷◌, ◌++◌, map}
+use Rattle.cyc_tree.specs.Tree.{Initial, Member}
 use Rattle.source_meaning.specs.Shapes.{Shape, ArrayShape, Layout, part_of, part_shapes, written, settled}
 use Rattle.source_meaning.specs.Programs.{global_shape}
-use Rattle.source_meaning.specs.Steps.{World}
-use Rattle.source_lowering.specs.Lowered.{Named}
-use Rattle.source_lowering.specs.Programs.{block_shapes, names_behind}
-use Rattle.source_lowering.specs.Lowerable.{AreWords, IsObject, TakesItems}
-use Rattle.source_lowering.proofs.statements.EachDeclaration.{shape_object}
+use Rattle.source_lowering.specs.Lowerable.{AreWords, IsObject}
 use Rattle.source_lowering.proofs.values.Integers.{value_object}
 use Rattle.source_lowering.proofs.memory.ObjectShapes.{object_named}
 use Rattle.source_lowering.proofs.statements.WrittenTypes.{value_settled}
-use Rattle.lower_checks.specs.Structs.{AreVariables}
+use Rattle.source_lowering.specs.Objects.{AreVariables}
 use Rattle.lower_checks.specs.Views.{shape_tree}
 use Rattle.lower_checks.specs.declared.shape.Shape as code_shape
 use Rattle.lower_checks.specs.declared.shape.Shape.TheVariants as shape
@@ -48,13 +43,6 @@ array_global unions structs (Initial.Elements n) s count of is object =
 array_global unions structs (Initial.Given c) s count of is object = absurd (subst (λ (z : Shape). IsObject unions structs z) (sym is) object)
 
 -- ---- locals
-
-pub block_variables : (w : World) (result : Shape) (names : List Named) (index : ℕ) (items : BlockItems) → TakesItems w result names index items
-    → AreVariables w.unions w.structs (block_shapes w names index items)
-block_variables w result names index NoItems h = tt
-block_variables w result names index (Declare d others) h =
-    (shape_object w names d h.0, block_variables w result (names_behind w names index d) (suc index) others h.1)
-block_variables w result names index (Execute s others) h = block_variables w result names index others h.1
 
 -- the parameters of a function, and further locals
 pub parameter_variables : (unions structs : List Layout) (ms : List Member) (ss : List Shape) → AreWords ms → AreVariables unions structs ss

@@ -10,6 +10,7 @@ use Rattle.source_meaning.specs.Steps.{World}
 use Rattle.core_meaning.specs.Memory.{Blank, PartShape}
 use Rattle.core_meaning.specs.Memory as memory
 use Rattle.source_lowering.specs.Layouts.{has_fat, is_fat, layout_of, padding, part_shape_of, union_pieces}
+use Rattle.source_lowering.proofs.UnionSizes.{IsSmall, value_size, word_small}
 use Rattle.cyc_core.specs.Trees.{cell_bytes, made_parts, part_layout}
 use Rattle.lower_checks.specs.Cells.{cell_for}
 use Rattle.lower_checks.specs.Unions.{AreCells, AreUnionsLaid, HaveCells, Union, cell_by, first_union, union_room, union_tree, union_with}
@@ -17,19 +18,7 @@ use Rattle.lower_checks.specs.declared.unions.Union as code
 
 -- ---- a member
 
-abbrev value_size : Shape → ℕ
-value_size s = (extent_by no_extent no_extent s).size
-
--- a fat pointer has 12 bytes, and another value at most 4
-record IsSmall (s : Shape) : Type 0 where
-  some : 1 ≤ value_size s
-  few : value_size s ≤ 12
-  word : is_fat s ≡ false → value_size s ≤ 4
-  fat : is_fat s ≡ true → 12 ≤ value_size s
-
-word_small : (s : Shape) → is_fat s ≡ false → 1 ≤ value_size s → value_size s ≤ 4 → IsSmall s
-word_small s thin some few = record { some = some; few = omega (arith, few); word = λ e. few; fat = λ e. absurd (true≢false (sym e ∙ thin)) }
-
+-- it has a word at most, or is a fat pointer
 cell_small : (s : Shape) → is_some (cell_for s) ≡ true → IsSmall s
 cell_small IntShape h = word_small IntShape refl (omega arith) (omega arith)
 cell_small UnsignedShape h = word_small UnsignedShape refl (omega arith) (omega arith)

@@ -5,7 +5,6 @@ use Rattle.cyc_tree.specs.View.{member_tree}
 use Rattle.source_meaning.specs.Shapes.{Shape, CharShape, FatShape, StructShape, UnionShape, Part, Layout, part_of, parts_of, has_tag}
 use Rattle.source_meaning.specs.Sizes.{Extent, rounded_up, struct_cells, struct_extent}
 use Rattle.source_meaning.specs.Placing.{Placed, struct_placed}
-use Rattle.source_lowering.specs.Lowerable.{IsVariable}
 use Rattle.cyc_core.specs.Trees.{bytes_of, cell_bytes}
 use Rattle.cyc_core.specs.declared.layout.CellLayout.{CellLayout}
 use Rattle.cyc_core.specs.declared.operation.Cell.{Cell}
@@ -65,11 +64,6 @@ HasRoom unions structs s = (is_some (cell_in unions s) ≡ true)
 abbrev pub HaveRoom : (unions structs : List Layout) → List Part → Type 0
 HaveRoom unions structs [] = Unit {0}
 HaveRoom unions structs (p ∷ ps) = HasRoom unions structs p.shape × HaveRoom unions structs ps
-
--- what names stand for
-abbrev pub AreVariables : (unions structs : List Layout) → List Shape → Type 0
-AreVariables unions structs [] = Unit {0}
-AreVariables unions structs (s ∷ ss) = IsVariable unions structs s × AreVariables unions structs ss
 
 -- ---- what is known of one struct
 

@@ -8,7 +8,7 @@ ghost use Rattle.source_meaning.specs.Shapes.{StructShape, UnionShape, has_tag};
 ghost use Rattle.source_lowering.specs.Layouts.{layout_of, local_of};
 ghost use Rattle.source_lowering.specs.Programs.{locals_of};
 ghost use Rattle.source_lowering.specs.Lowerable.{AreObjects, IsObject, IsWholeShape, IsVariable};
-ghost use Rattle.lower_checks.specs.Structs.{AreVariables};
+ghost use Rattle.source_lowering.specs.Objects.{AreVariables};
 ghost use Rattle.lower_checks.specs.Views.{shape_tree, stored_tree};
 ghost use Rattle.lower_checks.specs.Refusals.{NeverRefused};
 ghost use Rattle.lower_checks.specs.Writing.{Emits, IsSound};

@@ -108,8 +108,7 @@ fn lower_known(alloc: Global, program: &Table<'_>) -> Result<Program, LowerFault
     })
 }
 
-/// The Core of a program's tree, which has nothing else than functions, globals and locals of integers, of structs, of tagged unions, of
-/// handles, of pointers to these and of arrays of them, strings, the heap and lexical regions, and arrays that are made there.
+/// The Core of a program's tree.
 fn lower_tree(alloc: Global, program: &Source) -> Result<Program, LowerFault>
     requires taken { IsLowerable program.now }
     ensures code { IfOk result (λ core. program_tree core ≡ program_code program.now) }

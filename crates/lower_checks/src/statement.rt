@@ -9,7 +9,7 @@ ghost use Rattle.source_lowering.specs.Lowered.{all_of, expression_code, express
 ghost use Rattle.source_lowering.specs.Programs.{block_shapes, item_values, items_code, locals_of, outward, statement_code, statement_values};
 ghost use Rattle.source_lowering.specs.Lowerable.{Takes, TakesItems, TakesStatement};
 ghost use Rattle.lower_checks.specs.Scoped.{names_in, world_in};
-ghost use Rattle.lower_checks.specs.Structs.{AreVariables};
+ghost use Rattle.source_lowering.specs.Objects.{AreVariables};
 ghost use Rattle.lower_checks.specs.Views.{regions_tree, shape_tree, stored_tree};
 ghost use Rattle.lower_checks.specs.Visible.{declared as declared_as, left, names_of};
 ghost use Rattle.lower_checks.specs.Writing.{Emits, IsApart, IsSound, Stays, Writes, next_of};

@@ -55,17 +55,17 @@ union_of (l ∷ ls) tag h e = by (bytes_eq l.tag tag) refl (λ f. union_of ls ta
 
 -- ---- the largest member
 
-abbrev value_size : Shape → ℕ
+abbrev pub value_size : Shape → ℕ
 value_size s = (extent_by no_extent no_extent s).size
 
 -- a fat pointer has 12 bytes, and another value at most 4
-record IsSmall (s : Shape) : Type 0 where
-  some : 1 ≤ value_size s
-  few : value_size s ≤ 12
-  word : is_fat s ≡ false → value_size s ≤ 4
-  fat : is_fat s ≡ true → 12 ≤ value_size s
+pub record IsSmall (s : Shape) : Type 0 where
+  pub some : 1 ≤ value_size s
+  pub few : value_size s ≤ 12
+  pub word : is_fat s ≡ false → value_size s ≤ 4
+  pub fat : is_fat s ≡ true → 12 ≤ value_size s
 
-word_small : (s : Shape) → is_fat s ≡ false → 1 ≤ value_size s → value_size s ≤ 4 → IsSmall s
+pub word_small : (s : Shape) → is_fat s ≡ false → 1 ≤ value_size s → value_size s ≤ 4 → IsSmall s
 word_small s thin some few = record { some = some; few = omega (arith, few); word = λ e. few; fat = λ e. absurd (true≢false (sym e ∙ thin)) }
 
 value_small : (s : Shape) → IsValueShape s → IsSmall s

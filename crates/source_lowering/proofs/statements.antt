@@ -13,6 +13,7 @@ pub mod ExchangingUnions
 pub mod Exchanges
 pub mod WrittenTypes
 pub mod EachDeclaration
+pub mod BlockVariables
 pub mod EachRun
 pub mod EachStatement
 pub mod UnionReads

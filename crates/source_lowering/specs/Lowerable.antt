@@ -1,5 +1,4 @@
--- Which programs lowering takes: functions, globals and locals of integers, of structs, of tagged unions, of handles, of keys, of pointers to these and of
--- arrays of them, with the heap, lexical and dynamic regions and arrays that are made there, by the forms of the tree and by shapes.
+-- Of which programs lowering is proved, by the forms of the tree and by shapes. Each accepted program is one.
 use Rattle.std.specs.Prelude.{◌≡◌, ◌<◌, ◌^◌, ℕ, suc, ◌+◌, Bool, true, false, Some, None, List, [], ◌∷◌, length}
 use Rattle.cyc_tree.specs.declared.expression.Prefix.{Prefix}
 use Rattle.cyc_tree.specs.declared.expression.Prefix.TheVariants as prefix
@@ -337,7 +336,7 @@ abbrev pub AreStrings : List Literal → Type 0
 AreStrings [] = Unit {0}
 AreStrings (s ∷ ss) = (length s.1 + 1 < 2 ^ 32) × AreStrings ss
 
--- the forms that are taken, unions, structs one after the other, and strings
+-- its items are such, its unions and structs are laid out one after the other, and a word counts its strings
 pub record IsLowerable (p : Program) : Type 0 where
   pub items : TakesProgram (world_of p) p
   pub unions : AreUnions (world_of p).unions

@@ -54,6 +54,10 @@ abbrev pub IsVariable : (unions structs : List Layout) → Shape → Type 0
 IsVariable unions structs (ArrayShape count of) = (count < 2 ^ 32) × IsObject unions structs of
 IsVariable unions structs s = IsObject unions structs s
 
+abbrev pub AreVariables : (unions structs : List Layout) → List Shape → Type 0
+AreVariables unions structs [] = Unit {0}
+AreVariables unions structs (s ∷ ss) = IsVariable unions structs s × AreVariables unions structs ss
+
 abbrev pub AreObjects : (unions structs : List Layout) → List Shape → Type 0
 AreObjects unions structs [] = Unit {0}
 AreObjects unions structs (s ∷ ss) = IsObject unions structs s × AreObjects unions structs ss

@@ -3,11 +3,10 @@
 //! specs/Lowered has the code of expressions, from the pieces in specs/Members, specs/Pieces and specs/Operators,
 //! specs/Whole that of expressions as statements, specs/Exchanges that of `a :=: b`, specs/Leaving that of ways out of
 //! regions, specs/Data the globals and strings, and specs/Programs the code of statements, functions and programs.
-//! specs/Lowerable says which programs are taken: those of functions, strings, arrays that are made, and globals and locals
-//! of integers, of structs, of tagged unions, of handles, of keys, of thin, fat and unique pointers to these, with their
-//! aliases, and of arrays of them (specs/Objects has their shapes and types, specs/Taken the constants). specs/Agreeing has
-//! what is proved of these, `programs_are_the_same`, by the relation in specs/Memories and specs/Simulation, and
-//! specs/Bounds the bounds on frames and code. There is no code but these laws.
+//! specs/Lowerable says of which programs that is proved: each accepted program is one (specs/Objects has the shapes and
+//! types of variables, specs/Taken the constants). specs/Agreeing has what is proved of these, `programs_are_the_same`, by
+//! the relation in specs/Memories and specs/Simulation, and specs/Bounds the bounds on frames and code. There is no code but
+//! these laws.
 //! Stands on `source_meaning` and `core_meaning`.
 #![tactic(auto)]
 

@@ -3,7 +3,7 @@
 //!
 //! `tokens_pay` says that a text has a token for each piece that the bound on its code counts, and
 //! `spelled_has_operands` that no text's tree is refused for want of operands. There is no code but
-//! these laws. Stands on the grammar of `cyc_parser` and on the bounds of `source_lowering`.
+//! these laws. Stands on the grammar of `source_grammar` and on the bounds of `source_lowering`.
 #![tactic(auto)]
 
 mod laws;

@@ -4,11 +4,7 @@
 //! their expressions, specs/Flat what the cells of a type are, and specs/Structs how structs are
 //! laid out. proofs/Invariant says, once for the whole language, when a memory is well formed: each
 //! cell holds a value of its type, and each right is held once. Above it stand the steps that keep
-//! it so, and the runs that are never stuck. This is proved of the whole language: of functions,
-//! globals and locals of integers, of pointers, thin, fat and unique, of handles, of keys, of structs
-//! and tagged unions, and of arrays of these, with strings, with region parameters, effects and
-//! bounds, with lexical regions, with `new` and `rnew`, of one value and of arrays, with `switch`,
-//! with `:=:`, `ufree` and `let alias`, and with dynamic regions: `new_ukey`, `open` and `free_ukey`.
+//! it so, and the runs that are never stuck. This is proved of the whole language.
 //! Stands on the rules of `source_typing` and on the meaning of `source_meaning`.
 #![tactic(auto)]
 

@@ -40,12 +40,6 @@ is_place bytes =
     (record { class = refl; place = refl; size = refl }) (record { class = refl; place = refl; size = refl })
     (record { class = refl; place = refl; size = refl }) (record { class = refl; place = refl; size = refl })
 
-pub class_again : (bytes : ℕ) → class_of (class_of bytes) ≡ class_of bytes
-class_again bytes = (is_place bytes).class
-
-pub place_again : (bytes : ℕ) → place_of (class_of bytes) ≡ place_of bytes
-place_again bytes = (is_place bytes).place
-
 -- classes at one place are one
 pub place_own : (c d : ℕ) → class_of c ≡ c → class_of d ≡ d → place_of d ≡ place_of c → d ≡ c
 place_own c d e f g = sym f ∙ sym (is_place d).size ∙ ap size_at g ∙ (is_place c).size ∙ e

@@ -48,9 +48,6 @@ use Rattle.unique_blocks.proofs.Steps.{pool_alone}
 -- ---- a block is asked for
 
 module _ (h : Holdings) (bytes : ℕ) where
-  pub too_long : 4096 < bytes → is_too_long bytes ≡ true
-  too_long l = grind (arith, nat_tests)
-
   pub short : bytes ≤ 4096 → is_too_long bytes ≡ false
   short l = grind (arith, nat_tests)
 
@@ -63,19 +60,6 @@ module _ (h : Holdings) (bytes : ℕ) where
       is_lawful_room h at (class_of bytes) ≡ true → (after : Holdings) → after ≡ with_alone at (class_of bytes) h →
       Does (Ok at) after (unique_alloc bytes (Grants at) h)
   granted at l f r after e = rw (l, f, r) (record { says = refl; holds = e })
-
-  pub full_here : is_full_for_slot bytes h.counts ≡ true → (after : Holdings) → after ≡ h → Does (Err Full) after (unique_alloc bytes Refuses h)
-  full_here f after e = rw f (record { says = refl; holds = e })
-
-  pub full_long : is_too_long bytes ≡ true → is_full_for_slot bytes h.counts ≡ true
-  full_long l = rw l refl
-
-  pub full_needs : slot_needs_page (class_of bytes) h.counts ≡ true → is_full h.counts ≡ true → is_full_for_slot bytes h.counts ≡ true
-  full_needs n f = rw (n, f) (or_true (is_too_long bytes))
-    where
-      or_true : (b : Bool) → (b || true) ≡ true
-      or_true true = refl
-      or_true false = refl
 
 -- a slot on a page that was cut for it
 pub after_cut : (h : Holdings) (c at : ℕ) → slot_needs_page c h.counts ≡ true → slot_needs_page c (with_page_of c h).counts ≡ false →
@@ -107,12 +91,6 @@ pub none_freed : (at : ℕ) (o : Option Owner) (h after : Holdings) → is_alone
 none_freed at None h after e f = record { says = refl; holds = f }
 none_freed at (Some (Region r)) h after e f = record { says = refl; holds = f }
 none_freed at (Some (Alone b room)) h after e f = rw e (record { says = refl; holds = f })
-
-pub one_freed : (at room : ℕ) (o : Option Owner) (h after : Holdings) → o ≡ Some (Alone at room) → after ≡ without_alone at room h →
-    Does (Ok 0) after (frees_alone at o h)
-one_freed at room o h after e f =
-    let own : nat_eq at at ≡ true = grind (arith, nat_tests) in
-    subst (λ o. Does (Ok 0) after (frees_alone at o h)) (sym e) (rw own (record { says = refl; holds = f }))
 
 module _ (p : Pooled) (at : ℕ) where
   abbrev s : Slots
@@ -166,16 +144,6 @@ module _ (p : Pooled) (at : ℕ) where
 
       pub begins_at : place_at at % c ≡ 0 → address_of (page_at at) c (place_at at / c) ≡ at
       begins_at e = let d = div-add-mod' (place_at at) c in let l = above in omega (arith, d, e, l)
-
--- ---- whether an address is live
-
-pub live_either : (p : Pooled) (at : ℕ) → (if is_live_in (pool.held p) at then true else is_some (alone_at (slots_of p) at)) ≡ is_live_in
-    (joined (slots_of p) (pool.held p)) at
-live_either p at = by_owner ((pool.held p).owner at)
-  where
-    by_owner : (o : Option Owner) → (if is_some o then true else is_some (alone_at (slots_of p) at)) ≡ is_some (either_owner o (alone_at (slots_of p) at))
-    by_owner None = refl
-    by_owner (Some x) = refl
 
 -- ---- a block that was asked for
 

@@ -79,17 +79,6 @@ lift_if s false x y = refl
 -- ---- a region is made
 
 module _ (s : Slots) (h : Holdings) where
-  makes_lifted : (standing : Standing) (a : Answer) → makes standing a (joined s h) ≡ lifted s (makes standing a h)
-  makes_lifted standing (Grants n) =
-      lift_if s (is_new_number h n) (record { says = Ok n; after = with_number n standing h }) (refuses Full h)
-  makes_lifted standing Refuses = refl
-  makes_lifted standing Lacks = refl
-
-  pub new_lifted : (a : Answer) → region_new a (joined s h) ≡ lifted s (region_new a h)
-  new_lifted a =
-      ap (λ d. if is_full h.counts then lifted s (refuses Full h) else d) (makes_lifted Lexical a)
-      ∙ lift_if s (is_full h.counts) (refuses Full h) (makes Lexical a h)
-
   -- ---- a region is freed
   module _ (apart : (q : ℕ) → is_none (h.owner q) ≡ false → alone_at s q ≡ None) (alones : (q r : ℕ) → is_of r (alone_at s q) ≡ false) where
     freed_owner : (n q : ℕ) → without_blocks n (λ q. either_owner (h.owner q) (alone_at s q)) q ≡ either_owner (without_blocks n h.owner q) (alone_at s q)

@@ -74,9 +74,6 @@ module _ (s : Slots) (p c k : ℕ) (class : IsClass c) (of_class : s.class p ≡
       let n = class.eights in let d : c ≡ 8 * (c / 8) = omega (arith, n) in
       let m : k * c ≡ k * (8 * (c / 8)) = ap (λ x. k * x) d in omega (arith, m)
 
-  pub at_page : page_at at ≡ p
-  at_page = let l = ends in let m = some in omega (arith, l, m)
-
   pub at_place : place_at at ≡ k * c
   at_place = let l = ends in let m = some in omega (arith, l, m)
 

@@ -50,14 +50,6 @@ times_none q = refl
 pub class_some : (c : ℕ) → class_of c ≡ c → IsClass c
 class_some c e = subst IsClass e (class_is c)
 
-pub class_low : (c : ℕ) → class_of c ≡ c → c ≤ 4096
-class_low c e =
-    let i = class_some c e in let w = i.whole in let s = i.some in by_few (4096 / c) refl w
-  where
-    by_few : (n : ℕ) → 4096 / c ≡ n → 4096 / c * c ≡ 4096 → c ≤ 4096
-    by_few zero e w = absurd (let z : zero * c ≡ 4096 = ap (λ n. n * c) (sym e) ∙ w in omega (arith, z))
-    by_few (suc n) e w = let z : suc n * c ≡ 4096 = ap (λ n. n * c) (sym e) ∙ w in grind (arith, z)
-
 pub slots_some : (c : ℕ) → class_of c ≡ c → 0 < 4096 / c
 slots_some c e = by_few (4096 / c) refl (class_some c e).whole
   where

@@ -104,9 +104,6 @@ module _ (word : ℕ → ℕ → ℕ) (p k v : ℕ) (b : Bool) (low : k < 128) (
   bit_by false e true false q j d n m o = rw (d, m, o) refl
   bit_by false e false false q j d n m o = rw (d, m) refl
 
-  other_field : (f : ℕ) → nat_eq f 4 ≡ true → nat_eq f (5 + k / 32) ≡ false
-  other_field f e = grind (arith, nat_tests)
-
   kept : (q f : ℕ) → nat_eq f (5 + k / 32) ≡ false → after q f ≡ word q f
   kept q f n = rw n refl
 

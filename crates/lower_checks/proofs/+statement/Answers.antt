@@ -72,7 +72,7 @@ use Rattle.source_lowering.specs.Programs.{
   unique_free,
 }
 use Rattle.source_lowering.specs.Lowerable.{AreValues, IsMember, IsUnionShape, IsVariable, TakesClauses, TakesItems, TakesPlace, TakesStatement}
-use Rattle.lower_checks.specs.Structs.{AreVariables}
+use Rattle.source_lowering.specs.Objects.{AreVariables}
 use Rattle.lower_checks.specs.Views.{regions_tree, shape_tree, stored_tree}
 use Rattle.lower_checks.specs.Visible.{Declared, names_of, left as left_of}
 use Rattle.lower_checks.specs.Writing.{IsApart, IsEmitted, IsLeft, IsSound, IsWritten, code_of, next_of, values_of}
@@ -99,7 +99,7 @@ use Rattle.lower_checks.proofs.Clauses.{
   member_variable,
   switch_written,
 }
-use Rattle.lower_checks.proofs.Taken.{block_variables}
+use Rattle.source_lowering.proofs.statements.BlockVariables.{block_variables}
 use Rattle.lower_checks.proofs.Writing.{
   apart_apart,
   apart_emit,

@@ -1,4 +1,4 @@
--- A program of each taken form: it is taken, and Core's run of its code is computed.
+-- A program of integers and functions: it is taken, and Core's run of its code is computed.
 use Rattle.std.proofs.Common.{◌≡◌, arith, false, Some, None, List, [], ◌∷◌, ◌++◌, refl}
 use Rattle.cyc_tree.specs.declared.expression.Operator.TheVariants.{Less, Add, Multiply, Divide, Equal, GreaterEqual}
 use Rattle.cyc_tree.specs.declared.expression.Prefix.TheVariants.{Not, Dereference, AddressOf}

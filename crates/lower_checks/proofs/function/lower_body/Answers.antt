@@ -7,11 +7,12 @@ use Rattle.source_meaning.specs.Programs.{world_of, routine_of}
 use Rattle.source_lowering.specs.Lowered.{Named}
 use Rattle.source_lowering.specs.Programs.{RegionsAround, no_regions, block_shapes, locals_of, parameter_names, parameters_code, item_values, items_code, end_code}
 use Rattle.source_lowering.specs.Lowerable.{TakesItems}
-use Rattle.lower_checks.specs.Structs.{AreVariables}
+use Rattle.source_lowering.specs.Objects.{AreVariables}
 use Rattle.lower_checks.specs.Views.{regions_tree, shape_tree, stored_tree}
 use Rattle.lower_checks.specs.Visible.{names_of}
 use Rattle.lower_checks.specs.Writing.{code_of, next_of, values_of}
-use Rattle.lower_checks.proofs.Taken.{block_variables, parameter_variables}
+use Rattle.source_lowering.proofs.statements.BlockVariables.{block_variables}
+use Rattle.lower_checks.proofs.Taken.{parameter_variables}
 use Rattle.lower_checks.proofs.Bodies.{all_parameters, as_many_shapes, body_shapes, inside_of, body_of}
 use Rattle.lower_checks.proofs.function.lower_body.Goals as goal
 

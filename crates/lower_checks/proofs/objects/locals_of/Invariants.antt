@@ -2,7 +2,7 @@ use Rattle.std.proofs.Common.{◌≡◌, ◌++◌, map, drop}
 use Rattle.source_meaning.specs.Programs.{world_of}
 use Rattle.source_lowering.specs.Programs.{locals_of}
 use Rattle.cyc_core.specs.Trees.{local_tree}
-use Rattle.lower_checks.specs.Structs.{AreVariables}
+use Rattle.source_lowering.specs.Objects.{AreVariables}
 use Rattle.lower_checks.specs.Views.{stored_tree}
 use Rattle.lower_checks.proofs.objects.locals_of.Given as goal
 

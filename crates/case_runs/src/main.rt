@@ -2,7 +2,8 @@
 //!
 //! The words of its command line are the files, in the folder that it runs in: the folder `data`, whose files docs/TESTS.md
 //! describes. A case gives a source, commands on it, and what each of them has to answer: what `cycc` answers, by `cycc_answer`,
-//! or the tokens, the grammar or the rules of the whole language alone.
+//! or the tokens, the grammar or the rules of the whole language alone. Behind a first word `store` they say which calls of a store
+//! are made instead, or which image runs over it, to be timed by `bench/run`.
 #![tactic(auto)]
 
 mod answers;
@@ -10,11 +11,13 @@ mod cases;
 mod differences;
 mod plain;
 mod rules;
+mod stores;
 mod texts;
 
 use crate::answers::{Found, answer_to, plain_answer_to};
 use crate::cases::{Case, Part};
 use crate::differences::{Difference, is_as_wanted};
+use crate::stores::{is_image_run, makes_calls};
 use crate::texts::{bytes_of, pieced_bytes, plain_bytes};
 use std::fs::File;
 use std::io::Read;
@@ -125,23 +128,43 @@ fn do_file(rt: &HostRuntime, path: &str, count: Count) -> io::Result<Count> {
     do_cases(rt, path, text.as_str(), count)
 }
 
-/// Does the cases of the files that the command line names.
-fn do_files(rt: &HostRuntime) -> io::Result<()> {
-    let paths: Vec<String> = env::args(rt)?.collect(rt.alloc())?;
+/// Does the cases of files.
+fn do_files(rt: &HostRuntime, paths: &[String]) -> io::Result<()> {
     let mut count = Count {
         cases: 0,
         different: 0,
     };
-    for path in paths.iter().skip(1) {
+    for path in paths {
         count = do_file(rt, path.as_str(), count)?;
     }
     let Count { cases, different } = count;
     println!(rt; "{cases} cases, {different} differ")
 }
 
+/// Does what these words say: whether nothing was refused.
+fn does(rt: &HostRuntime, words: &[String]) -> io::Result<bool> {
+    match words {
+        [first, store, path] if first.as_str() == "store" => {
+            let bytes = file_bytes(rt, path.as_str())?;
+            Ok(is_image_run(rt.alloc(), store.as_str(), &bytes))
+        }
+        [first, calls @ ..] if first.as_str() == "store" => makes_calls(rt, calls),
+        paths => {
+            do_files(rt, paths)?;
+            Ok(true)
+        }
+    }
+}
+
+/// Does what the command line says: whether nothing was refused.
+fn run(rt: &HostRuntime) -> io::Result<bool> {
+    let words: Vec<String> = env::args(rt)?.skip(1).collect(rt.alloc())?;
+    does(rt, &words)
+}
+
 fn main(rt: HostRuntime) -> ExitCode {
-    match do_files(&rt) {
-        Ok(()) => ExitCode::SUCCESS,
-        Err(_) => ExitCode::FAILURE,
+    match run(&rt) {
+        Ok(true) => ExitCode::SUCCESS,
+        _ => ExitCode::FAILURE,
     }
 }

@@ -8,6 +8,8 @@ GATE = TOP / "docs" / "GATE.md"
 LEAST = 10
 # How much a further job adds to the speed of a check, of what the first one has.
 FURTHER = 0.6
+# From how many seconds on further jobs pay: each of them reads all crates below anew.
+LONG = 240
 
 
 def groups():
@@ -69,12 +71,12 @@ def rests(graph, cost):
     return found
 
 
-def shares(ready, rest, free, most=4):
-    """How many jobs each of these crates gets at once: one each, those with the longest rest first, and to the first of all what nobody else can use."""
+def shares(ready, rest, cost, free, most=4):
+    """How many jobs each of these crates gets at once: one each, those with the longest rest first, and to the first long one what nobody else can use."""
     first = sorted(ready, key=lambda it: -rest[it])[:max(free, 0)]
     given, spare = {name: 1 for name in first}, free - len(first)
     for name in first:
-        more = min(max(spare, 0), most - 1)
+        more = min(max(spare, 0), most - 1) if cost[name] >= LONG else 0
         given[name] += more
         spare -= more
     return given
@@ -85,7 +87,7 @@ def schedule(graph, cost, cores, most=4):
     rest, left, done, going, clock = rests(graph, cost), dict(cost), set(), {}, 0.0
     while len(done) < len(graph):
         ready = [it for it in graph if it not in done and it not in going and all(d in done for d in graph[it])]
-        going.update(shares(ready, rest, cores - sum(going.values()), most))
+        going.update(shares(ready, rest, cost, cores - sum(going.values()), most))
         speed = {name: 1 + (jobs - 1) * FURTHER for name, jobs in going.items()}
         step = min(left[name] / speed[name] for name in going)
         for name in [*going]:

@@ -89,6 +89,7 @@ impl Reader {
             parameters,
             temporaries: 4,
             passed: 1,
+            order: Vec::new(self.alloc),
             own: level.locals,
             body: level.body,
         };

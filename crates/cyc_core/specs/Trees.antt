@@ -206,7 +206,7 @@ function_tree f = record {
   parameters = f.parameters;
   temporaries = f.temporaries;
   passed = f.passed;
-  order = [];
+  order = f.order.items;
   own = map local_tree f.own.items;
   body = body_tree f.body.items;
 }

@@ -13,6 +13,9 @@ pub struct Function {
     pub temporaries: u32,
     /// The most words that it passes to a call.
     pub passed: u32,
+    /// The numbers of its locals that have a home in a register before others, where they may have one: each block's are numbered before those of
+    /// blocks within it. No number need be there.
+    pub order: Vec<u32>,
     /// Its unnamed values, which hold nothing when it is called; `OwnAddress` names one by its number in this list.
     pub own: Vec<Local>,
     /// What it does.

@@ -167,6 +167,7 @@ pub fn lower_function<'p>(
         parameters,
         temporaries,
         passed,
+        order: Vec::new(alloc),
         own,
         body: code,
     })

@@ -1,6 +1,7 @@
 -- The greatest of several offsets, whichever are compared first.
-use Rattle.std.proofs.Common.{◌≡◌, ℕ, ◌≤◌, arith}
-use Rattle.core_lines.specs.Selected.{greater}
+use Rattle.std.proofs.Common.{◌≡◌, ℕ, ◌≤◌, List, sym, ap, ◌∙◌, arith}
+use Rattle.core_meaning.specs.Core.{Statement, Statements, MoreStatements}
+use Rattle.core_lines.specs.Selected.{greater, highest, highest_of, shrunk_in, shrunk_of, names_after}
 use Rattle.core_lines.proofs.homes.Locals.{greater_below, greater_left, greater_right}
 
 pub greater_joined : (a b c : ℕ) → greater (greater a b) c ≡ greater a (greater b c)
@@ -14,3 +15,11 @@ greater_joined a b c =
 
 pub nothing_below : (a : ℕ) → greater 0 a ≡ a
 nothing_below a = let r = greater_right 0 a in let b = greater_below 0 a a (omega arith) (omega arith) in omega (arith, r, b)
+
+-- of a statement and those behind it, whose locals with homes take no bytes
+pub most_more : (low most x : ℕ) (s : Statement) (rest all : Statements) (hs later : List ℕ) → all ≡ MoreStatements s rest → x ≡ highest low (shrunk_in hs s)
+    → later ≡ names_after s hs → greater (greater most x) (highest_of low (shrunk_of later rest)) ≡ greater most (highest_of low (shrunk_of hs all))
+most_more low most x s rest all hs later is e names =
+    greater_joined most x (highest_of low (shrunk_of later rest))
+    ∙ (λ k. greater most (greater (e k) (highest_of low (shrunk_of (names k) rest))))
+    ∙ ap (λ ss. greater most (highest_of low (shrunk_of hs ss))) (sym is)

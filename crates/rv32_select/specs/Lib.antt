@@ -1,3 +1,3 @@
 pub mod Places
-pub mod Plain
+pub mod Marks
 pub mod Beginning

@@ -1,27 +1,31 @@
 -- Where code stands, as the definition of code has it, and which comparisons take two instructions.
-use Rattle.std.specs.Prelude.{Bool, true, false, [], map}
+use Rattle.std.specs.Prelude.{ℕ, ◌+◌, ◌-◌, ◌*◌, ◌/◌, nat_le, if◌then◌else◌, Bool, true, false, drop, map}
 use Rattle.core_lines.specs.Choosing.{far}
-use Rattle.core_lines.specs.Selected.{Surroundings}
+use Rattle.core_lines.specs.Selected.{Surroundings, too_many}
 use Rattle.cyc_core.specs.declared.operation.Binary.{Binary}
 use Rattle.cyc_core.specs.declared.operation.Binary.TheVariants as binary
 use Rattle.cyc_core.specs.declared.operation.Operation.{Operation}
 use Rattle.cyc_core.specs.declared.operation.Operation.TheVariants as operation
 use Rattle.rv32_select.specs.declared.place.Place.{Place}
 
--- no local has a home, and each label may be out of a branch's reach
+-- each label may be out of a branch's reach
 abbrev pub surroundings : Place → Surroundings
 surroundings p = record {
   wide = far;
   passed = p.passed;
   exit = p.exit;
   own = p.own.items;
-  blocks = map (λ offsets. offsets.items) p.blocks.items;
-  homes = [];
-  names = [];
+  blocks = map (λ scope. scope.offsets.items) p.blocks.items;
+  homes = map (λ scope. scope.homes.items) p.blocks.items;
+  names = drop p.named p.homes.items;
   low = p.low;
   statics = p.statics.items;
   held = p.held;
 }
+
+-- the bytes of a frame in which blocks reach so high
+abbrev pub framed : ℕ → ℕ
+framed most = (if nat_le most (too_many - 16) then (most + 15) / 16 * 16 else too_many)
 
 abbrev pub takes_two : Binary → Bool
 takes_two binary.Add = false

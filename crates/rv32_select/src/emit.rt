@@ -111,7 +111,7 @@ fn put_far(lines: &mut Vec<Line>, from: Register, distance: u64) -> Result<(), A
 }
 
 /// Where a slot of a frame begins. Fails where that is over the greatest u64: no memory has so many slots.
-fn offset_of(slot: u64) -> Result<u64, AllocError>
+pub fn offset_of(slot: u64) -> Result<u64, AllocError>
     ensures { IfOk result (λ n. n ≡ 4 * slot) }
 {
     match slot.checked_mul(4) {

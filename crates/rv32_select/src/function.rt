@@ -1,22 +1,23 @@
 // Instructions for functions and programs.
 
-ghost use Rattle.std.specs.Prelude.{◌≡◌, ◌+◌, ◌-◌, ◌%◌, ◌^◌, ◌*◌, ◌≤◌, ◌<◌, ◌++◌, [], IfOk, OnOk, map, ℕ, length};
-ghost use Rattle.cyc_core.specs.Trees.{function_tree, program_tree};
-ghost use Rattle.core_lines.specs.Frames.{test_code, move_code, take_code, prologue_code, leave_code};
+ghost use Rattle.std.specs.Prelude.{◌≡◌, ◌+◌, ◌-◌, ◌%◌, ◌^◌, ◌*◌, ◌≤◌, ◌<◌, ◌++◌, IfOk, OnOk, map, ℕ, length};
+ghost use Rattle.cyc_core.specs.Trees.{body_tree, function_tree, program_tree};
+ghost use Rattle.core_lines.specs.Frames.{test_code, move_code, take_code, saves_code, restores_code, prologue_code, leave_code, epilogue_code};
 ghost use Rattle.core_lines.specs.Choosing.{far};
 ghost use Rattle.core_lines.specs.Promise.{AreLinesOf};
-ghost use Rattle.core_lines.specs.Selected.{slots_of, own_end, frame_bytes, labels_within, function_code, functions_code, program_code};
-ghost use Rattle.rv32_select.specs.Places.{surroundings};
+ghost use Rattle.core_lines.specs.Homes.{saved_by};
+ghost use Rattle.core_lines.specs.Selected.{around, highest_of, shrunk_of, labels_within, function_code, functions_code, program_code};
+ghost use Rattle.rv32_select.specs.Places.{surroundings, framed};
 
 use crate::emit::{
     ADDRESS, OPERAND, RESULT, put, put_environment, put_lines, put_load, put_save, put_word,
 };
 use crate::labelled::Labelled;
-use crate::layout::{end_from, highest_of, slots, statics, sum};
+use crate::layout::{highest_of, saved_slot, statics, sum};
 use crate::place::Place;
 use crate::statement::{Ways, following, put_statements};
 use core_lines::Line;
-use cyc_core::{Function, Program, Temporary};
+use cyc_core::{Function, Program, Statement, Temporary};
 use rv32_isa::{BranchOffset, Instr, Register, Signed12};
 use rv32_machine::{EXIT, STACK_REFUSED};
 use std::alloc::{AllocError, Global};
@@ -27,18 +28,23 @@ const TOO_MANY: u64 = 0x0200_0000;
 /// The address at which the stack begins.
 const STACK_BASE: u64 = 0x0040_0000;
 
-/// The bytes of a function's frame: rounded up to 16, and no more than no stack has.
-#[tactic(auto, using(crate::proofs::Homeless::tree_body))]
-fn frame_bytes(function: &Function) -> Result<u64, AllocError>
-    ensures { IfOk result (λ n. n ≡ frame_bytes (function_tree function.now)) }
+/// The bytes of a frame in which blocks reach so high: rounded up to 16, and no more than no stack has.
+fn framed(most: u64) -> u64
+    ensures { result ≡ framed most }
 {
-    let low = end_from(4 * slots(function), &function.own)?;
-    let most = highest_of(low, &function.body)?;
     if most <= TOO_MANY - 16 {
-        Ok((most + 15) / 16 * 16)
+        (most + 15) / 16 * 16
     } else {
-        Ok(TOO_MANY)
+        TOO_MANY
     }
+}
+
+/// The bytes of the frame of a function with this body, at whose start the place is.
+fn frame_bytes(place: &Place, body: &[Statement]) -> Result<u64, AllocError>
+    ensures { IfOk result (λ n. n ≡ framed (highest_of place.now.low (shrunk_of (surroundings place.now).names (body_tree body.now)))) }
+{
+    let mut named = place.named;
+    Ok(framed(highest_of(place.low, &place.homes, &mut named, body)?))
 }
 
 /// Appends the test that the stack has room for so many bytes, which is refused where it has not.
@@ -77,18 +83,45 @@ fn put_parameters(
     Ok(())
 }
 
-/// Appends what a function begins with: the test of the stack, its frame, its return address and its parameters.
+/// Appends the saves of registers into slots from one on.
+fn put_saves(lines: &mut Vec<Line>, first: u64, saved: &[Register]) -> Result<(), AllocError>
+    ensures { OnOk result (lines.new.items ≡ lines.old.items ++ saves_code first saved.now) }
+{
+    let mut slot = first;
+    'each: for register in saved {
+        put_save(lines, *register, slot)?;
+        slot = sum(slot, 1)?;
+    }
+    Ok(())
+}
+
+/// Appends their loads.
+fn put_restores(lines: &mut Vec<Line>, first: u64, saved: &[Register]) -> Result<(), AllocError>
+    ensures { OnOk result (lines.new.items ≡ lines.old.items ++ restores_code first saved.now) }
+{
+    let mut slot = first;
+    'each: for register in saved {
+        put_load(lines, *register, slot)?;
+        slot = sum(slot, 1)?;
+    }
+    Ok(())
+}
+
+/// Appends what a function begins with: the test of the stack, its frame, its return address, the registers that it saves and its parameters.
 fn put_prologue(
     lines: &mut Vec<Line>,
     place: &Place,
     bytes: u64,
+    first: u64,
+    saved: &[Register],
     parameters: u32,
 ) -> Result<(), AllocError>
-    ensures { OnOk result (lines.new.items ≡ lines.old.items ++ prologue_code bytes place.now.passed 0 [] parameters) }
+    ensures { OnOk result (lines.new.items ≡ lines.old.items ++ prologue_code bytes place.now.passed first saved.now parameters) }
 {
     put_stack_test(lines, bytes)?;
     put_stack_move(lines, bytes)?;
     put_save(lines, Register::RETURN_ADDRESS, 0)?;
+    put_saves(lines, first, saved)?;
     put_parameters(lines, place, bytes, parameters)
 }
 
@@ -106,6 +139,50 @@ fn put_leave(lines: &mut Vec<Line>, bytes: u64) -> Result<(), AllocError>
     )
 }
 
+/// Appends where a function ends: the registers that it saved come back, and its frame is given back.
+fn put_epilogue(
+    lines: &mut Vec<Line>,
+    bytes: u64,
+    first: u64,
+    saved: &[Register],
+) -> Result<(), AllocError>
+    ensures { OnOk result (lines.new.items ≡ lines.old.items ++ epilogue_code bytes first saved.now) }
+{
+    put_restores(lines, first, saved)?;
+    put_leave(lines, bytes)
+}
+
+/// Appends a function at whose start the place is, and which saves these registers. Answers the next free label.
+fn put_begun(
+    lines: &mut Vec<Line>,
+    place: &mut Place,
+    number: usize,
+    next: usize,
+    function: &Function,
+    saved: &[Register],
+) -> Result<usize, AllocError>
+    requires saved { saved.now ≡ saved_by (function_tree function.now) }
+    requires place { surroundings place.old ≡ around far (surroundings place.old).statics next (function_tree function.now) }
+    ensures code { OnOk result (lines.new.items ≡ lines.old.items
+        ++ function_code far (surroundings place.old).statics number next (function_tree function.now)) }
+    ensures free { IfOk result (λ n. n ≡ next + labels_within (function_tree function.now)) }
+    ensures same { OnOk result (place.new.statics.items ≡ place.old.statics.items) }
+{
+    let bytes = frame_bytes(place, &function.body)?;
+    let slot = saved_slot(function);
+    put_lines(lines, &[Line::Label(number)])?;
+    put_prologue(lines, place, bytes, slot, saved, function.parameters)?;
+    let ways = Ways {
+        out: number,
+        again: number,
+    };
+    let first = following(next)?;
+    let free = put_statements(lines, place, first, ways, &function.body)?;
+    put_lines(lines, &[Line::Label(next)])?;
+    put_epilogue(lines, bytes, slot, saved)?;
+    Ok(free)
+}
+
 /// Appends a function, whose label is its number, and which ends at the label `next`: its other labels are those behind. Answers the next
 /// free label.
 fn put_function(
@@ -119,19 +196,8 @@ fn put_function(
     ensures free { IfOk result (λ n. n ≡ next + labels_within (function_tree function.now)) }
     ensures same { OnOk result (place.new.statics.items ≡ place.old.statics.items) }
 {
-    let bytes = frame_bytes(function)?;
-    place.begin(function, next)?;
-    put_lines(lines, &[Line::Label(number)])?;
-    put_prologue(lines, place, bytes, function.parameters)?;
-    let ways = Ways {
-        out: number,
-        again: number,
-    };
-    let first = following(next)?;
-    let free = put_statements(lines, place, first, ways, &function.body)?;
-    put_lines(lines, &[Line::Label(next)])?;
-    put_leave(lines, bytes)?;
-    Ok(free)
+    let saved = place.begin(function, next)?;
+    put_begun(lines, place, number, next, function, &saved)
 }
 
 /// Appends functions, the first of which has the number 0.
@@ -140,7 +206,8 @@ fn put_functions(
     place: &mut Place,
     functions: &[Function],
 ) -> Result<(), AllocError>
-    ensures { OnOk result (lines.new.items ≡ lines.old.items ++ functions_code far place.old.statics.items 0 (length functions.now) (map function_tree functions.now)) }
+    ensures { OnOk result (lines.new.items
+        ≡ lines.old.items ++ functions_code far place.old.statics.items 0 (length functions.now) (map function_tree functions.now)) }
 {
     let mut next = functions.len();
     let mut number = 0;

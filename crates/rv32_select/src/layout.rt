@@ -1,11 +1,16 @@
 // Where the unnamed values of functions, the locals of blocks and the globals lie.
 
-ghost use Rattle.std.specs.Prelude.{◌≡◌, ◌+◌, ◌*◌, ◌<◌, ◌^◌, ◌≤◌, IfOk, OnOk, map, true};
+ghost use Rattle.std.specs.Prelude.{◌≡◌, ◌+◌, ◌*◌, ◌<◌, ◌^◌, ◌≤◌, IfOk, OnOk, drop, map, length, true};
+ghost use Rattle.core_meaning.specs.Core as core;
+ghost use Rattle.core_lines.specs.Homes.{saved_slot};
 ghost use Rattle.core_lines.specs.Selected as selected;
-ghost use Rattle.core_lines.specs.Selected.{slots_of, rounded, offsets_from, end_from, greater, highest, highest_of, datum_local, datum_locals};
+ghost use Rattle.core_lines.specs.Selected.{rounded, offsets_from, end_from, greater, highest, highest_of, datum_local, datum_locals};
+ghost use Rattle.core_lines.specs.Selected.{shrink, shrunk, shrunk_in, shrunk_of, names_after, names_after_all};
 ghost use Rattle.cyc_core.specs.Trees.{local_tree, datum_tree, statement_tree, body_tree, function_tree};
 
+use crate::homes::{behind, home_at, named_behind};
 use cyc_core::{Datum, Function, Layout, Local, Statement};
+use rv32_isa::Register;
 use std::alloc::{AllocError, Global};
 
 /// The bytes of so many elements of a layout.
@@ -55,27 +60,44 @@ fn rounded(offset: u64) -> Result<u64, AllocError>
     Ok(sum(offset, 3)? / 4 * 4)
 }
 
-/// Where locals end that lie one behind the other from an offset on, each at a multiple of 4.
-pub fn end_from(low: u64, locals: &[Local]) -> Result<u64, AllocError>
-    ensures { IfOk result (λ n. n ≡ end_from low (map local_tree locals.now)) }
+/// The bytes that a local takes of a frame: none where it has a home.
+#[tactic(auto, using(crate::proofs::Shrinking::bytes_without, crate::proofs::Shrinking::bytes_with))]
+fn frame_bytes_of(home: Register, local: &Local) -> u64
+    ensures { result ≡ selected.bytes_of (shrink home (local_tree local.now)) }
+{
+    if home.number() == 0 {
+        local_bytes(local)
+    } else {
+        0
+    }
+}
+
+/// Where locals with these homes end that lie one behind the other from an offset on, each at a multiple of 4.
+pub fn end_from(low: u64, locals: &[Local], homes: &[Register]) -> Result<u64, AllocError>
+    ensures { IfOk result (λ n. n ≡ end_from low (shrunk (map local_tree locals.now) homes.now)) }
 {
     let mut at = low;
-    'each: for local in locals {
-        at = sum(rounded(at)?, local_bytes(local))?;
+    'each: for (index, local) in locals.iter().enumerate() {
+        at = sum(rounded(at)?, frame_bytes_of(home_at(homes, index), local))?;
     }
     Ok(at)
 }
 
-/// Where each of these locals begins.
-pub fn offsets_from(alloc: Global, low: u64, locals: &[Local]) -> Result<Vec<u64>, AllocError>
-    ensures { IfOk result (λ offsets. offsets.items ≡ offsets_from low (map local_tree locals.now)) }
+/// Where each of these locals with these homes begins.
+pub fn offsets_from(
+    alloc: Global,
+    low: u64,
+    locals: &[Local],
+    homes: &[Register],
+) -> Result<Vec<u64>, AllocError>
+    ensures { IfOk result (λ offsets. offsets.items ≡ offsets_from low (shrunk (map local_tree locals.now) homes.now)) }
 {
     let mut offsets = Vec::new(alloc);
     let mut at = low;
-    'each: for local in locals {
+    'each: for (index, local) in locals.iter().enumerate() {
         let offset = rounded(at)?;
         offsets.push(offset)?;
-        at = sum(offset, local_bytes(local))?;
+        at = sum(offset, frame_bytes_of(home_at(homes, index), local))?;
     }
     Ok(offsets)
 }
@@ -101,45 +123,76 @@ fn greater(first: u64, second: u64) -> u64
     if first <= second { second } else { first }
 }
 
-/// How high the locals of all blocks of a statement reach that begins at an offset.
+/// How high the locals of all blocks of a statement reach that begins at an offset, of a function whose locals have these homes: so many of them are
+/// named before it, and then before what comes behind it.
 #[cycle(highest)]
-fn highest(low: u64, statement: &Statement) -> Result<u64, AllocError>
-    ensures { IfOk result (λ n. n ≡ highest low (statement_tree statement.now)) }
+fn highest(
+    low: u64,
+    homes: &[Register],
+    named: &mut usize,
+    statement: &Statement,
+) -> Result<u64, AllocError>
+    ensures most { IfOk result (λ n. n ≡ highest low (shrunk_in (drop named.old homes.now) (statement_tree statement.now))) }
+    ensures names { OnOk result (drop named.new homes.now ≡ names_after (statement_tree statement.now) (drop named.old homes.now)) }
 {
     match statement {
         Statement::If(_, these, those) => {
-            let first = highest_of(low, these)?;
-            let second = highest_of(low, those)?;
+            let first = highest_of(low, homes, named, these)?;
+            let second = highest_of(low, homes, named, those)?;
             Ok(greater(first, second))
         }
         Statement::While(test, _, body) => {
-            let first = highest_of(low, test)?;
-            let second = highest_of(low, body)?;
+            let first = highest_of(low, homes, named, test)?;
+            let second = highest_of(low, homes, named, body)?;
             Ok(greater(first, second))
         }
-        Statement::Block(locals, body) => highest_of(end_from(low, locals)?, body),
-        Statement::Leave(body) => highest_of(low, body),
+        Statement::Block(locals, body) => highest_in(low, homes, named, locals, body),
+        Statement::Leave(body) => highest_of(low, homes, named, body),
         _ => Ok(low),
     }
+}
+
+/// The same of a block with these locals.
+#[cycle(highest)]
+fn highest_in(
+    low: u64,
+    homes: &[Register],
+    named: &mut usize,
+    locals: &[Local],
+    body: &[Statement],
+) -> Result<u64, AllocError>
+    ensures most { IfOk result (λ n. n ≡ highest low (shrunk_in (drop named.old homes.now) (core.Block (map local_tree locals.now) (body_tree body.now)))) }
+    ensures names { OnOk result (drop named.new homes.now
+        ≡ names_after (core.Block (map local_tree locals.now) (body_tree body.now)) (drop named.old homes.now)) }
+{
+    let end = end_from(low, locals, behind(homes, *named))?;
+    let inner = named_behind(*named, locals)?;
+    *named = inner;
+    highest_of(end, homes, named, body)
 }
 
 /// The same of statements, one after the other.
 #[cycle(highest)]
 #[tactic(auto, using(crate::proofs::Greatest::greater_joined, crate::proofs::Greatest::nothing_below))]
-pub fn highest_of(low: u64, statements: &[Statement]) -> Result<u64, AllocError>
-    ensures { IfOk result (λ n. n ≡ highest_of low (body_tree statements.now)) }
+pub fn highest_of(
+    low: u64,
+    homes: &[Register],
+    named: &mut usize,
+    statements: &[Statement],
+) -> Result<u64, AllocError>
+    ensures most { IfOk result (λ n. n ≡ highest_of low (shrunk_of (drop named.old homes.now) (body_tree statements.now))) }
+    ensures names { OnOk result (drop named.new homes.now ≡ names_after_all (body_tree statements.now) (drop named.old homes.now)) }
 {
     let mut most = 0;
     'each: for statement in statements {
-        most = greater(most, highest(low, statement)?);
+        most = greater(most, highest(low, homes, named, statement)?);
     }
     Ok(greater(most, low))
 }
 
-/// The first slot behind a function's temporaries.
-#[tactic(auto, using(crate::proofs::Homeless::tree_slots))]
-pub fn slots(function: &Function) -> u64
-    ensures slots { result ≡ slots_of (function_tree function.now) }
+/// The first slot behind a function's temporaries, where it keeps the registers that it saves.
+pub fn saved_slot(function: &Function) -> u64
+    ensures slot { result ≡ saved_slot (function_tree function.now) }
     ensures small { result < 2 ^ 60 }
 {
     let (passed, temporaries) = (function.passed, function.temporaries);

@@ -4,16 +4,20 @@
 //! temporaries, and the locals of its blocks. An operation loads its temporaries into registers,
 //! works there, and saves the result; a choice and a loop are jumps to labels, a call is a jump to
 //! the function's label, whose number is the function's, and a return one to its end. The lines are
-//! those of `program_code` in `core_lines`, with no local in a register and no branch alone: no label
-//! is placed twice, and a machine that begins with them does what the program does. `select` asks for
-//! a program whose `main` is one of its functions. Stands on `cyc_core`, `cyc_words`, `core_lines`,
-//! `rv32_isa` and `rv32_machine`.
+//! those of `program_code` in `core_lines`, with no branch alone: no label is placed twice, and a
+//! machine that begins with them does what the program does. A local of one part whose address isn't
+//! taken has its home in a register where its function's order has it among the first. `select` asks
+//! for a program whose `main` is one of its functions. Stands on `cyc_core`, `cyc_words`,
+//! `core_lines`, `rv32_isa` and `rv32_machine`.
 #![tactic(auto)]
 
 mod emit;
 mod function;
+mod homes;
 mod labelled;
 mod layout;
+mod locals;
+mod marks;
 mod operation;
 mod place;
 mod statement;

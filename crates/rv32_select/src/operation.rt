@@ -5,14 +5,15 @@ ghost use Rattle.core_lines.specs.Frames.{load_code, save_code, slot_of, environ
 ghost use Rattle.core_lines.specs.Choosing.{held_behind_operation};
 ghost use Rattle.core_lines.specs.Selected.{binary_code, operation_code, from_temp, to_temp, nth};
 ghost use Rattle.cyc_core.specs.Trees.{binary_tree, operation_tree};
-ghost use Rattle.rv32_select.specs.Places.{surroundings, takes_two, is_on_words, is_on_pointers, is_on_locals, is_on_memory, is_on_regions};
+ghost use Rattle.rv32_select.specs.Places.{surroundings, takes_two, is_on_words, is_on_pointers, is_on_memory, is_on_regions};
 ghost use Rattle.rv32_machine.specs.State.{data_base};
 
 use crate::emit::{
-    OPERAND, RESULT, put, put_address, put_constant, put_environment, put_further, put_load,
-    put_read, put_save, put_word, put_write,
+    OPERAND, RESULT, put, put_constant, put_environment, put_further, put_load, put_read, put_save,
+    put_word, put_write,
 };
 use crate::layout::sum;
+use crate::locals::put_local_operation;
 use crate::place::Place;
 use core_lines::Line;
 use cyc_core::{Binary, Operation, Temporary};
@@ -171,37 +172,6 @@ fn put_pointer_operation(
             put_from(lines, place, OPERAND, second)?;
             put_applied(lines, Binary::Equal)?;
             put_to(lines, place, RESULT, to)
-        }
-        _ => Ok(()),
-    }
-}
-
-/// Appends the instructions of an operation on a local or an unnamed value.
-fn put_local_operation(
-    lines: &mut Vec<Line>,
-    place: &Place,
-    operation: Operation,
-) -> Result<(), AllocError>
-    requires { is_on_locals operation ≡ true }
-    ensures { OnOk result (lines.new.items ≡ lines.old.items ++ operation_code (surroundings place.now) (operation_tree operation)) }
-{
-    let stack = Register::STACK_POINTER;
-    match operation {
-        Operation::LocalAddress(to, variable) => {
-            put_address(lines, place.offset(variable))?;
-            put_to(lines, place, RESULT, to)
-        }
-        Operation::OwnAddress(to, object) => {
-            put_address(lines, place.own_offset(object))?;
-            put_to(lines, place, RESULT, to)
-        }
-        Operation::Get(to, variable, width) => {
-            put_read(lines, width, stack, place.offset(variable))?;
-            put_to(lines, place, RESULT, to)
-        }
-        Operation::Put(variable, width, from) => {
-            put_from(lines, place, OPERAND, from)?;
-            put_write(lines, width, stack, place.offset(variable))
         }
         _ => Ok(()),
     }

@@ -3,15 +3,27 @@
 ghost use Rattle.std.specs.Prelude.{◌≡◌, ◌<◌, ◌^◌, [], ◌∷◌, map, IfOk, OnOk, List, Option, None, ℕ};
 ghost use Rattle.core_lines.specs.Frames.{slot_of};
 ghost use Rattle.core_lines.specs.Choosing.{far, is_held};
-ghost use Rattle.core_lines.specs.Selected.{Surroundings, local_offset, nth, around, holding};
+ghost use Rattle.core_lines.specs.Homes.{homes_in, saved_by};
+ghost use Rattle.core_lines.specs.Selected.{slots_of, Surroundings, local_offset, local_home, nth, around, holding, naming, within_block};
 ghost use Rattle.cyc_core.specs.Trees.{local_tree, function_tree};
 ghost use Rattle.core_meaning.specs.Core as core;
 ghost use Rattle.rv32_select.specs.Places.{surroundings};
-ghost use Rattle.rv32_select.specs.Plain.{plain, plain_block};
 
-use crate::layout::{end_from, offsets_from, slots};
+use crate::emit::offset_of;
+use crate::homes::{behind, first_homes, home_at, homes_in, named_behind, some_of};
+use crate::layout::{end_from, offsets_from, saved_slot, sum};
 use cyc_core::{Function, Local, Temporary, Variable};
+use rv32_isa::Register;
 use std::alloc::{AllocError, Global};
+
+/// Where the locals of a block are.
+#[derive(Drop)]
+pub struct Scope {
+    /// Their offsets in the frame.
+    pub offsets: Vec<u64>,
+    /// Their homes, which are x0 for those that have none.
+    pub homes: Vec<Register>,
+}
 
 /// Where code stands.
 #[derive(Drop)]
@@ -23,8 +35,12 @@ pub struct Place {
     pub exit: usize,
     /// The offsets in the frame of the function's unnamed values.
     pub own: Vec<u64>,
-    /// The offsets in the frame of the locals of the blocks around the code, the innermost block first.
-    pub blocks: Vec<Vec<u64>>,
+    /// The blocks around the code, the innermost block first.
+    pub blocks: Vec<Scope>,
+    /// The home of each local of the function, or x0: those of a block before those of blocks within it.
+    pub homes: Vec<Register>,
+    /// How many of these locals are of blocks that begin before the code.
+    pub named: usize,
     /// Where the locals of a block within it would begin.
     pub low: u64,
     /// Where each global of the program begins in the data.
@@ -44,25 +60,44 @@ impl Place {
             exit: 0,
             own: Vec::new(alloc),
             blocks: Vec::new(alloc),
+            homes: Vec::new(alloc),
+            named: 0,
             low: 0,
             statics,
             held: None,
         }
     }
 
-    /// Goes on to the start of a function, which ends at a label.
-    pub fn begin(&mut self, function: &Function, exit: usize) -> Result<(), AllocError>
-        ensures place { OnOk result (surroundings self.new ≡ plain (around far self.old.statics.items exit (function_tree function.now))) }
-        ensures same { OnOk result (self.new.statics.items ≡ self.old.statics.items) }
+    /// Goes on to the start of a function with so many slots, whose locals' homes are known here.
+    fn settle(&mut self, function: &Function, slots: u64, exit: usize) -> Result<(), AllocError>
+        requires slots { slots ≡ slots_of (function_tree function.now) }
+        requires homes { self.old.homes.items ≡ homes_in (function_tree function.now) }
+        ensures place { OnOk result (surroundings self.new ≡ around far self.old.statics.items exit (function_tree function.now)) }
     {
-        let first = 4 * slots(function);
-        self.own = offsets_from(self.alloc, first, &function.own)?;
-        self.low = end_from(first, &function.own)?;
+        let first = offset_of(slots)?;
+        let own = offsets_from(self.alloc, first, &function.own, &[])?;
+        let low = end_from(first, &function.own, &[])?;
+        self.own = own;
+        self.low = low;
         self.passed = function.passed;
         self.exit = exit;
         self.blocks = Vec::new(self.alloc);
+        self.named = 0;
         self.held = None;
         Ok(())
+    }
+
+    /// Goes on to the start of a function, which ends at a label. Answers the registers that it saves.
+    pub fn begin(&mut self, function: &Function, exit: usize) -> Result<Vec<Register>, AllocError>
+        ensures place { OnOk result (surroundings self.new ≡ around far self.old.statics.items exit (function_tree function.now)) }
+        ensures saved { IfOk result (λ saved. saved.items ≡ saved_by (function_tree function.now)) }
+    {
+        let homes = homes_in(self.alloc, function)?;
+        self.homes = homes;
+        let saved = some_of(self.alloc, &self.homes)?;
+        let slots = sum(saved_slot(function), saved.len() as u64)?;
+        self.settle(function, slots, exit)?;
+        Ok(saved)
     }
 
     /// Says which temporary's word is in the register of results from here on, if any is known to be.
@@ -95,8 +130,19 @@ impl Place {
         ensures { result ≡ local_offset (surroundings self.now) variable.out variable.index }
     {
         match self.blocks.get(variable.out as usize) {
-            Some(offsets) => nth(offsets, variable.index),
+            Some(scope) => nth(&scope.offsets, variable.index),
             None => 0,
+        }
+    }
+
+    /// The home of a local, or x0 where it has none.
+    #[tactic(auto, using(crate::proofs::Numbers::local_some, crate::proofs::Numbers::local_none))]
+    pub fn home(&self, variable: Variable) -> Register
+        ensures { result ≡ local_home (surroundings self.now) variable.out variable.index }
+    {
+        match self.blocks.get(variable.out as usize) {
+            Some(scope) => home_at(&scope.homes, variable.index as usize),
+            None => Register::ZERO,
         }
     }
 
@@ -116,12 +162,15 @@ impl Place {
 
     /// Enters a block with these locals. Answers where its locals begin.
     pub fn enter(&mut self, locals: &[Local]) -> Result<u64, AllocError>
-        ensures { IfOk result (λ low. low ≡ self.old.low × (surroundings self.new ≡ plain_block (map local_tree locals.now) (surroundings self.old))) }
+        ensures { IfOk result (λ low. low ≡ self.old.low × (surroundings self.new ≡ within_block (map local_tree locals.now) (surroundings self.old))) }
     {
         let low = self.low;
-        let offsets = offsets_from(self.alloc, low, locals)?;
-        let end = end_from(low, locals)?;
-        self.blocks.insert(0, offsets)?;
+        let homes = first_homes(self.alloc, behind(&self.homes, self.named), locals.len())?;
+        let offsets = offsets_from(self.alloc, low, locals, &homes)?;
+        let end = end_from(low, locals, &homes)?;
+        let named = named_behind(self.named, locals)?;
+        self.blocks.insert(0, Scope { offsets, homes })?;
+        self.named = named;
         self.low = end;
         self.held = None;
         Ok(low)
@@ -130,7 +179,9 @@ impl Place {
     /// Leaves the innermost block, whose locals began at `low`. No temporary is held then.
     #[tactic(auto, using(crate::proofs::Leaving::left_is))]
     pub fn leave(&mut self, low: u64)
-        ensures { (locals : List core.Local) (outer : Surroundings) (held : Option ℕ) → surroundings self.old ≡ holding held (plain_block locals outer) → low ≡ outer.low → surroundings self.new ≡ holding None outer }
+        ensures { (locals : List core.Local) (outer : Surroundings) (names : List ℕ) (held : Option ℕ)
+            → surroundings self.old ≡ holding held (naming names (within_block locals outer)) → low ≡ outer.low
+            → surroundings self.new ≡ holding None (naming names outer) }
     {
         if !self.blocks.is_empty() {
             self.blocks.remove(0);

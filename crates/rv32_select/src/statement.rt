@@ -5,9 +5,8 @@ ghost use Rattle.core_meaning.specs.Core as core;
 ghost use Rattle.cyc_core.specs.Trees.{statement_tree, body_tree, temporary_tree, optional_tree, local_tree};
 ghost use Rattle.core_lines.specs.Frames.{pass_code, result_code, call_code, values_code, return_code, kind_number, raise_code};
 ghost use Rattle.core_lines.specs.Choosing.{far, held_behind, held_behind_all, held_or_loaded, choice_code};
-ghost use Rattle.core_lines.specs.Selected.{labels_in, labels_of, holding};
+ghost use Rattle.core_lines.specs.Selected.{statement_code, statements_code, labels_in, labels_of, names_after, names_after_all, holding, naming};
 ghost use Rattle.rv32_select.specs.Places.{surroundings};
-ghost use Rattle.rv32_select.specs.Plain.{plain_code, plain_codes};
 
 use crate::emit::{RESULT, put, put_environment, put_lines, put_save};
 use crate::layout::sum;
@@ -164,9 +163,11 @@ fn put_statement(
     ways: Ways,
     statement: &Statement,
 ) -> Result<usize, AllocError>
-    ensures code { OnOk result (lines.new.items ≡ lines.old.items ++ plain_code (surroundings place.old) next ways.out ways.again (statement_tree statement.now)) }
+    ensures code { OnOk result (lines.new.items ≡ lines.old.items
+        ++ statement_code 0 (surroundings place.old) next ways.out ways.again (statement_tree statement.now)) }
     ensures free { IfOk result (λ n. n ≡ next + labels_in (statement_tree statement.now)) }
-    ensures same { OnOk result (surroundings place.new ≡ holding (held_behind (statement_tree statement.now)) (surroundings place.old)) }
+    ensures same { let u = surroundings place.old in let s = statement_tree statement.now in
+        OnOk result (surroundings place.new ≡ holding (held_behind s) (naming (names_after s u.names) u)) }
 {
     match statement {
         Statement::Do(operation) => {
@@ -215,9 +216,11 @@ pub fn put_statements(
     ways: Ways,
     statements: &[Statement],
 ) -> Result<usize, AllocError>
-    ensures code { OnOk result (lines.new.items ≡ lines.old.items ++ plain_codes (surroundings place.old) next ways.out ways.again (body_tree statements.now)) }
+    ensures code { OnOk result (lines.new.items ≡ lines.old.items
+        ++ statements_code 0 (surroundings place.old) next ways.out ways.again (body_tree statements.now)) }
     ensures free { IfOk result (λ n. n ≡ next + labels_of (body_tree statements.now)) }
-    ensures same { OnOk result (surroundings place.new ≡ holding (held_behind_all (surroundings place.old).held (body_tree statements.now)) (surroundings place.old)) }
+    ensures same { let u = surroundings place.old in let ss = body_tree statements.now in
+        OnOk result (surroundings place.new ≡ holding (held_behind_all u.held ss) (naming (names_after_all ss u.names) u)) }
 {
     let mut free = next;
     'each: for statement in statements {
@@ -238,9 +241,11 @@ fn put_if(
     these: &[Statement],
     those: &[Statement],
 ) -> Result<usize, AllocError>
-    ensures code { OnOk result (lines.new.items ≡ lines.old.items ++ plain_code (surroundings place.old) next ways.out ways.again (core.If test.0 (body_tree these.now) (body_tree those.now))) }
+    ensures code { OnOk result (lines.new.items ≡ lines.old.items
+        ++ statement_code 0 (surroundings place.old) next ways.out ways.again (core.If test.0 (body_tree these.now) (body_tree those.now))) }
     ensures free { IfOk result (λ n. n ≡ next + labels_in (core.If test.0 (body_tree these.now) (body_tree those.now))) }
-    ensures same { OnOk result (surroundings place.new ≡ holding None (surroundings place.old)) }
+    ensures same { let u = surroundings place.old in OnOk result (surroundings place.new
+        ≡ holding None (naming (names_after (core.If test.0 (body_tree these.now) (body_tree those.now)) u.names) u)) }
 {
     put_choice(lines, place, test, next)?;
     place.hold(None);
@@ -265,9 +270,11 @@ fn put_while(
     flag: Temporary,
     body: &[Statement],
 ) -> Result<usize, AllocError>
-    ensures code { OnOk result (lines.new.items ≡ lines.old.items ++ plain_code (surroundings place.old) next ways.out ways.again (core.While (body_tree test.now) flag.0 (body_tree body.now))) }
+    ensures code { OnOk result (lines.new.items ≡ lines.old.items
+        ++ statement_code 0 (surroundings place.old) next ways.out ways.again (core.While (body_tree test.now) flag.0 (body_tree body.now))) }
     ensures free { IfOk result (λ n. n ≡ next + labels_in (core.While (body_tree test.now) flag.0 (body_tree body.now))) }
-    ensures same { OnOk result (surroundings place.new ≡ holding None (surroundings place.old)) }
+    ensures same { let u = surroundings place.old in OnOk result (surroundings place.new
+        ≡ holding None (naming (names_after (core.While (body_tree test.now) flag.0 (body_tree body.now)) u.names) u)) }
 {
     put_lines(lines, &[Line::Label(next)])?;
     place.hold(None);
@@ -294,9 +301,11 @@ fn put_block(
     locals: &[Local],
     body: &[Statement],
 ) -> Result<usize, AllocError>
-    ensures code { OnOk result (lines.new.items ≡ lines.old.items ++ plain_code (surroundings place.old) next ways.out ways.again (core.Block (map local_tree locals.now) (body_tree body.now))) }
+    ensures code { OnOk result (lines.new.items ≡ lines.old.items
+        ++ statement_code 0 (surroundings place.old) next ways.out ways.again (core.Block (map local_tree locals.now) (body_tree body.now))) }
     ensures free { IfOk result (λ n. n ≡ next + labels_in (core.Block (map local_tree locals.now) (body_tree body.now))) }
-    ensures same { OnOk result (surroundings place.new ≡ holding None (surroundings place.old)) }
+    ensures same { let u = surroundings place.old in OnOk result (surroundings place.new
+        ≡ holding None (naming (names_after (core.Block (map local_tree locals.now) (body_tree body.now)) u.names) u)) }
 {
     let low = place.enter(locals)?;
     let free = put_statements(lines, place, next, ways, body)?;
@@ -314,9 +323,11 @@ fn put_leavable(
     ways: Ways,
     body: &[Statement],
 ) -> Result<usize, AllocError>
-    ensures code { OnOk result (lines.new.items ≡ lines.old.items ++ plain_code (surroundings place.old) next ways.out ways.again (core.Leave (body_tree body.now))) }
+    ensures code { OnOk result (lines.new.items ≡ lines.old.items
+        ++ statement_code 0 (surroundings place.old) next ways.out ways.again (core.Leave (body_tree body.now))) }
     ensures free { IfOk result (λ n. n ≡ next + labels_in (core.Leave (body_tree body.now))) }
-    ensures same { OnOk result (surroundings place.new ≡ holding None (surroundings place.old)) }
+    ensures same { let u = surroundings place.old in OnOk result (surroundings place.new
+        ≡ holding None (naming (names_after (core.Leave (body_tree body.now)) u.names) u)) }
 {
     let inside = Ways {
         out: next,

@@ -1,9 +1,9 @@
 use Rattle.std.proofs.Common.{◌≡◌, drop, map}
 use Rattle.cyc_core.specs.Trees.{local_tree}
-use Rattle.core_lines.specs.Selected.{end_from}
+use Rattle.core_lines.specs.Selected.{end_from, shrunk}
 use Rattle.rv32_select.proofs.layout.end_from.Given as goal
 
 abbrev pub invariant-each : goal.invariant-each
 invariant-each l = record {
-  whole : end_from l.at (map local_tree (drop l.local-index l.locals)) ≡ end_from l.low (map local_tree l.locals);
+  whole : end_from l.at (shrunk (map local_tree (drop l.index l.locals)) (drop l.index l.homes)) ≡ end_from l.low (shrunk (map local_tree l.locals) l.homes);
 }

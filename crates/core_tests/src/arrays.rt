@@ -18,11 +18,6 @@ end
 return 7
 end";
 
-#[test]
-fn elements_of_a_global_array_are_reached(rt: HostRuntime) -> Result<(), Fail> {
-    expect_endings(rt.alloc(), SUMMED, "Ended(123)")
-}
-
 const FAR: &str = "\
 global_pairs 3
 function 0
@@ -32,14 +27,10 @@ element 2 0 1 2 8; constant 1 1; return 1
 end";
 
 // a pointer goes on below 2^25 bytes, whether or not an object is there, and no further where none is; no byte has a number over 2^32 - 1
-#[test]
-fn no_element_is_too_far(rt: HostRuntime) -> Result<(), Fail> {
-    let endings = "\
+const NO_ELEMENT_IS_TOO_FAR: &str = "\
 Ended(1) <- constant 1 0x3fffff
 Stuck <- constant 1 0x400000
 HostMemory <- constant 1 0xffffffff";
-    expect_endings(rt.alloc(), FAR, endings)
-}
 
 const GONE: &str = "\
 function 0
@@ -51,13 +42,9 @@ return 1
 end";
 
 // nothing is known of how long an object was whose block is over
-#[test]
-fn what_is_gone_is_not_known(rt: HostRuntime) -> Result<(), Fail> {
-    let endings = "\
+const WHAT_IS_GONE_IS_NOT_KNOWN: &str = "\
 Ended(5) <- offset 0 0 1 0x1ffffff
 HostMemory <- offset 0 0 1 0x2000000";
-    expect_endings(rt.alloc(), GONE, endings)
-}
 
 // int ?same(int ?p) { return p; } int main() { int ?p; int a[3]; p = a + 1; int ?q = same(p); *q = 40; return a[1] + q's count; }, where the call's result
 // goes to some temporaries, and `same` returns some
@@ -82,17 +69,12 @@ function 0
 end";
 
 // three words are returned as they are stored and loaded, and no other number of them
-#[test]
-fn a_fat_pointer_is_three_words(rt: HostRuntime) -> Result<(), Fail> {
-    let endings = "\
+const A_FAT_POINTER_IS_THREE_WORDS: &str = "\
 Ended(43) <- call 1 7 8 9 | return 0 1 2
 Stuck <- call 1 7 8 9 | return 0
 Stuck <- call 1 0 | return 0 1 2
 Stuck <- call 1 7 8 9 | return
 Stuck <- call 1 | return 0 1 2";
-    expect_endings(rt.alloc(), WITH_FAT, endings)?;
-    expect_endings(rt.alloc(), ALONE, "Stuck <- constant 0 1; return 0 1 2")
-}
 
 // int main() { pair a[2]; .. return a[1].second; }, where some elements are cleared
 const CLEARED: &str = "\
@@ -105,11 +87,18 @@ end
 end";
 
 // an element that is not cleared holds nothing, and no more are cleared than there are
-#[test]
-fn an_array_is_cleared(rt: HostRuntime) -> Result<(), Fail> {
-    let endings = "\
+const AN_ARRAY_IS_CLEARED: &str = "\
 Ended(0) <- clear_pairs 0 2
 Stuck <- clear_pairs 0 1
 Stuck <- clear_pairs 0 3";
-    expect_endings(rt.alloc(), CLEARED, endings)
+
+#[test]
+fn arrays_and_fat_pointers_hold_what_is_stored(rt: HostRuntime) -> Result<(), Fail> {
+    let alloc = rt.alloc();
+    expect_endings(alloc, SUMMED, "Ended(123)")?;
+    expect_endings(alloc, FAR, NO_ELEMENT_IS_TOO_FAR)?;
+    expect_endings(alloc, GONE, WHAT_IS_GONE_IS_NOT_KNOWN)?;
+    expect_endings(alloc, WITH_FAT, A_FAT_POINTER_IS_THREE_WORDS)?;
+    expect_endings(alloc, ALONE, "Stuck <- constant 0 1; return 0 1 2")?;
+    expect_endings(alloc, CLEARED, AN_ARRAY_IS_CLEARED)
 }

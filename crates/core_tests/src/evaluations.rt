@@ -24,12 +24,6 @@ function 0
 constant 0 65; putchar 0 0; constant 0 0; return 0
 end";
 
-#[test]
-fn a_letter_is_written(rt: HostRuntime) -> Result<(), Fail> {
-    expect_run(rt.alloc(), LETTER, b"", 0, "Running", b"")?;
-    expect_run(rt.alloc(), LETTER, b"", 1, "Ended(0)", b"A")
-}
-
 // int deep(int n) { if (n) return deep(n - 1) + 1; return n; } int main() { return deep(100000); }
 const DEEP: &str = "\
 function 0
@@ -43,13 +37,6 @@ return 0
 end
 end";
 
-// the first call and each further one take a unit
-#[test]
-fn calls_nest_deeply(rt: HostRuntime) -> Result<(), Fail> {
-    expect_run(rt.alloc(), DEEP, b"", 100_000, "Running", b"")?;
-    expect_run(rt.alloc(), DEEP, b"", 100_001, "Ended(100000)", b"")
-}
-
 // char kept; int main() { int c; while ((c = getchar()) >= 0) { kept = c; putchar(kept); } return kept; }
 const ECHO: &str = "\
 global_byte
@@ -62,10 +49,15 @@ end
 return 3
 end";
 
-// a unit for each read, and two for each turn; the last byte is kept, as a word of no sign
+// The first call and each further one take a unit, each read one, and each turn of a loop two. An echo keeps the last byte, as a word of no sign.
 #[test]
-fn an_echo_writes_what_it_reads(rt: HostRuntime) -> Result<(), Fail> {
-    expect_run(rt.alloc(), ECHO, b"hi\xff", 10, "Ended(255)", b"hi\xff")?;
-    expect_run(rt.alloc(), ECHO, b"hi\xff", 9, "Running", b"hi\xff")?;
-    expect_run(rt.alloc(), ECHO, b"hi\xff", 8, "Running", b"hi")
+fn fuel_is_used_up(rt: HostRuntime) -> Result<(), Fail> {
+    let alloc = rt.alloc();
+    expect_run(alloc, LETTER, b"", 0, "Running", b"")?;
+    expect_run(alloc, LETTER, b"", 1, "Ended(0)", b"A")?;
+    expect_run(alloc, DEEP, b"", 100_000, "Running", b"")?;
+    expect_run(alloc, DEEP, b"", 100_001, "Ended(100000)", b"")?;
+    expect_run(alloc, ECHO, b"hi\xff", 10, "Ended(255)", b"hi\xff")?;
+    expect_run(alloc, ECHO, b"hi\xff", 9, "Running", b"hi\xff")?;
+    expect_run(alloc, ECHO, b"hi\xff", 8, "Running", b"hi")
 }

@@ -15,9 +15,7 @@ return 1
 end";
 
 // a break leaves the innermost one or the innermost loop, and nothing else does but a return; a continue is one of a loop around, which there is none of
-#[test]
-fn a_break_leaves_its_body(rt: HostRuntime) -> Result<(), Fail> {
-    let endings = "\
+const A_BREAK_LEAVES_ITS_BODY: &str = "\
 Ended(9) <- constant 1 9
 Ended(5) <- break; constant 1 9
 Ended(9) <- constant 1 9; break; constant 1 8
@@ -27,14 +25,6 @@ Ended(9) <- leave; break; constant 1 8; end; constant 1 9
 Ended(5) <- leave; break; end; break; constant 1 9
 Ended(9) <- while 0; do; break; end; constant 1 9
 Stuck <- continue";
-    expect_endings(rt.alloc(), LEFT, endings)
-}
-
-#[test]
-fn a_break_takes_no_unit(rt: HostRuntime) -> Result<(), Fail> {
-    let whole = program_of(rt.alloc(), LEFT, "break; constant 1 9")?;
-    expect_outcome(rt.alloc(), whole, b"", 0, "Ended(5)", b"")
-}
 
 // how many of five turns of a loop come to its end
 const IN_LOOP: &str = "\
@@ -51,15 +41,11 @@ return 1
 end";
 
 // a continue goes on with the test of the loop around, and a break right behind its body
-#[test]
-fn a_continue_is_the_loops(rt: HostRuntime) -> Result<(), Fail> {
-    let endings = "\
+const A_CONTINUE_IS_THE_LOOPS: &str = "\
 Ended(5) <- break
 Ended(0) <- continue
 Ended(0) <- leave; continue; end; break
 Ended(1) <- less_unsigned 4 0 3; if 4; continue; else; break; end";
-    expect_endings(rt.alloc(), IN_LOOP, endings)
-}
 
 // a loop that is left by a break behind the body
 const OUT_OF_LOOP: &str = "\
@@ -74,10 +60,17 @@ end
 return 1
 end";
 
-#[test]
-fn a_body_is_left_before_its_loop(rt: HostRuntime) -> Result<(), Fail> {
-    let endings = "\
+const A_BODY_IS_LEFT_BEFORE_ITS_LOOP: &str = "\
 Ended(5) <- break
 Ended(0) <- constant 0 0; constant 1 0; continue";
-    expect_endings(rt.alloc(), OUT_OF_LOOP, endings)
+
+#[test]
+fn statements_are_left_by_breaks(rt: HostRuntime) -> Result<(), Fail> {
+    let alloc = rt.alloc();
+    expect_endings(alloc, LEFT, A_BREAK_LEAVES_ITS_BODY)?;
+    // a break takes no unit
+    let whole = program_of(alloc, LEFT, "break; constant 1 9")?;
+    expect_outcome(alloc, whole, b"", 0, "Ended(5)", b"")?;
+    expect_endings(alloc, IN_LOOP, A_CONTINUE_IS_THE_LOOPS)?;
+    expect_endings(alloc, OUT_OF_LOOP, A_BODY_IS_LEFT_BEFORE_ITS_LOOP)
 }

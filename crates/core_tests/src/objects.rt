@@ -14,20 +14,19 @@ offset 3 1 1 4; load 4 3; load_byte 5 1; subtract 4 4 5; return 4
 end
 end";
 
-#[test]
-fn a_whole_object_is_copied_and_cleared(rt: HostRuntime) -> Result<(), Fail> {
-    let endings = "\
+const A_WHOLE_OBJECT_IS_COPIED_AND_CLEARED: &str = "\
 Ended(256) <- copy_pair 1 0
 Ended(0) <- clear_pairs 0 1";
-    expect_endings(rt.alloc(), WITH_PAIRS, endings)
-}
 
 // no object is copied to itself, none is read where it has no member, and no pointer goes further than an object's bytes
-#[test]
-fn what_objects_cannot_do_is_stuck(rt: HostRuntime) -> Result<(), Fail> {
-    let endings = "\
+const WHAT_OBJECTS_CANNOT_DO_IS_STUCK: &str = "\
 Stuck <- copy_pair 0 0
 Stuck <- load 1 0
 Stuck <- offset 1 0 0 0x2000000";
-    expect_endings(rt.alloc(), WITH_PAIRS, endings)
+
+#[test]
+fn whole_objects_are_copied_and_cleared(rt: HostRuntime) -> Result<(), Fail> {
+    let alloc = rt.alloc();
+    expect_endings(alloc, WITH_PAIRS, A_WHOLE_OBJECT_IS_COPIED_AND_CLEARED)?;
+    expect_endings(alloc, WITH_PAIRS, WHAT_OBJECTS_CANNOT_DO_IS_STUCK)
 }

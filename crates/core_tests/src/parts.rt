@@ -21,24 +21,15 @@ fn object(alloc: Global, cells: &[CellLayout], bytes: u32) -> Option<Rc<Layout>>
     Rc::new(alloc, Layout { cells, bytes }).ok()
 }
 
-// `int`
-fn word(alloc: Global) -> Option<Rc<Layout>> {
-    object(alloc, &[cell(0, Cell::Word, 0)], 4)
-}
-
-// `struct { char first; int second; }`
-fn pair(alloc: Global) -> Option<Rc<Layout>> {
-    object(alloc, &[cell(0, Cell::Byte, 3), cell(4, Cell::Word, 0)], 8)
-}
-
-// a tagged union none of whose members is a fat pointer
-fn union(alloc: Global) -> Option<Rc<Layout>> {
-    object(alloc, &[cell(0, Cell::Tagged, 0)], 8)
-}
-
-// one with a fat pointer among its members
-fn fat_union(alloc: Global) -> Option<Rc<Layout>> {
-    object(alloc, &[cell(0, Cell::TaggedFat, 0)], 16)
+// the layout of a shape: `int`; `struct { char first; int second; }`; a tagged union none of whose members is a fat pointer, and one with a fat pointer
+fn layout_of(alloc: Global, shape: &str) -> Option<Rc<Layout>> {
+    match shape {
+        "word" | "words" => object(alloc, &[cell(0, Cell::Word, 0)], 4),
+        "pair" | "pairs" => { object(alloc, &[cell(0, Cell::Byte, 3), cell(4, Cell::Word, 0)], 8) }
+        "union" | "unions" => object(alloc, &[cell(0, Cell::Tagged, 0)], 8),
+        "fat_union" => object(alloc, &[cell(0, Cell::TaggedFat, 0)], 16),
+        _ => None,
+    }
 }
 
 /// The global that a row says, where it says one.
@@ -50,7 +41,18 @@ pub fn datum_of(alloc: Global, row: Row<'_>) -> Option<Datum> {
         "global_address" => Some(Datum::Address(first)),
         "global_bounds" => Some(Datum::Bounds(first, second)),
         "global_ab" => Some(Datum::Text(b"ab".to_vec(alloc).ok()?)),
-        "global_pairs" => Some(Datum::Whole(pair(alloc)?, first)),
+        "global_pairs" => Some(Datum::Whole(layout_of(alloc, "pairs")?, first)),
+        _ => None,
+    }
+}
+
+// the cell of a local of one cell
+fn scalar_of(name: &str) -> Option<Cell> {
+    match name {
+        "with_word" => Some(Cell::Word),
+        "with_fat" => Some(Cell::Fat),
+        "with_union" => Some(Cell::Tagged),
+        "with_fat_union" => Some(Cell::TaggedFat),
         _ => None,
     }
 }
@@ -58,16 +60,11 @@ pub fn datum_of(alloc: Global, row: Row<'_>) -> Option<Datum> {
 /// The local or unnamed value that a row says, where it says one.
 pub fn local_of(alloc: Global, row: Row<'_>) -> Option<Local> {
     let [count, _, _, _, _] = row.numbers;
-    match row.name {
-        "with_word" => Some(Local::Scalar(Cell::Word)),
-        "with_fat" => Some(Local::Scalar(Cell::Fat)),
-        "with_words" => Some(Local::Whole(word(alloc)?, count)),
-        "with_pairs" => Some(Local::Whole(pair(alloc)?, count)),
-        "with_union" => Some(Local::Scalar(Cell::Tagged)),
-        "with_fat_union" => Some(Local::Scalar(Cell::TaggedFat)),
-        "with_unions" => Some(Local::Whole(union(alloc)?, count)),
-        _ => None,
+    if let Some(cell) = scalar_of(row.name) {
+        return Some(Local::Scalar(cell));
     }
+    let shape = row.name.strip_prefix("with_")?;
+    Some(Local::Whole(layout_of(alloc, shape)?, count))
 }
 
 /// The temporaries of a value: none, one or three.
@@ -80,24 +77,38 @@ pub fn words_of(numbers: [u32; 3], count: usize) -> Option<Words> {
     }
 }
 
-/// The statement that a row says, where it says one that is no call.
-pub fn statement_of(alloc: Global, row: Row<'_>) -> Option<Statement> {
+// the statement on objects of a shape that a row says, where it says one
+fn object_statement(alloc: Global, row: Row<'_>) -> Option<Statement> {
     let [first, second, third, _, _] = row.numbers;
-    let (to, from, count) = (Temporary(first), Temporary(second), Temporary(third));
+    let (to, from) = (Temporary(first), Temporary(second));
+    let (verb, shape) = row.name.split_once('_')?;
+    let layout = layout_of(alloc, shape)?;
+    match verb {
+        "copy" => Some(Statement::Copy(to, from, layout)),
+        "clear" => Some(Statement::Clear(to, layout, second)),
+        "unique" => Some(Statement::UniqueAlloc(to, layout)),
+        "region" => Some(Statement::RegionAlloc(to, from, Temporary(third), layout)),
+        _ => None,
+    }
+}
+
+// the statement without an object that a row says, where it says one
+fn plain_statement(row: Row<'_>) -> Option<Statement> {
+    let [first, second, third, _, _] = row.numbers;
     match row.name {
-        "copy_word" => Some(Statement::Copy(to, from, word(alloc)?)),
-        "copy_pair" => Some(Statement::Copy(to, from, pair(alloc)?)),
-        "copy_union" => Some(Statement::Copy(to, from, union(alloc)?)),
-        "copy_fat_union" => Some(Statement::Copy(to, from, fat_union(alloc)?)),
-        "clear_pairs" => Some(Statement::Clear(to, pair(alloc)?, second)),
-        "clear_unions" => Some(Statement::Clear(to, union(alloc)?, second)),
         "break" => Some(Statement::Break),
         "continue" => Some(Statement::Continue),
-        "unique_pair" => Some(Statement::UniqueAlloc(to, pair(alloc)?)),
-        "region_alloc" => Some(Statement::RegionAlloc(to, from, count, word(alloc)?)),
         "return" => Some(Statement::Return(words_of([first, second, third], row.count))),
         "raise_null" => Some(Statement::Raise(Kind::NullException)),
         "raise_bounds" => Some(Statement::Raise(Kind::ArrayBounds)),
         _ => Some(Statement::Do(operation_of(row)?)),
+    }
+}
+
+/// The statement that a row says, where it says one that is no call.
+pub fn statement_of(alloc: Global, row: Row<'_>) -> Option<Statement> {
+    match plain_statement(row) {
+        Some(statement) => Some(statement),
+        None => object_statement(alloc, row),
     }
 }

@@ -14,11 +14,6 @@ function 1
 constant 1 7; store 0 1; return
 end";
 
-#[test]
-fn a_callee_stores_to_a_local_of_its_caller(rt: HostRuntime) -> Result<(), Fail> {
-    expect_endings(rt.alloc(), SET, "Ended(8)")
-}
-
 const BLOCK_OVER: &str = "\
 function 0
 block; with_word
@@ -32,15 +27,11 @@ end
 end";
 
 // a pointer to a local whose block is over may be tested for NULL, and no more
-#[test]
-fn a_local_is_gone_with_its_block(rt: HostRuntime) -> Result<(), Fail> {
-    let endings = "\
+const A_LOCAL_IS_GONE_WITH_ITS_BLOCK: &str = "\
 Ended(0) <- is_null 1 0
 Stuck <- load 1 0
 Stuck <- store 0 1
 Stuck <- same_place 1 0 0";
-    expect_endings(rt.alloc(), BLOCK_OVER, endings)
-}
 
 // within a block of two words
 const IN_BLOCK: &str = "\
@@ -50,17 +41,13 @@ block; with_word; with_word
 end
 end";
 
-#[test]
-fn null_is_no_place(rt: HostRuntime) -> Result<(), Fail> {
-    let endings = "\
+const NULL_IS_NO_PLACE: &str = "\
 Ended(1) <- null_pointer 0; is_null 1 0; return 1
 Ended(1) <- null_pointer 0; same_place 1 0 0; return 1
 Stuck <- null_pointer 0; load 1 0; return 1
 Stuck <- null_pointer 0; store 0 0; return 1
 Stuck <- null_pointer 0; return 0; return 1
 Raised(NullException) <- null_pointer 0; if 0; constant 1 5; return 1; else; raise_null; end";
-    expect_endings(rt.alloc(), IN_BLOCK, endings)
-}
 
 // int *kept; int main() { int a; int b; kept = &a; *kept = 9; return a; }, where `kept` was NULL before
 const KEPT: &str = "\
@@ -75,21 +62,23 @@ return 3
 end
 end";
 
-#[test]
-fn a_global_keeps_a_pointer(rt: HostRuntime) -> Result<(), Fail> {
-    let endings = "\
+const A_GLOBAL_KEEPS_A_POINTER: &str = "\
 Ended(9) <- get 3 0
 Ended(1) <- same_place 3 1 2
 Ended(0) <- same_place 3 0 1";
-    expect_endings(rt.alloc(), KEPT, endings)
-}
 
-#[test]
-fn pointers_to_two_locals_differ(rt: HostRuntime) -> Result<(), Fail> {
-    let endings = "\
+const POINTERS_TO_TWO_LOCALS_DIFFER: &str = "\
 Ended(1) <- local_address 0 0; local_address 1 0; same_place 2 0 1; return 2
 Ended(0) <- local_address 0 0; local_address 1 1; same_place 2 0 1; return 2
 Ended(0) <- local_address 0 0; null_pointer 1; same_place 2 0 1; return 2
 Stuck <- local_address 0 0; constant 1 0; same_place 2 0 1; return 2";
-    expect_endings(rt.alloc(), IN_BLOCK, endings)
+
+#[test]
+fn pointers_lead_to_what_is_there(rt: HostRuntime) -> Result<(), Fail> {
+    let alloc = rt.alloc();
+    expect_endings(alloc, SET, "Ended(8)")?;
+    expect_endings(alloc, BLOCK_OVER, A_LOCAL_IS_GONE_WITH_ITS_BLOCK)?;
+    expect_endings(alloc, IN_BLOCK, NULL_IS_NO_PLACE)?;
+    expect_endings(alloc, KEPT, A_GLOBAL_KEEPS_A_POINTER)?;
+    expect_endings(alloc, IN_BLOCK, POINTERS_TO_TWO_LOCALS_DIFFER)
 }

@@ -13,12 +13,6 @@ end
 function 1; with_pairs 1
 end";
 
-// the unnamed pair is a local's value, and what becomes of it later is not the local's
-#[test]
-fn a_struct_goes_through_an_unnamed_value(rt: HostRuntime) -> Result<(), Fail> {
-    expect_endings(rt.alloc(), THROUGH, "Ended(256)")
-}
-
 const CALLEE_STORES: &str = "\
 function 0; with_pairs 1
 own_address 0 0; constant 1 5; store 0 1 1 4; pass 0; call 1; load 1 0 1 4; return 1
@@ -30,13 +24,9 @@ return
 end";
 
 // a callee stores to its caller's unnamed pair, and to its own, which is another
-#[test]
-fn each_call_has_its_own(rt: HostRuntime) -> Result<(), Fail> {
-    let endings = "\
+const EACH_CALL_HAS_ITS_OWN: &str = "\
 Ended(9) <- store 0 2 1 4
 Ended(5) <- store 1 2 1 4";
-    expect_endings(rt.alloc(), CALLEE_STORES, endings)
-}
 
 const CALL_OVER: &str = "\
 function 0; with_pairs 1
@@ -49,14 +39,10 @@ own_address 1 0; store 1 0 1 4; return 1
 end";
 
 // a pointer to an unnamed value of a call that is over may be tested for NULL, and no more
-#[test]
-fn an_unnamed_value_is_gone_with_its_call(rt: HostRuntime) -> Result<(), Fail> {
-    let endings = "\
+const AN_UNNAMED_VALUE_IS_GONE_WITH_ITS_CALL: &str = "\
 Ended(0) <- is_null 1 0
 Stuck <- load 1 0 1 4
 Stuck <- store 0 1 1 4";
-    expect_endings(rt.alloc(), CALL_OVER, endings)
-}
 
 const LOADED: &str = "\
 function 0; with_pairs 1
@@ -68,10 +54,16 @@ function 1; with_pairs 1
 end";
 
 // an unnamed value holds nothing at first, and none stands behind the last
-#[test]
-fn what_unnamed_values_cannot_do_is_stuck(rt: HostRuntime) -> Result<(), Fail> {
-    let endings = "\
+const WHAT_UNNAMED_VALUES_CANNOT_DO_IS_STUCK: &str = "\
 Stuck <- own_address 0 0; constant 1 5
 Stuck <- own_address 0 1; store 0 1 1 4";
-    expect_endings(rt.alloc(), LOADED, endings)
+
+#[test]
+fn unnamed_values_are_their_calls(rt: HostRuntime) -> Result<(), Fail> {
+    let alloc = rt.alloc();
+    // the unnamed pair is a local's value, and what becomes of it later is not the local's
+    expect_endings(alloc, THROUGH, "Ended(256)")?;
+    expect_endings(alloc, CALLEE_STORES, EACH_CALL_HAS_ITS_OWN)?;
+    expect_endings(alloc, CALL_OVER, AN_UNNAMED_VALUE_IS_GONE_WITH_ITS_CALL)?;
+    expect_endings(alloc, LOADED, WHAT_UNNAMED_VALUES_CANNOT_DO_IS_STUCK)
 }

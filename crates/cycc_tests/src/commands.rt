@@ -1,109 +1,142 @@
-// Whole commands: what is written and said, and the status.
+// Commands between a reader and a writer that stumble, and endings that no command comes to.
+//
+// A row has a command; the name of its source; the read that fails, and the input; the write that stumbles, how it does, and what is written; the status and
+// the line; and how many reads and writes there were, and how many of each failed.
 
-use command_line::command_of;
-use cycc_answer::{Answer, Counted, answer};
-use cycc_driver::load;
+use crate::devices::{Script, Tape, script_of, tape_of};
+use crate::rows::{Rows, cut, expect, parted};
+use command_line::{Command, command_of};
+use cycc_answer::{Counted, answer, ended, refused};
+use cycc_driver::{CompileFault, Ending, Input, Output};
 use std::alloc::{AllocError, Global};
 use std::test::Fail;
 
-/// The bytes that a text means: `-` is none, and `#` with two hexadecimal digits a byte.
-pub fn bytes_of(alloc: Global, text: &str) -> Result<Vec<u8>, Fail> {
-    let mut bytes = Vec::new(alloc);
-    if text == "-" {
-        return Ok(bytes);
-    }
-    for (number, piece) in text.split('#').enumerate() {
-        let mut rest = piece;
-        if number > 0 {
-            let digits = piece.get(..2).ok_or("no byte")?;
-            bytes.push(u8::from_str_radix(digits, 16)?)?;
-            rest = piece.get(2..).ok_or("no byte")?;
+// the source of a name
+fn source_of(name: &str) -> &'static [u8] {
+    match name {
+        "letters" => b"int main() { putchar(65); putchar(66); getchar(); putchar(67); }",
+        "echo" =>
+            b"int main() { int c = getchar(); while (c >= 0) { putchar(c); c = getchar(); } return 7; }",
+        "dots" => {
+            b"int main() { int x = 7; int *p = &x; int i = 0; while (1) { putchar('.'); if (i == 2) p = NULL; x = *p; i = i + 1; } }"
         }
-        bytes.extend_from_slice(rest.as_bytes())?;
-    }
-    Ok(bytes)
-}
-
-/// The text that means these bytes, with a `$` for the end of a line.
-pub fn text_of(alloc: Global, bytes: &[u8]) -> Result<String, AllocError> {
-    if bytes.is_empty() {
-        return String::from_str(alloc, "-");
-    }
-    let mut text = String::new(alloc);
-    for byte in bytes {
-        match *byte {
-            b'\n' => text.push('$')?,
-            b' '..=b'~' => text.push(char::from(*byte))?,
-            byte => write!(text, "#{byte:02x}")?,
-        }
-    }
-    Ok(text)
-}
-
-/// The pages of the image that an answer has, as the end of its line.
-fn image_text(alloc: Global, answer: &Answer) -> Result<String, Fail> {
-    match &answer.image {
-        Some(image) => {
-            let pages = load(alloc, image)?.pages();
-            Ok(format!(in alloc; " | {pages} pages")?)
-        }
-        None => Ok(String::new(alloc)),
+        "end" => b"int main() { getchar(); putchar(65); return getchar(); }",
+        _ => b"",
     }
 }
 
-/// The line of an answer, of what was said, and of what was written.
-fn line_of(alloc: Global, answer: &Answer, said: &[u8], written: &[u8]) -> Result<String, Fail> {
-    let status = answer.status;
-    let said = text_of(alloc, said)?;
-    let written = text_of(alloc, written)?;
-    let image = image_text(alloc, answer)?;
-    Ok(format!(in alloc; "{status} | {said} | {written}{image}")?)
+// what a command is done between
+#[derive(Drop)]
+struct Devices {
+    reader: Counted<Script>,
+    writer: Counted<Tape>,
 }
 
-/// What a command answers on a file, with no input: the status, what is said and what is written, and the pages of an image, parted by ` | `.
-pub fn shown(alloc: Global, words: &str, file: &[u8]) -> Result<String, Fail> {
+// whether a command answers this status and line
+fn is_status(
+    alloc: Global,
+    command: &Command<'_>,
+    source: &[u8],
+    devices: &mut Devices,
+    wanted: &str,
+) -> Result<bool, AllocError> {
+    let (status, line) = parted(wanted);
+    let (reader, writer) = (&mut devices.reader, &mut devices.writer);
+    let mut said = Vec::new(alloc);
+    let found = answer(alloc, command, source, reader, writer, &mut said)?.status;
+    Ok(status.parse() == Ok(found) && said.strip_suffix(b"\n").unwrap_or(b"") == line.as_bytes())
+}
+
+// whether devices were asked so often, and what was to be written was
+fn are_asked(alloc: Global, devices: &Devices, wanted: &str) -> Result<bool, AllocError> {
+    let (read, written) = (devices.reader.get_ref(), devices.writer.get_ref());
+    let (reads, writes) = (read.calls, written.calls);
+    let (torn, lost) = (devices.reader.faults(), devices.writer.faults());
+    let shown = format!(in alloc; "{reads} {writes} {torn} {lost}")?;
+    Ok(written.is_written() && shown.as_str() == wanted)
+}
+
+// whether it is so what the parts of a row say of a command
+fn is_done(alloc: Global, command: &Command<'_>, parts: &'static str) -> Result<bool, AllocError> {
+    let (source, rest) = cut(parts);
+    let (input, rest) = cut(rest);
+    let (output, rest) = cut(rest);
+    let (wanted, asked) = cut(rest);
+    let mut devices = Devices {
+        reader: script_of(input),
+        writer: tape_of(output),
+    };
+    let is_right = is_status(alloc, command, source_of(source), &mut devices, wanted)?;
+    Ok(are_asked(alloc, &devices, asked)? && is_right)
+}
+
+/// Whether it is so what a row says.
+pub fn is_answered(alloc: Global, row: &'static str) -> Result<bool, Fail> {
+    let (words, parts) = cut(row);
     let words: Vec<&str> = words.split(' ').collect(alloc)?;
     let command = command_of(alloc, words.as_slice())?;
-    let mut reader = Counted::new(b"".as_slice());
-    let mut writer = Counted::new(Vec::new(alloc));
-    let mut said = Vec::new(alloc);
-    let answer = answer(alloc, &command, file, &mut reader, &mut writer, &mut said)?;
-    line_of(alloc, &answer, &said, &writer.into_inner())
+    Ok(is_done(alloc, &command, parts)?)
 }
 
-/// Refuses what is found where it isn't what is wanted.
-pub fn expect(found: String, wanted: &str) -> Result<(), Fail> {
-    if found.as_str() == wanted {
-        Ok(())
-    } else {
-        Err(Fail::new(format_args!("found {found}, not {wanted}")))
-    }
-}
+// The last write that is wanted fails or takes nothing, or the last read fails. All is written before a read, and at an ending, whose place a failed write
+// takes; and nothing is asked for after a failure.
+const FAILURES: &str = "\
+cycc run IN | letters | 1 | 1 nothing | 6 write fault | 0 1 0 1
+cycc run IN | letters | 1 | 2 nothing A | 6 write fault | 0 2 0 1
+cycc run IN | letters | 1 | 3 nothing AB | 6 read fault | 1 2 1 0
+cycc eval IN | letters | 1 | 1 nothing | 6 write fault | 0 1 0 1
+cycc eval IN | letters | 1 | 2 nothing A | 6 write fault | 0 2 0 1
+cycc eval IN | letters | 1 | 3 nothing AB | 6 read fault | 1 2 1 0
+cycc check IN | letters | 1 | 9 nothing accepted | 6 write fault | 0 9 0 1
+cycc run IN | echo | 3 ab | 3 fails ab | 6 read fault | 3 2 1 0
+cycc eval IN | echo | 3 ab | 3 fails ab | 6 read fault | 3 2 1 0
+cycc run IN | dots | 1 | 3 fails .. | 6 write fault | 0 3 0 1
+cycc eval IN | dots | 1 | 3 fails .. | 6 write fault | 0 3 0 1
+cycc run IN | dots | 1 | 1 nothing | 6 write fault | 0 1 0 1
+cycc eval IN | dots | 1 | 1 nothing | 6 write fault | 0 1 0 1
+cycc run IN | dots | 1 | 4 fails ... | 2 | 0 3 0 0";
 
-/// Refuses what a command answers on a file where it isn't what is wanted.
-pub fn expect_shown(alloc: Global, words: &str, file: &[u8], wanted: &str) -> Result<(), Fail> {
-    expect(shown(alloc, words, file)?, wanted)
-}
-
-/// Refuses what a command answers on a text where it isn't what is wanted.
-pub fn expect_text(alloc: Global, words: &str, text: String, wanted: &str) -> Result<(), Fail> {
-    expect(shown(alloc, words, text.as_bytes())?, wanted)
-}
-
-/// How often an answer that ends exhausted wrote this byte, and no other.
-pub fn written_until_exhausted(found: String, byte: u8) -> Result<usize, Fail> {
-    match found.as_str().strip_prefix("3 | exhausted$ | ") {
-        Some(written) if written.bytes().all(|one| one == byte) => Ok(written.len()),
-        _ => Err(Fail::new(format_args!("found {found}"))),
-    }
-}
-
-// Two functions without end: a call each time a byte is written.
 #[test]
-fn endless_recursion_is_exhausted(rt: HostRuntime) -> Result<(), Fail> {
-    let endless = b"int f() { putchar(97); return f(); } int main() { return f(); }";
-    let found = shown(rt.alloc(), "cycc run IN --ending", endless)?;
-    assert!(rt; written_until_exhausted(found, b'a')? >= 4000);
-    let words = "cycc eval IN --ending --steps 9";
-    expect_shown(rt.alloc(), words, endless, "4 | step limit$ | aaaa")
+fn devices_fail_in_turn(rt: HostRuntime) -> Result<(), Fail> {
+    expect(rt.alloc(), Rows::Answers, FAILURES)
+}
+
+// An evaluation of `echo` takes a unit for the first read, and three for each turn: a byte is written before the next is read, and nothing is done without its
+// unit. After the end nothing is read.
+const EVALUATIONS: &str = "\
+cycc eval IN --ending --steps 1000 | echo | 0 hello | 0 fails hello | 1 ended 7 | 6 5 0 0
+cycc eval IN --ending --steps 1000 | echo | 1 hello | 0 fails | 6 read fault | 1 0 1 0
+cycc eval IN --ending --steps 1000 | echo | 2 hello | 0 fails h | 6 read fault | 2 1 1 0
+cycc eval IN --ending --steps 1000 | echo | 3 hello | 0 fails he | 6 read fault | 3 2 1 0
+cycc eval IN --ending --steps 1000 | echo | 0 hello | 1 fails | 6 write fault | 1 1 0 1
+cycc eval IN --ending --steps 1000 | echo | 0 hello | 2 fails h | 6 write fault | 2 2 0 1
+cycc eval IN --ending --steps 1000 | echo | 0 hello | 3 fails he | 6 write fault | 3 3 0 1
+cycc eval IN --ending --steps 0 | echo | 0 hello | 0 fails | 4 step limit | 0 0 0 0
+cycc eval IN --ending --steps 1 | echo | 0 hello | 0 fails | 4 step limit | 1 0 0 0
+cycc eval IN --ending --steps 2 | echo | 0 hello | 0 fails | 4 step limit | 1 0 0 0
+cycc eval IN --ending --steps 3 | echo | 0 hello | 0 fails h | 4 step limit | 1 1 0 0
+cycc eval IN --ending --steps 4 | echo | 0 hello | 0 fails h | 4 step limit | 2 1 0 0
+cycc eval IN --ending --steps 1000 | end | 0 | 0 fails A | 1 ended -1 | 1 1 0 0";
+
+#[test]
+fn an_evaluation_reads_and_writes_in_order(rt: HostRuntime) -> Result<(), Fail> {
+    expect(rt.alloc(), Rows::Answers, EVALUATIONS)
+}
+
+// whether the statuses and the lines are right of a run and of a source for which there is no memory
+fn are_refused(alloc: Global) -> Result<bool, AllocError> {
+    let mut said = Vec::new(alloc);
+    let lacking = ended(alloc, Ending::HostMemory, None, false, &mut said)?;
+    let memory = refused(alloc, "IN", CompileFault::Memory, &mut said)?;
+    Ok(
+        (lacking, memory) == (7, 7)
+            && said.as_slice() == b"out of memory\nout of memory\n".as_slice(),
+    )
+}
+
+#[test]
+fn where_memory_lacks_that_is_said(rt: HostRuntime) -> Result<(), Fail> {
+    let are_right = are_refused(rt.alloc())?;
+    assert!(rt; are_right);
+    Ok(())
 }

@@ -1,5 +1,5 @@
-//! Tests of commands that need more than a text: failing readers and writers, made images, large texts that are made by a rule,
-//! the words of the command line. All that a text and its answer say stands in the cases of `case_runs`.
+//! Tests of commands and of the words of the command line that need more than a text: devices that fail, endings that no command comes to,
+//! words that are no text. All that a text and its answer say stands in the cases of `case_runs`.
 //!
 //! A crate with tests is proved twice, so those of the crates that take long stand here, where nothing
 //! else is proved.
@@ -10,12 +10,6 @@ mod commands;
 #[cfg(test)]
 mod devices;
 #[cfg(test)]
-mod evaluations;
-#[cfg(test)]
-mod images;
-#[cfg(test)]
-mod large_texts;
-#[cfg(test)]
-mod limits;
+mod rows;
 #[cfg(test)]
 mod usage;

@@ -1,15 +1,32 @@
 // The words of the command line.
 
-use crate::commands::expect;
+use crate::rows::{Rows, expect};
 use command_line::status::usage_status;
-use command_line::{command_of, shown, shown_error, words_of};
-use std::alloc::Global;
+use command_line::{Command, Error, command_of, shown, shown_error, words_of};
+use std::alloc::{AllocError, Global};
 use std::env::{Env, FillError};
 use std::test::Fail;
 
+// a row's words, and what stands behind them
+fn words_and_rest(row: &str) -> (&str, &str) {
+    row.split_once(" -> ").unwrap_or((row, ""))
+}
+
+// whether a command is shown so
+fn is_shown(alloc: Global, command: &Command<'_>, wanted: &str) -> Result<bool, AllocError> {
+    Ok(format!(in alloc; "{command:?}")?.as_str() == wanted)
+}
+
+/// Whether the words of a row are its command.
+pub fn is_read(alloc: Global, row: &str) -> Result<bool, Fail> {
+    let (words, wanted) = words_and_rest(row);
+    let words: Vec<&str> = words.split(' ').collect(alloc)?;
+    let command = command_of(alloc, words.as_slice())?;
+    Ok(is_shown(alloc, &command, wanted)?)
+}
+
 /// Words, and the command that they are.
-const WORDS: &str = r#"
-cycc check a.cyc -> Check { input: "a.cyc" }
+const WORDS: &str = r#"cycc check a.cyc -> Check { input: "a.cyc" }
 cycc compile a b --pages 7 -> Compile { input: "a", output: "b", pages: Pages { number: 7 } }
 cycc compile a b -> Compile { input: "a", output: "b", pages: Pages { number: 1024 } }
 cycc run a -> Run { input: "a", pages: Pages { number: 1024 }, steps: 4294967295, shows_ending: false }
@@ -20,73 +37,27 @@ cycc eval i --steps 7 --ending -> Eval { input: "i", fuel: 7, shows_ending: true
 cycc exec i --steps 2 -> Exec { input: "i", steps: 2, shows_ending: false }
 cycc dump i -> Dump { input: "i" }"#;
 
-/// The text of the command that these words are.
-fn command_text(alloc: Global, words: &str) -> Result<String, Fail> {
-    let words: Vec<&str> = words.split(' ').collect(alloc)?;
-    let command = command_of(alloc, words.as_slice())?;
-    Ok(format!(in alloc; "{command:?}")?)
-}
-
 #[test]
 fn words_are_read(rt: HostRuntime) -> Result<(), Fail> {
-    for line in WORDS.trim_start().lines() {
-        let (words, wanted) = line.split_once(" -> ").ok_or("no command")?;
-        expect(command_text(rt.alloc(), words)?, wanted)?;
-    }
-    Ok(())
+    expect(rt.alloc(), Rows::Commands, WORDS)
 }
 
-/// Words that are no command, with the status.
-const OTHER_WORDS: &str = "\
-9 cycc
-9 cycc check
-9 cycc check a b
-9 cycc check a --pages 1
-9 cycc compile a
-9 cycc compile a b --steps 1
-9 cycc compile a b --pages 0
-9 cycc run
-9 cycc run a --pages 4097
-9 cycc run a --pages x
-9 cycc run a --pages
-9 cycc run a --steps -1
-9 cycc run a --steps 18446744073709551616
-9 cycc run a --endings
-9 cycc exec
-9 cycc exec a --pages 1
-9 cycc dump a b
-9 cycc eval a --pages 1
-9 cycc hello
-9 cycc --version
-0 cycc --help
-0 cycc help run
-0 cycc run --help";
-
-/// The status of words that are no command, and the text that is shown.
-fn usage_text(alloc: Global, words: &str) -> Result<String, Fail> {
+// why words are no command
+fn refusal(alloc: Global, words: &str) -> Result<Error, Fail> {
     let words: Vec<&str> = words.split(' ').collect(alloc)?;
-    let error = command_of(alloc, words.as_slice()).err().ok_or("taken")?;
-    let status = usage_status(&error);
-    Ok(format!(in alloc; "{status} {error}")?)
+    Ok(command_of(alloc, words.as_slice()).err().ok_or("taken")?)
 }
 
-/// Refuses where words that are no command aren't answered with this.
-fn expect_usage(alloc: Global, words: &str, begin: &str, part: &str) -> Result<(), Fail> {
-    let text = usage_text(alloc, words)?;
-    if text.as_str().starts_with(begin) && text.as_str().contains(part) {
-        Ok(())
-    } else {
-        Err(Fail::new(format_args!("{words}: {text}")))
-    }
+// whether what is shown of words has this
+fn has_text(alloc: Global, error: &Error, wanted: &str) -> Result<bool, AllocError> {
+    Ok(format!(in alloc; "{error}")?.as_str().contains(wanted))
 }
 
-#[test]
-fn other_words_are_usage(rt: HostRuntime) -> Result<(), Fail> {
-    for line in OTHER_WORDS.lines() {
-        let (status, words) = line.split_once(' ').ok_or("no words")?;
-        expect_usage(rt.alloc(), words, status, " ")?;
-    }
-    Ok(())
+/// Whether the words of a row ask for help, which has what stands behind them.
+pub fn is_help(alloc: Global, row: &str) -> Result<bool, Fail> {
+    let (words, wanted) = words_and_rest(row);
+    let error = refusal(alloc, words)?;
+    Ok(usage_status(&error) == 0 && has_text(alloc, &error, wanted)?)
 }
 
 /// What the help of words has to say.
@@ -101,30 +72,34 @@ cycc dump --help -> Magic";
 
 #[test]
 fn help_names_statuses_and_faults(rt: HostRuntime) -> Result<(), Fail> {
-    for line in HELP.lines() {
-        let (words, wanted) = line.split_once(" -> ").ok_or("no help")?;
-        expect_usage(rt.alloc(), words, "0 ", wanted)?;
-    }
-    Ok(())
+    expect(rt.alloc(), Rows::Help, HELP)
 }
 
-/// The words that a system gives.
+// the words that a system gives, a space apart, with `?` for the byte 255
 #[derive(Clone, Copy)]
 struct Given<'a> {
-    words: &'a [&'a [u8]],
+    line: &'a str,
+}
+
+// writes a word's bytes into as much room
+fn fill(room: &mut [u8], word: &str) {
+    for (place, byte) in room.iter_mut().zip(word.bytes()) {
+        *place = if byte == b'?' { 0xff } else { byte };
+    }
 }
 
 impl Env for Given<'_> {
     fn arg(&self, i: usize, buf: &mut [u8]) -> Result<usize, FillError> {
-        let Some(word) = self.words.get(i) else {
+        let Some(word) = self.line.split(' ').nth(i) else {
             return Err(FillError::NotPresent);
         };
-        let length = word.len();
-        if buf.len() < length {
-            return Err(FillError::TooLong);
+        match buf.get_mut(..word.len()) {
+            Some(room) => {
+                fill(room, word);
+                Ok(word.len())
+            }
+            None => Err(FillError::TooLong),
         }
-        buf[..length].copy_from_slice(word);
-        Ok(length)
     }
 
     fn var(&self, _name: &str, _buf: &mut [u8]) -> Result<usize, FillError> {
@@ -136,52 +111,64 @@ impl Env for Given<'_> {
     }
 }
 
-#[test]
-fn a_path_that_is_no_text_is_shown_and_marked(rt: HostRuntime) -> Result<(), Fail> {
-    let alloc = rt.alloc();
-    let given: [&[u8]; 3] = [b"cycc", b"check", b"f\xff.cyc"];
-    let system = Given {
-        words: given.as_slice(),
-    };
-    let words = words_of(&(system, alloc))?;
+// whether words that a system gives are a command with this input, which is shown so
+fn has_input(alloc: Global, line: &str, input: &str, as_shown: &str) -> Result<bool, Fail> {
+    let words = words_of(&(Given { line }, alloc))?;
     let command = command_of(alloc, words.as_slice())?;
-    assert_eq!(rt; command.input(), "f\u{FFFD}.cyc\0");
-    assert_eq!(rt; shown(command.input()), "f\u{FFFD}.cyc");
-    Ok(())
+    Ok(command.input() == input && shown(command.input()) == as_shown)
 }
 
 #[test]
-fn words_that_are_no_text_are_usage(rt: HostRuntime) -> Result<(), Fail> {
-    let alloc = rt.alloc();
-    let given: [[&[u8]; 4]; 3] = [
-        [b"cycc", b"run", b"a", b"--pages=1\xff"],
-        [b"cycc", b"run", b"a", b"--ending\xff"],
-        [b"cycc", b"check\xff", b"a", b"b"],
-    ];
-    for words in given.iter() {
-        let system = Given {
-            words: words.as_slice(),
-        };
-        let words = words_of(&(system, alloc))?;
-        let error = command_of(alloc, words.as_slice()).err().ok_or("taken")?;
-        assert_eq!(rt; usage_status(&error), 9);
-        let text = shown_error(alloc, &error)?;
-        assert!(rt; text.as_str().contains('\u{FFFD}'), "{error}");
-        assert!(rt; !text.as_str().contains('\0'), "{error}");
-    }
+fn a_path_that_is_no_text_is_shown_and_marked(rt: HostRuntime) -> Result<(), Fail> {
+    let is_right = has_input(
+        rt.alloc(),
+        "cycc check f?.cyc",
+        "f\u{FFFD}.cyc\0",
+        "f\u{FFFD}.cyc",
+    )?;
+    assert!(rt; is_right);
     Ok(())
+}
+
+// whether the text of words that are no command has the sign of bytes that are no text, and not the mark of these
+fn is_marked(alloc: Global, error: &Error) -> Result<bool, AllocError> {
+    let text = shown_error(alloc, error)?;
+    Ok(text.as_str().contains('\u{FFFD}') && !text.as_str().contains('\0'))
+}
+
+/// Whether the words of a row, which are no text, are no command.
+pub fn is_no_text(alloc: Global, row: &str) -> Result<bool, Fail> {
+    let words = words_of(&(Given { line: row }, alloc))?;
+    match command_of(alloc, words.as_slice()) {
+        Ok(_) => Ok(false),
+        Err(error) => Ok(usage_status(&error) == 9 && is_marked(alloc, &error)?),
+    }
+}
+
+const NO_TEXTS: &str = "\
+cycc run a --pages=1?
+cycc run a --ending?
+cycc check? a b";
+
+#[test]
+fn words_that_are_no_text_are_usage(rt: HostRuntime) -> Result<(), Fail> {
+    expect(rt.alloc(), Rows::NoText, NO_TEXTS)
+}
+
+// a path of a thousand letters, behind the words before it
+fn long_line(alloc: Global) -> Result<String, AllocError> {
+    let mut line = String::from_str(alloc, "cycc check ")?;
+    for _ in 0..1000 {
+        line.push('a')?;
+    }
+    Ok(line)
 }
 
 #[test]
 fn long_words_are_whole(rt: HostRuntime) -> Result<(), Fail> {
-    let alloc = rt.alloc();
-    let long = vec![in alloc; b'a'; 1000]?;
-    let given: [&[u8]; 3] = [b"cycc", b"check", long.as_slice()];
-    let system = Given {
-        words: given.as_slice(),
-    };
-    let words = words_of(&(system, alloc))?;
-    let command = command_of(alloc, words.as_slice())?;
-    assert_eq!(rt; command.input().as_bytes(), long.as_slice());
+    let line = long_line(rt.alloc())?;
+    let path = line.as_str().strip_prefix("cycc check ").unwrap_or("");
+    let is_right = has_input(rt.alloc(), line.as_str(), path, path)?;
+    assert!(rt; is_right && path.len() == 1000);
     Ok(())
 }

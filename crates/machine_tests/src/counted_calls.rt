@@ -1,110 +1,43 @@
-// Readers and writers whose failed calls are counted.
+// Flushes, which never count, whether they fail or not, and writes that take nothing.
 
-use cyc_words::{Counted, Input, Output};
-use std::io::{self, Error, ErrorKind, Read, Write};
-use std::test::Fail;
+use cyc_words::{Counted, Output};
+use std::io::{self, Error, ErrorKind, Write};
 
-// gives one byte at each call, and fails at the third
+// takes nothing at a call, after which it can't be flushed
 #[derive(Drop)]
-struct FailsAtThird {
-    calls: u8,
+struct Shut {
+    is_asked: bool,
 }
 
-impl Read for FailsAtThird {
-    fn read(&mut self, buffer: &mut [u8]) -> io::Result<usize> {
-        self.calls = self.calls.saturating_add(1);
-        if self.calls == 3 {
-            return Err(Error::from(ErrorKind::Other));
-        }
-        if buffer.is_empty() {
-            return Ok(0);
-        }
-        buffer[0] = self.calls;
-        Ok(1)
-    }
-}
-
-// refuses a read that fails where it has to give a byte, or the other way round, or after which another number of calls has failed
-fn expect_read<I: Input>(
-    input: &mut I,
-    byte: &mut [u8; 1],
-    gives: bool,
-    faults: u64,
-) -> Result<(), Fail> {
-    let found = input.receive(byte).is_ok();
-    if found == gives && input.faults() == faults {
-        Ok(())
-    } else {
-        Err(Fail::new(format_args!("gives: {found}, failed calls: {}", input.faults())))
-    }
-}
-
-#[test]
-fn a_failed_read_counts(rt: HostRuntime) -> Result<(), Fail> {
-    let mut source = FailsAtThird { calls: 0 };
-    let mut input = Counted::new(&mut source);
-    let mut byte = [0; 1];
-    expect_read(&mut input, &mut byte, true, 0)?;
-    expect_read(&mut input, &mut byte, true, 0)?;
-    expect_read(&mut input, &mut byte, false, 1)?;
-    expect_read(&mut input, &mut byte, true, 1)?;
-    assert!(rt; byte == [4]);
-    assert!(rt; input.get_ref().calls == 4);
-    Ok(())
-}
-
-// takes a byte at the first call and from the fourth on, none at the second, and fails at the third;
-// a flush fails after any call
-#[derive(Drop)]
-struct Stumbles {
-    calls: u8,
-}
-
-impl Write for Stumbles {
-    fn write(&mut self, bytes: &[u8]) -> io::Result<usize> {
-        self.calls = self.calls.saturating_add(1);
-        match self.calls {
-            2 => Ok(0),
-            3 => Err(Error::from(ErrorKind::Other)),
-            _ => Ok(bytes.len().min(1)),
-        }
+impl Write for Shut {
+    fn write(&mut self, _bytes: &[u8]) -> io::Result<usize> {
+        self.is_asked = true;
+        Ok(0)
     }
 
     fn flush(&mut self) -> io::Result<()> {
-        if self.calls == 0 {
-            Ok(())
-        } else {
+        if self.is_asked {
             Err(Error::from(ErrorKind::Other))
+        } else {
+            Ok(())
         }
     }
 }
 
-// refuses a write that takes another number of bytes or fails otherwise, or after which another number of calls has failed
-fn expect_write<O: Output>(
-    output: &mut O,
-    bytes: &[u8],
-    taken: Option<usize>,
-    faults: u64,
-) -> Result<(), Fail> {
-    let found = output.send(bytes).ok();
-    if found == taken && output.faults() == faults {
-        Ok(())
-    } else {
-        Err(Fail::new(format_args!("took {found:?}, failed calls: {}", output.faults())))
-    }
+// whether a flush is what it is inside, and counts nothing, nor a write of nothing; and a write of a byte that isn't taken counts
+fn are_counted(output: &mut Counted<Shut>) -> bool {
+    let is_flushed = output.flush().is_ok();
+    let nothing = output.send(b"").ok();
+    let is_lost = output.flush().is_err();
+    let uncounted = output.faults();
+    let byte = output.send(b"a").ok();
+    let taken = (nothing, byte) == (Some(0), Some(0));
+    is_flushed && is_lost && taken && (uncounted, output.faults()) == (0, 1)
 }
 
 #[test]
-fn a_write_that_fails_or_takes_nothing_counts(rt: HostRuntime) -> Result<(), Fail> {
-    let mut output = Counted::new(Stumbles { calls: 0 });
-    assert!(rt; output.flush().is_ok());
-    expect_write(&mut output, b"ab", Some(1), 0)?;
-    expect_write(&mut output, b"ab", Some(0), 1)?;
-    expect_write(&mut output, b"ab", None, 2)?;
-    expect_write(&mut output, b"ab", Some(1), 2)?;
-    expect_write(&mut output, b"", Some(0), 2)?;
-    assert!(rt; output.flush().is_err());
-    assert!(rt; output.faults() == 2);
-    assert!(rt; output.into_inner().calls == 5);
-    Ok(())
+fn a_flush_never_counts(rt: HostRuntime) {
+    let mut output = Counted::new(Shut { is_asked: false });
+    let are_right = are_counted(&mut output);
+    assert!(rt; are_right);
 }

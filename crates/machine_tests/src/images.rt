@@ -1,8 +1,7 @@
-// An image byte by byte, and each field at its edges.
+// An image byte by byte, and the parts that one may have.
 
 use crate::rows::{Rows, expect, number_of, parted};
-use byteorder::{ByteOrder, LittleEndian};
-use cyc_image::{Parts, load, write};
+use cyc_image::{Parts, write};
 use std::alloc::{AllocError, Global};
 use std::test::Fail;
 
@@ -45,83 +44,6 @@ fn images_are_written(rt: HostRuntime) -> Result<(), Fail> {
         && is_written(rt.alloc(), 4, b"\x07\x08\x09", 4096, WITH_DATA.as_slice())?;
     assert!(rt; are_right);
     Ok(())
-}
-
-// the image with a word at each of these places
-fn spoiled(pairs: &str) -> [u8; 36] {
-    let mut bytes = IMAGE;
-    for pair in pairs.split("; ") {
-        let (at, word) = parted(pair);
-        let at = number_of(at) as usize;
-        if at <= 20 {
-            LittleEndian::write_u32(&mut bytes[at..], number_of(word));
-        }
-    }
-    bytes
-}
-
-// how bytes are refused, by the printed fault
-fn refusal(alloc: Global, bytes: &[u8]) -> Result<String, AllocError> {
-    match load(alloc, bytes) {
-        Ok(_) => String::from_str(alloc, "loaded"),
-        Err(fault) => format!(in alloc; "{fault}"),
-    }
-}
-
-/// Whether the image is refused as a row says, of so many bytes, and with a word at each of these places.
-pub fn is_refused(alloc: Global, row: &str) -> Result<bool, AllocError> {
-    let (wanted, rest) = parted(row);
-    let (length, pairs) = parted(rest);
-    let bytes = spoiled(pairs);
-    match bytes.as_slice().get(..number_of(length) as usize) {
-        Some(kept) => Ok(refusal(alloc, kept)?.as_str() == wanted),
-        None => Ok(false),
-    }
-}
-
-// Each field is tested, and of several faults the first is given; a cut image is refused.
-const REFUSALS: &str = "\
-loaded 36
-Short 35
-Short 25
-Short 24
-Short 23
-Short 1
-Short 0
-Magic 36 0 0
-Magic 36 0 1
-Magic 36 0 4294967295
-Version 36 4 0
-loaded 36 4 1
-Version 36 4 4294967295
-loaded 36 8 0
-Entry 36 8 1
-loaded 36 8 8
-Entry 36 8 12
-Entry 36 8 4294967295
-Limit 36 12 0
-Limit 36 12 1
-Trailing 36 12 8
-Short 36 12 4294967272
-Short 36 12 4294967295
-loaded 36 16 0
-Short 36 16 1
-Short 36 16 4294967260
-Short 36 16 4294967295
-Limit 36 20 0
-loaded 36 20 1
-loaded 36 20 4096
-Limit 36 20 4097
-Limit 36 20 4294967295
-Entry 36 8 2
-Limit 36 8 2; 20 0
-Version 36 8 2; 20 0; 4 2
-Magic 36 8 2; 20 0; 4 2; 0 0
-Short 36 8 2; 20 0; 4 2; 0 0; 16 1";
-
-#[test]
-fn the_first_refusal_is_given(rt: HostRuntime) -> Result<(), Fail> {
-    expect(rt.alloc(), Rows::Refusals, REFUSALS)
 }
 
 // whether parts fit with so many of these bytes as their code and as their data

@@ -1,4 +1,4 @@
-//! Tests of words, images, instructions, the machine and its runs between devices: what no clause of theirs says, by tables.
+//! Tests of images, the machine and its runs between devices: what no clause of theirs says, and no case of `case_runs`.
 //!
 //! A crate with tests is proved twice, so those of the crates that take long stand here, where nothing else is proved.
 #![tactic(auto)]
@@ -10,14 +10,12 @@ mod devices;
 #[cfg(test)]
 mod images;
 #[cfg(test)]
-mod instructions;
-#[cfg(test)]
 mod machine;
 #[cfg(test)]
 mod programs;
 #[cfg(test)]
+mod registers;
+#[cfg(test)]
 mod rows;
 #[cfg(test)]
 mod runs;
-#[cfg(test)]
-mod words;

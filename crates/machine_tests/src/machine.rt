@@ -1,6 +1,12 @@
 // Short images on a machine over either store, worked out by hand.
+//
+// A row says what is done with a machine, and what has to be so then; behind ` <- ` the words of its code, or the name of a program; and behind ` | ` its
+// pages, where they aren't 1. `step` says the event of a step, `until` that of the next step that is not Next, `give` and `refuse` what becomes of an answer,
+// `pc` and `x` with a number what the machine has, in hexadecimal. `input`, `output` and `run` are told in runs.rt.
 
+use crate::programs::program_of;
 use crate::rows::{Rows, expect, hex, number_of, parted};
+use crate::runs::Devices;
 use cyc_arena::{BlockStore, PagedStore, PlainStore};
 use cyc_image::{Image, Parts, load, write};
 use rv32_machine::{Event, Machine};
@@ -10,33 +16,6 @@ use std::test::Fail;
 // the data of images
 const DATA: &[u8] = &[0x80, 0x81, 0x82, 0x83];
 
-/// The image of so many pages with this code.
-pub fn image_of(alloc: Global, code: &[u8], pages: u32) -> Result<Image, Fail> {
-    let parts = Parts {
-        entry: 0,
-        code,
-        statics: DATA,
-        pages,
-    };
-    if parts.fits() {
-        Ok(load(alloc, &write(alloc, &parts)?)?)
-    } else {
-        Err(Fail::new("the parts do not fit"))
-    }
-}
-
-/// The machine of an image over a store, at its first instruction.
-pub fn machine_over<S: BlockStore + Drop>(
-    alloc: Global,
-    image: &Image,
-    store: S,
-) -> Result<Machine<S>, Fail> {
-    match Machine::new(alloc, image, store) {
-        Ok(machine) => Ok(machine),
-        Err(_) => Err(Fail::new("no memory for the machine")),
-    }
-}
-
 // the code of words in hexadecimal, one space apart
 fn code_of(alloc: Global, text: &str) -> Result<Vec<u8>, AllocError> {
     let mut code = Vec::new(alloc);
@@ -44,6 +23,27 @@ fn code_of(alloc: Global, text: &str) -> Result<Vec<u8>, AllocError> {
         code.extend_from_slice(&hex(digits).to_le_bytes())?;
     }
     Ok(code)
+}
+
+// the image of parts
+fn loaded(alloc: Global, parts: &Parts<'_>) -> Result<Image, Fail> {
+    if parts.fits() {
+        Ok(load(alloc, &write(alloc, parts)?)?)
+    } else {
+        Err(Fail::new("the parts do not fit"))
+    }
+}
+
+// the image of so many pages with this code
+fn image_of(alloc: Global, words: &str, pages: u32) -> Result<Image, Fail> {
+    let code = code_of(alloc, words)?;
+    let parts = Parts {
+        entry: 0,
+        code: &code,
+        statics: DATA,
+        pages,
+    };
+    loaded(alloc, &parts)
 }
 
 // the event that is not Next, of at most 20 steps
@@ -62,8 +62,8 @@ fn is_event(alloc: Global, event: Event, wanted: &str) -> Result<bool, AllocErro
     Ok(format!(in alloc; "{event:?}")?.as_str() == wanted)
 }
 
-/// Whether a machine has this, in hexadecimal, in a register `x` with a number, or as the address `pc` of its instruction.
-pub fn has<S: BlockStore>(machine: &Machine<S>, place: &str, wanted: &str) -> bool {
+// whether a machine has this in a register, or as the address of its instruction
+fn has<S: BlockStore>(machine: &Machine<S>, place: &str, wanted: &str) -> bool {
     let found = match place.strip_prefix("x") {
         Some(register) => machine.reg(register.parse().unwrap_or(0)),
         None => machine.pc(),
@@ -71,23 +71,23 @@ pub fn has<S: BlockStore>(machine: &Machine<S>, place: &str, wanted: &str) -> bo
     found == hex(wanted)
 }
 
-// whether it is so what a part of a row says: `step` says the event of a step, `until` that of the next step that is not Next, `give` and `refuse` what becomes
-// of an answer, `pc` and `x` with a number what the machine has
+// whether it is so what a part of a row says
 fn is_so<S: BlockStore>(
     alloc: Global,
     machine: &mut Machine<S>,
-    text: &str,
+    devices: &mut Devices,
+    text: &'static str,
 ) -> Result<bool, AllocError> {
-    let (name, wanted) = parted(text);
+    let (name, rest) = parted(text);
     match name {
-        "step" => is_event(alloc, machine.step(), wanted),
-        "until" => {
-            let event = event_of(machine);
-            is_event(alloc, event, wanted)
-        }
-        "give" => Ok(machine.give(wanted.parse().ok())),
-        "refuse" => Ok(!machine.give(wanted.parse().ok())),
-        _ => Ok(has(machine, name, wanted)),
+        "step" => is_event(alloc, machine.step(), rest),
+        "until" => is_event(alloc, event_of(machine), rest),
+        "give" => Ok(machine.give(rest.parse().ok())),
+        "refuse" => Ok(!machine.give(rest.parse().ok())),
+        "input" => Ok(devices.read(rest)),
+        "output" => Ok(devices.write(rest)),
+        "run" => devices.run(alloc, machine, rest),
+        _ => Ok(has(machine, name, rest)),
     }
 }
 
@@ -95,10 +95,11 @@ fn is_so<S: BlockStore>(
 fn are_so<S: BlockStore>(
     alloc: Global,
     machine: &mut Machine<S>,
-    row: &str,
+    row: &'static str,
 ) -> Result<bool, AllocError> {
+    let mut devices = Devices::new();
     for text in row.split("; ") {
-        if !is_so(alloc, machine, text)? {
+        if !is_so(alloc, machine, &mut devices, text)? {
             return Ok(false);
         }
     }
@@ -108,24 +109,29 @@ fn are_so<S: BlockStore>(
 // whether it is so what a row says of an image's machine over a store
 fn is_done_over<S: BlockStore + Drop>(
     alloc: Global,
-    wanted: &str,
+    row: &'static str,
     image: &Image,
     store: S,
 ) -> Result<bool, Fail> {
-    let mut machine = machine_over(alloc, image, store)?;
-    Ok(are_so(alloc, &mut machine, wanted)?)
+    match Machine::new(alloc, image, store) {
+        Ok(mut machine) => Ok(are_so(alloc, &mut machine, row)?),
+        Err(_) => Err(Fail::new("no memory for the machine")),
+    }
 }
 
-/// Whether it is so what a row says of the machine of the words behind it, of one page or of as many as stand behind these, over both stores.
-pub fn is_done(alloc: Global, row: &str) -> Result<bool, Fail> {
+// whether it is so over both stores
+fn is_done_over_both(alloc: Global, row: &'static str, image: &Image) -> Result<bool, Fail> {
+    let plain = is_done_over(alloc, row, image, PlainStore::new(alloc, image.pages())?)?;
+    let paged = is_done_over(alloc, row, image, PagedStore::new(alloc, image.pages())?)?;
+    Ok(plain && paged)
+}
+
+/// Whether it is so what a row says.
+pub fn is_done(alloc: Global, row: &'static str) -> Result<bool, Fail> {
     let (wanted, words) = row.split_once(" <- ").unwrap_or((row, ""));
     let (words, pages) = words.split_once(" | ").unwrap_or((words, "1"));
-    let code = code_of(alloc, words)?;
-    let pages = number_of(pages);
-    let image = image_of(alloc, &code, pages)?;
-    let plain = is_done_over(alloc, wanted, &image, PlainStore::new(alloc, pages)?)?;
-    let paged = is_done_over(alloc, wanted, &image, PagedStore::new(alloc, pages)?)?;
-    Ok(plain && paged)
+    let image = image_of(alloc, program_of(words), number_of(pages))?;
+    is_done_over_both(alloc, wanted, &image)
 }
 
 // How a machine stops and where, what x10 has then, and that it stays so: the smallest image of each fault; loads from the arena, stores to it and jumps
@@ -178,7 +184,7 @@ until Exhausted; pc 1000c; x10 2; step Exhausted; pc 1000c <- 00400893 00000073 
 
 #[test]
 fn a_stop_is_before_the_instruction(rt: HostRuntime) -> Result<(), Fail> {
-    expect(rt.alloc(), Rows::Steps, STOPS)
+    expect(rt.alloc(), Rows::Machine, STOPS)
 }
 
 // A program that ends; getchar, and again; loads from the data, which extend the sign; what is stored is loaded again, and nothing stands behind the stack;
@@ -195,25 +201,23 @@ until Fault(Break); x12 0; x13 50; x14 34; x15 0 <- 00400893 00000073 00050313 0
 
 #[test]
 fn a_machine_goes_on_step_by_step(rt: HostRuntime) -> Result<(), Fail> {
-    expect(rt.alloc(), Rows::Steps, STEPS)
+    expect(rt.alloc(), Rows::Machine, STEPS)
 }
 
-// whether a machine is made, or where memory lacks, as under rt try --test --fail-alloc, its store comes back as it was
-fn is_made_or_given_back(alloc: Global) -> Result<bool, Fail> {
-    let image = image_of(alloc, &[0x73, 0, 0x10, 0], 1)?;
-    let mut store = PlainStore::new(alloc, image.pages())?;
+// whether a machine is made over a store that holds a byte, or where memory lacks, as under rt try --test --fail-alloc, its store comes back as it was
+fn is_made_or_given_back(alloc: Global, image: &Image, mut store: PlainStore) -> bool {
     let is_stored = store.store8(0x1000_0000, 7);
-    match Machine::new(alloc, &image, store) {
-        Ok(machine) => {
-            Ok(is_stored && (machine.pc(), machine.reg(2)) == (0x0001_0000, 0x0050_0000))
-        }
-        Err(back) => Ok(back.load8(0x1000_0000) == Some(7)),
+    match Machine::new(alloc, image, store) {
+        Ok(machine) => is_stored && machine.pc() == 0x0001_0000 && machine.reg(2) == 0x0050_0000,
+        Err(back) => back.load8(0x1000_0000) == Some(7),
     }
 }
 
 #[test]
 fn where_memory_lacks_the_store_comes_back(rt: HostRuntime) -> Result<(), Fail> {
-    let is_right = is_made_or_given_back(rt.alloc())?;
+    let image = image_of(rt.alloc(), "00100073", 1)?;
+    let store = PlainStore::new(rt.alloc(), 1)?;
+    let is_right = is_made_or_given_back(rt.alloc(), &image, store);
     assert!(rt; is_right);
     Ok(())
 }

@@ -1,23 +1,15 @@
 // Tables, and the parts of their rows.
 
-use crate::images::{are_limits, is_refused};
-use crate::instructions::word_of;
+use crate::images::are_limits;
 use crate::machine::is_done;
-use crate::runs::is_run;
-use crate::words::is_result;
 use std::alloc::Global;
 use std::test::Fail;
 
-/// What the rows of a table say: what a function on words gives, how an image is refused, which parts an image may have, how an instruction is written, what
-/// a machine does, or how a run ends.
+/// What the rows of a table say: which parts an image may have, or what a machine does.
 #[derive(Clone, Copy)]
 pub enum Rows {
-    Words,
-    Refusals,
     Limits,
-    Instructions,
-    Steps,
-    Runs,
+    Machine,
 }
 
 /// A text up to the first space, and behind it.
@@ -38,12 +30,8 @@ pub fn number_of(text: &str) -> u32 {
 // whether it is so what a row says
 fn holds(alloc: Global, rows: Rows, row: &'static str) -> Result<bool, Fail> {
     match rows {
-        Rows::Words => Ok(is_result(row)),
-        Rows::Refusals => Ok(is_refused(alloc, row)?),
         Rows::Limits => Ok(are_limits(alloc, row)?),
-        Rows::Instructions => Ok(word_of(alloc, row)?.is_some()),
-        Rows::Steps => is_done(alloc, row),
-        Rows::Runs => is_run(alloc, row),
+        Rows::Machine => is_done(alloc, row),
     }
 }
 

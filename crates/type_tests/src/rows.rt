@@ -61,6 +61,34 @@ fn lies(alloc: Global, tables: &Tables<'static>, of: &CType<'static>, wanted: &s
     laid(alloc, tables, of, cells) == Some(bytes) && extent_of(tables, of) == bytes
 }
 
+// one type or two that a text says; one stands for two
+fn types_of(alloc: Global, text: &'static str) -> Option<(CType<'static>, CType<'static>)> {
+    let (one, other) = text.split_once(' ').unwrap_or((text, text));
+    let one = type_of(alloc, one)?;
+    Some((one, type_of(alloc, other)?))
+}
+
+// whether a pointer leads to the other type, or doesn't
+fn is_pointee(one: CType<'static>, other: CType<'static>, wanted: &str) -> bool {
+    one.into_pointee().is_same(&other) == (wanted == "yes")
+}
+
+// whether it is so what is asked of two types
+fn is_answered(
+    alloc: Global,
+    tables: &Tables<'static>,
+    asked: &str,
+    (one, other): (&CType<'static>, &CType<'static>),
+    wanted: &str,
+) -> bool {
+    match asked {
+        "kinds" => has_kinds(one, wanted),
+        "extent" => extent_of(tables, one) == bytes_of(wanted).0,
+        "layout" => lies(alloc, tables, one, wanted),
+        _ => said(tables, asked, one, other) == wanted,
+    }
+}
+
 // whether it is so what a row says of one type or two
 fn is_said(
     alloc: Global,
@@ -68,16 +96,12 @@ fn is_said(
     (asked, types): (&str, &'static str),
     wanted: &str,
 ) -> bool {
-    let (one, other) = types.split_once(' ').unwrap_or((types, types));
-    let (Some(one), Some(other)) = (type_of(alloc, one), type_of(alloc, other)) else {
-        return false;
-    };
-    match asked {
-        "kinds" => has_kinds(&one, wanted),
-        "extent" => extent_of(tables, &one) == bytes_of(wanted).0,
-        "layout" => lies(alloc, tables, &one, wanted),
-        "pointee" => one.into_pointee().is_same(&other) == (wanted == "yes"),
-        _ => said(tables, asked, &one, &other) == wanted,
+    match types_of(alloc, types) {
+        None => false,
+        Some((one, other)) => match asked {
+            "pointee" => is_pointee(one, other, wanted),
+            _ => is_answered(alloc, tables, asked, (&one, &other), wanted),
+        },
     }
 }
 
@@ -116,15 +140,27 @@ fn holds(alloc: Global, tables: &mut Tables<'static>, row: &'static str) -> bool
     }
 }
 
+// the first row that isn't so
+fn wrong_row(
+    alloc: Global,
+    tables: &mut Tables<'static>,
+    table: &'static str,
+) -> Option<&'static str> {
+    for row in table.lines() {
+        if !holds(alloc, tables, row) {
+            return Some(row);
+        }
+    }
+    None
+}
+
 // refuses a table with a row that isn't so
 fn expect(alloc: Global, table: &'static str) -> Result<(), Fail> {
     let mut tables = Tables::new(alloc);
-    for row in table.lines() {
-        if !holds(alloc, &mut tables, row) {
-            return Err(Fail::new(row));
-        }
+    match wrong_row(alloc, &mut tables, table) {
+        None => Ok(()),
+        Some(row) => Err(Fail::new(row)),
     }
-    Ok(())
 }
 
 // A type's kinds, how alike two are, and which converts to which.

@@ -69,18 +69,20 @@ pub fn type_of(alloc: Global, text: &'static str) -> Option<CType<'static>> {
     under(under(of, inner)?, outer)
 }
 
-// the members that a text says: a name and a type each, two spaces apart
+// the member that a text says: a name and a type
+fn member_of(alloc: Global, text: &'static str) -> Option<Member<'static>> {
+    let (name, of) = text.split_once(' ')?;
+    Some(Member {
+        name: name.as_bytes(),
+        of: Some(type_of(alloc, of)?),
+    })
+}
+
+// the members that a text says, two spaces apart
 fn members_of(alloc: Global, text: &'static str) -> Option<Vec<Member<'static>>> {
     let mut members: Vec<Member<'static>> = Vec::new(alloc);
     for part in text.split("  ") {
-        let (name, of) = part.split_once(' ')?;
-        let of = Some(type_of(alloc, of)?);
-        members
-            .push(Member {
-                name: name.as_bytes(),
-                of,
-            })
-            .ok()?;
+        members.push(member_of(alloc, part)?).ok()?;
     }
     Some(members)
 }

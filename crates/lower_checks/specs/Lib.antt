@@ -2,6 +2,7 @@ pub mod Cells
 pub mod Firsts
 pub mod Marks
 pub mod Numbers
+pub mod Ordering
 pub mod Promise
 pub mod Reaching
 pub mod Refusals

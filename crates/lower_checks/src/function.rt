@@ -20,6 +20,7 @@ use crate::leaving::RegionsAround;
 use crate::locals::Locals;
 use crate::names::number;
 use crate::objects::values_of;
+use crate::order::locals_order;
 use crate::shape::Shape;
 use crate::statement::{declare, lower_inside, lower_items};
 use crate::stored::Stored;
@@ -167,7 +168,7 @@ pub fn lower_function<'p>(
         parameters,
         temporaries,
         passed,
-        order: Vec::new(alloc),
+        order: locals_order(alloc, function)?,
         own,
         body: code,
     })

@@ -33,6 +33,7 @@ mod numbers;
 mod objects;
 mod operands;
 mod operator;
+mod order;
 mod place;
 mod program;
 mod scope;

@@ -9,3 +9,4 @@ mod MadeSamples
 mod SwitchSamples
 mod ExchangeSamples
 mod FrameSamples
+mod OrderSamples

@@ -8,6 +8,7 @@ pub mod Temporaries
 pub mod Leaving
 pub mod Exchanges
 pub mod Data
+pub mod Order
 pub mod Programs
 pub mod Taken
 pub mod Whole

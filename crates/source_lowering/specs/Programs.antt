@@ -40,6 +40,7 @@ use Rattle.core_meaning.specs.Core.{
   KeyFree,
 }
 use Rattle.source_lowering.specs.Layouts.{layout_of, local_of}
+use Rattle.source_lowering.specs.Order.{locals_order}
 use Rattle.source_lowering.specs.Members.{words_in, all_words}
 use Rattle.source_lowering.specs.Whole.{expression_values, is_made, run_code, run_values, whole_code, whole_values}
 use Rattle.source_lowering.specs.Lowered.{
@@ -332,7 +333,7 @@ function_code w f = record {
   temporaries = max (all_words (part_shapes f.parameters)) (temporaries_of (body_code w f));
   passed = passed_by (body_code w f);
   own = locals_of w (routine_values w f);
-  order = [];
+  order = locals_order f;
   body = body_code w f;
 }
 

@@ -1,36 +1,45 @@
 -- A function does as Core, from its lines, where the lines of its statements do.
 use Rattle.std.specs.Prelude.{slice_get}
-use Rattle.std.proofs.Common.{◌≡◌, ℕ, suc, [], ap, ◌∙◌, ◌+◌, ◌^◌, ◌≤◌, List, ◌∷◌, ◌++◌, Some, None, refl, sym, subst, arith}
+use Rattle.std.proofs.Common.{◌≡◌, ℕ, suc, [], ap, ◌∙◌, ◌+◌, ◌^◌, ◌≤◌, List, ◌∷◌, ◌++◌, Some, refl, sym, subst, arith}
 use Rattle.core_meaning.specs.Memory.{Content, Memory}
 use Rattle.core_meaning.specs.Core.{Function}
 use Rattle.core_meaning.specs.Meaning as core
-use Rattle.core_meaning.specs.Steps.{Config, Step, Exit, Falls, Breaks, Continues}
+use Rattle.core_meaning.specs.Steps.{Config, Step, Falls, Breaks, Continues}
 use Rattle.core_lines.specs.Lines.{code_length}
-use Rattle.core_lines.specs.Frames.{prologue_code, epilogue_code}
-use Rattle.core_lines.specs.Choosing.{held_behind_all}
+use Rattle.core_lines.specs.Frames.{epilogue_code}
+use Rattle.core_lines.specs.Operands.{prologue_code}
+use Rattle.core_lines.specs.Held.{held_behind_all}
+use Rattle.core_lines.specs.Saved.{none_of, taken_in, live_at_start, saves_at}
 use Rattle.core_lines.specs.Selected.{frame_bytes, around, statements_code}
 use Rattle.core_lines.specs.Selectable.{IsSelectableIn}
 use Rattle.core_lines.specs.Homes.{saved_by, saved_slot}
 use Rattle.core_lines.specs.declared.line.Line.{Line}
 use Rattle.core_lines.specs.declared.line.Line.TheVariants.{Label}
-use Rattle.core_lines.proofs.memory.Relations.{EndsThere, World, IsInOrder, Has, Waiting, At, Goes, active_of}
+use Rattle.core_lines.proofs.memory.Relations.{EndsThere, World, IsInOrder, Has, Waiting, At, Goes, active_of, keeping}
 use Rattle.core_lines.proofs.memory.Moving.{goes_stuck}
 use Rattle.core_lines.proofs.memory.Access.{length_of_both, behind}
 use Rattle.core_lines.proofs.frames.Passing.{has_first, has_second}
-use Rattle.core_lines.proofs.frames.Bodies.{activation, with_config, GoesFrom, goes_any, BodyGoes, FunctionDoes}
-use Rattle.core_lines.proofs.Forms.{Does}
+use Rattle.core_lines.proofs.frames.Bodies.{activation, with_config, GoesFrom, GoesHolding, goes_any, BodyGoes, FunctionDoes}
+use Rattle.core_lines.proofs.operations.Registers.{AtHolding}
+use Rattle.core_lines.proofs.Ways.{Needs, Does}
 use Rattle.core_lines.proofs.Programs.{IsAtCode}
 use Rattle.std.proofs.Common.{◌*◌}
 use Rattle.core_lines.specs.Selected.{offsets_from, own_end, placed_body, slots_of}
 use Rattle.core_lines.proofs.homes.Locals.{offsets_lie, highest_of_above, frame_has_all}
+
+-- no slot has to show a word behind a function's statements
+abbrev pub nothing_needed : Function → Needs
+nothing_needed f = record { after = none_of f; out = none_of f; again = none_of f }
 
 -- what is asked of the statements of a function, where calls with less fuel do as Core and the frame is no larger than the stack
 abbrev pub BodyDoes : (w : World) → IsInOrder w → ℕ → ℕ → Function → Type 0
 BodyDoes w order number next f =
     (is : slice_get w.functions number ≡ Some f) (most : ℕ) → w.frame_bytes number ≤ 2 ^ 20 → ((j : ℕ) → suc j ≤ most → (g : ℕ) → BodyGoes w j g)
     → EndsThere w number f → (outer : List Waiting) (mem : Memory) (arguments : List Content)
-    → Does w (activation w order number f is outer mem arguments (offsets_from (4 * slots_of f) f.own) (own_end f)) outer most None
-    (held_behind_all None f.body) (statements_code (frame_bytes f) (around w.wide w.data_offsets next f) (next + 1) number number f.body) number number (core.statements f.body)
+    → Does w (activation w order number f is outer mem arguments (offsets_from (4 * slots_of f) f.own) (own_end f)) outer most (taken_in f)
+    (held_behind_all [] w.data_offsets (taken_in f) f.body) (live_at_start w.data_offsets f) (nothing_needed f)
+    (statements_code (saves_at w.data_offsets f) (around w.wide w.data_offsets next f) (next + 1) number number f.body) number number
+    (core.statements f.body)
 
 -- what is out of order goes on from anywhere
 stuck_from : (w : World) (x : Waiting) (outer : List Waiting) (most place : ℕ) (next : Config → Step) →
@@ -43,8 +52,9 @@ pub function_does : (w : World) (order : IsInOrder w) (data_objects number : ℕ
     ≡ frame_bytes f
     → (code : IsAtCode w number f) → BodyDoes w order number code.next f → FunctionDoes w order number f
 function_does w order data_objects number f selectable frame code body =
-    let prologue = prologue_code (frame_bytes f) f.passed (saved_slot f) (saved_by f) f.parameters in
-    let lines = statements_code (frame_bytes f) (around w.wide w.data_offsets code.next f) (code.next + 1) number number f.body in
+    let starts : ℕ → List Line = λ size. prologue_code size f.passed (saved_slot f) (saved_by f) (live_at_start w.data_offsets f) f.parameters in
+    let prologue = starts (frame_bytes f) in
+    let lines = statements_code (saves_at w.data_offsets f) (around w.wide w.data_offsets code.next f) (code.next + 1) number number f.body in
     let exit : List Line = Label code.next ∷ [] in
     let epilogue = epilogue_code (frame_bytes f) (saved_slot f) (saved_by f) in
     let there : w.places number ≡ code.place = code.has.1 in
@@ -70,22 +80,24 @@ function_does w order data_objects number f selectable frame code body =
           let body = highest_of_above (own_end f) (placed_body f) in
           (offsets_lie (4 * slots_of f) f.own selectable.own_layouts, omega (arith, top, body, frame));
       few = selectable.few;
-      prologue = subst (λ k. Has w (w.places number) (prologue_code k f.passed (saved_slot f) (saved_by f) f.parameters)) (sym frame) has_prologue;
+      prologue = subst (λ k. Has w (w.places number) (starts k)) (sym frame) has_prologue;
       does = λ is most fits calls outer mem arguments next returns ends.
           let x = activation w order number f is outer mem arguments (offsets_from (4 * slots_of f) f.own) (own_end f) in
           let place = w.places number + code_length prologue in
           let aligned = (order.labels number).aligned in
           let does = body is most fits calls ends_there outer mem arguments in
-          let goes : GoesFrom w x outer most place (core.statements f.body next) =
+          let ended = keeping (none_of f) x in
+          let held = taken_in f in
+          let goes : GoesHolding w x outer most place held (core.statements f.body next) =
           does.goes place most (omega arith) next (behind (w.places number) prologue aligned) has_lines (record {
-            falls = goes_any w x outer most (place + code_length lines) (held_behind_all None f.body) (next Falls)
-                (stuck_from w x outer most (place + code_length lines) (next Falls) (λ c. (ends c).0));
-            breaks = stuck_from w x outer most (w.places number) (next Breaks) (λ c. (ends c).1);
-            continues = stuck_from w x outer most (w.places number) (next Continues) (λ c. (ends c).2);
+            falls = goes_any w ended outer most (place + code_length lines) (held_behind_all [] w.data_offsets held f.body) (next Falls)
+                (stuck_from w ended outer most (place + code_length lines) (next Falls) (λ c. (ends c).0));
+            breaks = stuck_from w ended outer most (w.places number) (next Breaks) (λ c. (ends c).1);
+            continues = stuck_from w ended outer most (w.places number) (next Continues) (λ c. (ends c).2);
             returns = returns;
           }) in
           let start = goes x.config (record { blocks = refl; own = refl }) in
           subst (λ k. Goes w most (core.statements f.body next x.config)
-          (At w x outer x.config.memory (w.places number + code_length (prologue_code k f.passed (saved_slot f) (saved_by f) f.parameters)))
+          (AtHolding w x outer x.config.memory (w.places number + code_length (starts k)) held)
           (w.names number ∷ active_of w outer)) (sym frame) start;
     }

@@ -1,28 +1,34 @@
 -- Each statement's code does as the statement means, by the forms of statements, where calls with less fuel do as Core.
-use Rattle.std.specs.Prelude.{length}
-use Rattle.std.proofs.Common.{◌≡◌, ℕ, zero, suc, true, Some, ◌+◌, ◌^◌, ◌<◌, ◌≤◌, List, [], ◌∷◌, ◌++◌, Option, None, refl, sym, subst, ◌∙◌, arith}
+use Rattle.std.specs.Prelude.{length, drop}
+use Rattle.std.proofs.Common.{◌≡◌, ℕ, zero, suc, Bool, true, false, Some, ◌+◌, ◌^◌, ◌≤◌, List, [], ◌∷◌, ◌++◌, refl, sym, ◌∙◌, arith, append_assoc}
+use Rattle.std.proofs.lemmas.Bool.{and_parts}
 use Rattle.core_meaning.specs.Core.{Local, Statement, Do, If, While, Block, Leave, Break, Continue, Call, Return, Raise, Statements, NoStatements, MoreStatements}
 use Rattle.core_meaning.specs.Meaning as core
-use Rattle.core_meaning.specs.Steps.{Falls, Continues}
-use Rattle.core_lines.specs.declared.line.Line.{Line}
-use Rattle.core_lines.specs.declared.line.Line.TheVariants.{Label, Jump}
-use Rattle.core_lines.specs.Lines.{code_length}
-use Rattle.core_lines.specs.Choosing.{held_behind, held_behind_all, choice_code}
+use Rattle.core_meaning.specs.Steps.{Falls}
+use Rattle.core_lines.specs.declared.line.Line.TheVariants.{Jump}
+use Rattle.core_lines.specs.Held.{Holding, raises, raises_only, held_behind, held_behind_all}
+use Rattle.core_lines.specs.Loaded.{unknown_in, loads_of_operation, loads_of_values}
+use Rattle.core_lines.specs.Saved.{cleared, all_flagged, results_of, results_in, results_all}
 use Rattle.core_lines.specs.Selected.{offsets_from, end_from, highest, highest_of, labels_in, labels_of, statement_code, statements_code}
 use Rattle.core_lines.specs.Selected.{nth_block, shrunk, shrunk_in, shrunk_of, homes_here, homes_after, names_after, names_after_all}
-use Rattle.core_lines.specs.Homes.{is_home}
+use Rattle.core_lines.specs.Homes.{is_home, flag_at}
 use Rattle.core_lines.specs.Selectable.{HasLinesIn, HaveLinesIn, AreBelow}
-use Rattle.core_lines.proofs.memory.Relations.{Inside, EndsThere, home_of, active_of, World, IsInOrder, Has, Waiting, Place}
-use Rattle.core_lines.proofs.memory.Access.{behind, length_of_both}
-use Rattle.core_lines.proofs.frames.Passing.{has_first, has_second, AreWithin}
-use Rattle.core_lines.proofs.frames.Bodies.{with_config, GoesFrom, from_same, goes_any, BodyGoes, call_goes, return_goes}
-use Rattle.core_lines.proofs.Forms.{Does, does_any, within_block, break_does, nothing_does, sequence_does, block_does, jump_goes, choice_goes, loop_goes}
+use Rattle.core_lines.proofs.memory.Relations.{Inside, EndsThere, home_of, active_of, World, IsInOrder, Waiting, Place, keeping}
+use Rattle.core_lines.proofs.frames.Passing.{AreWithin}
+use Rattle.core_lines.proofs.frames.Bodies.{with_config, goes_any, BodyGoes, call_goes, return_goes}
+use Rattle.core_lines.proofs.Flags.{length_cleared, length_all, more_flagged, flags_behind, follows_flags}
+use Rattle.core_lines.proofs.Live.{few_results, saved_in, saved_of, choice_to_after, choice_to_body, head_to_test}
+use Rattle.core_lines.proofs.Loads.{unknown_below, operation_below, values_below, statement_below}
+use Rattle.core_lines.proofs.Ways.{Needs, Does, does_any, does_fewer}
+use Rattle.core_lines.proofs.Shown.{AreWhole, showing, showing_all, saving, saving_all, whole_all, loads_show, first_way, second_way, choice_served}
+use Rattle.core_lines.proofs.Shown.{at_choice, of_test, of_body, whole_test, whole_body, loop_shows, loop_served}
+use Rattle.core_lines.proofs.Forms.{within_block, break_does, continue_does, nothing_does, sequence_does, block_does}
+use Rattle.core_lines.proofs.Choices.{test, jumps, choice_does, choice_either, leave_does, loop_does}
 use Rattle.core_lines.proofs.memory.Laying.{NestFits}
 use Rattle.core_lines.proofs.homes.Locals.{shrunk_layouts, as_many_shrunk, offsets_lie, as_many_offsets, end_above, offset_below, highest_of_above, both_below}
 use Rattle.core_lines.proofs.homes.Nests.{BlocksAre}
 use Rattle.core_lines.proofs.homes.Fine.{FitsIn, IsFine, AreFine, tiny, fit}
 use Rattle.core_lines.proofs.operations.Raising.{raise_goes}
-use Rattle.core_lines.proofs.Tests.{tests_and_jumps}
 use Rattle.core_lines.proofs.operations.EachOperation.{DataSmall, OwnSmall, surrounding, scoped, operation_goes}
 
 -- what is so of where a statement stands: the blocks around it, where the next one's locals would begin, and the bytes of the frame
@@ -40,108 +46,58 @@ same_below : (most : ℕ) (ts : List ℕ) → AreBelow most ts → AreWithin mos
 same_below most [] below = tt
 same_below most (t ∷ ts) below = (below.0, same_below most ts below.1)
 
--- ---- a choice, a loop, and what a `Break` ends, from where their parts stand
+-- ---- what only raises an exception
 
-module _ (w : World) (order : IsInOrder w) (x : Waiting) (outer : List Waiting) (most : ℕ) where
-  choice_does : (held first_last second_last : Option ℕ) (t next behind_label out again : ℕ) (these those : Statements) (second fourth : List Line)
-      → t < x.fn.temporaries
-      → Does w x outer most None first_last second out again (core.statements these)
-      → Does w x outer most None second_last fourth out again (core.statements those)
-      → Does w x outer most held None
-      (choice_code w.wide x.fn.passed held t next ++ second ++ (Jump behind_label ∷ Label next ∷ []) ++ fourth ++ (Label behind_label ∷ [])) out again
-      (core.statement (If t these those))
-  choice_does held first_last second_last t next behind_label out again these those second fourth named one other = record {
-    goes = λ place fuel le k aligned has ways.
-        let first = choice_code w.wide x.fn.passed held t next in
-        let third : List Line = Jump behind_label ∷ Label next ∷ [] in
-        let last : List Line = Label behind_label ∷ [] in
-        let two = first ++ second in
-        let three = two ++ third in
-        let four = three ++ fourth in
-        let has4 = has_first w place four last has in
-        let has3 = has_first w place three fourth has4 in
-        let has2 = has_first w place two third has3 in
-        let has1 = has_first w place first second has2 in
-        let at_second = has_second w place first second has2 in
-        let at_third = has_second w place two third has3 in
-        let at_fourth = has_second w place three fourth has4 in
-        let at_last = has_second w place four last has in
-        let next_there : w.places next ≡ place + code_length three = at_third.2.1 ∙ omega (arith, length_of_both two third) in
-        let end : w.places behind_label ≡ place + code_length (four ++ last) = at_last.1 ∙ omega (arith, length_of_both four last) in
-        let end' : w.places behind_label ≡ place + code_length three + code_length fourth = at_last.1 ∙ omega (arith, length_of_both three fourth) in
-        let falls = from_same w x outer fuel (place + code_length (four ++ last)) (w.places behind_label) (k Falls) (sym end) ways.falls in
-        let over : GoesFrom w x outer fuel (place + code_length two) (k Falls) =
-        jump_goes w order x outer most (choice_code w.wide x.fn.passed) (tests_and_jumps w order x outer) fuel behind_label (place + code_length two) (k Falls)
-        (at_third.0, at_third.1, tt) falls in
-        let e : place + code_length two ≡ place + code_length first + code_length second = omega (arith, length_of_both first second) in
-        choice_goes w order x outer most (choice_code w.wide x.fn.passed) (tests_and_jumps w order x outer) fuel held t next place (core.statements these k)
-        (core.statements those k) named has1
-        (one.goes (place + code_length first) fuel le k (behind place first aligned) at_second (record {
-          falls = goes_any w x outer fuel (place + code_length first + code_length second) first_last (k Falls)
-              (from_same w x outer fuel (place + code_length two) (place + code_length first + code_length second) (k Falls) e over);
-          breaks = ways.breaks;
-          continues = ways.continues;
-          returns = ways.returns;
-        }))
-        (from_same w x outer fuel (place + code_length three) (w.places next) (core.statements those k) (sym next_there)
-        (other.goes (place + code_length three) fuel le k (behind place three aligned) at_fourth (record {
-          falls = goes_any w x outer fuel (place + code_length three + code_length fourth) second_last (k Falls)
-              (from_same w x outer fuel (w.places behind_label) (place + code_length three + code_length fourth) (k Falls) end' falls);
-          breaks = ways.breaks;
-          continues = ways.continues;
-          returns = ways.returns;
-        })));
-  }
+module _ (w : World) (order : IsInOrder w) (outer : List Waiting) (most : ℕ) where
+  -- goes on nowhere, so anything is known behind it
+  mutual
+    statement_raises : (x : Waiting) (ns : List ℕ) (oss hss : List (List ℕ)) (names : List ℕ) (low : ℕ) (held last : List Holding) (needs : Needs)
+        (flags : List Bool) (next out again : ℕ) (s : Statement) → AreWhole x.fn.temporaries needs → raises s ≡ true → HasLinesIn (scoped w x ns) s
+        → Does w x outer most held last (showing w hss names held needs s) needs
+        (statement_code flags (surrounding w x oss hss names low held) next out again s) out again (core.statement s)
+    statement_raises x ns oss hss names low held last needs flags next out again (Do operation) whole is has = absurd (cc is)
+    statement_raises x ns oss hss names low held last needs flags next out again (If t these those) whole is has =
+        let behind_these = names_after_all these names in
+        let both = and_parts (raises_only these) (raises_only those) is in
+        let behind_label = next + 1 + labels_of these in
+        let tested = unknown_in held (t ∷ []) in
+        let start = showing w hss names held needs (If t these those) in
+        let one = showing_all w hss names held needs these in
+        let other = showing_all w hss behind_these held needs those in
+        let second = statements_code flags (surrounding w x oss hss names low held) (next + 1) out again these in
+        let fourth = statements_code (drop (results_all these) flags) (surrounding w x oss hss behind_these low held) (behind_label + 1) out again those in
+        choice_does w order x outer most held last start needs t next behind_label out again these those second fourth has.0
+        (choice_served w x hss names held needs t these those has.0 whole)
+        (does_fewer w x outer most held last start one needs second out again (core.statements these) (first_way tested one other)
+        (statements_raise x ns oss hss names low held last needs flags (next + 1) out again these whole both.0 has.1))
+        (does_fewer w x outer most held last start other needs fourth out again (core.statements those) (second_way tested one other)
+        (statements_raise x ns oss hss behind_these low held last needs (drop (results_all these) flags) (behind_label + 1) out again those whole both.1 has.2))
+    statement_raises x ns oss hss names low held last needs flags next out again (While test t body) whole is has = absurd (cc is)
+    statement_raises x ns oss hss names low held last needs flags next out again (Block ls body) whole is has = absurd (cc is)
+    statement_raises x ns oss hss names low held last needs flags next out again (Leave body) whole is has = absurd (cc is)
+    statement_raises x ns oss hss names low held last needs flags next out again Break whole is has = absurd (cc is)
+    statement_raises x ns oss hss names low held last needs flags next out again Continue whole is has = absurd (cc is)
+    statement_raises x ns oss hss names low held last needs flags next out again (Call results f arguments) whole is has = absurd (cc is)
+    statement_raises x ns oss hss names low held last needs flags next out again (Return values) whole is has = absurd (cc is)
+    statement_raises x ns oss hss names low held last needs flags next out again (Raise kind) whole is has = record {
+      goes = λ place fuel le k aligned lines ways.
+          let y = keeping (showing w hss names held needs (Raise kind)) x in
+          goes_any w y outer fuel place held (core.statement (Raise kind) k)
+          (λ c is. raise_goes w order (with_config y c) outer c.memory fuel kind place (active_of w (x ∷ outer)) lines);
+    }
 
-  leave_does : (held last : Option ℕ) (next out again : ℕ) (body : Statements) (first : List Line)
-      → Does w x outer most held last first next again (core.statements body)
-      → Does w x outer most held None (first ++ (Label next ∷ [])) out again (core.statement (Leave body))
-  leave_does held last next out again body first one = record {
-    goes = λ place fuel le k aligned has ways.
-        let second : List Line = Label next ∷ [] in
-        let at_second = has_second w place first second has in
-        let end : w.places next ≡ place + code_length (first ++ second) = at_second.1 ∙ omega (arith, length_of_both first second) in
-        let end' : place + code_length (first ++ second) ≡ place + code_length first = omega (arith, length_of_both first second) in
-        one.goes place fuel le (λ exit. core.left_by exit k) aligned (has_first w place first second has) (record {
-          falls = goes_any w x outer fuel (place + code_length first) last (k Falls)
-              (from_same w x outer fuel (place + code_length (first ++ second)) (place + code_length first) (k Falls) end' ways.falls);
-          breaks = from_same w x outer fuel (place + code_length (first ++ second)) (w.places next) (k Falls) (sym end) ways.falls;
-          continues = ways.continues;
-          returns = ways.returns;
-        });
-  }
-
-  loop_does : (held last_held : Option ℕ) (t next behind_label out again : ℕ) (test body : Statements) (second fourth : List Line) → t < x.fn.temporaries
-      → Does w x outer most None held second out again (core.statements test)
-      → Does w x outer most None last_held fourth behind_label next (core.statements body)
-      → Does w x outer most None None
-      ((Label next ∷ []) ++ second ++ choice_code w.wide x.fn.passed held t behind_label ++ fourth ++ (Jump next ∷ Label behind_label ∷ [])) out again
-      (core.statement (While test t body))
-  loop_does held last_held t next behind_label out again test body second fourth named one other = record {
-    goes = λ place fuel le k aligned has ways.
-        let first : List Line = Label next ∷ [] in
-        let third = choice_code w.wide x.fn.passed held t behind_label in
-        let last : List Line = Jump next ∷ Label behind_label ∷ [] in
-        let two = first ++ second in
-        let three = two ++ third in
-        let four = three ++ fourth in
-        let has4 = has_first w place four last has in
-        let has3 = has_first w place three fourth has4 in
-        let has2 = has_first w place two third has3 in
-        let at_second = has_second w place first second has2 in
-        let at_third = has_second w place two third has3 in
-        let at_fourth = has_second w place three fourth has4 in
-        let at_last = has_second w place four last has in
-        let start : place + 0 ≡ place = omega arith in
-        let e : place + code_length three + code_length fourth ≡ place + code_length four = omega (arith, length_of_both three fourth) in
-        loop_goes w order x outer most (choice_code w.wide x.fn.passed) (tests_and_jumps w order x outer) place (place + code_length two) (place + code_length three)
-        (place + code_length (four ++ last))
-        next behind_label out again aligned test t body second fourth held last_held k has2.1 (subst (λ p. Has w p second) start at_second)
-        (omega (arith, length_of_both first second)) named at_third
-        (omega (arith, length_of_both two third)) at_fourth (behind place three aligned)
-        (subst (λ p. Has w p (Jump next ∷ [])) (sym e) (at_last.0, at_last.1, tt))
-        (at_last.2.1 ∙ omega (arith, length_of_both four last)) one other fuel le ways;
-  }
+    statements_raise : (x : Waiting) (ns : List ℕ) (oss hss : List (List ℕ)) (names : List ℕ) (low : ℕ) (held last : List Holding) (needs : Needs)
+        (flags : List Bool) (next out again : ℕ) (ss : Statements) → AreWhole x.fn.temporaries needs → raises_only ss ≡ true → HaveLinesIn (scoped w x ns) ss
+        → Does w x outer most held last (showing_all w hss names held needs ss) needs
+        (statements_code flags (surrounding w x oss hss names low held) next out again ss) out again (core.statements ss)
+    statements_raise x ns oss hss names low held last needs flags next out again NoStatements whole is has = absurd (cc is)
+    statements_raise x ns oss hss names low held last needs flags next out again (MoreStatements s NoStatements) whole is has =
+        sequence_does w order x outer most (test w order x outer most) (jumps w order x outer most) held last last
+        (showing w hss names held needs s) needs.after needs
+        (statement_code flags (surrounding w x oss hss names low held) next out again s) [] out again s NoStatements
+        (statement_raises x ns oss hss names low held last needs flags next out again s whole is has.0)
+        (nothing_does w order x outer most (test w order x outer most) (jumps w order x outer most) last needs out again)
+    statements_raise x ns oss hss names low held last needs flags next out again (MoreStatements s (MoreStatements s' ss)) whole is has = absurd (cc is)
 
 -- ---- each
 
@@ -183,39 +139,84 @@ module _ (w : World) (order : IsInOrder w) (outer : List Waiting) (small : DataS
       homes_of (suc out) local r e = around.are_homes out local r e
 
   mutual
-    pub statement_does : (x : Waiting) (ns : List ℕ) (oss hss : List (List ℕ)) (names : List ℕ) (low : ℕ) (held : Option ℕ) (next out again : ℕ) (s : Statement)
+    pub statement_does : (x : Waiting) (ns : List ℕ) (oss hss : List (List ℕ)) (names : List ℕ) (low : ℕ) (held : List Holding) (needs : Needs)
+        (flags rest : List Bool) (next out again : ℕ) (s : Statement) → AreWhole x.fn.temporaries needs → flags ≡ saving w hss names held needs s ++ rest
         → IsAround w x ns oss hss low bytes → HasLinesIn (scoped w x ns) s → IsFine x.fn hss names s → highest low (shrunk_in names s) ≤ bytes
-        → Does w x outer most held (held_behind s) (statement_code bytes (surrounding w x oss hss names low held) next out again s) out again (core.statement s)
-    statement_does x ns oss hss names low held next out again (Do operation) around has fine below = record {
-      goes = λ place fuel le k aligned lines ways. goes_any w x outer fuel place held (core.statement (Do operation) k)
-          (operation_goes w order x outer small around.own_small ns oss hss names low held around.blocks around.inside around.are_homes fuel place (k Falls) operation
-          has fine lines ways.falls);
+        → Does w x outer most held (held_behind hss w.data_offsets held s) (showing w hss names held needs s) needs
+        (statement_code flags (surrounding w x oss hss names low held) next out again s) out again (core.statement s)
+    statement_does x ns oss hss names low held needs flags rest next out again (Do operation) whole are around has fine below = record {
+      goes = λ place fuel le k aligned lines ways.
+          let y = keeping (showing w hss names held needs (Do operation)) x in
+          let loads = loads_of_operation held operation in
+          let results = results_of operation in
+          operation_goes w order y outer small around.own_small ns oss hss names low held around.blocks around.inside around.are_homes fuel place (k Falls)
+          operation (flag_at flags 0) needs.after has
+          (loads_show x.fn.temporaries loads (all_flagged false results needs.after) (length_all false results needs.after ∙ whole.after)
+          (operation_below (scoped w x ns) held operation has))
+          (follows_flags results loads needs.after flags rest (few_results operation) are) fine lines ways.falls;
     }
-    statement_does x ns oss hss names low held next out again (If t these those) around has fine below =
+    statement_does x ns oss hss names low held needs flags rest next out again (If t these those) whole are around has fine below =
         let behind_these = names_after_all these names in
         let b = both_below (highest_of low (shrunk_of names these)) (highest_of low (shrunk_of behind_these those)) bytes below in
-        let u = surrounding w x oss hss names low None in
-        let v = surrounding w x oss hss behind_these low None in
         let behind_label = next + 1 + labels_of these in
-        choice_does w order x outer most held (held_behind_all None these) (held_behind_all None those) t next behind_label out again these those
-        (statements_code bytes u (next + 1) out again these)
-        (statements_code bytes v (behind_label + 1) out again those) has.0
-        (statements_do x ns oss hss names low None (next + 1) out again these around has.1 fine.0 b.0)
-        (statements_do x ns oss hss behind_these low None (behind_label + 1) out again those around has.2 fine.1 b.1)
-    statement_does x ns oss hss names low held next out again (While test t body) around has fine below =
-        let behind_test = names_after_all test names in
-        let b = both_below (highest_of low (shrunk_of names test)) (highest_of low (shrunk_of behind_test body)) bytes below in
-        let u = surrounding w x oss hss names low None in
-        let v = surrounding w x oss hss behind_test low None in
-        let behind_label = next + 1 + labels_of test in
-        let lines = statement_code bytes (surrounding w x oss hss names low held) next out again (While test t body) in
-        does_any w x outer most held None lines out again (core.statement (While test t body))
-        (loop_does w order x outer most (held_behind_all None test) (held_behind_all None body) t next behind_label out again test body
-        (statements_code bytes u (next + 1) out again test)
-        (statements_code bytes v (behind_label + 1) behind_label next body) has.0
-        (statements_do x ns oss hss names low None (next + 1) out again test around has.1 fine.0 b.0)
-        (statements_do x ns oss hss behind_test low None (behind_label + 1) behind_label next body around has.2 fine.1 b.1))
-    statement_does x ns oss hss names low held next out again (Block ls body) around has fine below =
+        let last = held_behind_all hss w.data_offsets held these in
+        let last_of_those = held_behind_all hss w.data_offsets held those in
+        let tested = unknown_in held (t ∷ []) in
+        let start = showing w hss names held needs (If t these those) in
+        let one = showing_all w hss names held needs these in
+        let other = showing_all w hss behind_these held needs those in
+        let saved = saving_all w hss names held needs these in
+        let saved_others = saving_all w hss behind_these held needs those in
+        let flags_those = drop (results_all these) flags in
+        let are_these : flags ≡ saved ++ (saved_others ++ rest) = are ∙ append_assoc saved saved_others rest in
+        let are_those : flags_those ≡ saved_others ++ rest = flags_behind (results_all these) flags saved (saved_others ++ rest)
+        (saved_of w.data_offsets hss names held needs.after needs.out needs.again these) are_these in
+        let second = statements_code flags (surrounding w x oss hss names low held) (next + 1) out again these in
+        let fourth = statements_code flags_those (surrounding w x oss hss behind_these low held) (behind_label + 1) out again those in
+        choice_either w order x outer most held last last_of_those start needs t next behind_label out again these those second fourth has.0
+        (choice_served w x hss names held needs t these those has.0 whole)
+        (does_fewer w x outer most held last start one needs second out again (core.statements these) (first_way tested one other)
+        (statements_do x ns oss hss names low held needs flags (saved_others ++ rest) (next + 1) out again these whole are_these around has.1 fine.0 b.0))
+        (does_fewer w x outer most held last_of_those start other needs fourth out again (core.statements those) (second_way tested one other)
+        (statements_do x ns oss hss behind_these low held needs flags_those rest (behind_label + 1) out again those whole are_those around has.2 fine.1 b.1))
+        (raises_only those)
+        (λ only. does_fewer w x outer most held last start other needs fourth out again (core.statements those) (second_way tested one other)
+        (statements_raise w order outer most x ns oss hss behind_these low held last needs flags_those (behind_label + 1) out again those whole only has.2))
+    statement_does x ns oss hss names low held needs flags rest next out again (While ts t body) whole are around has fine below =
+        let behind = names_after_all ts names in
+        let b = both_below (highest_of low (shrunk_of names ts)) (highest_of low (shrunk_of behind body)) bytes below in
+        let behind_label = next + 1 + labels_of ts in
+        let known = held_behind_all hss w.data_offsets [] ts in
+        let last = held_behind_all hss w.data_offsets [] body in
+        let start = showing w hss names held needs (While ts t body) in
+        let between = at_choice w x hss names needs ts t body whole in
+        let needs_test = of_test w x hss names needs ts t body whole in
+        let needs_body = of_body w x hss names needs ts t body whole in
+        let in_test = showing_all w hss names [] needs_test ts in
+        let in_body = showing_all w hss behind [] needs_body body in
+        let saved = saving_all w hss names [] needs_test ts in
+        let saved_others = saving_all w hss behind [] needs_body body in
+        let flags_body = drop (results_all ts) flags in
+        let are_test : flags ≡ saved ++ (saved_others ++ rest) = are ∙ append_assoc saved saved_others rest in
+        let are_body : flags_body ≡ saved_others ++ rest = flags_behind (results_all ts) flags saved (saved_others ++ rest)
+        (saved_of w.data_offsets hss names [] between needs.out needs.again ts) are_test in
+        let second = statements_code flags (surrounding w x oss hss names low []) (next + 1) out again ts in
+        let fourth = statements_code flags_body (surrounding w x oss hss behind low []) (behind_label + 1) behind_label next body in
+        let lines = statement_code flags (surrounding w x oss hss names low held) next out again (While ts t body) in
+        does_any w x outer most held [] start needs lines out again (core.statement (While ts t body))
+        (loop_does w order x outer most known last needs start between t next behind_label out again ts body second fourth has.0
+        (loop_served w x hss names needs ts t body whole has.0)
+        (choice_to_after w.data_offsets hss names needs.after needs.out needs.again ts t body)
+        (does_fewer w x outer most [] known start in_test needs_test second out again (core.statements ts)
+        (head_to_test w.data_offsets hss names needs.after needs.out needs.again ts t body
+        (loop_shows w x hss names needs ts t body whole (statement_below w.data_offsets (scoped w x ns) hss names [] (While ts t body) has)))
+        (statements_do x ns oss hss names low [] needs_test flags (saved_others ++ rest) (next + 1) out again ts
+        (whole_test w x hss names needs ts t body whole) are_test around has.1 fine.0 b.0))
+        (does_fewer w x outer most [] last between in_body needs_body fourth behind_label next (core.statements body)
+        (choice_to_body w.data_offsets hss names needs.after needs.out needs.again ts t body)
+        (statements_do x ns oss hss behind low [] needs_body flags_body rest (behind_label + 1) behind_label next body
+        (whole_body w x hss names needs ts t body whole) are_body around has.2 fine.1 b.1)))
+    statement_does x ns oss hss names low held needs flags rest next out again (Block ls body) whole are around has fine below =
         let hs = homes_here ls names in
         let placed = shrunk ls hs in
         let high = end_from low placed in
@@ -223,54 +224,71 @@ module _ (w : World) (order : IsInOrder w) (outer : List Waiting) (small : DataS
         let inner = homes_after ls names in
         let upto = highest_of_above high (shrunk_of inner body) in
         let framed = around.framed in
-        let lines = statements_code bytes (surrounding w x (offsets_from low placed ∷ oss) (hs ∷ hss) inner high None) next out again body in
-        does_any w x outer most held None lines out again (core.statement (Block ls body))
-        (block_does w order x outer most p ls body (held_behind_all None body) lines out again
+        let start = showing w hss names held needs (Block ls body) in
+        let lines = statements_code flags (surrounding w x (offsets_from low placed ∷ oss) (hs ∷ hss) inner high []) next out again body in
+        does_any w x outer most held [] start needs lines out again (core.statement (Block ls body))
+        (block_does w order x outer most p ls body (held_behind_all (hs ∷ hss) w.data_offsets [] body) start needs lines out again
         (offsets_lie low placed (shrunk_layouts ls hs has.0)) (omega (arith, upto, below, framed)) around.nest
         (tiny ls hs has.0 fine.0.short) (fit x.fn ls names ns x.nest oss hss around.blocks fine.0) around.inside
-        (λ k. statements_do (within_block x p k) (length ls ∷ ns) (offsets_from low placed ∷ oss) (hs ∷ hss) inner high None next out again body
-        (in_block x ns oss hss names low k ls around fine.0 (omega (arith, upto, below)))
-        has.1 fine.1 below))
-    statement_does x ns oss hss names low held next out again (Leave body) around has fine below =
-        leave_does w order x outer most held (held_behind_all held body) next out again body
-        (statements_code bytes (surrounding w x oss hss names low held) (next + 1) next again body)
-        (statements_do x ns oss hss names low held (next + 1) next again body around has fine below)
-    statement_does x ns oss hss names low held next out again Break around has fine below =
-        does_any w x outer most held None (Jump out ∷ []) out again (core.statement Break)
-        (break_does w order x outer most (choice_code w.wide x.fn.passed) (tests_and_jumps w order x outer) out again)
-    statement_does x ns oss hss names low held next out again Continue around has fine below = record {
-      goes = λ place fuel le k aligned lines ways. goes_any w x outer fuel place held (k Continues)
-          (jump_goes w order x outer most (choice_code w.wide x.fn.passed) (tests_and_jumps w order x outer) fuel again place (k Continues) lines ways.continues);
-    }
-    statement_does x ns oss hss names low held next out again (Call results f arguments) around has fine below = record {
+        (λ k. statements_do (within_block x p k) (length ls ∷ ns) (offsets_from low placed ∷ oss) (hs ∷ hss) inner high [] needs flags rest next out again body
+        whole are (in_block x ns oss hss names low k ls around fine.0 (omega (arith, upto, below))) has.1 fine.1 below))
+    statement_does x ns oss hss names low held needs flags rest next out again (Leave body) whole are around has fine below =
+        leave_does w order x outer most held (held_behind_all hss w.data_offsets held body) (showing w hss names held needs (Leave body)) needs next out again
+        body (statements_code flags (surrounding w x oss hss names low held) (next + 1) next again body)
+        (statements_do x ns oss hss names low held (record needs { out = needs.after }) flags rest (next + 1) next again body
+        (record { after = whole.after; out = whole.after; again = whole.again }) are around has fine below)
+    statement_does x ns oss hss names low held needs flags rest next out again Break whole are around has fine below =
+        does_any w x outer most held [] needs.out needs (Jump out ∷ []) out again (core.statement Break)
+        (break_does w order x outer most (test w order x outer most) (jumps w order x outer most) needs out again)
+    statement_does x ns oss hss names low held needs flags rest next out again Continue whole are around has fine below =
+        does_any w x outer most held [] needs.again needs (Jump again ∷ []) out again (core.statement Continue)
+        (continue_does w order x outer most (test w order x outer most) (jumps w order x outer most) needs out again)
+    statement_does x ns oss hss names low held needs flags rest next out again (Call results f arguments) whole are around has fine below = record {
       goes = λ place fuel le k aligned lines ways.
-          goes_any w x outer fuel place held (core.statement (Call results f arguments) k)
-          (call_goes w order x outer fuel results f arguments (same_below x.fn.temporaries results has.0)
-          (same_below x.fn.temporaries arguments has.1) has.2 k place aligned lines
-          (λ j less. calls j (omega (arith, less, le)) f) ways.falls);
+          let y = keeping (showing w hss names held needs (Call results f arguments)) x in
+          let loads = unknown_in held arguments in
+          let others = all_flagged false results needs.after in
+          call_goes w order y outer fuel results f arguments (same_below x.fn.temporaries results has.0)
+          (same_below x.fn.temporaries arguments has.1) has.2 k held
+          (loads_show x.fn.temporaries loads others (length_all false results needs.after ∙ whole.after)
+          (unknown_below x.fn.temporaries held arguments has.1)) needs.after flags rest (more_flagged loads others) are place aligned lines
+          (λ j less. calls j (omega (arith, less, le)) f) ways.falls;
     }
-    statement_does x ns oss hss names low held next out again (Return values) around has fine below = record {
+    statement_does x ns oss hss names low held needs flags rest next out again (Return values) whole are around has fine below = record {
       goes = λ place fuel le k aligned lines ways.
-          goes_any w x outer fuel place held (core.statement (Return values) k)
-          (return_goes w order x outer fuel values k place around.ends around.inside (same_below x.fn.temporaries values has.0) has.1 lines ways.returns);
+          let y = keeping (showing w hss names held needs (Return values)) x in
+          return_goes w order y outer fuel values k held place around.ends around.inside (same_below x.fn.temporaries values has.0)
+          (loads_show x.fn.temporaries (loads_of_values held 9 values) (cleared needs.after) (length_cleared needs.after ∙ whole.after)
+          (values_below x.fn.temporaries held 9 values has.0)) has.1 lines ways.returns;
     }
-    statement_does x ns oss hss names low held next out again (Raise kind) around has fine below = record {
-      goes = λ place fuel le k aligned lines ways. goes_any w x outer fuel place held (core.statement (Raise kind) k)
-          (λ c is. raise_goes w order (with_config x c) outer c.memory fuel kind place (active_of w (x ∷ outer)) lines);
-    }
+    statement_does x ns oss hss names low held needs flags rest next out again (Raise kind) whole are around has fine below =
+        statement_raises w order outer most x ns oss hss names low held [] needs flags next out again (Raise kind) whole refl has
 
-    pub statements_do : (x : Waiting) (ns : List ℕ) (oss hss : List (List ℕ)) (names : List ℕ) (low : ℕ) (held : Option ℕ) (next out again : ℕ) (ss : Statements)
+    pub statements_do : (x : Waiting) (ns : List ℕ) (oss hss : List (List ℕ)) (names : List ℕ) (low : ℕ) (held : List Holding) (needs : Needs)
+        (flags rest : List Bool) (next out again : ℕ) (ss : Statements) → AreWhole x.fn.temporaries needs
+        → flags ≡ saving_all w hss names held needs ss ++ rest
         → IsAround w x ns oss hss low bytes → HaveLinesIn (scoped w x ns) ss → AreFine x.fn hss names ss → highest_of low (shrunk_of names ss) ≤ bytes
-        → Does w x outer most held (held_behind_all held ss) (statements_code bytes (surrounding w x oss hss names low held) next out again ss) out again
-        (core.statements ss)
-    statements_do x ns oss hss names low held next out again NoStatements around has fine below = nothing_does w order x outer most (choice_code w.wide x.fn.passed)
-        (tests_and_jumps w order x outer) held out again
-    statements_do x ns oss hss names low held next out again (MoreStatements s ss) around has fine below =
+        → Does w x outer most held (held_behind_all hss w.data_offsets held ss) (showing_all w hss names held needs ss) needs
+        (statements_code flags (surrounding w x oss hss names low held) next out again ss) out again (core.statements ss)
+    statements_do x ns oss hss names low held needs flags rest next out again NoStatements whole are around has fine below =
+        nothing_does w order x outer most (test w order x outer most) (jumps w order x outer most) held needs out again
+    statements_do x ns oss hss names low held needs flags rest next out again (MoreStatements s ss) whole are around has fine below =
         let behind = names_after s names in
         let b = both_below (highest low (shrunk_in names s)) (highest_of low (shrunk_of behind ss)) bytes below in
-        let last = held_behind s in
-        sequence_does w order x outer most (choice_code w.wide x.fn.passed) (tests_and_jumps w order x outer) held last (held_behind_all last ss)
-        (statement_code bytes (surrounding w x oss hss names low held) next out again s)
-        (statements_code bytes (surrounding w x oss hss behind low last) (next + labels_in s) out again ss) out again s ss
-        (statement_does x ns oss hss names low held next out again s around has.0 fine.0 b.0)
-        (statements_do x ns oss hss behind low last (next + labels_in s) out again ss around has.1 fine.1 b.1)
+        let last = held_behind hss w.data_offsets held s in
+        let between = showing_all w hss behind last needs ss in
+        let needs_first : Needs = record needs { after = between } in
+        let whole_first : AreWhole x.fn.temporaries needs_first =
+        record { after = whole_all w hss behind last needs x.fn.temporaries whole ss; out = whole.out; again = whole.again } in
+        let saved = saving w hss names held needs_first s in
+        let saved_others = saving_all w hss behind last needs ss in
+        let flags_others = drop (results_in s) flags in
+        let are_first : flags ≡ saved ++ (saved_others ++ rest) = are ∙ append_assoc saved saved_others rest in
+        let are_others : flags_others ≡ saved_others ++ rest = flags_behind (results_in s) flags saved (saved_others ++ rest)
+        (saved_in w.data_offsets hss names held between needs.out needs.again s) are_first in
+        sequence_does w order x outer most (test w order x outer most) (jumps w order x outer most) held last (held_behind_all hss w.data_offsets last ss)
+        (showing w hss names held needs_first s) between needs
+        (statement_code flags (surrounding w x oss hss names low held) next out again s)
+        (statements_code flags_others (surrounding w x oss hss behind low last) (next + labels_in s) out again ss) out again s ss
+        (statement_does x ns oss hss names low held needs_first flags (saved_others ++ rest) next out again s whole_first are_first around has.0 fine.0 b.0)
+        (statements_do x ns oss hss behind low last needs flags_others rest (next + labels_in s) out again ss whole are_others around has.1 fine.1 b.1)

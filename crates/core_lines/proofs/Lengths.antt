@@ -1,139 +1,166 @@
 -- How long lines are: those of each statement, function and program, by the operations that they are made from.
-use Rattle.std.proofs.Common.{ℕ, zero, suc, ◌+◌, ◌*◌, ◌/◌, ◌≤◌, Bool, true, false, if◌then◌else◌, List, [], ◌∷◌, ◌++◌, Option, None, length, arith}
-use Rattle.core_meaning.specs.Core.{Statement, Do, If, While, Block, Leave, Break, Continue, Call, Return, Raise, Statements, NoStatements, MoreStatements, Function, Program}
+use Rattle.std.proofs.Common.{ℕ, zero, suc, ◌+◌, ◌*◌, ◌/◌, ◌≤◌, Bool, true, false, nat_lt, if◌then◌else◌, List, [], ◌∷◌, ◌++◌, length, arith}
+use Rattle.std.specs.Prelude.{drop}
+use Rattle.core_meaning.specs.Core.{Statement, Do, If, While, Block, Leave, Break, Continue, Call, Return, Raise, Statements, NoStatements}
+use Rattle.core_meaning.specs.Core.{MoreStatements, Function, Program}
 use Rattle.core_lines.specs.declared.line.Line.TheVariants.{Label, Jump, JumpIfZero, BranchIfZero, CallTo}
 use Rattle.core_lines.specs.Lines.{code_length}
-use Rattle.core_lines.specs.Frames.{load_code, save_code, slot_of, pass_code, result_code, environment_code, test_code, move_code, saves_code, take_code, prologue_code, epilogue_code}
-use Rattle.core_lines.specs.Choosing.{is_held, held_behind, held_behind_all, held_or_loaded, jump_if_zero, choice_code}
-use Rattle.core_lines.specs.Homes.{saved_slot, saved_by}
-use Rattle.core_lines.specs.Selected.{offsets_from, frame_bytes, datum_locals, Surroundings, labels_in, labels_of, names_after, names_after_all, naming, holding, within_block, statement_code, statements_code, around, labels_within, function_code, functions_code, program_code}
-use Rattle.core_lines.proofs.homes.SavedFew.{return_within, ends_within}
+use Rattle.core_lines.specs.Frames.{load_code, save_code, environment_code, test_code, move_code, saves_code, epilogue_code}
+use Rattle.core_lines.specs.Held.{Holding, without_register, result_register, held_behind, held_behind_all}
+use Rattle.core_lines.specs.Operands.{operand_in, operand_code, into_code, keep_code, pass_code, result_code, values_code, return_code}
+use Rattle.core_lines.specs.Operands.{take_code, prologue_code}
+use Rattle.core_lines.specs.Choosing.{jump_if_zero, choice_code}
+use Rattle.core_lines.specs.Saved.{results_in, results_all, live_at_start, saves_at}
+use Rattle.core_lines.specs.Homes.{saved_slot, saved_by, flag_at}
+use Rattle.core_lines.specs.Selected.{offsets_from, frame_bytes, datum_locals, Surroundings, labels_in, labels_of, names_after, names_after_all}
+use Rattle.core_lines.specs.Selected.{naming, holding, within_block, statement_code, statements_code, around, labels_within, function_code}
+use Rattle.core_lines.specs.Selected.{functions_code, program_code}
+use Rattle.core_lines.proofs.homes.SavedFew.{ends_within}
 use Rattle.core_meaning.specs.Bounds.{branch_count, statement_operations, operations_of, all_operations, core_code}
-use Rattle.core_lines.proofs.OperationLengths.{IsWithin, both_within, less_within, nothing_within, load_within, save_within, operation_within}
+use Rattle.core_lines.proofs.OperationLengths.{IsWithin, both_within, less_within, if_within, nothing_within, load_within, save_within, operand_within}
+use Rattle.core_lines.proofs.OperationLengths.{into_within, keep_within, operation_within}
 
 -- ---- statements
 
--- from one slot to another
-moved_within : (to k from j : ℕ) → IsWithin 24 (load_code to k ++ save_code from j)
-moved_within to k from j = both_within 12 12 (load_code to k) (save_code from j) (load_within to k) (save_within from j)
-
-pass_within : (passed k : ℕ) (ts : List ℕ) → IsWithin (24 * length ts) (pass_code passed k ts)
-pass_within passed k [] = nothing_within 0
-pass_within passed k (t ∷ ts) =
+pass_within : (passed : ℕ) (hs : List Holding) (k : ℕ) (ts : List ℕ) → IsWithin (24 * length ts) (pass_code passed hs k ts)
+pass_within passed hs k [] = nothing_within 0
+pass_within passed hs k (t ∷ ts) =
     less_within (24 + 24 * length ts) (24 * length (t ∷ ts)) _ (omega arith)
-    (both_within 24 (24 * length ts) (load_code 5 (slot_of passed t) ++ save_code 5 (1 + k)) (pass_code passed (k + 1) ts)
-    (moved_within 5 (slot_of passed t) 5 (1 + k))
-    (pass_within passed (k + 1) ts))
+    (both_within 24 (24 * length ts) (operand_code passed hs 5 t ++ save_code (operand_in hs 5 t) (1 + k)) (pass_code passed hs (k + 1) ts)
+    (both_within 12 12 (operand_code passed hs 5 t) (save_code (operand_in hs 5 t) (1 + k)) (operand_within passed hs 5 t)
+    (save_within (operand_in hs 5 t) (1 + k)))
+    (pass_within passed hs (k + 1) ts))
 
-result_within : (passed r : ℕ) (ts : List ℕ) → IsWithin (12 * length ts) (result_code passed r ts)
-result_within passed r [] = nothing_within 0
-result_within passed r (t ∷ ts) =
+result_within : (flags : List Bool) (passed r : ℕ) (ts : List ℕ) → IsWithin (12 * length ts) (result_code flags passed r ts)
+result_within flags passed r [] = nothing_within 0
+result_within flags passed r (t ∷ ts) =
     less_within (12 + 12 * length ts) (12 * length (t ∷ ts)) _ (omega arith)
-    (both_within 12 (12 * length ts) (save_code (suc r) (slot_of passed t)) (result_code passed (suc r) ts) (save_within (suc r) (slot_of passed t))
-    (result_within passed (suc r) ts))
+    (both_within 12 (12 * length ts) (keep_code (flag_at flags 0) passed (suc r) t) (result_code (drop 1 flags) passed (suc r) ts)
+    (keep_within (flag_at flags 0) passed (suc r) t) (result_within (drop 1 flags) passed (suc r) ts))
 
-jump_within : (wide : ℕ → Bool) (label : ℕ) → IsWithin 8 (jump_if_zero wide 5 label ∷ [])
-jump_within wide label = by (wide label)
+values_within : (passed : ℕ) (hs : List Holding) (r : ℕ) (ts : List ℕ) → IsWithin (12 * length ts) (values_code passed hs r ts)
+values_within passed hs r [] = nothing_within 0
+values_within passed hs r (t ∷ ts) =
+    let others = without_register (suc r) hs in
+    less_within (12 + 12 * length ts) (12 * length (t ∷ ts)) _ (omega arith)
+    (both_within 12 (12 * length ts) (into_code passed hs (suc r) t) (values_code passed others (suc r) ts) (into_within passed hs (suc r) t)
+    (values_within passed others (suc r) ts))
+
+-- a return counts for 64 bytes and 64 for each word: it has fewer
+return_within : (passed : ℕ) (hs : List Holding) (ts : List ℕ) (exit : ℕ) → IsWithin (64 * (1 + length ts)) (return_code passed hs ts exit)
+return_within passed hs ts exit =
+    less_within (12 * length ts + 4) (64 * (1 + length ts)) _ (omega arith)
+    (both_within (12 * length ts) 4 (values_code passed hs 9 ts) (Jump exit ∷ []) (values_within passed hs 9 ts) (record { is = omega arith }))
+
+jump_within : (wide : ℕ → Bool) (register label : ℕ) → IsWithin 8 (jump_if_zero wide register label ∷ [])
+jump_within wide register label = by (wide label)
   where
-    by : (b : Bool) → IsWithin 8 ((if b then JumpIfZero 5 label else BranchIfZero 5 label) ∷ [])
+    by : (b : Bool) → IsWithin 8 ((if b then JumpIfZero register label else BranchIfZero register label) ∷ [])
     by true = record { is = omega arith }
     by false = record { is = omega arith }
 
-choice_within : (wide : ℕ → Bool) (passed : ℕ) (held : Option ℕ) (t label : ℕ) → IsWithin 20 (choice_code wide passed held t label)
-choice_within wide passed held t label =
-    both_within 12 8 (held_or_loaded passed held t) (jump_if_zero wide 5 label ∷ []) (by (is_held held t)) (jump_within wide label)
-  where
-    by : (b : Bool) → IsWithin 12 (if b then [] else load_code 5 (slot_of passed t))
-    by true = nothing_within 12
-    by false = load_within 5 (slot_of passed t)
+choice_within : (wide : ℕ → Bool) (passed : ℕ) (hs : List Holding) (t label : ℕ) → IsWithin 20 (choice_code wide passed hs t label)
+choice_within wide passed hs t label =
+    both_within 12 8 (operand_code passed hs 5 t) (jump_if_zero wide (operand_in hs 5 t) label ∷ []) (operand_within passed hs 5 t)
+    (jump_within wide (operand_in hs 5 t) label)
 
 -- an exception alone is three lines
-branch_within : (bytes : ℕ) (u : Surroundings) (next out again : ℕ) (ss : Statements) (n : ℕ) → IsWithin (64 * n) (statements_code bytes u next out again ss)
-    → IsWithin (12 + 64 * branch_count ss n) (statements_code bytes u next out again ss)
-branch_within bytes u next out again (MoreStatements (Raise kind) NoStatements) n h = record { is = omega arith }
-branch_within bytes u next out again ss n h = less_within (64 * n) (12 + 64 * n) _ (omega arith) h
+branch_within : (flags : List Bool) (u : Surroundings) (next out again : ℕ) (ss : Statements) (n : ℕ)
+    → IsWithin (64 * n) (statements_code flags u next out again ss) → IsWithin (12 + 64 * branch_count ss n) (statements_code flags u next out again ss)
+branch_within flags u next out again (MoreStatements (Raise kind) NoStatements) n h = record { is = omega arith }
+branch_within flags u next out again ss n h = less_within (64 * n) (12 + 64 * n) _ (omega arith) h
 
 mutual
-  statement_within : (bytes : ℕ) (u : Surroundings) (next out again : ℕ) (s : Statement)
-      → IsWithin (64 * statement_operations s) (statement_code bytes u next out again s)
-  statement_within bytes u next out again (Do operation) = operation_within u operation
-  statement_within bytes u next out again (If t these those) =
+  statement_within : (flags : List Bool) (u : Surroundings) (next out again : ℕ) (s : Statement)
+      → IsWithin (64 * statement_operations s) (statement_code flags u next out again s)
+  statement_within flags u next out again (Do operation) = operation_within (flag_at flags 0) u operation
+  statement_within flags u next out again (If t these those) =
+      let left = drop (results_all these) flags in
       let behind = next + 1 + labels_of these in
-      let further = holding None (naming (names_after_all these u.names) u) in
+      let further = naming (names_after_all these u.names) u in
       let n = operations_of these in let m = operations_of those in
       let a = 12 + 64 * branch_count these n in let b = 12 + 64 * branch_count those m in
       less_within (20 + a + 4 + b + 0) (64 * (1 + (branch_count these n + branch_count those m))) _ (omega arith)
       (both_within (20 + a + 4 + b) 0 _ (Label behind ∷ [])
-      (both_within (20 + a + 4) b _ (statements_code bytes further (behind + 1) out again those)
+      (both_within (20 + a + 4) b _ (statements_code left further (behind + 1) out again those)
       (both_within (20 + a) 4 _ (Jump behind ∷ Label next ∷ [])
-      (both_within 20 a (choice_code u.wide u.passed u.held t next) (statements_code bytes (holding None u) (next + 1) out again these)
-      (choice_within u.wide u.passed u.held t next) (branch_within bytes (holding None u) (next + 1) out again these n
-      (statements_within bytes (holding None u) (next + 1) out again these))) (record { is = omega arith }))
-      (branch_within bytes further (behind + 1) out again those m (statements_within bytes further (behind + 1) out again those)))
+      (both_within 20 a (choice_code u.wide u.passed u.held t next) (statements_code flags u (next + 1) out again these)
+      (choice_within u.wide u.passed u.held t next) (branch_within flags u (next + 1) out again these n
+      (statements_within flags u (next + 1) out again these))) (record { is = omega arith }))
+      (branch_within left further (behind + 1) out again those m (statements_within left further (behind + 1) out again those)))
       (record { is = omega arith }))
-  statement_within bytes u next out again (While test t body) =
+  statement_within flags u next out again (While test t body) =
+      let left = drop (results_all test) flags in
       let behind = next + 1 + labels_of test in
-      let further = holding None (naming (names_after_all test u.names) u) in
+      let further = holding [] (naming (names_after_all test u.names) u) in
       let a = 64 * operations_of test in let b = 64 * operations_of body in
       less_within (0 + a + 20 + b + 4) (64 * (1 + (operations_of test + operations_of body))) _ (omega arith)
       (both_within (0 + a + 20 + b) 4 _ (Jump next ∷ Label behind ∷ [])
-      (both_within (0 + a + 20) b _ (statements_code bytes further (behind + 1) behind next body)
-      (both_within (0 + a) 20 _ (choice_code u.wide u.passed (held_behind_all None test) t behind)
-      (both_within 0 a (Label next ∷ []) (statements_code bytes (holding None u) (next + 1) out again test) (record { is = omega arith })
-      (statements_within bytes (holding None u) (next + 1) out again test)) (choice_within u.wide u.passed (held_behind_all None test) t behind))
-      (statements_within bytes further (behind + 1) behind next body)) (record { is = omega arith }))
-  statement_within bytes u next out again (Block locals body) =
+      (both_within (0 + a + 20) b _ (statements_code left further (behind + 1) behind next body)
+      (both_within (0 + a) 20 _ (choice_code u.wide u.passed (held_behind_all u.homes u.statics [] test) t behind)
+      (both_within 0 a (Label next ∷ []) (statements_code flags (holding [] u) (next + 1) out again test) (record { is = omega arith })
+      (statements_within flags (holding [] u) (next + 1) out again test)) (choice_within u.wide u.passed (held_behind_all u.homes u.statics [] test) t behind))
+      (statements_within left further (behind + 1) behind next body)) (record { is = omega arith }))
+  statement_within flags u next out again (Block locals body) =
       less_within (64 * operations_of body) (64 * (1 + operations_of body)) _ (omega arith)
-      (statements_within bytes (within_block locals u) next out again body)
-  statement_within bytes u next out again (Leave body) =
+      (statements_within flags (within_block locals u) next out again body)
+  statement_within flags u next out again (Leave body) =
       less_within (64 * operations_of body + 0) (64 * operations_of body) _ (omega arith)
-      (both_within (64 * operations_of body) 0 (statements_code bytes u (next + 1) next again body) (Label next ∷ [])
-      (statements_within bytes u (next + 1) next again body) (record { is = omega arith }))
-  statement_within bytes u next out again Break = record { is = omega arith }
-  statement_within bytes u next out again Continue = record { is = omega arith }
-  statement_within bytes u next out again (Call results number arguments) =
+      (both_within (64 * operations_of body) 0 (statements_code flags u (next + 1) next again body) (Label next ∷ [])
+      (statements_within flags u (next + 1) next again body) (record { is = omega arith }))
+  statement_within flags u next out again Break = record { is = omega arith }
+  statement_within flags u next out again Continue = record { is = omega arith }
+  statement_within flags u next out again (Call results number arguments) =
       less_within (24 * length arguments + 4 + 12 * length results) (64 * (1 + (length results + length arguments))) _ (omega arith)
-      (both_within (24 * length arguments + 4) (12 * length results) (pass_code u.passed 0 arguments ++ (CallTo number ∷ [])) (result_code u.passed 9 results)
-      (both_within (24 * length arguments) 4 (pass_code u.passed 0 arguments) (CallTo number ∷ []) (pass_within u.passed 0 arguments)
-      (record { is = omega arith })) (result_within u.passed 9 results))
-  statement_within bytes u next out again (Return values) = record { is = return_within u.passed values u.exit }
-  statement_within bytes u next out again (Raise kind) = record { is = omega arith }
+      (both_within (24 * length arguments + 4) (12 * length results) (pass_code u.passed u.held 0 arguments ++ (CallTo number ∷ []))
+      (result_code flags u.passed 9 results)
+      (both_within (24 * length arguments) 4 (pass_code u.passed u.held 0 arguments) (CallTo number ∷ []) (pass_within u.passed u.held 0 arguments)
+      (record { is = omega arith })) (result_within flags u.passed 9 results))
+  statement_within flags u next out again (Return values) = return_within u.passed u.held values u.exit
+  statement_within flags u next out again (Raise kind) = record { is = omega arith }
 
-  statements_within : (bytes : ℕ) (u : Surroundings) (next out again : ℕ) (ss : Statements)
-      → IsWithin (64 * operations_of ss) (statements_code bytes u next out again ss)
-  statements_within bytes u next out again NoStatements = nothing_within 0
-  statements_within bytes u next out again (MoreStatements s ss) =
+  statements_within : (flags : List Bool) (u : Surroundings) (next out again : ℕ) (ss : Statements)
+      → IsWithin (64 * operations_of ss) (statements_code flags u next out again ss)
+  statements_within flags u next out again NoStatements = nothing_within 0
+  statements_within flags u next out again (MoreStatements s ss) =
+      let left = drop (results_in s) flags in
       less_within (64 * statement_operations s + 64 * operations_of ss) (64 * (statement_operations s + operations_of ss)) _ (omega arith)
-      (both_within (64 * statement_operations s) (64 * operations_of ss) _ _ (statement_within bytes u next out again s)
-      (statements_within bytes (holding (held_behind s) (naming (names_after s u.names) u)) (next + labels_in s) out again ss))
+      (both_within (64 * statement_operations s) (64 * operations_of ss) _ _ (statement_within flags u next out again s)
+      (statements_within left (holding (held_behind u.homes u.statics u.held s) (naming (names_after s u.names) u)) (next + labels_in s) out again ss))
 
 -- ---- functions and programs
 
-take_within : (bytes passed k more : ℕ) → IsWithin (24 * more) (take_code bytes passed k more)
-take_within bytes passed k zero = nothing_within 0
-take_within bytes passed k (suc more) =
+take_within : (bytes passed : ℕ) (start : List Bool) (k more : ℕ) → IsWithin (24 * more) (take_code bytes passed start k more)
+take_within bytes passed start k zero = nothing_within 0
+take_within bytes passed start k (suc more) =
+    let load = load_code (result_register k) (bytes / 4 + 1 + k) in
+    let keep = keep_code (flag_at start k) passed (result_register k) k in
     less_within (24 + 24 * more) (24 * suc more) _ (omega arith)
-    (both_within 24 (24 * more) (load_code 5 (bytes / 4 + 1 + k) ++ save_code 5 (slot_of passed k)) (take_code bytes passed (k + 1) more)
-    (moved_within 5 (bytes / 4 + 1 + k) 5 (slot_of passed k))
-    (take_within bytes passed (k + 1) more))
+    (both_within 24 (24 * more) (load ++ keep) (take_code bytes passed start (k + 1) more)
+    (both_within 12 12 load keep (load_within (result_register k) (bytes / 4 + 1 + k)) (keep_within (flag_at start k) passed (result_register k) k))
+    (take_within bytes passed start (k + 1) more))
 
-prologue_within : (bytes passed first : ℕ) (saved : List ℕ) (parameters : ℕ)
-    → IsWithin (52 + code_length (saves_code first saved) + 24 * parameters) (prologue_code bytes passed first saved parameters)
-prologue_within bytes passed first saved parameters =
+prologue_within : (bytes passed first : ℕ) (saved : List ℕ) (start : List Bool) (parameters : ℕ)
+    → IsWithin (52 + code_length (saves_code first saved) + 24 * parameters) (prologue_code bytes passed first saved start parameters)
+prologue_within bytes passed first saved start parameters =
     let s = code_length (saves_code first saved) in
     both_within (52 + s) (24 * parameters) (test_code bytes ++ move_code bytes ++ save_code 1 0 ++ saves_code first saved)
-    (take_code bytes passed 0 parameters)
-    (both_within 52 s (test_code bytes ++ move_code bytes ++ save_code 1 0) (saves_code first saved) (record { is = omega arith })
+    (take_code bytes passed start 0 parameters)
+    (both_within 52 s (test_code bytes ++ move_code bytes ++ save_code 1 0) (saves_code first saved)
+    (both_within (28 + 12) 12 (test_code bytes ++ move_code bytes) (save_code 1 0)
+    (both_within 28 12 (test_code bytes) (move_code bytes) (record { is = omega arith })
+    (if_within 12 (nat_lt bytes 2048) _ _ (record { is = omega arith }) (record { is = omega arith })))
+    (save_within 1 0))
     (record { is = omega arith }))
-    (take_within bytes passed 0 parameters)
+    (take_within bytes passed start 0 parameters)
 
 function_within : (wide : ℕ → Bool) (statics : List ℕ) (number next : ℕ) (f : Function)
     → IsWithin (64 * (8 + (f.parameters + operations_of f.body))) (function_code wide statics number next f)
 function_within wide statics number next f =
     let p = f.parameters in let o = operations_of f.body in
     let bytes = frame_bytes f in
-    let prologue = prologue_code bytes f.passed (saved_slot f) (saved_by f) p in
-    let body = statements_code bytes (around wide statics next f) (next + 1) number number f.body in
+    let prologue = prologue_code bytes f.passed (saved_slot f) (saved_by f) (live_at_start statics f) p in
+    let body = statements_code (saves_at statics f) (around wide statics next f) (next + 1) number number f.body in
     let epilogue = epilogue_code bytes (saved_slot f) (saved_by f) in
     let first = 52 + code_length (saves_code (saved_slot f) (saved_by f)) + 24 * p in
     let last = code_length epilogue in
@@ -142,8 +169,10 @@ function_within wide statics number next f =
     (both_within (0 + first + 64 * o + 0) last ((Label number ∷ []) ++ prologue ++ body ++ (Label next ∷ [])) epilogue
     (both_within (0 + first + 64 * o) 0 ((Label number ∷ []) ++ prologue ++ body) (Label next ∷ [])
     (both_within (0 + first) (64 * o) ((Label number ∷ []) ++ prologue) body
-    (both_within 0 first (Label number ∷ []) prologue (record { is = omega arith }) (prologue_within bytes f.passed (saved_slot f) (saved_by f) p))
-    (statements_within bytes (around wide statics next f) (next + 1) number number f.body)) (record { is = omega arith })) (record { is = omega arith }))
+    (both_within 0 first (Label number ∷ []) prologue (record { is = omega arith })
+    (prologue_within bytes f.passed (saved_slot f) (saved_by f) (live_at_start statics f) p))
+    (statements_within (saves_at statics f) (around wide statics next f) (next + 1) number number f.body)) (record { is = omega arith }))
+    (record { is = omega arith }))
 
 functions_within : (wide : ℕ → Bool) (statics : List ℕ) (number next : ℕ) (fs : List Function)
     → IsWithin (64 * all_operations fs) (functions_code wide statics number next fs)

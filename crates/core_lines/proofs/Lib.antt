@@ -2,6 +2,8 @@ pub mod memory
 pub mod Steps
 pub mod homes
 pub mod frames
+pub mod Flags
+pub mod Ways
 pub mod Forms
 pub mod operations
 pub mod regions
@@ -11,7 +13,11 @@ pub mod labels
 pub mod Programs
 pub mod EachFunction
 pub mod Offsets
+pub mod Shown
+pub mod Choices
 pub mod EachStatement
+pub mod Loads
+pub mod Live
 pub mod DoesAsCore
 pub mod OperationLengths
 pub mod Lengths

@@ -1,15 +1,25 @@
 -- How long the lines of an operation are.
-use Rattle.std.specs.Prelude.{nat_eq, if◌then◌else◌}
-use Rattle.std.proofs.Common.{ℕ, zero, suc, pos, ◌+◌, ◌*◌, ◌%◌, ◌^◌, ◌≤◌, Bool, true, false, List, [], ◌∷◌, ◌++◌, arith}
-use Rattle.core_meaning.specs.Core.{Binary, Add, Subtract, Multiply, Divide, DivideUnsigned, Remainder, RemainderUnsigned, And, Or, Xor, ShiftLeft, ShiftRight, ShiftRightUnsigned, Equal, NotEqual, Less, LessEqual, LessUnsigned, LessEqualUnsigned, Operation, Constant, NullPointer, Move, Narrow, Apply, LocalAddress, OwnAddress, DataAddress, Offset, Element, Get, Put, Load, Store, Copy, Clear, IsNull, SamePlace, Getchar, Putchar, HeapHandle, RegionNew, RegionAlloc, RegionFree, UniqueAlloc, UniqueFree, KeyNew, KeyOpen, KeyClose, KeyFree}
+use Rattle.std.specs.Prelude.{nat_eq, nat_lt, if◌then◌else◌}
+use Rattle.std.proofs.Common.{ℕ, zero, suc, pos, ◌+◌, ◌*◌, ◌%◌, ◌^◌, ◌≤◌, Bool, true, false, List, [], ◌∷◌, ◌++◌, Option, Some, None, arith}
+use Rattle.core_meaning.specs.Core.{Binary, Add, Subtract, Multiply, Divide, DivideUnsigned, Remainder, RemainderUnsigned, And, Or, Xor, ShiftLeft}
+use Rattle.core_meaning.specs.Core.{ShiftRight, ShiftRightUnsigned, Equal, NotEqual, Less, LessEqual, LessUnsigned, LessEqualUnsigned, Operation, Constant}
+use Rattle.core_meaning.specs.Core.{NullPointer, Move, Narrow, Apply, LocalAddress, OwnAddress, DataAddress, Offset, Element, Get, Put, Load, Store, Copy}
+use Rattle.core_meaning.specs.Core.{Clear, IsNull, SamePlace, Getchar, Putchar, HeapHandle, RegionNew, RegionAlloc, RegionFree, UniqueAlloc, UniqueFree, KeyNew}
+use Rattle.core_meaning.specs.Core.{KeyOpen, KeyClose, KeyFree}
+use Rattle.rv32_isa.specs.declared.instruction.Instr.{Instr}
 use Rattle.rv32_isa.specs.declared.instruction.Instr.TheVariants as instr
 use Rattle.rv32_machine.specs.State.{data_base}
 use Rattle.core_lines.specs.declared.line.Line.{Line}
 use Rattle.core_lines.specs.declared.line.Line.TheVariants.{Plain}
 use Rattle.core_lines.specs.Lines.{code_length}
-use Rattle.core_lines.specs.Frames.{lower_of, is_short, word_code, load_code, save_code, slot_of, environment_code}
+use Rattle.core_lines.specs.Frames.{is_short, word_code, load_code, save_code, slot_of, environment_code}
 use Rattle.core_lines.specs.Loops.{are_words, copy_loop, clear_loop}
-use Rattle.core_lines.specs.Selected.{Surroundings, nth, local_offset, local_home, from_temp, to_temp, constant_code, far_code, read_line, read_code, write_line, write_code, binary_code, address_code, get_code, byte_code, put_code, bytes_code, further_code, bytes_in, operation_code}
+use Rattle.core_lines.specs.Held.{Source, Register, Number, Holding, source_of, result_register, same_as}
+use Rattle.core_lines.specs.Operands.{number_code, bring_code, operand_code, fetch_code, into_code, keep_code, number_kept, move_kept}
+use Rattle.core_lines.specs.Selected.{Surroundings, nth, local_offset, local_home, from_temp, to_temp, far_code, read_line, read_code, write_line, write_code}
+use Rattle.core_lines.specs.Selected.{binary_code, turned, immediate_code, immediate_for, operand, has_operand, both_code, apply_code, keep_result}
+use Rattle.core_lines.specs.Selected.{applied_kept, address_code, get_code, byte_code, put_code}
+use Rattle.core_lines.specs.Selected.{element_code, bytes_code, further_code, bytes_in, operation_code}
 use Rattle.core_lines.proofs.memory.Access.{length_of_both}
 use Rattle.core_meaning.specs.Bounds.{operation_count}
 
@@ -23,7 +33,7 @@ both_within n m xs ys h g = record { is = let e = length_of_both xs ys in let a 
 pub less_within : (n m : ℕ) (xs : List Line) → n ≤ m → IsWithin n xs → IsWithin m xs
 less_within n m xs l h = record { is = let a = h.is in omega (arith, a, l) }
 
-if_within : (n : ℕ) (c : Bool) (xs ys : List Line) → IsWithin n xs → IsWithin n ys → IsWithin n (if c then xs else ys)
+pub if_within : (n : ℕ) (c : Bool) (xs ys : List Line) → IsWithin n xs → IsWithin n ys → IsWithin n (if c then xs else ys)
 if_within n true xs ys h g = h
 if_within n false xs ys h g = g
 
@@ -38,59 +48,128 @@ load_within to k = if_within 12 (is_short (4 * k)) _ _ (record { is = omega arit
 pub save_within : (from k : ℕ) → IsWithin 12 (save_code from k)
 save_within from k = if_within 12 (is_short (4 * k)) _ _ (record { is = omega arith }) (record { is = omega arith })
 
-constant_within : (w : ℕ) → IsWithin 8 (constant_code w)
-constant_within w = if_within 8 (is_short w) _ _ (record { is = omega arith }) (record { is = omega arith })
+number_within : (to w : ℕ) → IsWithin 8 (number_code to w)
+number_within to w =
+    if_within 8 (is_short w) _ _ (record { is = omega arith })
+    (if_within 8 (nat_eq (w % 2 ^ 12) 0) _ (word_code to w) (record { is = omega arith }) (record { is = omega arith }))
 
-address_within : (w : ℕ) → IsWithin 12 (address_code w)
-address_within w = if_within 12 (is_short w) _ _ (record { is = omega arith }) (record { is = omega arith })
+address_within : (to w : ℕ) → IsWithin 12 (address_code to w)
+address_within to w = if_within 12 (is_short w) _ _ (record { is = omega arith }) (record { is = omega arith })
 
-read_one : (width from w : ℕ) → IsWithin 4 (read_line width from w ∷ [])
-read_one width from w = by (nat_eq width 1)
-  where
-    by : (c : Bool) → IsWithin 4 ((if c then Plain (instr.Lbu 5 from (lower_of w)) else Plain (instr.Lw 5 from (lower_of w))) ∷ [])
-    by true = record { is = omega arith }
-    by false = record { is = omega arith }
+further_within : (to from bytes : ℕ) → IsWithin 12 (further_code to from bytes)
+further_within to from bytes = if_within 12 (is_short bytes) _ _ (record { is = omega arith }) (record { is = omega arith })
 
-write_one : (width from w : ℕ) → IsWithin 4 (write_line width from w ∷ [])
-write_one width from w = by (nat_eq width 1)
-  where
-    by : (c : Bool) → IsWithin 4 ((if c then Plain (instr.Sb from 6 (lower_of w)) else Plain (instr.Sw from 6 (lower_of w))) ∷ [])
-    by true = record { is = omega arith }
-    by false = record { is = omega arith }
+-- one instruction or another
+one_within : (c : Bool) (a b : Instr) → IsWithin 4 ((if c then Plain a else Plain b) ∷ [])
+one_within true a b = record { is = omega arith }
+one_within false a b = record { is = omega arith }
 
-read_within : (width from w : ℕ) → IsWithin 12 (read_code width from w)
-read_within width from w =
-    if_within 12 (is_short w) _ _ (less_within 4 12 _ (omega arith) (read_one width from w))
-    (both_within 8 4 (far_code from w) (read_line width 7 w ∷ []) (record { is = omega arith }) (read_one width 7 w))
+read_within : (to width from w : ℕ) → IsWithin 12 (read_code to width from w)
+read_within to width from w =
+    if_within 12 (is_short w) _ _ (less_within 4 12 _ (omega arith) (one_within (nat_eq width 1) _ _))
+    (both_within 8 4 (far_code from w) (read_line to width 7 w ∷ []) (record { is = omega arith }) (one_within (nat_eq width 1) _ _))
 
-write_within : (width from w : ℕ) → IsWithin 12 (write_code width from w)
-write_within width from w =
-    if_within 12 (is_short w) _ _ (less_within 4 12 _ (omega arith) (write_one width from w))
-    (both_within 8 4 (far_code from w) (write_line width 7 w ∷ []) (record { is = omega arith }) (write_one width 7 w))
-
-binary_within : (o : Binary) → IsWithin 8 (binary_code o)
-binary_within Add = record { is = omega arith }
-binary_within Subtract = record { is = omega arith }
-binary_within Multiply = record { is = omega arith }
-binary_within Divide = record { is = omega arith }
-binary_within DivideUnsigned = record { is = omega arith }
-binary_within Remainder = record { is = omega arith }
-binary_within RemainderUnsigned = record { is = omega arith }
-binary_within And = record { is = omega arith }
-binary_within Or = record { is = omega arith }
-binary_within Xor = record { is = omega arith }
-binary_within ShiftLeft = record { is = omega arith }
-binary_within ShiftRight = record { is = omega arith }
-binary_within ShiftRightUnsigned = record { is = omega arith }
-binary_within Equal = record { is = omega arith }
-binary_within NotEqual = record { is = omega arith }
-binary_within Less = record { is = omega arith }
-binary_within LessEqual = record { is = omega arith }
-binary_within LessUnsigned = record { is = omega arith }
-binary_within LessEqualUnsigned = record { is = omega arith }
+write_within : (value width from w : ℕ) → IsWithin 12 (write_code value width from w)
+write_within value width from w =
+    if_within 12 (is_short w) _ _ (less_within 4 12 _ (omega arith) (one_within (nat_eq width 1) _ _))
+    (both_within 8 4 (far_code from w) (write_line value width 7 w ∷ []) (record { is = omega arith }) (one_within (nat_eq width 1) _ _))
 
 pub environment_within : (number : ℕ) → IsWithin 8 (environment_code number)
 environment_within number = record { is = omega arith }
+
+-- ---- temporaries
+
+pub operand_within : (passed : ℕ) (hs : List Holding) (spare t : ℕ) → IsWithin 12 (operand_code passed hs spare t)
+operand_within passed hs spare t = by (source_of hs t)
+  where
+    by : (s : Option Source) → IsWithin 12 (bring_code passed spare t s)
+    by None = load_within spare (slot_of passed t)
+    by (Some (Register r)) = nothing_within 12
+    by (Some (Number w)) = less_within 8 12 _ (omega arith) (number_within spare w)
+
+pub into_within : (passed : ℕ) (hs : List Holding) (to t : ℕ) → IsWithin 12 (into_code passed hs to t)
+into_within passed hs to t = by (source_of hs t)
+  where
+    by : (s : Option Source) → IsWithin 12 (fetch_code passed to t s)
+    by None = load_within to (slot_of passed t)
+    by (Some (Register r)) = if_within 12 (nat_eq r to) _ _ (nothing_within 12) (record { is = omega arith })
+    by (Some (Number w)) = less_within 8 12 _ (omega arith) (number_within to w)
+
+pub keep_within : (keeps : Bool) (passed register t : ℕ) → IsWithin 12 (keep_code keeps passed register t)
+keep_within keeps passed register t = if_within 12 keeps _ _ (save_within register (slot_of passed t)) (nothing_within 12)
+
+number_kept_within : (keeps : Bool) (passed t w : ℕ) → IsWithin 64 (number_kept keeps passed t w)
+number_kept_within keeps passed t w =
+    if_within 64 keeps _ _
+    (less_within 20 64 _ (omega arith)
+    (both_within 8 12 (number_code 5 w) (save_code 5 (slot_of passed t)) (number_within 5 w) (save_within 5 (slot_of passed t))))
+    (nothing_within 64)
+
+move_within : (keeps : Bool) (passed own t x : ℕ) (s : Option Source) → IsWithin 64 (move_kept keeps passed own t x s)
+move_within keeps passed own t x None =
+    less_within 24 64 _ (omega arith)
+    (both_within 12 12 (load_code own (slot_of passed x)) (keep_code keeps passed own t) (load_within own (slot_of passed x)) (keep_within keeps passed own t))
+move_within keeps passed own t x (Some (Register r)) = less_within 12 64 _ (omega arith) (keep_within keeps passed r t)
+move_within keeps passed own t x (Some (Number w)) = number_kept_within keeps passed t w
+
+-- ---- operations on words
+
+binary_within : (o : Binary) (to left right : ℕ) → IsWithin 8 (binary_code o to left right)
+binary_within Add to left right = record { is = omega arith }
+binary_within Subtract to left right = record { is = omega arith }
+binary_within Multiply to left right = record { is = omega arith }
+binary_within Divide to left right = record { is = omega arith }
+binary_within DivideUnsigned to left right = record { is = omega arith }
+binary_within Remainder to left right = record { is = omega arith }
+binary_within RemainderUnsigned to left right = record { is = omega arith }
+binary_within And to left right = record { is = omega arith }
+binary_within Or to left right = record { is = omega arith }
+binary_within Xor to left right = record { is = omega arith }
+binary_within ShiftLeft to left right = record { is = omega arith }
+binary_within ShiftRight to left right = record { is = omega arith }
+binary_within ShiftRightUnsigned to left right = record { is = omega arith }
+binary_within Equal to left right = record { is = omega arith }
+binary_within NotEqual to left right = record { is = omega arith }
+binary_within Less to left right = record { is = omega arith }
+binary_within LessEqual to left right = record { is = omega arith }
+binary_within LessUnsigned to left right = record { is = omega arith }
+binary_within LessEqualUnsigned to left right = record { is = omega arith }
+
+abbrev if_some : Option (List Line) → List Line
+if_some None = []
+if_some (Some lines) = lines
+
+some_within : (c : Bool) (lines : List Line) → IsWithin 8 lines → IsWithin 8 (if_some (if c then Some lines else None))
+some_within true lines h = h
+some_within false lines h = nothing_within 8
+
+immediate_within : (o : Binary) (to left n : ℕ) → IsWithin 8 (if_some (immediate_code o to left n))
+immediate_within Add to left n = some_within (is_short n) _ (record { is = omega arith })
+immediate_within Subtract to left n = some_within (is_short (turned n)) _ (record { is = omega arith })
+immediate_within Multiply to left n = nothing_within 8
+immediate_within Divide to left n = nothing_within 8
+immediate_within DivideUnsigned to left n = nothing_within 8
+immediate_within Remainder to left n = nothing_within 8
+immediate_within RemainderUnsigned to left n = nothing_within 8
+immediate_within And to left n = some_within (is_short n) _ (record { is = omega arith })
+immediate_within Or to left n = some_within (is_short n) _ (record { is = omega arith })
+immediate_within Xor to left n = some_within (is_short n) _ (record { is = omega arith })
+immediate_within ShiftLeft to left n = some_within (nat_lt n 32) _ (record { is = omega arith })
+immediate_within ShiftRight to left n = some_within (nat_lt n 32) _ (record { is = omega arith })
+immediate_within ShiftRightUnsigned to left n = some_within (nat_lt n 32) _ (record { is = omega arith })
+immediate_within Equal to left zero = record { is = omega arith }
+immediate_within Equal to left (suc n) = some_within (is_short (turned (suc n))) _ (record { is = omega arith })
+immediate_within NotEqual to left zero = record { is = omega arith }
+immediate_within NotEqual to left (suc n) = some_within (is_short (turned (suc n))) _ (record { is = omega arith })
+immediate_within Less to left n = some_within (is_short n) _ (record { is = omega arith })
+immediate_within LessEqual to left n = nothing_within 8
+immediate_within LessUnsigned to left n = some_within (is_short n) _ (record { is = omega arith })
+immediate_within LessEqualUnsigned to left n = nothing_within 8
+
+immediate_for_within : (o : Binary) (to left : ℕ) (s : Option Source) → IsWithin 8 (if_some (immediate_for o to left s))
+immediate_for_within o to left None = nothing_within 8
+immediate_for_within o to left (Some (Register r)) = nothing_within 8
+immediate_for_within o to left (Some (Number n)) = immediate_within o to left n
 
 -- ---- operations
 
@@ -99,15 +178,56 @@ to_within : (n : ℕ) (u : Surroundings) (register t : ℕ) (xs : List Line) →
 to_within n u register t xs l h =
     less_within (n + 12) 64 _ (omega (arith, l)) (both_within n 12 xs (to_temp u register t) h (save_within register (slot_of u.passed t)))
 
-pub from_within : (u : Surroundings) (register t : ℕ) → IsWithin 12 (from_temp u register t)
+-- one part that leaves its result in its temporary's register
+result_within : (n : ℕ) (keeps : Bool) (u : Surroundings) (t : ℕ) (xs : List Line) → n ≤ 52 → IsWithin n xs → IsWithin 64 (xs ++ keep_result keeps u t)
+result_within n keeps u t xs l h =
+    less_within (n + 12) 64 _ (omega (arith, l)) (both_within n 12 xs (keep_result keeps u t) h (keep_within keeps u.passed (result_register t) t))
+
+from_within : (u : Surroundings) (register t : ℕ) → IsWithin 12 (from_temp u register t)
 from_within u register t = load_within register (slot_of u.passed t)
 
 -- two temporaries are loaded
 two_within : (u : Surroundings) (r t q v : ℕ) → IsWithin 24 (from_temp u r t ++ from_temp u q v)
 two_within u r t q v = both_within 12 12 (from_temp u r t) (from_temp u q v) (from_within u r t) (from_within u q v)
 
-further_within : (to bytes : ℕ) → IsWithin 12 (further_code to bytes)
-further_within to bytes = if_within 12 (is_short bytes) _ _ (record { is = omega arith }) (record { is = omega arith })
+-- an operand is taken, and two are
+of_within : (u : Surroundings) (spare t : ℕ) → IsWithin 12 (operand u spare t)
+of_within u spare t = operand_within u.passed u.held spare t
+
+operands_within : (u : Surroundings) (x y : ℕ) → IsWithin 24 (operand u 5 x ++ operand u 6 y)
+operands_within u x y = both_within 12 12 (operand u 5 x) (operand u 6 y) (of_within u 5 x) (of_within u 6 y)
+
+-- an operand, and what is done with it
+with_within : (n : ℕ) (u : Surroundings) (spare t : ℕ) (xs : List Line) → IsWithin n xs → IsWithin (12 + n) (operand u spare t ++ xs)
+with_within n u spare t xs h = both_within 12 n (operand u spare t) xs (of_within u spare t) h
+
+apply_within : (u : Surroundings) (o : Binary) (to x y : ℕ) → IsWithin 32 (apply_code u o to x y)
+apply_within u o to x y =
+    by (immediate_for o to (has_operand u 5 x) (source_of u.held y)) (immediate_for_within o to (has_operand u 5 x) (source_of u.held y))
+  where
+    by : (s : Option (List Line)) → IsWithin 8 (if_some s) → IsWithin 32 (both_code u o to x y s)
+    by None h =
+        both_within 24 8 (operand u 5 x ++ operand u 6 y) (binary_code o to (has_operand u 5 x) (has_operand u 6 y)) (operands_within u x y)
+        (binary_within o to (has_operand u 5 x) (has_operand u 6 y))
+    by (Some lines) h = less_within 20 32 _ (omega arith) (with_within 8 u 5 x lines h)
+
+applied_within : (keeps : Bool) (u : Surroundings) (o : Binary) (t x y : ℕ) (same : Option ℕ) → IsWithin 64 (applied_kept keeps u o t x y same)
+applied_within keeps u o t x y None =
+    result_within 32 keeps u t (apply_code u o (result_register t) x y) (omega arith) (apply_within u o (result_register t) x y)
+applied_within keeps u o t x y (Some z) = move_within keeps u.passed (result_register t) t z (source_of u.held z)
+
+element_within : (u : Surroundings) (to p i bytes : ℕ) → IsWithin 40 (element_code u to p i bytes)
+element_within u to p i bytes =
+    let times : List Line = Plain (instr.Mul 5 (has_operand u 5 i) 6) ∷ [] in
+    let product = operand u 5 i ++ number_code 6 bytes ++ times in
+    if_within 40 (nat_eq bytes 1) _ _
+    (less_within 28 40 _ (omega arith)
+    (both_within 24 4 (operand u 5 i ++ operand u 6 p) (Plain (instr.Add to (has_operand u 5 i) (has_operand u 6 p)) ∷ []) (operands_within u i p)
+    (record { is = omega arith })))
+    (both_within 36 4 (product ++ operand u 6 p) (Plain (instr.Add to 5 (has_operand u 6 p)) ∷ [])
+    (both_within 24 12 product (operand u 6 p)
+    (both_within 20 4 (operand u 5 i ++ number_code 6 bytes) times (with_within 8 u 5 i (number_code 6 bytes) (number_within 6 bytes))
+    (record { is = omega arith })) (of_within u 6 p)) (record { is = omega arith }))
 
 copy_within : (b : Bool) → IsWithin 20 (copy_loop b)
 copy_within true = record { is = omega arith }
@@ -127,20 +247,21 @@ block_within u t h n bytes =
     (both_within 24 28 (from_temp u 10 h ++ from_temp u 5 n) (bytes_code bytes) (two_within u 10 h 5 n) (record { is = omega arith })) (environment_within 5))
     (save_within 10 (slot_of u.passed t)))
 
--- a local's word comes from the frame, or from its register
-get_within : (u : Surroundings) (home t width offset : ℕ) → IsWithin 64 (get_code u home t width offset)
-get_within u zero t width offset = to_within 12 u 5 t (read_code width 2 offset) (omega arith) (read_within width 2 offset)
-get_within u (suc h) t width offset = less_within 12 64 _ (omega arith) (save_within (suc h) (slot_of u.passed t))
+-- a local's word comes from the frame, or is in its register
+get_within : (keeps : Bool) (u : Surroundings) (home t width offset : ℕ) → IsWithin 64 (get_code keeps u home t width offset)
+get_within keeps u zero t width offset =
+    result_within 12 keeps u t (read_code (result_register t) width 2 offset) (omega arith) (read_within (result_register t) width 2 offset)
+get_within keeps u (suc h) t width offset = less_within 12 64 _ (omega arith) (keep_within keeps u.passed (suc h) t)
 
 put_within : (u : Surroundings) (home width offset x : ℕ) → IsWithin 64 (put_code u home width offset x)
 put_within u zero width offset x =
-    less_within (12 + 12) 64 _ (omega arith)
-    (both_within 12 12 (from_temp u 6 x) (write_code width 2 offset) (from_within u 6 x) (write_within width 2 offset))
+    less_within 24 64 _ (omega arith)
+    (with_within 12 u 6 x (write_code (has_operand u 6 x) width 2 offset) (write_within (has_operand u 6 x) width 2 offset))
 put_within u (suc h) width offset x =
-    less_within (12 + 4) 64 _ (omega arith)
-    (if_within (12 + 4) (nat_eq width 1) (byte_code u (suc h) x) (from_temp u (suc h) x)
-    (both_within 12 4 (from_temp u 6 x) (Plain (instr.Andi (suc h) 6 (pos 255)) ∷ []) (from_within u 6 x) (record { is = omega arith }))
-    (less_within 12 (12 + 4) _ (omega arith) (from_within u (suc h) x)))
+    less_within 16 64 _ (omega arith)
+    (if_within 16 (nat_eq width 1) (byte_code u (suc h) x) (into_code u.passed u.held (suc h) x)
+    (with_within 4 u 6 x (Plain (instr.Andi (suc h) (has_operand u 6 x) (pos 255)) ∷ []) (record { is = omega arith }))
+    (less_within 12 16 _ (omega arith) (into_within u.passed u.held (suc h) x)))
 
 -- a call of the environment about what a temporary holds
 about_within : (u : Surroundings) (t number : ℕ) → IsWithin 64 (from_temp u 10 t ++ environment_code number)
@@ -148,73 +269,71 @@ about_within u t number =
     less_within (12 + 8) 64 _ (omega arith)
     (both_within 12 8 (from_temp u 10 t) (environment_code number) (from_within u 10 t) (environment_within number))
 
-pub operation_within : (u : Surroundings) (o : Operation) → IsWithin (64 * operation_count o) (operation_code u o)
-operation_within u (Constant t w) = to_within 8 u 5 t (constant_code (w % 2 ^ 32)) (omega arith) (constant_within (w % 2 ^ 32))
-operation_within u (NullPointer t) = less_within 12 64 _ (omega arith) (save_within 0 (slot_of u.passed t))
-operation_within u (Move t x) = to_within 12 u 5 t (from_temp u 5 x) (omega arith) (from_within u 5 x)
-operation_within u (Narrow t x) =
-    to_within 16 u 5 t (from_temp u 5 x ++ (Plain (instr.Andi 5 5 (pos 255)) ∷ [])) (omega arith)
-    (both_within 12 4 (from_temp u 5 x) (Plain (instr.Andi 5 5 (pos 255)) ∷ []) (from_within u 5 x) (record { is = omega arith }))
-operation_within u (Apply o t x y) =
-    to_within 32 u 5 t (from_temp u 5 x ++ from_temp u 6 y ++ binary_code o) (omega arith)
-    (both_within 24 8 (from_temp u 5 x ++ from_temp u 6 y) (binary_code o) (two_within u 5 x 6 y) (binary_within o))
-operation_within u (LocalAddress t out local) =
-    to_within 12 u 5 t (address_code (local_offset u out local)) (omega arith) (address_within (local_offset u out local))
-operation_within u (OwnAddress t object) = to_within 12 u 5 t (address_code (nth u.own object)) (omega arith) (address_within (nth u.own object))
-operation_within u (DataAddress t object) =
-    to_within 8 u 5 t (constant_code (data_base + nth u.statics object)) (omega arith) (constant_within (data_base + nth u.statics object))
-operation_within u (Offset t p cells bytes) =
-    to_within 24 u 5 t (from_temp u 5 p ++ further_code 5 bytes) (omega arith)
-    (both_within 12 12 (from_temp u 5 p) (further_code 5 bytes) (from_within u 5 p) (further_within 5 bytes))
-operation_within u (Element t p i cells bytes) =
-    let factors = from_temp u 5 i ++ word_code 6 (bytes % 2 ^ 32) in
-    let product = factors ++ (Plain (instr.Mul 5 5 6) ∷ []) in
-    to_within 40 u 5 t (product ++ from_temp u 6 p ++ (Plain (instr.Add 5 5 6) ∷ [])) (omega arith)
-    (both_within 36 4 (product ++ from_temp u 6 p) (Plain (instr.Add 5 5 6) ∷ [])
-    (both_within 24 12 product (from_temp u 6 p)
-    (both_within 20 4 factors (Plain (instr.Mul 5 5 6) ∷ [])
-    (both_within 12 8 (from_temp u 5 i) (word_code 6 (bytes % 2 ^ 32)) (from_within u 5 i) (record { is = omega arith })) (record { is = omega arith }))
-    (from_within u 6 p)) (record { is = omega arith }))
-operation_within u (Get t out local width) = get_within u (local_home u out local) t width (local_offset u out local)
-operation_within u (Put out local width x) = put_within u (local_home u out local) width (local_offset u out local) x
-operation_within u (Load t p d) =
-    to_within 24 u 5 t (from_temp u 5 p ++ read_code d.width 5 d.bytes) (omega arith)
-    (both_within 12 12 (from_temp u 5 p) (read_code d.width 5 d.bytes) (from_within u 5 p) (read_within d.width 5 d.bytes))
-operation_within u (Store p d x) =
-    less_within (24 + 12) 64 _ (omega arith)
-    (both_within 24 12 (from_temp u 5 p ++ from_temp u 6 x) (write_code d.width 5 d.bytes) (two_within u 5 p 6 x) (write_within d.width 5 d.bytes))
-operation_within u (Copy to from layout) =
+pub operation_within : (keeps : Bool) (u : Surroundings) (o : Operation) → IsWithin (64 * operation_count o) (operation_code keeps u o)
+operation_within keeps u (Constant t w) = number_kept_within keeps u.passed t (w % 2 ^ 32)
+operation_within keeps u (NullPointer t) = less_within 12 64 _ (omega arith) (keep_within keeps u.passed 0 t)
+operation_within keeps u (Move t x) = move_within keeps u.passed (result_register t) t x (source_of u.held x)
+operation_within keeps u (Narrow t x) =
+    let line : List Line = Plain (instr.Andi (result_register t) (has_operand u 5 x) (pos 255)) ∷ [] in
+    result_within 16 keeps u t (operand u 5 x ++ line) (omega arith) (with_within 4 u 5 x line (record { is = omega arith }))
+operation_within keeps u (Apply o t x y) = applied_within keeps u o t x y (same_as o x y (source_of u.held x) (source_of u.held y))
+operation_within keeps u (LocalAddress t out local) =
+    let offset = local_offset u out local in
+    result_within 12 keeps u t (address_code (result_register t) offset) (omega arith) (address_within (result_register t) offset)
+operation_within keeps u (OwnAddress t object) =
+    let offset = nth u.own object in
+    result_within 12 keeps u t (address_code (result_register t) offset) (omega arith) (address_within (result_register t) offset)
+operation_within keeps u (DataAddress t object) = number_kept_within keeps u.passed t (data_base + nth u.statics object)
+operation_within keeps u (Offset t p cells bytes) =
+    let lines = further_code (result_register t) (has_operand u 5 p) bytes in
+    result_within 24 keeps u t (operand u 5 p ++ lines) (omega arith)
+    (with_within 12 u 5 p lines (further_within (result_register t) (has_operand u 5 p) bytes))
+operation_within keeps u (Element t p i cells bytes) =
+    result_within 40 keeps u t (element_code u (result_register t) p i (bytes % 2 ^ 32)) (omega arith)
+    (element_within u (result_register t) p i (bytes % 2 ^ 32))
+operation_within keeps u (Get t out local width) = get_within keeps u (local_home u out local) t width (local_offset u out local)
+operation_within keeps u (Put out local width x) = put_within u (local_home u out local) width (local_offset u out local) x
+operation_within keeps u (Load t p d) =
+    let lines = read_code (result_register t) d.width (has_operand u 5 p) d.bytes in
+    result_within 24 keeps u t (operand u 5 p ++ lines) (omega arith)
+    (with_within 12 u 5 p lines (read_within (result_register t) d.width (has_operand u 5 p) d.bytes))
+operation_within keeps u (Store p d x) =
+    less_within 36 64 _ (omega arith)
+    (both_within 24 12 (operand u 5 p ++ operand u 6 x) (write_code (has_operand u 6 x) d.width (has_operand u 5 p) d.bytes) (operands_within u p x)
+    (write_within (has_operand u 6 x) d.width (has_operand u 5 p) d.bytes))
+operation_within keeps u (Copy to from layout) =
     if_within 64 (nat_eq layout.bytes 0) _ _ (nothing_within 64)
     (less_within (36 + 20) 64 _ (omega arith)
-    (both_within 36 20 (from_temp u 5 to ++ from_temp u 6 from ++ further_code 7 layout.bytes) (copy_loop (are_words layout))
-    (both_within 24 12 (from_temp u 5 to ++ from_temp u 6 from) (further_code 7 layout.bytes) (two_within u 5 to 6 from) (further_within 7 layout.bytes))
+    (both_within 36 20 (from_temp u 5 to ++ from_temp u 6 from ++ further_code 7 5 layout.bytes) (copy_loop (are_words layout))
+    (both_within 24 12 (from_temp u 5 to ++ from_temp u 6 from) (further_code 7 5 layout.bytes) (two_within u 5 to 6 from) (further_within 7 5 layout.bytes))
     (copy_within (are_words layout))))
-operation_within u (Clear p layout count) =
+operation_within keeps u (Clear p layout count) =
     if_within 64 (nat_eq (bytes_in layout count) 0) _ _ (nothing_within 64)
     (less_within (24 + 12) 64 _ (omega arith)
-    (both_within 24 12 (from_temp u 5 p ++ further_code 7 (bytes_in layout count)) (clear_loop (are_words layout))
-    (both_within 12 12 (from_temp u 5 p) (further_code 7 (bytes_in layout count)) (from_within u 5 p) (further_within 7 (bytes_in layout count)))
+    (both_within 24 12 (from_temp u 5 p ++ further_code 7 5 (bytes_in layout count)) (clear_loop (are_words layout))
+    (both_within 12 12 (from_temp u 5 p) (further_code 7 5 (bytes_in layout count)) (from_within u 5 p) (further_within 7 5 (bytes_in layout count)))
     (clear_within (are_words layout))))
-operation_within u (IsNull t p) =
-    to_within 16 u 5 t (from_temp u 5 p ++ (Plain (instr.Sltiu 5 5 (pos 1)) ∷ [])) (omega arith)
-    (both_within 12 4 (from_temp u 5 p) (Plain (instr.Sltiu 5 5 (pos 1)) ∷ []) (from_within u 5 p) (record { is = omega arith }))
-operation_within u (SamePlace t p q) =
-    to_within 32 u 5 t (from_temp u 5 p ++ from_temp u 6 q ++ binary_code Equal) (omega arith)
-    (both_within 24 8 (from_temp u 5 p ++ from_temp u 6 q) (binary_code Equal) (two_within u 5 p 6 q) (binary_within Equal))
-operation_within u (Getchar t) = to_within 8 u 10 t (environment_code 2) (omega arith) (environment_within 2)
-operation_within u (Putchar t x) =
+operation_within keeps u (IsNull t p) =
+    let line : List Line = Plain (instr.Sltiu (result_register t) (has_operand u 5 p) (pos 1)) ∷ [] in
+    result_within 16 keeps u t (operand u 5 p ++ line) (omega arith) (with_within 4 u 5 p line (record { is = omega arith }))
+operation_within keeps u (SamePlace t p q) =
+    let lines = binary_code Equal (result_register t) (has_operand u 5 p) (has_operand u 6 q) in
+    result_within 32 keeps u t (operand u 5 p ++ operand u 6 q ++ lines) (omega arith)
+    (both_within 24 8 (operand u 5 p ++ operand u 6 q) lines (operands_within u p q) (record { is = omega arith }))
+operation_within keeps u (Getchar t) = to_within 8 u 10 t (environment_code 2) (omega arith) (environment_within 2)
+operation_within keeps u (Putchar t x) =
     to_within 20 u 10 t (from_temp u 10 x ++ environment_code 1) (omega arith)
     (both_within 12 8 (from_temp u 10 x) (environment_code 1) (from_within u 10 x) (environment_within 1))
-operation_within u (HeapHandle t) = to_within 8 u 5 t (constant_code 0) (omega arith) (constant_within 0)
-operation_within u (RegionNew t) = to_within 8 u 10 t (environment_code 4) (omega arith) (environment_within 4)
-operation_within u (RegionAlloc t h n layout) = block_within u t h n layout.bytes
-operation_within u (RegionFree h) = about_within u h 6
-operation_within u (UniqueAlloc t layout) =
+operation_within keeps u (HeapHandle t) = number_kept_within keeps u.passed t 0
+operation_within keeps u (RegionNew t) = to_within 8 u 10 t (environment_code 4) (omega arith) (environment_within 4)
+operation_within keeps u (RegionAlloc t h n layout) = block_within u t h n layout.bytes
+operation_within keeps u (RegionFree h) = about_within u h 6
+operation_within keeps u (UniqueAlloc t layout) =
     let bytes = word_code 10 (layout.bytes % 2 ^ 32) in
     to_within 16 u 10 t (bytes ++ environment_code 7) (omega arith)
     (both_within 8 8 bytes (environment_code 7) (record { is = omega arith }) (environment_within 7))
-operation_within u (UniqueFree p) = about_within u p 8
-operation_within u (KeyNew t) = to_within 8 u 10 t (environment_code 9) (omega arith) (environment_within 9)
-operation_within u (KeyOpen k) = about_within u k 10
-operation_within u (KeyClose k) = about_within u k 11
-operation_within u (KeyFree k) = about_within u k 12
+operation_within keeps u (UniqueFree p) = about_within u p 8
+operation_within keeps u (KeyNew t) = to_within 8 u 10 t (environment_code 9) (omega arith) (environment_within 9)
+operation_within keeps u (KeyOpen k) = about_within u k 10
+operation_within keeps u (KeyClose k) = about_within u k 11
+operation_within keeps u (KeyFree k) = about_within u k 12

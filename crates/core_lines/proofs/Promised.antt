@@ -1,7 +1,6 @@
 -- The lines that are selected are lines of their program.
-use Rattle.std.proofs.Common.{◌<◌, arith}
+use Rattle.std.proofs.Common.{arith}
 use Rattle.core_meaning.specs.Core.{Program}
-use Rattle.core_lines.specs.Lines.{code_length}
 use Rattle.core_lines.specs.Choosing.{far}
 use Rattle.core_lines.specs.Selected.{program_code}
 use Rattle.core_lines.specs.Promise.{AreLinesOf}

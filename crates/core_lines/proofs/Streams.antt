@@ -1,5 +1,32 @@
 -- What the code of `putchar` and `getchar` does: each shows its event, and pays a unit.
-use Rattle.std.proofs.Common.{◌≡◌, ℕ, zero, suc, pos, ◌+◌, ◌%◌, ◌^◌, ◌<◌, ◌≤◌, inl, List, [], ◌∷◌, ◌++◌, Option, Some, None, refl, sym, ap, subst, ◌∙◌, arith}
+use Rattle.std.proofs.Common.{
+  ◌≡◌,
+  ℕ,
+  zero,
+  suc,
+  pos,
+  ◌+◌,
+  ◌%◌,
+  ◌^◌,
+  ◌<◌,
+  ◌≤◌,
+  inl,
+  Bool,
+  true,
+  List,
+  [],
+  ◌∷◌,
+  ◌++◌,
+  Option,
+  Some,
+  None,
+  refl,
+  sym,
+  ap,
+  subst,
+  ◌∙◌,
+  arith,
+}
 use Rattle.cyc_words.specs.Events.{AreBytes, ByteRead, ByteWritten}
 use Rattle.cyc_words.specs.Words.{word, sum_of}
 use Rattle.arena_laws.specs.Lawful.{Answer}
@@ -18,7 +45,7 @@ use Rattle.core_lines.specs.Lines.{code_length}
 use Rattle.core_lines.specs.Frames.{environment_code}
 use Rattle.core_lines.specs.Lies.{Maps, Shows}
 use Rattle.core_lines.specs.Running.{core_run}
-use Rattle.core_lines.proofs.memory.Relations.{World, IsInOrder, Has, Waiting, At, Leads, Goes}
+use Rattle.core_lines.proofs.memory.Relations.{World, IsInOrder, Has, Waiting, Follows, keeping, At, Leads, Goes, IsKept}
 use Rattle.core_lines.proofs.memory.Moving.{Comes, comes_then, comes_as, leads_from, lawful_alike}
 use Rattle.core_lines.proofs.Steps.{state_at, step_is, is_lawful, following_is}
 use Rattle.core_lines.proofs.memory.Access.{written_out, length_of_both}
@@ -134,13 +161,14 @@ module _ (w : World) (order : IsInOrder w) (x : Waiting) (outer : List Waiting) 
 
   -- ---- with what goes on
 
-  module _ (most : ℕ) (active : List (List ℕ)) (k : Config → Step) (c : Config) (t place : ℕ) (named : t < x.fn.temporaries) where
-    pub putchar_goes : (u n : ℕ) → u < x.fn.temporaries → x.config.temps u ≡ Word n
+  module _ (most : ℕ) (active : List (List ℕ)) (k : Config → Step) (c : Config) (t place : ℕ) (named : t < x.fn.temporaries)
+      (after : List Bool) (follows : Follows true (t ∷ []) x.kept after) where
+    pub putchar_goes : (u n : ℕ) → u < x.fn.temporaries → IsKept w x u → x.config.temps u ≡ Word n
         → Has w place (loading w order x outer mem 10 u ++ environment_code 1 ++ saving w order x outer mem 10 t)
-        → Goes w most (k c) (At w (having t (Word (n % 256)) x) outer mem
+        → Goes w most (k c) (At w (keeping after (having t (Word (n % 256)) x)) outer mem
         (place + code_length (loading w order x outer mem 10 u ++ environment_code 1 ++ saving w order x outer mem 10 t))) active
         → Goes w most (Pays (λ kept. Says (Visible (ByteWritten (n % 256))) (k kept)) c) (At w x outer mem place) active
-    putchar_goes u n named' is has goes = record { at = by }
+    putchar_goes u n named' kept is has goes = record { at = by }
       where
         by : (fuel : ℕ) → fuel ≤ most → (input : List ℕ) → AreBytes input
             → Leads w fuel (Pays (λ kept. Says (Visible (ByteWritten (n % 256))) (k kept)) c) (At w x outer mem place) active input
@@ -162,15 +190,15 @@ module _ (w : World) (order : IsInOrder w) (x : Waiting) (outer : List Waiting) 
             let at_end : p2 + code_length third ≡ place + code_length (first ++ second ++ third) = omega (arith, length_of_both (first ++ second) third) in
             let before_call = AtWith w x outer mem (p1 + 4) (λ m registers. (registers 17 ≡ 1) × InRegister 10 (Word n) m registers) in
             let after_call = AtWith w x outer mem p2 (InRegister 10 (Word (n % 256))) in
-            let when_saved = At w (having t (Word (n % 256)) x) outer mem (place + code_length (first ++ second ++ third)) in
+            let when_saved = At w (keeping after (having t (Word (n % 256)) x)) outer mem (place + code_length (first ++ second ++ third)) in
             let loaded : Comes w (At w x outer mem place) (AtWith w x outer mem p1 (InRegister 10 (Word n))) =
             subst (λ v. Comes w (At w x outer mem place) (AtWith w x outer mem p1 (InRegister 10 v))) is
-            (loads_into w order x outer mem 9 u place named' refl (has_first w place first second (has_first w place (first ++ second) third has))) in
+            (loads_into w order x outer mem 9 u place named' kept refl (has_first w place first second (has_first w place (first ++ second) third has))) in
             let way : Comes w (At w x outer mem place) before_call =
             comes_then w _ _ _ loaded (numbered 1 p1 (InRegister 10 (Word n)) (omega arith) has_call (λ m registers v h. h)) in
             let saved : Comes w after_call when_saved =
-            subst (λ p. Comes w after_call (At w (having t (Word (n % 256)) x) outer mem p)) at_end
-            (saves_temp w order x outer mem 9 t p2 (Word (n % 256)) named refl (has_second w place (first ++ second) third has)) in
+            subst (λ p. Comes w after_call (At w (keeping after (having t (Word (n % 256)) x)) outer mem p)) at_end
+            (saves_temp w order x outer mem 9 t p2 (Word (n % 256)) after named follows refl (has_second w place (first ++ second) third has)) in
             leads_from w (At w x outer mem place) active (suc j) (suc j) step step before_call input way refl (omega arith)
             (leads_shown w before_call after_call active j (ByteWritten (n % 256)) step (k c) input input
             (λ s a. subst (λ p. Shows_then w.areas (ByteWritten (n % 256)) s input input (AtWith w x outer mem p (InRegister 10 (Word (n % 256))))) end
@@ -184,7 +212,7 @@ module _ (w : World) (order : IsInOrder w) (x : Waiting) (outer : List Waiting) 
         → Shows_then w.areas (ByteRead answer) s input rest (AtWith w x outer mem (place + 4 + 4) (InRegister 10 (Word (byte_word answer)))))
         → core_run w.functions (suc j) steps input ≡ Rattle.step_trees.specs.Trees.after (Visible (ByteRead answer))
         (core_run w.functions j (k (with_temp t (Word (byte_word answer)) c)) rest)
-        → Leads w j (k (with_temp t (Word (byte_word answer)) c)) (At w (having t (Word (byte_word answer)) x) outer mem
+        → Leads w j (k (with_temp t (Word (byte_word answer)) c)) (At w (keeping after (having t (Word (byte_word answer)) x)) outer mem
         (place + code_length (environment_code 2 ++ saving w order x outer mem 10 t))) active rest
         → Leads w (suc j) steps (At w x outer mem place) active input
     after_read answer j input rest small has steps shows means l =
@@ -194,22 +222,22 @@ module _ (w : World) (order : IsInOrder w) (x : Waiting) (outer : List Waiting) 
         let d = k (with_temp t v c) in
         let before_call = AtWith w x outer mem (place + 4) (λ m registers. (registers 17 ≡ 2) × Free m registers) in
         let after_call = AtWith w x outer mem (place + 8) (InRegister 10 v) in
-        let when_saved = At w (having t v x) outer mem (place + code_length (first ++ second)) in
+        let when_saved = At w (keeping after (having t v x)) outer mem (place + code_length (first ++ second)) in
         let e : place + 4 + 4 ≡ place + 8 = omega arith in
         let end : place + 8 + code_length second ≡ place + code_length (first ++ second) = omega (arith, length_of_both first second) in
         let way : Comes w (At w x outer mem place) before_call =
         comes_then w _ (AtWith w x outer mem place Free) _ (comes_as w _ _ (at_with w order x outer mem place))
         (numbered 2 place Free (omega arith) (has_first w place first second has) (λ m registers v h. tt)) in
         let saved : Comes w after_call when_saved =
-        subst (λ p. Comes w after_call (At w (having t v x) outer mem p)) end
-        (saves_temp w order x outer mem 9 t (place + 8) v named refl (has_second w place first second has)) in
+        subst (λ p. Comes w after_call (At w (keeping after (having t v x)) outer mem p)) end
+        (saves_temp w order x outer mem 9 t (place + 8) v after named follows refl (has_second w place first second has)) in
         leads_from w (At w x outer mem place) active (suc j) (suc j) steps steps before_call input way refl (omega arith)
         (leads_shown w before_call after_call active j (ByteRead answer) steps d input rest
         (λ s a. subst (λ p. Shows_then w.areas (ByteRead answer) s input rest (AtWith w x outer mem p (InRegister 10 v))) e (shows s a)) means
         (leads_from w after_call active j j d d when_saved rest saved refl (omega arith) l))
 
     pub getchar_goes : Has w place (environment_code 2 ++ saving w order x outer mem 10 t)
-        → ((v : Content) → Goes w most (k (with_temp t v c)) (At w (having t v x) outer mem
+        → ((v : Content) → Goes w most (k (with_temp t v c)) (At w (keeping after (having t v x)) outer mem
         (place + code_length (environment_code 2 ++ saving w order x outer mem 10 t))) active)
         → Goes w most (Pays (λ kept. Reads (λ byte. k (with_temp t (Word (byte_word byte)) kept))) c) (At w x outer mem place) active
     getchar_goes has goes = record { at = by }

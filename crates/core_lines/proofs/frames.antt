@@ -1,6 +1,13 @@
 pub mod Frames
 pub mod Passing
+pub mod Arguments
+pub mod Pointer
 pub mod Prologue
+pub mod Begun
+pub mod Taking
 pub mod Entering
+pub mod Jumping
+pub mod Results
 pub mod Leaving
+pub mod Ending
 pub mod Bodies

@@ -7,5 +7,6 @@ mod HomeSamples
 pub mod Locals
 pub mod Nests
 pub mod HomeLocals
+pub mod HomeOperations
 pub mod Fine
 pub mod FineHomes

@@ -1,4 +1,5 @@
 pub mod Relaxing
+mod Bare
 pub mod NoLabels
 pub mod LabelsOnce
 pub mod NoTargets

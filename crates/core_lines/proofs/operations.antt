@@ -1,10 +1,14 @@
+pub mod Holding
+pub mod Standing
 pub mod Registers
 pub mod Values
+pub mod Immediates
 pub mod Raising
 pub mod Comparing
 pub mod Reaching
 pub mod Writing
 pub mod Operations
+pub mod Applying
 pub mod Parts
 pub mod Products
 pub mod Filling
@@ -15,4 +19,5 @@ pub mod Copying
 pub mod Clearing
 pub mod Needing
 pub mod Elements
+pub mod PartOperations
 pub mod EachOperation

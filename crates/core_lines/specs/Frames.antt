@@ -1,12 +1,13 @@
--- The code of frames: words into registers, loads and saves of slots, calls with their arguments and results, prologues and returns.
-use Rattle.std.specs.Prelude.{zero, suc, ℕ, ℤ, pos, ◌+◌, ◌*◌, ◌/◌, ◌%◌, ◌^◌, Bool, ◌||◌, nat_lt, nat_le, if◌then◌else◌, List, [], ◌∷◌, ◌++◌}
+-- The code of frames: words into registers, loads and saves of slots, calls of the environment, and what the first and last lines of functions are made
+-- of.
+use Rattle.std.specs.Prelude.{suc, ℕ, ℤ, pos, ◌-ℤ◌, ◌+◌, ◌*◌, ◌/◌, ◌%◌, ◌^◌, Bool, ◌||◌, nat_lt, nat_le, if◌then◌else◌, List, [], ◌∷◌, ◌++◌}
 use Rattle.cyc_words.specs.declared.faults.Kind.{Kind}
 use Rattle.cyc_words.specs.declared.faults.Kind.TheVariants.{NullException, ArrayBounds}
 use Rattle.rv32_isa.specs.Numbers.{signed}
 use Rattle.rv32_isa.specs.declared.instruction.Instr.TheVariants.{Lui, Jalr, Bgeu, Lw, Sw, Addi, Add, Sub, Ecall}
 use Rattle.rv32_machine.specs.State.{stack_base}
 use Rattle.core_lines.specs.declared.line.Line.{Line}
-use Rattle.core_lines.specs.declared.line.Line.TheVariants.{Plain, Jump, CallTo}
+use Rattle.core_lines.specs.declared.line.Line.TheVariants.{Plain}
 
 -- ---- words and slots
 
@@ -41,20 +42,6 @@ save_code from k =
 abbrev pub slot_of : ℕ → ℕ → ℕ
 slot_of passed t = 1 + passed + t
 
--- from a temporary to another slot, and so on for all
-abbrev pub pass_code : ℕ → ℕ → List ℕ → List Line
-pass_code passed k [] = []
-pass_code passed k (t ∷ ts) = load_code 5 (slot_of passed t) ++ save_code 5 (1 + k) ++ pass_code passed (k + 1) ts
-
--- results come in the registers behind x9
-abbrev pub result_code : ℕ → ℕ → List ℕ → List Line
-result_code passed r [] = []
-result_code passed r (t ∷ ts) = save_code (suc r) (slot_of passed t) ++ result_code passed (suc r) ts
-
--- the label of a function is its number
-abbrev pub call_code : ℕ → List ℕ → ℕ → List ℕ → List Line
-call_code passed results f arguments = pass_code passed 0 arguments ++ (CallTo f ∷ []) ++ result_code passed 9 results
-
 -- a call of the environment
 abbrev pub environment_code : ℕ → List Line
 environment_code number = Plain (Addi 17 0 (pos number)) ∷ Plain Ecall ∷ []
@@ -73,14 +60,17 @@ abbrev pub test_code : ℕ → List Line
 test_code bytes =
     word_code 6 (stack_base + bytes) ++ (Plain (Bgeu 2 6 (pos 20)) ∷ []) ++ word_code 10 bytes ++ environment_code 13
 
+-- x2 goes down by a frame's bytes: by one instruction where ADDI has room for them and their negative
 abbrev pub move_code : ℕ → List Line
-move_code bytes = word_code 7 bytes ++ (Plain (Sub 2 2 7) ∷ [])
+move_code bytes =
+    (if nat_lt bytes 2048 then Plain (Addi 2 2 (pos 0 -ℤ pos bytes)) ∷ []
+    else word_code 7 bytes ++ (Plain (Sub 2 2 7) ∷ []))
 
--- each parameter's word, from the caller's frame above into the slot of its temporary
-abbrev pub take_code : ℕ → ℕ → ℕ → ℕ → List Line
-take_code bytes passed k zero = []
-take_code bytes passed k (suc more) =
-    load_code 5 (bytes / 4 + 1 + k) ++ save_code 5 (slot_of passed k) ++ take_code bytes passed (k + 1) more
+-- and up again
+abbrev pub give_code : ℕ → List Line
+give_code bytes =
+    (if nat_lt bytes 2048 then Plain (Addi 2 2 (pos bytes)) ∷ []
+    else word_code 7 bytes ++ (Plain (Add 2 2 7) ∷ []))
 
 -- registers into slots from one on, and back
 abbrev pub saves_code : ℕ → List ℕ → List Line
@@ -91,20 +81,8 @@ abbrev pub restores_code : ℕ → List ℕ → List Line
 restores_code k [] = []
 restores_code k (r ∷ rs) = load_code r k ++ restores_code (suc k) rs
 
-abbrev pub prologue_code : ℕ → ℕ → ℕ → List ℕ → ℕ → List Line
-prologue_code bytes passed first saved parameters =
-    test_code bytes ++ move_code bytes ++ save_code 1 0 ++ saves_code first saved ++ take_code bytes passed 0 parameters
-
-abbrev pub values_code : ℕ → ℕ → List ℕ → List Line
-values_code passed r [] = []
-values_code passed r (t ∷ ts) = load_code (suc r) (slot_of passed t) ++ values_code passed (suc r) ts
-
 abbrev pub leave_code : ℕ → List Line
-leave_code bytes = load_code 1 0 ++ word_code 7 bytes ++ (Plain (Add 2 2 7) ∷ Plain (Jalr 0 1 (pos 0)) ∷ [])
-
--- a return's values, and on to where the function ends
-abbrev pub return_code : ℕ → List ℕ → ℕ → List Line
-return_code passed values exit = values_code passed 9 values ++ (Jump exit ∷ [])
+leave_code bytes = load_code 1 0 ++ give_code bytes ++ (Plain (Jalr 0 1 (pos 0)) ∷ [])
 
 -- where the function ends: the registers that it saved come back, and the frame is given back
 abbrev pub epilogue_code : ℕ → ℕ → List ℕ → List Line

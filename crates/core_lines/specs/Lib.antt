@@ -2,8 +2,12 @@ pub mod Lines
 pub mod Relaxed
 pub mod Frames
 pub mod Loops
-pub mod Choosing
 pub mod LocalPlaces
+pub mod Held
+pub mod Operands
+pub mod Choosing
+pub mod Loaded
+pub mod Saved
 pub mod Selected
 pub mod Machines
 pub mod Homes

@@ -27,14 +27,14 @@ pub struct Code {
 pub fn place(alloc: Global, labelled: &Labelled) -> Result<Code, LayoutFault>
     ensures words { IfOk result (λ code. AreInstructions code.bytes.items) }
     // no more bytes than those of the lines with short branches, and so than their words, where a jump on zero counts as two; none only where these are none
-    ensures short { IfOk result (λ code. vec_len code.bytes ≤ code_length (shortened (wide_in labelled.now) labelled.now)) }
-    ensures length { IfOk result (λ code. vec_len code.bytes ≤ code_length labelled.now) }
-    ensures some { IfOk result (λ code. 0 < code_length labelled.now → 0 < vec_len code.bytes) }
+    ensures short { IfOk result (λ code. vec_len code.bytes ≤ code_length (shortened (wide_in labelled.now.lines) labelled.now.lines)) }
+    ensures length { IfOk result (λ code. vec_len code.bytes ≤ code_length labelled.now.lines) }
+    ensures some { IfOk result (λ code. 0 < code_length labelled.now.lines → 0 < vec_len code.bytes) }
     ensures within { IfOk result (λ code. vec_len code.bytes ≤ code_limit) }
     // each machine with the code has the lines, where no label is placed twice, so what it does is what the lines do
-    ensures has { IfOk result (λ code. AreOnce (labels_placed labelled.now) → IsCodeOf labelled.now code.bytes.items) }
+    ensures has { IfOk result (λ code. AreOnce (labels_placed labelled.now.lines) → IsCodeOf labelled.now.lines code.bytes.items) }
     // the lines are over the limit, with short branches, and so are their words
-    ensures too_large { result ≡ Err LayoutFault.TooLarge → code_limit < code_length (shortened (wide_in labelled.now) labelled.now) }
+    ensures too_large { result ≡ Err LayoutFault.TooLarge → code_limit < code_length (shortened (wide_in labelled.now.lines) labelled.now.lines) }
 {
     let relaxed = relax(alloc, labelled)?;
     let bytes = words(alloc, relaxed.lines.as_slice(), &relaxed.places)?;

@@ -124,9 +124,9 @@ fn lengthened(alloc: Global, lines: &[Line], places: &Places) -> Result<Vec<Line
 /// The lines as they are placed: each jump on zero is a branch alone, where it reaches its label. An `Err` is `TooLarge` only where their
 /// code would be over the limit.
 pub(crate) fn relax(alloc: Global, labelled: &Labelled) -> Result<Relaxed, LayoutFault>
-    ensures lines { IfOk result (λ relaxed. relaxed.lines.items ≡ shortened (wide_in labelled.now) labelled.now) }
+    ensures lines { IfOk result (λ relaxed. relaxed.lines.items ≡ shortened (wide_in labelled.now.lines) labelled.now.lines) }
     ensures placeable { IfOk result (λ relaxed. ArePlaceable relaxed.lines.items relaxed.places) }
-    ensures too_large { result ≡ Err LayoutFault.TooLarge → code_limit < code_length (shortened (wide_in labelled.now) labelled.now) }
+    ensures too_large { result ≡ Err LayoutFault.TooLarge → code_limit < code_length (shortened (wide_in labelled.now.lines) labelled.now.lines) }
 {
     let mut lines = shortest(alloc, labelled.lines())?;
     'rounds: loop {

@@ -1,38 +1,40 @@
 -- The lines of a function, and of those behind it.
-use Rattle.std.proofs.Common.{◌≡◌, ℕ, ◌+◌, List, [], ◌∷◌, ◌++◌, ap, ◌∙◌}
+use Rattle.std.proofs.Common.{◌≡◌, ℕ, ◌+◌, Bool, List, [], ◌∷◌, ◌++◌, ap, ◌∙◌}
 use Rattle.std.proofs.lemmas.List.{append_assoc}
 use Rattle.core_meaning.specs.Core.{Function}
 use Rattle.core_lines.specs.declared.line.Line.{Line}
 use Rattle.core_lines.specs.declared.line.Line.TheVariants.{Label}
-use Rattle.core_lines.specs.Frames.{prologue_code, epilogue_code}
+use Rattle.core_lines.specs.Frames.{epilogue_code}
+use Rattle.core_lines.specs.Operands.{prologue_code}
 use Rattle.core_lines.specs.Homes.{saved_slot, saved_by}
 use Rattle.core_lines.specs.Choosing.{far}
+use Rattle.core_lines.specs.Saved.{live_at_start, saves_at}
 use Rattle.core_lines.specs.Selected.{Surroundings, frame_bytes, around, labels_within, statements_code, function_code, functions_code}
-use Rattle.rv32_select.proofs.AnyBytes.{codes_same}
 
 -- lines behind others, where more come behind them
 behind : (before lines all more : List Line) → all ≡ before ++ lines → all ++ more ≡ before ++ (lines ++ more)
 behind before lines all more e = ap (λ x. x ++ more) e ∙ append_assoc before lines more
 
 module _ (statics : List ℕ) (number next : ℕ) (f : Function) where
-  pub function_joined : (before labelled begun inside ended whole : List Line) (bytes first slot : ℕ) (saved : List ℕ) (u : Surroundings)
-      → bytes ≡ frame_bytes f → u ≡ around far statics next f → first ≡ next + 1 → slot ≡ saved_slot f → saved ≡ saved_by f
-      → labelled ≡ before ++ Label number ∷ [] → begun ≡ labelled ++ prologue_code bytes u.passed slot saved f.parameters
-      → inside ≡ begun ++ statements_code 0 u first number number f.body → ended ≡ inside ++ Label next ∷ []
+  pub function_joined : (before labelled begun inside ended whole : List Line) (bytes first slot : ℕ) (saved : List ℕ) (start kept : List Bool)
+      (u : Surroundings)
+      → bytes ≡ frame_bytes f → u ≡ around far statics next f → first ≡ next + 1 → slot ≡ saved_slot f → saved ≡ saved_by f → start ≡ live_at_start statics f
+      → kept ≡ saves_at statics f
+      → labelled ≡ before ++ Label number ∷ [] → begun ≡ labelled ++ prologue_code bytes u.passed slot saved start f.parameters
+      → inside ≡ begun ++ statements_code kept u first number number f.body → ended ≡ inside ++ Label next ∷ []
       → whole ≡ ended ++ epilogue_code bytes slot saved → whole ≡ before ++ function_code far statics number next f
-  function_joined before labelled begun inside ended whole bytes first slot saved u b a n h r l p s t e =
+  function_joined before labelled begun inside ended whole bytes first slot saved start kept u b a n h r v k l p s t e =
       let label : List Line = Label number ∷ [] in
       let end : List Line = Label next ∷ [] in
-      let v = around far statics next f in
+      let w = around far statics next f in
       let size = frame_bytes f in
-      let prologue = prologue_code size f.passed (saved_slot f) (saved_by f) f.parameters in
-      let body = statements_code size v (next + 1) number number f.body in
+      let prologue = prologue_code size f.passed (saved_slot f) (saved_by f) (live_at_start statics f) f.parameters in
+      let body = statements_code (saves_at statics f) w (next + 1) number number f.body in
       let epilogue = epilogue_code size (saved_slot f) (saved_by f) in
       let p' : begun ≡ labelled ++ prologue =
-      p ∙ (λ i. labelled ++ prologue_code (b i) ((a i).passed) (h i) (r i) f.parameters) in
+      p ∙ (λ i. labelled ++ prologue_code (b i) ((a i).passed) (h i) (r i) (v i) f.parameters) in
       let s' : inside ≡ begun ++ body =
-      s ∙ (λ i. begun ++ statements_code 0 (a i) (n i) number number f.body) ∙
-      ap (λ lines. begun ++ lines) (codes_same 0 size v (next + 1) number number f.body) in
+      s ∙ (λ i. begun ++ statements_code (k i) (a i) (n i) number number f.body) in
       let one = p' ∙ behind before label labelled prologue l in
       let two = s' ∙ behind before (label ++ prologue) begun body one in
       let three = t ∙ behind before (label ++ prologue ++ body) inside end two in

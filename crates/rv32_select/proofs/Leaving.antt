@@ -1,8 +1,9 @@
 -- The place of code behind a block is that before it, but for the names that its statements took.
 use Rattle.std.specs.Prelude.{remove}
-use Rattle.std.proofs.Common.{◌≡◌, ℕ, List, [], ◌∷◌, Option, None, map, ap}
+use Rattle.std.proofs.Common.{◌≡◌, ℕ, List, [], ◌∷◌, map, ap}
 use Rattle.core_meaning.specs.Core.{Local}
 use Rattle.core_lines.specs.Choosing.{far}
+use Rattle.core_lines.specs.Held.{Holding}
 use Rattle.core_lines.specs.Selected.{Surroundings, offsets_from, shrunk, homes_here, holding, naming, within_block}
 
 module _ {V : Type 0} (items : V → List ℕ) where
@@ -11,7 +12,7 @@ module _ {V : Type 0} (items : V → List ℕ) where
   others (v ∷ vs) b bs e = cc
 
 module _ {V : Type 0} (offsets homes : V → List ℕ) where
-  pub left_is : (vs : List V) (passed exit low : ℕ) (own statics left : List ℕ) (now held : Option ℕ) (locals : List Local) (outer : Surroundings)
+  pub left_is : (vs : List V) (passed exit low : ℕ) (own statics left : List ℕ) (now held gone : List Holding) (locals : List Local) (outer : Surroundings)
       (names : List ℕ) (last : ℕ)
       → record {
         wide = far;
@@ -25,7 +26,7 @@ module _ {V : Type 0} (offsets homes : V → List ℕ) where
         statics = statics;
         held = now;
       } ≡ holding held (naming names (within_block locals outer))
-      → last ≡ outer.low
+      → last ≡ outer.low → gone ≡ []
       → record {
         wide = far;
         passed = passed;
@@ -36,9 +37,9 @@ module _ {V : Type 0} (offsets homes : V → List ℕ) where
         names = left;
         low = last;
         statics = statics;
-        held = None;
-      } ≡ holding None (naming names outer)
-  left_is vs passed exit low own statics left now held locals outer names last e e' =
+        held = gone;
+      } ≡ holding [] (naming names outer)
+  left_is vs passed exit low own statics left now held gone locals outer names last e e' none =
       let here = homes_here locals outer.names in
       let blocks = others offsets vs (offsets_from outer.low (shrunk locals here)) outer.blocks (ap (λ (u : Surroundings). u.blocks) e) in
       let homed = others homes vs here outer.homes (ap (λ (u : Surroundings). u.homes) e) in
@@ -52,5 +53,5 @@ module _ {V : Type 0} (offsets homes : V → List ℕ) where
         names = ap (λ (u : Surroundings). u.names) e i;
         low = e' i;
         statics = ap (λ (u : Surroundings). u.statics) e i;
-        held = None;
+        held = none i;
       }

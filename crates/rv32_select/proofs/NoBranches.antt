@@ -1,5 +1,6 @@
 -- In the lines of a program in which each label may be out of a branch's reach, no jump on zero is a branch alone.
-use Rattle.std.proofs.Common.{◌≡◌, ℕ, ◌+◌, Bool, true, List, [], ◌∷◌, ◌++◌, None, Option, length, refl, sym, subst}
+use Rattle.std.proofs.Common.{◌≡◌, ℕ, ◌+◌, Bool, true, List, [], ◌∷◌, ◌++◌, length, refl, sym, subst}
+use Rattle.std.specs.Prelude.{drop}
 use Rattle.std.proofs.lemmas.Bool.{false≢true}
 use Rattle.core_meaning.specs.Core.{
   Statement,
@@ -22,13 +23,16 @@ use Rattle.core_meaning.specs.Core.{
 use Rattle.core_lines.specs.declared.line.Line.{Line}
 use Rattle.core_lines.specs.declared.line.Line.TheVariants.{Plain, Label, Jump, JumpIfZero, BranchIfZero, CallTo}
 use Rattle.core_lines.specs.Relaxed.{targets}
-use Rattle.core_lines.specs.Frames.{call_code, return_code, prologue_code, epilogue_code}
-use Rattle.core_lines.specs.Homes.{saved_by, saved_slot}
-use Rattle.core_lines.specs.Choosing.{far, held_behind, held_behind_all, held_or_loaded, choice_code}
+use Rattle.core_lines.specs.Frames.{epilogue_code}
+use Rattle.core_lines.specs.Homes.{saved_by, saved_slot, flag_at}
+use Rattle.core_lines.specs.Held.{Holding, held_behind, held_behind_all}
+use Rattle.core_lines.specs.Operands.{operand_in, operand_code, call_code, return_code, prologue_code}
+use Rattle.core_lines.specs.Choosing.{far, choice_code}
+use Rattle.core_lines.specs.Saved.{results_in, results_all, live_at_start, saves_at}
 use Rattle.core_lines.specs.Selected.{Surroundings, operation_code, labels_in, labels_of, labels_within, holding, naming, names_after, names_after_all}
 use Rattle.core_lines.specs.Selected.{within_block, statement_code, statements_code, frame_bytes, around, function_code, functions_code, program_code}
 use Rattle.core_lines.specs.Selected.{offsets_from, datum_locals}
-use Rattle.core_lines.proofs.labels.NoTargets.{operation_none, held_none, call_none, return_none, prologue_none, epilogue_none}
+use Rattle.core_lines.proofs.labels.NoTargets.{operation_none, operand_none, call_none, return_none, prologue_none, epilogue_none}
 use Rattle.rv32_select.specs.Beginning.{are_long}
 
 both : (first second : List Line) → are_long first ≡ true → are_long second ≡ true → are_long (first ++ second) ≡ true
@@ -57,54 +61,62 @@ none_long (JumpIfZero register label ∷ lines) none = absurd cc
 none_long (BranchIfZero register label ∷ lines) none = absurd cc
 none_long (CallTo label ∷ lines) none = none_long lines none
 
-choice_long : (wide : ℕ → Bool) (passed : ℕ) (held : Option ℕ) (t label : ℕ) → wide ≡ far → are_long (choice_code wide passed held t label) ≡ true
-choice_long wide passed held t label all =
-    subst (λ w. are_long (choice_code w passed held t label) ≡ true) (sym all)
-    (both (held_or_loaded passed held t) (JumpIfZero 5 label ∷ []) (none_long (held_or_loaded passed held t) (held_none passed held t)) refl)
+choice_long : (wide : ℕ → Bool) (passed : ℕ) (hs : List Holding) (t label : ℕ) → wide ≡ far → are_long (choice_code wide passed hs t label) ≡ true
+choice_long wide passed hs t label all =
+    let operand = operand_code passed hs 5 t in
+    subst (λ w. are_long (choice_code w passed hs t label) ≡ true) (sym all)
+    (both operand (JumpIfZero (operand_in hs 5 t) label ∷ []) (none_long operand (operand_none passed hs 5 t)) refl)
 
 mutual
-  code_long : (bytes : ℕ) (u : Surroundings) (next out again : ℕ) (s : Statement) → u.wide ≡ far → are_long (statement_code bytes u next out again s) ≡ true
-  code_long bytes u next out again (Do operation) all = none_long (operation_code u operation) (operation_none u operation)
-  code_long bytes u next out again (If t these those) all =
+  code_long : (flags : List Bool) (u : Surroundings) (next out again : ℕ) (s : Statement) → u.wide ≡ far
+      → are_long (statement_code flags u next out again s) ≡ true
+  code_long flags u next out again (Do operation) all = none_long (operation_code (flag_at flags 0) u operation) (operation_none (flag_at flags 0) u operation)
+  code_long flags u next out again (If t these those) all =
+      let left = drop (results_all these) flags in
       let behind = next + 1 + labels_of these in
-      let later = holding None (naming (names_after_all these u.names) u) in
-      five (choice_code u.wide u.passed u.held t next) (statements_code bytes (holding None u) (next + 1) out again these) (Jump behind ∷ Label next ∷ [])
-      (statements_code bytes later (behind + 1) out again those) (Label behind ∷ []) (choice_long u.wide u.passed u.held t next all)
-      (codes_long bytes (holding None u) (next + 1) out again these all) refl (codes_long bytes later (behind + 1) out again those all) refl
-  code_long bytes u next out again (While test t body) all =
+      let later = naming (names_after_all these u.names) u in
+      five (choice_code u.wide u.passed u.held t next) (statements_code flags u (next + 1) out again these) (Jump behind ∷ Label next ∷ [])
+      (statements_code left later (behind + 1) out again those) (Label behind ∷ []) (choice_long u.wide u.passed u.held t next all)
+      (codes_long flags u (next + 1) out again these all) refl (codes_long left later (behind + 1) out again those all) refl
+  code_long flags u next out again (While test t body) all =
+      let left = drop (results_all test) flags in
       let behind = next + 1 + labels_of test in
-      let later = holding None (naming (names_after_all test u.names) u) in
-      let held = held_behind_all None test in
-      five (Label next ∷ []) (statements_code bytes (holding None u) (next + 1) out again test) (choice_code u.wide u.passed held t behind)
-      (statements_code bytes later (behind + 1) behind next body) (Jump next ∷ Label behind ∷ []) refl
-      (codes_long bytes (holding None u) (next + 1) out again test all) (choice_long u.wide u.passed held t behind all)
-      (codes_long bytes later (behind + 1) behind next body all) refl
-  code_long bytes u next out again (Block locals body) all = codes_long bytes (within_block locals u) next out again body all
-  code_long bytes u next out again (Leave body) all =
-      both (statements_code bytes u (next + 1) next again body) (Label next ∷ []) (codes_long bytes u (next + 1) next again body all) refl
-  code_long bytes u next out again Break all = refl
-  code_long bytes u next out again Continue all = refl
-  code_long bytes u next out again (Call results f arguments) all = none_long (call_code u.passed results f arguments) (call_none u.passed results f arguments)
-  code_long bytes u next out again (Return values) all = none_long (return_code u.passed values u.exit) (return_none u.passed values u.exit)
-  code_long bytes u next out again (Raise kind) all = refl
+      let later = holding [] (naming (names_after_all test u.names) u) in
+      let held = held_behind_all u.homes u.statics [] test in
+      five (Label next ∷ []) (statements_code flags (holding [] u) (next + 1) out again test) (choice_code u.wide u.passed held t behind)
+      (statements_code left later (behind + 1) behind next body) (Jump next ∷ Label behind ∷ []) refl
+      (codes_long flags (holding [] u) (next + 1) out again test all) (choice_long u.wide u.passed held t behind all)
+      (codes_long left later (behind + 1) behind next body all) refl
+  code_long flags u next out again (Block locals body) all = codes_long flags (within_block locals u) next out again body all
+  code_long flags u next out again (Leave body) all =
+      both (statements_code flags u (next + 1) next again body) (Label next ∷ []) (codes_long flags u (next + 1) next again body all) refl
+  code_long flags u next out again Break all = refl
+  code_long flags u next out again Continue all = refl
+  code_long flags u next out again (Call results f arguments) all =
+      none_long (call_code flags u.passed u.held results f arguments) (call_none flags u.passed u.held results f arguments)
+  code_long flags u next out again (Return values) all = none_long (return_code u.passed u.held values u.exit) (return_none u.passed u.held values u.exit)
+  code_long flags u next out again (Raise kind) all = refl
 
-  codes_long : (bytes : ℕ) (u : Surroundings) (next out again : ℕ) (ss : Statements) → u.wide ≡ far
-      → are_long (statements_code bytes u next out again ss) ≡ true
-  codes_long bytes u next out again NoStatements all = refl
-  codes_long bytes u next out again (MoreStatements s ss) all =
-      let later = holding (held_behind s) (naming (names_after s u.names) u) in
-      both (statement_code bytes u next out again s) (statements_code bytes later (next + labels_in s) out again ss) (code_long bytes u next out again s all)
-      (codes_long bytes later (next + labels_in s) out again ss all)
+  codes_long : (flags : List Bool) (u : Surroundings) (next out again : ℕ) (ss : Statements) → u.wide ≡ far
+      → are_long (statements_code flags u next out again ss) ≡ true
+  codes_long flags u next out again NoStatements all = refl
+  codes_long flags u next out again (MoreStatements s ss) all =
+      let left = drop (results_in s) flags in
+      let later = holding (held_behind u.homes u.statics u.held s) (naming (names_after s u.names) u) in
+      both (statement_code flags u next out again s) (statements_code left later (next + labels_in s) out again ss) (code_long flags u next out again s all)
+      (codes_long left later (next + labels_in s) out again ss all)
 
 function_long : (statics : List ℕ) (number next : ℕ) (f : Function) → are_long (function_code far statics number next f) ≡ true
 function_long statics number next f =
     let bytes = frame_bytes f in
-    let prologue = prologue_code bytes f.passed (saved_slot f) (saved_by f) f.parameters in
-    let body = statements_code bytes (around far statics next f) (next + 1) number number f.body in
+    let start = live_at_start statics f in
+    let flags = saves_at statics f in
+    let prologue = prologue_code bytes f.passed (saved_slot f) (saved_by f) start f.parameters in
+    let body = statements_code flags (around far statics next f) (next + 1) number number f.body in
     let epilogue = epilogue_code bytes (saved_slot f) (saved_by f) in
     five (Label number ∷ []) prologue body (Label next ∷ []) epilogue refl
-    (none_long prologue (prologue_none bytes f.passed (saved_slot f) (saved_by f) f.parameters))
-    (codes_long bytes (around far statics next f) (next + 1) number number f.body refl) refl
+    (none_long prologue (prologue_none bytes f.passed (saved_slot f) (saved_by f) start f.parameters))
+    (codes_long flags (around far statics next f) (next + 1) number number f.body refl) refl
     (none_long epilogue (epilogue_none bytes (saved_slot f) (saved_by f)))
 
 functions_long : (statics : List ℕ) (number next : ℕ) (fs : List Function) → are_long (functions_code far statics number next fs) ≡ true

@@ -1,12 +1,14 @@
 -- Homes of locals in a list, by their numbers, and the locals that take no bytes of a frame.
-use Rattle.std.proofs.Common.{◌≡◌, ℕ, zero, suc, ◌+◌, ◌-◌, ◌<◌, List, [], ◌∷◌, ◌++◌, length, drop, refl, sym, ap, ◌∙◌, arith}
+use Rattle.std.proofs.Common.{◌≡◌, ℕ, zero, suc, ◌+◌, ◌-◌, ◌<◌, Bool, List, [], ◌∷◌, ◌++◌, length, drop, refl, sym, ap, ◌∙◌, arith}
 use Rattle.std.specs.Prelude.{if◌then◌else◌, nat_eq}
 use Rattle.std.proofs.lemmas.List.{append_assoc, drop_all}
 use Rattle.core_meaning.specs.Core.{Local}
 use Rattle.core_lines.specs.declared.line.Line.{Line}
 use Rattle.core_lines.specs.Selected.{bytes_of, first_of, rest_of, shrink, shrunk, homes_here, homes_after, offsets_from, end_from, rounded, nth}
 use Rattle.rv32_select.specs.Marks.{first_homes}
-use Rattle.core_lines.specs.Selected.{Surroundings, get_code, put_code, byte_code, read_code, write_code, from_temp, to_temp}
+use Rattle.core_lines.specs.Held.{result_register}
+use Rattle.core_lines.specs.Operands.{into_code, keep_code}
+use Rattle.core_lines.specs.Selected.{Surroundings, get_code, put_code, byte_code, read_code, write_code, keep_result, operand, has_operand}
 
 -- ---- one local
 
@@ -19,27 +21,28 @@ bytes_with zero l some = absurd (omega (arith, some))
 bytes_with (suc h) l some = omega arith
 
 -- the lines of a load or a store of a local, where it lies in the frame and where it has a home
-module _ (u : Surroundings) (before : List Line) (t width offset : ℕ) where
-  pub got_without : (first after : List Line) (h : ℕ) → h ≡ 0 → first ≡ before ++ read_code width 2 offset → after ≡ first ++ to_temp u 5 t
-      → after ≡ before ++ get_code u h t width offset
-  got_without first after zero none f a =
-      a ∙ ap (λ lines. lines ++ to_temp u 5 t) f ∙ append_assoc before (read_code width 2 offset) (to_temp u 5 t)
-  got_without first after (suc h) none f a = absurd (omega (arith, none))
+module _ (keeps : Bool) (u : Surroundings) (t width offset : ℕ) where
+  pub got_without : (before after : List Line) (h : ℕ) → h ≡ 0
+      → after ≡ before ++ read_code (result_register t) width 2 offset ++ keep_result keeps u t → after ≡ before ++ get_code keeps u h t width offset
+  got_without before after zero none a = a ∙ append_assoc before (read_code (result_register t) width 2 offset) (keep_result keeps u t)
+  got_without before after (suc h) none a = absurd (omega (arith, none))
 
-  pub got_with : (after : List Line) (home h : ℕ) → home ≡ h → 0 < home → after ≡ before ++ to_temp u home t → after ≡ before ++ get_code u h t width offset
-  got_with after home zero is some a = absurd (omega (arith, is, some))
-  got_with after home (suc h) is some a = a ∙ ap (λ r. before ++ to_temp u r t) is
+  pub got_with : (before after : List Line) (home h : ℕ) → home ≡ h → 0 < home → after ≡ before ++ keep_code keeps u.passed home t
+      → after ≡ before ++ get_code keeps u h t width offset
+  got_with before after home zero is some a = absurd (omega (arith, is, some))
+  got_with before after home (suc h) is some a = a ∙ ap (λ r. before ++ keep_code keeps u.passed r t) is
 
-  pub stored_without : (first after : List Line) (h : ℕ) → h ≡ 0 → first ≡ before ++ from_temp u 6 t → after ≡ first ++ write_code width 2 offset
+module _ (u : Surroundings) (width offset t : ℕ) where
+  pub stored_without : (before after : List Line) (h : ℕ) → h ≡ 0 → after ≡ before ++ operand u 6 t ++ write_code (has_operand u 6 t) width 2 offset
       → after ≡ before ++ put_code u h width offset t
-  stored_without first after zero none f a =
-      a ∙ ap (λ lines. lines ++ write_code width 2 offset) f ∙ append_assoc before (from_temp u 6 t) (write_code width 2 offset)
-  stored_without first after (suc h) none f a = absurd (omega (arith, none))
+  stored_without before after zero none a = a ∙ append_assoc before (operand u 6 t) (write_code (has_operand u 6 t) width 2 offset)
+  stored_without before after (suc h) none a = absurd (omega (arith, none))
 
-  pub stored_with : (after : List Line) (home h : ℕ) → home ≡ h → 0 < home
-      → after ≡ before ++ (if nat_eq width 1 then byte_code u home t else from_temp u home t) → after ≡ before ++ put_code u h width offset t
-  stored_with after home zero is some a = absurd (omega (arith, is, some))
-  stored_with after home (suc h) is some a = a ∙ ap (λ r. before ++ (if nat_eq width 1 then byte_code u r t else from_temp u r t)) is
+  pub stored_with : (before after : List Line) (home h : ℕ) → home ≡ h → 0 < home
+      → after ≡ before ++ (if nat_eq width 1 then byte_code u home t else into_code u.passed u.held home t) → after ≡ before ++ put_code u h width offset t
+  stored_with before after home zero is some a = absurd (omega (arith, is, some))
+  stored_with before after home (suc h) is some a =
+      a ∙ ap (λ r. before ++ (if nat_eq width 1 then byte_code u r t else into_code u.passed u.held r t)) is
 
 -- ---- lists of homes
 

@@ -1,5 +1,5 @@
 -- Where code stands, as the definition of code has it, and which comparisons take two instructions.
-use Rattle.std.specs.Prelude.{ℕ, ◌+◌, ◌-◌, ◌*◌, ◌/◌, nat_le, if◌then◌else◌, Bool, true, false, drop, map}
+use Rattle.std.specs.Prelude.{ℕ, ◌+◌, ◌-◌, ◌*◌, ◌/◌, nat_le, if◌then◌else◌, Bool, true, false, List, drop, map, reverse}
 use Rattle.core_lines.specs.Choosing.{far}
 use Rattle.core_lines.specs.Selected.{Surroundings, too_many}
 use Rattle.cyc_core.specs.declared.operation.Binary.{Binary}
@@ -22,6 +22,10 @@ surroundings p = record {
   statics = p.statics.items;
   held = p.held;
 }
+
+-- which of the results to come are saved
+abbrev pub saves_left : Place → List Bool
+saves_left p = reverse p.saves.items
 
 -- the bytes of a frame in which blocks reach so high
 abbrev pub framed : ℕ → ℕ

@@ -3,7 +3,8 @@
 ghost use Rattle.std.specs.Prelude.{◌≡◌, ◌+◌, ◌*◌, ◌<◌, ◌^◌, [], ◌∷◌, ◌++◌, length, vec_len, IfOk, OnOk};
 ghost use Rattle.core_lines.specs.declared.line.Line.TheVariants.{Plain};
 ghost use Rattle.core_lines.specs.Frames.{upper_of, lower_of, is_short, word_code, load_code, save_code, environment_code};
-ghost use Rattle.core_lines.specs.Selected.{constant_code, address_code, further_code, far_code, read_line, read_code, write_line, write_code};
+ghost use Rattle.core_lines.specs.Operands.{number_code, copied_code};
+ghost use Rattle.core_lines.specs.Selected.{address_code, further_code, far_code, read_line, read_code, write_line, write_code};
 ghost use Rattle.cyc_core.specs.Trees.{bytes_of};
 
 use core_lines::Line;
@@ -11,10 +12,10 @@ use cyc_core::Width;
 use rv32_isa::{Instr, Register, Signed12, Upper20};
 use std::alloc::AllocError;
 
-/// The register that a result is computed in, and the one beside it.
-pub const RESULT: Register = Register::TEMPORARY_0;
+/// The spare registers, into which operands are loaded: the first one's, and the one beside it.
+pub const FIRST: Register = Register::TEMPORARY_0;
 
-pub const OPERAND: Register = Register::TEMPORARY_1;
+pub const SECOND: Register = Register::TEMPORARY_1;
 
 /// The register that the address of what lies far is computed in.
 pub const ADDRESS: Register = Register::TEMPORARY_2;
@@ -66,39 +67,58 @@ pub fn put_word(lines: &mut Vec<Line>, to: Register, word: u64) -> Result<(), Al
     put(lines, Instr::Addi(to, to, lower(word)))
 }
 
-/// Appends what puts a word into the register of results.
-pub fn put_constant(lines: &mut Vec<Line>, word: u64) -> Result<(), AllocError>
-    ensures { OnOk result (lines.new.items ≡ lines.old.items ++ constant_code word) }
+/// Appends what puts a word into a register, by one instruction where that is enough.
+pub fn put_number(lines: &mut Vec<Line>, to: Register, word: u64) -> Result<(), AllocError>
+    ensures { OnOk result (lines.new.items ≡ lines.old.items ++ number_code to word) }
 {
     if is_short(word) {
-        put(lines, Instr::Addi(RESULT, Register::ZERO, lower(word)))
+        return put(lines, Instr::Addi(to, Register::ZERO, lower(word)));
+    }
+    if word % 4096 == 0 {
+        put(lines, Instr::Lui(to, upper(word)))
     } else {
-        put_word(lines, RESULT, word)
+        put_word(lines, to, word)
     }
 }
 
-/// Appends what puts the address so many bytes from the stack pointer on into the register of results.
-pub fn put_address(lines: &mut Vec<Line>, distance: u64) -> Result<(), AllocError>
-    ensures { OnOk result (lines.new.items ≡ lines.old.items ++ address_code distance) }
+/// Appends what puts a register's word into another one, if it is another.
+pub fn put_copied(lines: &mut Vec<Line>, to: Register, from: Register) -> Result<(), AllocError>
+    ensures { OnOk result (lines.new.items ≡ lines.old.items ++ copied_code to from) }
+{
+    if from.number() == to.number() {
+        Ok(())
+    } else {
+        put(lines, Instr::Addi(to, from, Signed12::new(0)))
+    }
+}
+
+/// Appends what puts the address so many bytes from the stack pointer on into a register.
+pub fn put_address(lines: &mut Vec<Line>, to: Register, distance: u64) -> Result<(), AllocError>
+    ensures { OnOk result (lines.new.items ≡ lines.old.items ++ address_code to distance) }
 {
     let pointer = Register::STACK_POINTER;
     if is_short(distance) {
-        put(lines, Instr::Addi(RESULT, pointer, lower(distance)))
+        put(lines, Instr::Addi(to, pointer, lower(distance)))
     } else {
-        put_word(lines, RESULT, distance)?;
-        put(lines, Instr::Add(RESULT, RESULT, pointer))
+        put_word(lines, to, distance)?;
+        put(lines, Instr::Add(to, to, pointer))
     }
 }
 
-/// Appends what puts into a register the address so many bytes further than that in the register of results.
-pub fn put_further(lines: &mut Vec<Line>, to: Register, bytes: u64) -> Result<(), AllocError>
-    ensures { OnOk result (lines.new.items ≡ lines.old.items ++ further_code to bytes) }
+/// Appends what puts into a register the address so many bytes further than that in another one.
+pub fn put_further(
+    lines: &mut Vec<Line>,
+    to: Register,
+    from: Register,
+    bytes: u64,
+) -> Result<(), AllocError>
+    ensures { OnOk result (lines.new.items ≡ lines.old.items ++ further_code to from bytes) }
 {
     if is_short(bytes) {
-        put(lines, Instr::Addi(to, RESULT, lower(bytes)))
+        put(lines, Instr::Addi(to, from, lower(bytes)))
     } else {
         put_word(lines, ADDRESS, bytes)?;
-        put(lines, Instr::Add(to, ADDRESS, RESULT))
+        put(lines, Instr::Add(to, ADDRESS, from))
     }
 }
 
@@ -149,57 +169,59 @@ pub fn put_save(lines: &mut Vec<Line>, from: Register, slot: u64) -> Result<(), 
     }
 }
 
-/// The load of a byte or a word into the register of results.
-fn read_line(width: Width, from: Register, distance: u64) -> Line
-    ensures { result ≡ read_line (bytes_of width) from distance }
+/// The load of a byte or a word into a register.
+fn read_line(to: Register, width: Width, from: Register, distance: u64) -> Line
+    ensures { result ≡ read_line to (bytes_of width) from distance }
 {
     match width {
-        Width::Byte => Line::Plain(Instr::Lbu(RESULT, from, lower(distance))),
-        Width::Word => Line::Plain(Instr::Lw(RESULT, from, lower(distance))),
+        Width::Byte => Line::Plain(Instr::Lbu(to, from, lower(distance))),
+        Width::Word => Line::Plain(Instr::Lw(to, from, lower(distance))),
     }
 }
 
-/// Appends what loads a byte or a word, so many bytes from an address in a register on, into the register of results.
+/// Appends what loads a byte or a word, so many bytes from an address in a register on, into another one.
 pub fn put_read(
     lines: &mut Vec<Line>,
+    to: Register,
     width: Width,
     from: Register,
     distance: u64,
 ) -> Result<(), AllocError>
-    ensures { OnOk result (lines.new.items ≡ lines.old.items ++ read_code (bytes_of width) from distance) }
+    ensures { OnOk result (lines.new.items ≡ lines.old.items ++ read_code to (bytes_of width) from distance) }
 {
     if is_short(distance) {
-        put_lines(lines, &[read_line(width, from, distance)])
+        put_lines(lines, &[read_line(to, width, from, distance)])
     } else {
         put_far(lines, from, distance)?;
-        put_lines(lines, &[read_line(width, ADDRESS, distance)])
+        put_lines(lines, &[read_line(to, width, ADDRESS, distance)])
     }
 }
 
-/// The store of a byte or a word of the register beside that of results.
-fn write_line(width: Width, from: Register, distance: u64) -> Line
-    ensures { result ≡ write_line (bytes_of width) from distance }
+/// The store of a byte or a word of a register.
+fn write_line(value: Register, width: Width, from: Register, distance: u64) -> Line
+    ensures { result ≡ write_line value (bytes_of width) from distance }
 {
     match width {
-        Width::Byte => Line::Plain(Instr::Sb(from, OPERAND, lower(distance))),
-        Width::Word => Line::Plain(Instr::Sw(from, OPERAND, lower(distance))),
+        Width::Byte => Line::Plain(Instr::Sb(from, value, lower(distance))),
+        Width::Word => Line::Plain(Instr::Sw(from, value, lower(distance))),
     }
 }
 
-/// Appends what stores the register beside that of results, so many bytes from an address in a register on.
+/// Appends what stores a byte or a word of a register, so many bytes from an address in another one on.
 pub fn put_write(
     lines: &mut Vec<Line>,
+    value: Register,
     width: Width,
     from: Register,
     distance: u64,
 ) -> Result<(), AllocError>
-    ensures { OnOk result (lines.new.items ≡ lines.old.items ++ write_code (bytes_of width) from distance) }
+    ensures { OnOk result (lines.new.items ≡ lines.old.items ++ write_code value (bytes_of width) from distance) }
 {
     if is_short(distance) {
-        put_lines(lines, &[write_line(width, from, distance)])
+        put_lines(lines, &[write_line(value, width, from, distance)])
     } else {
         put_far(lines, from, distance)?;
-        put_lines(lines, &[write_line(width, ADDRESS, distance)])
+        put_lines(lines, &[write_line(value, width, ADDRESS, distance)])
     }
 }
 

@@ -1,19 +1,25 @@
 // Instructions for functions and programs.
 
-ghost use Rattle.std.specs.Prelude.{◌≡◌, ◌+◌, ◌-◌, ◌%◌, ◌^◌, ◌*◌, ◌≤◌, ◌<◌, ◌++◌, IfOk, OnOk, map, ℕ, length};
+ghost use Rattle.std.specs.Prelude.{◌≡◌, ◌/◌, ◌+◌, ◌-◌, ◌%◌, ◌^◌, ◌*◌, ◌≤◌, ◌<◌, ◌++◌, IfOk, OnOk, map, ℕ, length};
 ghost use Rattle.cyc_core.specs.Trees.{body_tree, function_tree, program_tree};
-ghost use Rattle.core_lines.specs.Frames.{test_code, move_code, take_code, saves_code, restores_code, prologue_code, leave_code, epilogue_code};
+ghost use Rattle.core_lines.specs.Frames.{test_code, move_code, give_code, load_code, saves_code, restores_code, leave_code, epilogue_code};
+ghost use Rattle.core_lines.specs.Operands.{keep_code, take_code, prologue_code};
 ghost use Rattle.core_lines.specs.Choosing.{far};
 ghost use Rattle.core_lines.specs.Promise.{AreLinesOf};
-ghost use Rattle.core_lines.specs.Homes.{saved_by};
+ghost use Rattle.core_lines.specs.Held.{result_register};
+ghost use Rattle.core_lines.specs.Homes.{flag_at, saved_by};
+ghost use Rattle.core_lines.specs.Saved.{live_at_start, saves_at};
 ghost use Rattle.core_lines.specs.Selected.{around, highest_of, shrunk_of, labels_within, function_code, functions_code, program_code};
-ghost use Rattle.rv32_select.specs.Places.{surroundings, framed};
+ghost use Rattle.rv32_select.specs.Listing.{homes_listed};
+ghost use Rattle.rv32_select.specs.Places.{surroundings, saves_left, framed};
 
-use crate::emit::{
-    ADDRESS, OPERAND, RESULT, put, put_environment, put_lines, put_load, put_save, put_word,
-};
+use crate::emit::{ADDRESS, SECOND, put, put_environment, put_lines, put_load, put_save, put_word};
+use crate::held::result_register;
+use crate::homes::{flag_at, homes_listed};
 use crate::labelled::Labelled;
 use crate::layout::{highest_of, saved_slot, statics, sum};
+use crate::live::find_saves;
+use crate::operands::put_kept;
 use crate::place::Place;
 use crate::statement::{Ways, following, put_statements};
 use core_lines::Line;
@@ -27,6 +33,9 @@ const TOO_MANY: u64 = 0x0200_0000;
 
 /// The address at which the stack begins.
 const STACK_BASE: u64 = 0x0040_0000;
+
+/// Frames below so many bytes are taken and given back by one instruction each.
+const SMALL: u64 = 2048;
 
 /// The bytes of a frame in which blocks reach so high: rounded up to 16, and no more than no stack has.
 fn framed(most: u64) -> u64
@@ -51,9 +60,9 @@ fn frame_bytes(place: &Place, body: &[Statement]) -> Result<u64, AllocError>
 fn put_stack_test(lines: &mut Vec<Line>, bytes: u64) -> Result<(), AllocError>
     ensures { OnOk result (lines.new.items ≡ lines.old.items ++ test_code bytes) }
 {
-    put_word(lines, OPERAND, sum(STACK_BASE, bytes)?)?;
+    put_word(lines, SECOND, sum(STACK_BASE, bytes)?)?;
     let over = BranchOffset::new(20);
-    put(lines, Instr::Bgeu(Register::STACK_POINTER, OPERAND, over))?;
+    put(lines, Instr::Bgeu(Register::STACK_POINTER, SECOND, over))?;
     put_word(lines, Register::ARGUMENT_0, bytes)?;
     put_environment(lines, STACK_REFUSED)
 }
@@ -63,8 +72,49 @@ fn put_stack_move(lines: &mut Vec<Line>, bytes: u64) -> Result<(), AllocError>
     ensures { OnOk result (lines.new.items ≡ lines.old.items ++ move_code bytes) }
 {
     let pointer = Register::STACK_POINTER;
-    put_word(lines, ADDRESS, bytes)?;
-    put(lines, Instr::Sub(pointer, pointer, ADDRESS))
+    if bytes < SMALL {
+        let down = Signed12::new(-(bytes as i32));
+        put(lines, Instr::Addi(pointer, pointer, down))
+    } else {
+        put_word(lines, ADDRESS, bytes)?;
+        put(lines, Instr::Sub(pointer, pointer, ADDRESS))
+    }
+}
+
+/// Appends that a frame's bytes are given back to the stack.
+fn put_stack_give(lines: &mut Vec<Line>, bytes: u64) -> Result<(), AllocError>
+    ensures { OnOk result (lines.new.items ≡ lines.old.items ++ give_code bytes) }
+{
+    let pointer = Register::STACK_POINTER;
+    if bytes < SMALL {
+        let up = Signed12::new(bytes as i32);
+        put(lines, Instr::Addi(pointer, pointer, up))
+    } else {
+        put_word(lines, ADDRESS, bytes)?;
+        put(lines, Instr::Add(pointer, pointer, ADDRESS))
+    }
+}
+
+/// Appends the taking of a parameter's word from the caller's frame, and its save, if it is loaded from its slot later.
+fn put_parameter(
+    lines: &mut Vec<Line>,
+    place: &Place,
+    bytes: u64,
+    live: &[bool],
+    parameter: Temporary,
+) -> Result<(), AllocError>
+    ensures { let register = result_register parameter.0 in OnOk result (lines.new.items ≡ lines.old.items
+        ++ load_code register (bytes / 4 + 1 + parameter.0) ++ keep_code (flag_at live.now parameter.0) place.now.passed register parameter.0) }
+{
+    let register = result_register(parameter);
+    put_load(lines, register, sum(bytes / 4 + 1, u64::from(parameter.0))?)?;
+    put_kept(
+        lines,
+        place,
+        flag_at(live, parameter.0),
+        register,
+        parameter,
+    )
 }
 
 /// Appends the taking of each parameter's word from the caller's frame.
@@ -72,13 +122,13 @@ fn put_parameters(
     lines: &mut Vec<Line>,
     place: &Place,
     bytes: u64,
+    live: &[bool],
     parameters: u32,
 ) -> Result<(), AllocError>
-    ensures { OnOk result (lines.new.items ≡ lines.old.items ++ take_code bytes place.now.passed 0 parameters) }
+    ensures { OnOk result (lines.new.items ≡ lines.old.items ++ take_code bytes place.now.passed live.now 0 parameters) }
 {
     'each: for parameter in 0..parameters {
-        put_load(lines, RESULT, sum(bytes / 4 + 1, u64::from(parameter))?)?;
-        put_save(lines, RESULT, place.slot(Temporary(parameter)))?;
+        put_parameter(lines, place, bytes, live, Temporary(parameter))?;
     }
     Ok(())
 }
@@ -114,25 +164,24 @@ fn put_prologue(
     bytes: u64,
     first: u64,
     saved: &[Register],
+    live: &[bool],
     parameters: u32,
 ) -> Result<(), AllocError>
-    ensures { OnOk result (lines.new.items ≡ lines.old.items ++ prologue_code bytes place.now.passed first saved.now parameters) }
+    ensures { OnOk result (lines.new.items ≡ lines.old.items ++ prologue_code bytes place.now.passed first saved.now live.now parameters) }
 {
     put_stack_test(lines, bytes)?;
     put_stack_move(lines, bytes)?;
     put_save(lines, Register::RETURN_ADDRESS, 0)?;
     put_saves(lines, first, saved)?;
-    put_parameters(lines, place, bytes, parameters)
+    put_parameters(lines, place, bytes, live, parameters)
 }
 
 /// Appends the end of an activation: the stack pointer goes back over its frame, and the return.
 fn put_leave(lines: &mut Vec<Line>, bytes: u64) -> Result<(), AllocError>
     ensures { OnOk result (lines.new.items ≡ lines.old.items ++ leave_code bytes) }
 {
-    let pointer = Register::STACK_POINTER;
     put_load(lines, Register::RETURN_ADDRESS, 0)?;
-    put_word(lines, ADDRESS, bytes)?;
-    put(lines, Instr::Add(pointer, pointer, ADDRESS))?;
+    put_stack_give(lines, bytes)?;
     put(
         lines,
         Instr::Jalr(Register::ZERO, Register::RETURN_ADDRESS, Signed12::new(0)),
@@ -152,7 +201,8 @@ fn put_epilogue(
     put_leave(lines, bytes)
 }
 
-/// Appends a function at whose start the place is, and which saves these registers. Answers the next free label.
+/// Appends a function at whose start the place is, where it is known which results are saved. It saves these registers, and loads these temporaries from
+/// their slots. Answers the next free label.
 fn put_begun(
     lines: &mut Vec<Line>,
     place: &mut Place,
@@ -160,9 +210,12 @@ fn put_begun(
     next: usize,
     function: &Function,
     saved: &[Register],
+    live: &[bool],
 ) -> Result<usize, AllocError>
     requires saved { saved.now ≡ saved_by (function_tree function.now) }
     requires place { surroundings place.old ≡ around far (surroundings place.old).statics next (function_tree function.now) }
+    requires saves { saves_left place.old ≡ saves_at (surroundings place.old).statics (function_tree function.now) }
+    requires live { live.now ≡ live_at_start (surroundings place.old).statics (function_tree function.now) }
     ensures code { OnOk result (lines.new.items ≡ lines.old.items
         ++ function_code far (surroundings place.old).statics number next (function_tree function.now)) }
     ensures free { IfOk result (λ n. n ≡ next + labels_within (function_tree function.now)) }
@@ -171,7 +224,7 @@ fn put_begun(
     let bytes = frame_bytes(place, &function.body)?;
     let slot = saved_slot(function);
     put_lines(lines, &[Line::Label(number)])?;
-    put_prologue(lines, place, bytes, slot, saved, function.parameters)?;
+    put_prologue(lines, place, bytes, slot, saved, live, function.parameters)?;
     let ways = Ways {
         out: number,
         again: number,
@@ -197,7 +250,8 @@ fn put_function(
     ensures same { OnOk result (place.new.statics.items ≡ place.old.statics.items) }
 {
     let saved = place.begin(function, next)?;
-    put_begun(lines, place, number, next, function, &saved)
+    let live = find_saves(place, function, next)?;
+    put_begun(lines, place, number, next, function, &saved, &live)
 }
 
 /// Appends functions, the first of which has the number 0.
@@ -235,8 +289,11 @@ pub fn select(alloc: Global, program: &Program) -> Result<Labelled, AllocError>
     requires main { program.now.main < length program.now.functions.items }
     // no label stands twice in the lines; their words, where a jump on zero counts as two, are some, and are within the bound by the program's operations; and
     // a machine that begins with the lines does what the program does, with frames within the bounds of its functions
-    ensures lines { IfOk result (λ labelled. AreLinesOf (program_tree program.now) labelled) }
+    ensures lines { IfOk result (λ labelled. AreLinesOf (program_tree program.now) labelled.lines) }
+    // of each function in turn, the registers of its locals in its order, 0 for one that has none
+    ensures homes { IfOk result (λ labelled. labelled.homes ≡ homes_listed (program_tree program.now).functions) }
 {
     let lines = program_lines(alloc, program)?;
-    Ok(Labelled { lines })
+    let homes = homes_listed(alloc, &program.functions)?;
+    Ok(Labelled { lines, homes })
 }

@@ -1,6 +1,6 @@
-// Lines with labels whose first jump stays within them, and of which none is a branch alone.
+// Lines with labels whose first jump stays within them, and of which none is a branch alone; and the homes of the functions that they are of.
 
-ghost use Rattle.std.specs.Prelude.{◌≡◌, ◌&&◌, IfSome, IfNone, true, false};
+ghost use Rattle.std.specs.Prelude.{◌≡◌, ◌&&◌, IfSome, IfNone, true, false, [], slice_index_or};
 ghost use Rattle.rv32_select.specs.Beginning.{first_target, leads_to_code, begins_within, are_long};
 
 use core_lines::Line;
@@ -8,33 +8,37 @@ use std::marker::Model;
 
 /// Code with labels: where its first instruction is a jump or a call, an instruction stands behind the label that it goes to. Which of
 /// its jumps on zero are branches alone isn't chosen yet: none is.
-/// A contract sees it as the list of its lines.
+/// A contract sees it as the list of its lines, and of its functions' homes.
 #[derive(Drop)]
 pub struct Labelled {
     pub(crate) lines: Vec<Line>,
+    /// Of each function, the numbers of its locals' homes, in its order.
+    pub(crate) homes: Vec<Vec<u8>>,
 }
 
 impl Model for Labelled {
-    ghost use Rattle.std.specs.Prelude.{◌≡◌, List, true};
-    ghost use Rattle.core_lines.specs.declared.line.Line.{Line};
+    ghost use Rattle.std.specs.Prelude.{◌≡◌, map, true};
     ghost use Rattle.rv32_select.specs.Beginning.{begins_within, are_long};
+    ghost use Rattle.rv32_select.specs.Listing.{Listing};
 
-    ghost Value = { List Line };
+    ghost Value = { Listing };
 
-    ghost view = { λ l. l.lines.items };
+    ghost view = { λ l. record { lines = l.lines.items; homes = map (λ numbers. numbers.items) l.homes.items } };
 
     ghost invariant = { λ l. (begins_within l.lines.items ≡ true) × (are_long l.lines.items ≡ true) };
 }
 
 impl Labelled {
     /// Code of these lines, or `None` where the first instruction is a jump or a call to a label with no instruction behind it, or a line
-    /// is a branch alone.
+    /// is a branch alone. They are of no function.
     pub fn new(lines: Vec<Line>) -> Option<Self>
-        ensures some { IfSome result (λ labelled. (labelled ≡ lines.items) × (begins_within lines.items ≡ true) × (are_long lines.items ≡ true)) }
+        ensures some { IfSome result (λ labelled. (labelled ≡ record { lines = lines.items; homes = [] })
+            × (begins_within lines.items ≡ true) × (are_long lines.items ≡ true)) }
         ensures none { IfNone result ((begins_within lines.items && are_long lines.items) ≡ false) }
     {
         if begins_within(&lines) && are_long(&lines) {
-            Some(Labelled { lines })
+            let homes = Vec::new(*lines.allocator());
+            Some(Labelled { lines, homes })
         } else {
             None
         }
@@ -42,11 +46,23 @@ impl Labelled {
 
     /// The lines.
     pub fn lines(&self) -> &[Line]
-        ensures same { result.now ≡ self.now }
-        ensures begins { begins_within self.now ≡ true }
-        ensures long { are_long self.now ≡ true }
+        ensures same { result.now ≡ self.now.lines }
+        ensures begins { begins_within self.now.lines ≡ true }
+        ensures long { are_long self.now.lines ≡ true }
     {
         &self.lines
+    }
+
+    /// Where the locals of a function live, which is counted from 0 in the order of the text: the number of each one's register, or 0 for
+    /// one that has no home. They come as the text declares them: the parameters, and then each local, the name of a clause among them.
+    /// None for a function that there isn't.
+    pub fn homes(&self, function: u32) -> &[u8]
+        ensures { result.now ≡ slice_index_or self.now.homes function [] }
+    {
+        match self.homes.get(function as usize) {
+            Some(homes) => homes,
+            None => &[],
+        }
     }
 }
 

@@ -1,9 +1,11 @@
 //! From Core to instructions with labels.
 //!
 //! Each function has a frame: its return address, the words that it passes to callees, its
-//! temporaries, and the locals of its blocks. An operation loads its temporaries into registers,
-//! works there, and saves the result; a choice and a loop are jumps to labels, a call is a jump to
-//! the function's label, whose number is the function's, and a return one to its end. The lines are
+//! temporaries, and the locals of its blocks. An operation takes its temporaries from where their
+//! words are known to be, else loads them into registers; its result goes into a register, and is
+//! saved where the function's code loads it later, which a walk over the function finds before. A
+//! choice and a loop are jumps to labels, a call is a jump to the function's label, whose number is
+//! the function's, and a return one to its end. The lines are
 //! those of `program_code` in `core_lines`, with no branch alone: no label is placed twice, and a
 //! machine that begins with them does what the program does. A local of one part whose address isn't
 //! taken has its home in a register where its function's order has it among the first. `select` asks
@@ -11,19 +13,32 @@
 //! `core_lines`, `rv32_isa` and `rv32_machine`.
 #![tactic(auto)]
 
+mod behind;
+mod calls;
 mod emit;
+mod flags;
 mod function;
+mod held;
 mod homes;
+mod immediates;
 mod labelled;
 mod layout;
+mod live;
+mod loads;
 mod locals;
 mod marks;
+mod memory;
+mod operands;
 mod operation;
 mod place;
+mod raising;
+mod results;
+mod settling;
 mod statement;
 mod whole;
+mod words;
 
 pub use function::select;
 pub use labelled::Labelled;
 pub use layout::statics;
-pub use operation::DATA_BASE;
+pub use place::DATA_BASE;

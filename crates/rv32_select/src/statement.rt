@@ -1,20 +1,27 @@
 // Instructions for statements.
 
-ghost use Rattle.std.specs.Prelude.{◌≡◌, ◌+◌, ◌<◌, ◌≤◌, ◌++◌, IfOk, OnOk, None, map, pos, vec_len};
+ghost use Rattle.std.specs.Prelude.{◌≡◌, ◌+◌, ◌<◌, ◌≤◌, ◌++◌, [], IfOk, OnOk, map, drop, length, pos};
 ghost use Rattle.core_meaning.specs.Core as core;
-ghost use Rattle.cyc_core.specs.Trees.{statement_tree, body_tree, temporary_tree, optional_tree, local_tree};
-ghost use Rattle.core_lines.specs.Frames.{pass_code, result_code, call_code, values_code, return_code, kind_number, raise_code};
-ghost use Rattle.core_lines.specs.Choosing.{far, held_behind, held_behind_all, held_or_loaded, choice_code};
-ghost use Rattle.core_lines.specs.Selected.{statement_code, statements_code, labels_in, labels_of, names_after, names_after_all, holding, naming};
-ghost use Rattle.rv32_select.specs.Places.{surroundings};
+ghost use Rattle.cyc_core.specs.Trees.{operation_tree, optional_tree, temporary_tree, statement_tree, body_tree, local_tree};
+ghost use Rattle.core_lines.specs.Frames.{kind_number, raise_code};
+ghost use Rattle.core_lines.specs.Choosing.{far, choice_code};
+ghost use Rattle.core_lines.specs.Held.{held_behind_operation, held_behind, held_behind_all, with_results};
+ghost use Rattle.core_lines.specs.Homes.{flag_at};
+ghost use Rattle.core_lines.specs.Operands.{call_code};
+ghost use Rattle.core_lines.specs.Saved.{results_of, results_in, results_all};
+ghost use Rattle.core_lines.specs.Selected.{operation_code, statement_code, statements_code, labels_in, labels_of, names_after, names_after_all};
+ghost use Rattle.core_lines.specs.Selected.{holding, naming};
+ghost use Rattle.rv32_select.specs.Places.{surroundings, saves_left};
 
-use crate::emit::{RESULT, put, put_environment, put_lines, put_save};
-use crate::layout::sum;
-use crate::operation::{held_behind, put_from, put_operation, put_to};
+use crate::behind::hold_behind;
+use crate::calls::{hold_called, put_call, put_return};
+use crate::emit::{FIRST, put, put_environment, put_lines};
+use crate::operands::put_operand;
+use crate::operation::put_operation;
 use crate::place::Place;
 use crate::whole::{put_clear, put_copy, put_region_alloc, put_unique_alloc};
 use core_lines::Line;
-use cyc_core::{Local, Statement, Temporary, Words};
+use cyc_core::{Local, Operation, Statement, Temporary, Words};
 use cyc_words::Kind;
 use rv32_isa::{Instr, Register, Signed12};
 use rv32_machine::RAISE;
@@ -39,17 +46,6 @@ pub fn following(label: usize) -> Result<usize, AllocError>
     }
 }
 
-/// Appends the load of a temporary into the register of results, unless it is there.
-fn put_held(lines: &mut Vec<Line>, place: &Place, temporary: Temporary) -> Result<(), AllocError>
-    ensures { OnOk result (lines.new.items ≡ lines.old.items ++ held_or_loaded place.now.passed place.now.held temporary.0) }
-{
-    if place.is_held(temporary) {
-        Ok(())
-    } else {
-        put_from(lines, place, RESULT, temporary)
-    }
-}
-
 /// Appends what goes on where a temporary isn't 0, and at a label where it is.
 fn put_choice(
     lines: &mut Vec<Line>,
@@ -59,78 +55,8 @@ fn put_choice(
 ) -> Result<(), AllocError>
     ensures { OnOk result (lines.new.items ≡ lines.old.items ++ choice_code far place.now.passed place.now.held temporary.0 label) }
 {
-    put_held(lines, place, temporary)?;
-    put_lines(lines, &[Line::JumpIfZero(RESULT, label)])
-}
-
-/// Appends the passing of words to a callee: each into its slot, the first one into slot 1.
-fn put_arguments(
-    lines: &mut Vec<Line>,
-    place: &Place,
-    arguments: &[Temporary],
-) -> Result<(), AllocError>
-    ensures { OnOk result (lines.new.items ≡ lines.old.items ++ pass_code place.now.passed 0 (map temporary_tree arguments.now)) }
-{
-    let mut passed = 0;
-    'each: for argument in arguments {
-        put_from(lines, place, RESULT, *argument)?;
-        passed = sum(passed, 1)?;
-        put_save(lines, RESULT, passed)?;
-    }
-    Ok(())
-}
-
-/// Appends the saves of a call's result, which comes in the registers of arguments.
-fn put_results(lines: &mut Vec<Line>, place: &Place, to: Option<Words>) -> Result<(), AllocError>
-    ensures { OnOk result (lines.new.items ≡ lines.old.items ++ result_code place.now.passed 9 (optional_tree to)) }
-{
-    match to {
-        Some(Words::One(to)) => put_to(lines, place, Register::ARGUMENT_0, to),
-        Some(Words::Three(first, count, index)) => {
-            put_to(lines, place, Register::ARGUMENT_0, first)?;
-            put_to(lines, place, Register::ARGUMENT_1, count)?;
-            put_to(lines, place, Register::ARGUMENT_2, index)
-        }
-        None => Ok(()),
-    }
-}
-
-/// Appends a call: its arguments, the jump, and its result.
-fn put_call(
-    lines: &mut Vec<Line>,
-    place: &Place,
-    to: Option<Words>,
-    function: u32,
-    arguments: &[Temporary],
-) -> Result<(), AllocError>
-    ensures { OnOk result (lines.new.items ≡ lines.old.items ++ call_code place.now.passed (optional_tree to) function (map temporary_tree arguments.now)) }
-{
-    put_arguments(lines, place, arguments)?;
-    put_lines(lines, &[Line::CallTo(function as usize)])?;
-    put_results(lines, place, to)
-}
-
-/// Appends the loads of a function's result into the registers in which it comes.
-fn put_values(lines: &mut Vec<Line>, place: &Place, value: Option<Words>) -> Result<(), AllocError>
-    ensures { OnOk result (lines.new.items ≡ lines.old.items ++ values_code place.now.passed 9 (optional_tree value)) }
-{
-    match value {
-        Some(Words::One(from)) => put_from(lines, place, Register::ARGUMENT_0, from),
-        Some(Words::Three(first, count, index)) => {
-            put_from(lines, place, Register::ARGUMENT_0, first)?;
-            put_from(lines, place, Register::ARGUMENT_1, count)?;
-            put_from(lines, place, Register::ARGUMENT_2, index)
-        }
-        None => Ok(()),
-    }
-}
-
-/// Appends a return, with what temporaries hold where it has a value: it goes on at the function's end.
-fn put_return(lines: &mut Vec<Line>, place: &Place, value: Option<Words>) -> Result<(), AllocError>
-    ensures { OnOk result (lines.new.items ≡ lines.old.items ++ return_code place.now.passed (optional_tree value) place.now.exit) }
-{
-    put_values(lines, place, value)?;
-    put_lines(lines, &[Line::Jump(place.exit)])
+    let register = put_operand(lines, place, FIRST, temporary)?;
+    put_lines(lines, &[Line::JumpIfZero(register, label)])
 }
 
 /// The number of an exception's kind.
@@ -154,6 +80,41 @@ fn put_raise(lines: &mut Vec<Line>, kind: Kind) -> Result<(), AllocError>
     put_environment(lines, RAISE)
 }
 
+/// Appends the instructions of an operation, and goes on behind it.
+fn put_done(
+    lines: &mut Vec<Line>,
+    place: &mut Place,
+    operation: Operation,
+) -> Result<(), AllocError>
+    ensures code { OnOk result (lines.new.items ≡ lines.old.items
+        ++ operation_code (flag_at (saves_left place.old) 0) (surroundings place.old) (operation_tree operation)) }
+    ensures same { let u = surroundings place.old in OnOk result (surroundings place.new
+        ≡ holding (held_behind_operation u.homes u.statics u.held (operation_tree operation)) u) }
+    ensures saves { OnOk result (saves_left place.new ≡ drop (length (results_of (operation_tree operation))) (saves_left place.old)) }
+{
+    let keeps = place.is_saved();
+    put_operation(lines, place, keeps, operation)?;
+    place.pass_operation(operation);
+    hold_behind(place, operation)
+}
+
+/// Appends the instructions of a call, and goes on behind it.
+fn put_called(
+    lines: &mut Vec<Line>,
+    place: &mut Place,
+    to: Option<Words>,
+    function: u32,
+    arguments: &[Temporary],
+) -> Result<(), AllocError>
+    ensures code { let u = surroundings place.old in OnOk result (lines.new.items ≡ lines.old.items
+        ++ call_code (saves_left place.old) u.passed u.held (optional_tree to) function (map temporary_tree arguments.now)) }
+    ensures same { OnOk result (surroundings place.new ≡ holding (with_results 9 (optional_tree to) []) (surroundings place.old)) }
+    ensures saves { OnOk result (saves_left place.new ≡ drop (length (optional_tree to)) (saves_left place.old)) }
+{
+    put_call(lines, place, to, function, arguments)?;
+    hold_called(place, to)
+}
+
 /// Appends the instructions of a statement, whose labels are numbered from `next` on. Answers the next free label.
 #[cycle(statement)]
 fn put_statement(
@@ -164,15 +125,15 @@ fn put_statement(
     statement: &Statement,
 ) -> Result<usize, AllocError>
     ensures code { OnOk result (lines.new.items ≡ lines.old.items
-        ++ statement_code 0 (surroundings place.old) next ways.out ways.again (statement_tree statement.now)) }
+        ++ statement_code (saves_left place.old) (surroundings place.old) next ways.out ways.again (statement_tree statement.now)) }
     ensures free { IfOk result (λ n. n ≡ next + labels_in (statement_tree statement.now)) }
     ensures same { let u = surroundings place.old in let s = statement_tree statement.now in
-        OnOk result (surroundings place.new ≡ holding (held_behind s) (naming (names_after s u.names) u)) }
+        OnOk result (surroundings place.new ≡ holding (held_behind u.homes u.statics u.held s) (naming (names_after s u.names) u)) }
+    ensures saves { OnOk result (saves_left place.new ≡ drop (results_in (statement_tree statement.now)) (saves_left place.old)) }
 {
     match statement {
         Statement::Do(operation) => {
-            put_operation(lines, place, *operation)?;
-            place.hold(held_behind(*operation));
+            put_done(lines, place, *operation)?;
             return Ok(next);
         }
         Statement::Copy(to, from, layout) => put_copy(lines, place, *to, *from, layout.as_ref())?,
@@ -181,9 +142,11 @@ fn put_statement(
         }
         Statement::RegionAlloc(to, handle, count, layout) => {
             put_region_alloc(lines, place, *to, *handle, *count, layout.as_ref())?;
+            place.pass_result();
         }
         Statement::UniqueAlloc(to, layout) => {
             put_unique_alloc(lines, place, *to, layout.as_ref())?;
+            place.pass_result();
         }
         Statement::If(test, these, those) => {
             return put_if(lines, place, next, ways, *test, these, those);
@@ -198,12 +161,16 @@ fn put_statement(
         Statement::Break => put_lines(lines, &[Line::Jump(ways.out)])?,
         Statement::Continue => put_lines(lines, &[Line::Jump(ways.again)])?,
         Statement::Call(result, function, arguments) => {
-            put_call(lines, place, *result, *function, arguments)?;
+            put_called(lines, place, *result, *function, arguments)?;
+            return Ok(next);
         }
-        Statement::Return(value) => put_return(lines, place, *value)?,
+        Statement::Return(value) => {
+            put_return(lines, place, *value)?;
+            return Ok(next);
+        }
         Statement::Raise(kind) => put_raise(lines, *kind)?,
     }
-    place.hold(None);
+    place.held.forget();
     Ok(next)
 }
 
@@ -217,10 +184,11 @@ pub fn put_statements(
     statements: &[Statement],
 ) -> Result<usize, AllocError>
     ensures code { OnOk result (lines.new.items ≡ lines.old.items
-        ++ statements_code 0 (surroundings place.old) next ways.out ways.again (body_tree statements.now)) }
+        ++ statements_code (saves_left place.old) (surroundings place.old) next ways.out ways.again (body_tree statements.now)) }
     ensures free { IfOk result (λ n. n ≡ next + labels_of (body_tree statements.now)) }
     ensures same { let u = surroundings place.old in let ss = body_tree statements.now in
-        OnOk result (surroundings place.new ≡ holding (held_behind_all u.held ss) (naming (names_after_all ss u.names) u)) }
+        OnOk result (surroundings place.new ≡ holding (held_behind_all u.homes u.statics u.held ss) (naming (names_after_all ss u.names) u)) }
+    ensures saves { OnOk result (saves_left place.new ≡ drop (results_all (body_tree statements.now)) (saves_left place.old)) }
 {
     let mut free = next;
     'each: for statement in statements {
@@ -242,19 +210,21 @@ fn put_if(
     those: &[Statement],
 ) -> Result<usize, AllocError>
     ensures code { OnOk result (lines.new.items ≡ lines.old.items
-        ++ statement_code 0 (surroundings place.old) next ways.out ways.again (core.If test.0 (body_tree these.now) (body_tree those.now))) }
+        ++ statement_code (saves_left place.old) (surroundings place.old) next ways.out ways.again
+        (core.If test.0 (body_tree these.now) (body_tree those.now))) }
     ensures free { IfOk result (λ n. n ≡ next + labels_in (core.If test.0 (body_tree these.now) (body_tree those.now))) }
-    ensures same { let u = surroundings place.old in OnOk result (surroundings place.new
-        ≡ holding None (naming (names_after (core.If test.0 (body_tree these.now) (body_tree those.now)) u.names) u)) }
+    ensures same { let u = surroundings place.old in let s = core.If test.0 (body_tree these.now) (body_tree those.now) in
+        OnOk result (surroundings place.new ≡ holding (held_behind u.homes u.statics u.held s) (naming (names_after s u.names) u)) }
+    ensures saves { OnOk result (saves_left place.new ≡ drop (results_in (core.If test.0 (body_tree these.now) (body_tree those.now))) (saves_left place.old)) }
 {
     put_choice(lines, place, test, next)?;
-    place.hold(None);
+    let known = place.known()?;
     let behind = put_statements(lines, place, following(next)?, ways, these)?;
     put_lines(lines, &[Line::Jump(behind), Line::Label(next)])?;
-    place.hold(None);
+    let first = place.exchange(known);
     let free = put_statements(lines, place, following(behind)?, ways, those)?;
     put_lines(lines, &[Line::Label(behind)])?;
-    place.hold(None);
+    place.join(first, those);
     Ok(free)
 }
 
@@ -271,23 +241,26 @@ fn put_while(
     body: &[Statement],
 ) -> Result<usize, AllocError>
     ensures code { OnOk result (lines.new.items ≡ lines.old.items
-        ++ statement_code 0 (surroundings place.old) next ways.out ways.again (core.While (body_tree test.now) flag.0 (body_tree body.now))) }
+        ++ statement_code (saves_left place.old) (surroundings place.old) next ways.out ways.again
+        (core.While (body_tree test.now) flag.0 (body_tree body.now))) }
     ensures free { IfOk result (λ n. n ≡ next + labels_in (core.While (body_tree test.now) flag.0 (body_tree body.now))) }
     ensures same { let u = surroundings place.old in OnOk result (surroundings place.new
-        ≡ holding None (naming (names_after (core.While (body_tree test.now) flag.0 (body_tree body.now)) u.names) u)) }
+        ≡ holding [] (naming (names_after (core.While (body_tree test.now) flag.0 (body_tree body.now)) u.names) u)) }
+    ensures saves { OnOk result (saves_left place.new
+        ≡ drop (results_in (core.While (body_tree test.now) flag.0 (body_tree body.now))) (saves_left place.old)) }
 {
     put_lines(lines, &[Line::Label(next)])?;
-    place.hold(None);
+    place.held.forget();
     let behind = put_statements(lines, place, following(next)?, ways, test)?;
     put_choice(lines, place, flag, behind)?;
-    place.hold(None);
+    place.held.forget();
     let inside = Ways {
         out: behind,
         again: next,
     };
     let free = put_statements(lines, place, following(behind)?, inside, body)?;
     put_lines(lines, &[Line::Jump(next), Line::Label(behind)])?;
-    place.hold(None);
+    place.held.forget();
     Ok(free)
 }
 
@@ -302,10 +275,13 @@ fn put_block(
     body: &[Statement],
 ) -> Result<usize, AllocError>
     ensures code { OnOk result (lines.new.items ≡ lines.old.items
-        ++ statement_code 0 (surroundings place.old) next ways.out ways.again (core.Block (map local_tree locals.now) (body_tree body.now))) }
+        ++ statement_code (saves_left place.old) (surroundings place.old) next ways.out ways.again
+        (core.Block (map local_tree locals.now) (body_tree body.now))) }
     ensures free { IfOk result (λ n. n ≡ next + labels_in (core.Block (map local_tree locals.now) (body_tree body.now))) }
     ensures same { let u = surroundings place.old in OnOk result (surroundings place.new
-        ≡ holding None (naming (names_after (core.Block (map local_tree locals.now) (body_tree body.now)) u.names) u)) }
+        ≡ holding [] (naming (names_after (core.Block (map local_tree locals.now) (body_tree body.now)) u.names) u)) }
+    ensures saves { OnOk result (saves_left place.new
+        ≡ drop (results_in (core.Block (map local_tree locals.now) (body_tree body.now))) (saves_left place.old)) }
 {
     let low = place.enter(locals)?;
     let free = put_statements(lines, place, next, ways, body)?;
@@ -324,10 +300,11 @@ fn put_leavable(
     body: &[Statement],
 ) -> Result<usize, AllocError>
     ensures code { OnOk result (lines.new.items ≡ lines.old.items
-        ++ statement_code 0 (surroundings place.old) next ways.out ways.again (core.Leave (body_tree body.now))) }
+        ++ statement_code (saves_left place.old) (surroundings place.old) next ways.out ways.again (core.Leave (body_tree body.now))) }
     ensures free { IfOk result (λ n. n ≡ next + labels_in (core.Leave (body_tree body.now))) }
     ensures same { let u = surroundings place.old in OnOk result (surroundings place.new
-        ≡ holding None (naming (names_after (core.Leave (body_tree body.now)) u.names) u)) }
+        ≡ holding [] (naming (names_after (core.Leave (body_tree body.now)) u.names) u)) }
+    ensures saves { OnOk result (saves_left place.new ≡ drop (results_in (core.Leave (body_tree body.now))) (saves_left place.old)) }
 {
     let inside = Ways {
         out: next,
@@ -335,6 +312,6 @@ fn put_leavable(
     };
     let free = put_statements(lines, place, following(next)?, inside, body)?;
     put_lines(lines, &[Line::Label(next)])?;
-    place.hold(None);
+    place.held.forget();
     Ok(free)
 }

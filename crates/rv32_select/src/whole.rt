@@ -1,14 +1,14 @@
 // Instructions that copy and clear whole objects, and ask for blocks of them.
 
-ghost use Rattle.std.specs.Prelude.{◌≡◌, ◌++◌, OnOk};
+ghost use Rattle.std.specs.Prelude.{◌≡◌, true, ◌++◌, OnOk};
 ghost use Rattle.core_meaning.specs.Core as core;
 ghost use Rattle.core_lines.specs.Loops.{are_word_parts, are_words, copy_loop, clear_loop};
 ghost use Rattle.core_lines.specs.Selected.{further_code, bytes_in, bytes_code, operation_code};
 ghost use Rattle.cyc_core.specs.Trees.{cell_parts, layout_tree};
 ghost use Rattle.rv32_select.specs.Places.{surroundings};
 
-use crate::emit::{ADDRESS, OPERAND, RESULT, put_environment, put_further, put_lines, put_word};
-use crate::operation::{put_from, put_to};
+use crate::emit::{ADDRESS, FIRST, SECOND, put_environment, put_further, put_lines, put_word};
+use crate::operands::{put_from, put_to};
 use crate::place::Place;
 use core_lines::Line;
 use cyc_core::{CellLayout, Layout, Temporary, Width};
@@ -42,18 +42,18 @@ fn are_words(layout: &Layout) -> bool
     true
 }
 
-/// Appends what puts the end of so many bytes, which begin where the register of results says, into the register that ends are compared with.
+/// Appends what puts the end of so many bytes, which begin where the first operand says, into the register that ends are compared with.
 fn put_end(lines: &mut Vec<Line>, bytes: u32) -> Result<(), AllocError>
-    ensures { OnOk result (lines.new.items ≡ lines.old.items ++ further_code 7 bytes) }
+    ensures { OnOk result (lines.new.items ≡ lines.old.items ++ further_code 7 5 bytes) }
 {
-    put_further(lines, ADDRESS, u64::from(bytes))
+    put_further(lines, ADDRESS, FIRST, u64::from(bytes))
 }
 
 /// Appends the loop that copies an object, from its first word or byte on to its last.
 fn put_copy_loop(lines: &mut Vec<Line>, words: bool) -> Result<(), AllocError>
     ensures { OnOk result (lines.new.items ≡ lines.old.items ++ copy_loop words) }
 {
-    let (to, from) = (RESULT, OPERAND);
+    let (to, from) = (FIRST, SECOND);
     let (here, back) = (Signed12::new(0), BranchOffset::new(-16));
     if words {
         let unit = Signed12::new(4);
@@ -80,14 +80,14 @@ fn put_clear_loop(lines: &mut Vec<Line>, words: bool) -> Result<(), AllocError>
 {
     let (here, back) = (Signed12::new(0), BranchOffset::new(-8));
     if words {
-        let store = Line::Plain(Instr::Sw(RESULT, Register::ZERO, here));
-        let next = Line::Plain(Instr::Addi(RESULT, RESULT, Signed12::new(4)));
-        let again = Line::Plain(Instr::Bne(RESULT, ADDRESS, back));
+        let store = Line::Plain(Instr::Sw(FIRST, Register::ZERO, here));
+        let next = Line::Plain(Instr::Addi(FIRST, FIRST, Signed12::new(4)));
+        let again = Line::Plain(Instr::Bne(FIRST, ADDRESS, back));
         put_lines(lines, &[store, next, again])
     } else {
-        let store = Line::Plain(Instr::Sb(RESULT, Register::ZERO, here));
-        let next = Line::Plain(Instr::Addi(RESULT, RESULT, Signed12::new(1)));
-        let again = Line::Plain(Instr::Bne(RESULT, ADDRESS, back));
+        let store = Line::Plain(Instr::Sb(FIRST, Register::ZERO, here));
+        let next = Line::Plain(Instr::Addi(FIRST, FIRST, Signed12::new(1)));
+        let again = Line::Plain(Instr::Bne(FIRST, ADDRESS, back));
         put_lines(lines, &[store, next, again])
     }
 }
@@ -100,13 +100,14 @@ pub fn put_copy(
     from: Temporary,
     layout: &Layout,
 ) -> Result<(), AllocError>
-    ensures { OnOk result (lines.new.items ≡ lines.old.items ++ operation_code (surroundings place.now) (core.Copy to.0 from.0 (layout_tree layout.now))) }
+    ensures { OnOk result (lines.new.items ≡ lines.old.items
+        ++ operation_code true (surroundings place.now) (core.Copy to.0 from.0 (layout_tree layout.now))) }
 {
     if layout.bytes == 0 {
         return Ok(());
     }
-    put_from(lines, place, RESULT, to)?;
-    put_from(lines, place, OPERAND, from)?;
+    put_from(lines, place, FIRST, to)?;
+    put_from(lines, place, SECOND, from)?;
     put_end(lines, layout.bytes)?;
     put_copy_loop(lines, are_words(layout))
 }
@@ -126,29 +127,30 @@ pub fn put_clear(
     layout: &Layout,
     count: u32,
 ) -> Result<(), AllocError>
-    ensures { OnOk result (lines.new.items ≡ lines.old.items ++ operation_code (surroundings place.now) (core.Clear pointer.0 (layout_tree layout.now) count)) }
+    ensures { OnOk result (lines.new.items ≡ lines.old.items
+        ++ operation_code true (surroundings place.now) (core.Clear pointer.0 (layout_tree layout.now) count)) }
 {
     let bytes = bytes_in(layout, count);
     if bytes == 0 {
         return Ok(());
     }
-    put_from(lines, place, RESULT, pointer)?;
+    put_from(lines, place, FIRST, pointer)?;
     put_end(lines, bytes)?;
     put_clear_loop(lines, are_words(layout))
 }
 
-/// Appends what puts the bytes of as many objects as the register of results says into the register of the second argument: all ones where a word can't say
+/// Appends what puts the bytes of as many objects as the first operand says into the register of the second argument: all ones where a word can't say
 /// so many.
 fn put_bytes(lines: &mut Vec<Line>, bytes: u32) -> Result<(), AllocError>
     ensures { OnOk result (lines.new.items ≡ lines.old.items ++ bytes_code bytes) }
 {
     let (asked, none) = (Register::ARGUMENT_1, Register::ZERO);
-    put_word(lines, OPERAND, u64::from(bytes))?;
-    let high = Line::Plain(Instr::Mulhu(asked, RESULT, OPERAND));
-    let low = Line::Plain(Instr::Mul(RESULT, RESULT, OPERAND));
+    put_word(lines, SECOND, u64::from(bytes))?;
+    let high = Line::Plain(Instr::Mulhu(asked, FIRST, SECOND));
+    let low = Line::Plain(Instr::Mul(FIRST, FIRST, SECOND));
     let over = Line::Plain(Instr::Sltu(asked, none, asked));
     let ones = Line::Plain(Instr::Sub(asked, none, asked));
-    let both = Line::Plain(Instr::Or(asked, asked, RESULT));
+    let both = Line::Plain(Instr::Or(asked, asked, FIRST));
     put_lines(lines, &[high, low, over, ones, both])
 }
 
@@ -161,10 +163,11 @@ pub fn put_region_alloc(
     count: Temporary,
     layout: &Layout,
 ) -> Result<(), AllocError>
-    ensures { OnOk result (lines.new.items ≡ lines.old.items ++ operation_code (surroundings place.now) (core.RegionAlloc to.0 handle.0 count.0 (layout_tree layout.now))) }
+    ensures { OnOk result (lines.new.items ≡ lines.old.items
+        ++ operation_code true (surroundings place.now) (core.RegionAlloc to.0 handle.0 count.0 (layout_tree layout.now))) }
 {
     put_from(lines, place, Register::ARGUMENT_0, handle)?;
-    put_from(lines, place, RESULT, count)?;
+    put_from(lines, place, FIRST, count)?;
     put_bytes(lines, layout.bytes)?;
     put_environment(lines, REGION_ALLOC)?;
     put_to(lines, place, Register::ARGUMENT_0, to)
@@ -177,7 +180,8 @@ pub fn put_unique_alloc(
     to: Temporary,
     layout: &Layout,
 ) -> Result<(), AllocError>
-    ensures { OnOk result (lines.new.items ≡ lines.old.items ++ operation_code (surroundings place.now) (core.UniqueAlloc to.0 (layout_tree layout.now))) }
+    ensures { OnOk result (lines.new.items ≡ lines.old.items
+        ++ operation_code true (surroundings place.now) (core.UniqueAlloc to.0 (layout_tree layout.now))) }
 {
     put_word(lines, Register::ARGUMENT_0, u64::from(layout.bytes))?;
     put_environment(lines, UNIQUE_ALLOC)?;

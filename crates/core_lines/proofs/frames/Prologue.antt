@@ -6,6 +6,7 @@ use Rattle.std.proofs.Common.{
   pos,
   ◌+◌,
   ◌-◌,
+  ◌/◌,
   ◌%◌,
   ◌^◌,
   ◌<◌,
@@ -27,8 +28,8 @@ use Rattle.std.proofs.Common.{
   arith,
 }
 use Rattle.std.proofs.lemmas.Bool.{le-leb, lt-ltb, le-ltb, and_from}
-use Rattle.cyc_words.specs.Words.{sum_of, difference_of}
-use Rattle.rv32_isa.specs.declared.instruction.Instr.TheVariants.{Bgeu, Sub, Addi, Ecall}
+use Rattle.cyc_words.specs.Words.{sum_of}
+use Rattle.rv32_isa.specs.declared.instruction.Instr.TheVariants.{Bgeu, Addi, Ecall}
 use Rattle.core_meaning.specs.Memory.{Memory}
 use Rattle.core_meaning.specs.Core.{Function}
 use Rattle.core_lines.specs.Machines.{Machine}
@@ -37,13 +38,15 @@ use Rattle.core_lines.specs.Lies.{stack_end}
 use Rattle.cyc_words.specs.declared.faults.MachineFault.TheVariants.{BadCall}
 use Rattle.rv32_machine.specs.Step.{branches, stop, fault}
 use Rattle.core_lines.specs.declared.line.Line.TheVariants.{Plain}
+use Rattle.core_lines.specs.Lines.{code_length}
 use Rattle.core_lines.specs.Frames.{word_code, test_code, move_code}
 use Rattle.core_lines.specs.Lies.{Maps, Activation, Stacked}
 use Rattle.core_lines.proofs.memory.Relations.{Moves, World, IsInOrder, Has, Waiting, StackShows, Stands, active_of}
 use Rattle.core_lines.proofs.memory.Moving.{and_then, by_stop}
 use Rattle.core_lines.proofs.Steps.{state_at, goes_to, passes, gives_value, step_is, is_lawful, is_in_code}
 use Rattle.core_lines.proofs.homes.Homes.{SameHomes, other_home}
-use Rattle.core_lines.proofs.memory.Slots.{Puts, set_there, puts_word}
+use Rattle.core_lines.proofs.memory.Slots.{Puts, puts_word}
+use Rattle.core_lines.proofs.frames.Pointer.{moves_down}
 use Rattle.core_lines.proofs.memory.Fitting.{below_end}
 use Rattle.core_lines.proofs.memory.Access.{written_out}
 use Rattle.rv32_machine.specs.Implements.{frames}
@@ -166,31 +169,20 @@ module _ (w : World) (order : IsInOrder w) (f : ℕ) (fn : Function) (is : slice
     -- x2 goes down by the frame
     pub record IsMoved : Type 0 where
       pub new : ℕ → ℕ
-      pub moves : Moves w.areas 6 s (state_at (place + 40) new s.bytes s.store)
+      pub moves : Moves w.areas (3 + code_length (move_code size) / 4) s (state_at (place + 28 + code_length (move_code size)) new s.bytes s.store)
       pub pointer : new 2 ≡ low
       pub kept_one : new 1 ≡ s.registers 1
       pub same : SameHomes new s.registers
 
     pub moved : stack_base + size ≤ sp → sp ≤ stack_end → Has w (place + 28) (move_code size) → IsMoved
     moved fits high has_move =
-        let p = puts_word w order (place + 28) first.new s.bytes s.store stands.kept 6 size (omega (arith, small)) (has_move.0, tt, (has_move.2.0, tt, tt)) in
-        let e : place + 28 + 4 + 4 ≡ place + 28 + 8 = omega arith in
-        let last = subst (λ q. Has w q (Plain (Sub 2 2 7) ∷ [])) e (has_move.2.2.0, tt, tt) in
-        let value = difference_of (p.new 2) (p.new 7) in
+        let p = moves_down w order (place + 28) first.new s.bytes s.store stands.kept size sp (omega (arith, small)) two (omega (arith, small, high)) low
+        (omega (arith, fits)) has_move in
         let s2 = state_at (place + 28) first.new s.bytes s.store in
-        let s3 = state_at (place + 28 + 8) p.new s.bytes s.store in
-        let new = set_register 2 value p.new in
-        let m3 = gives_value w.areas w.code order.code_within s.store (place + 28 + 8) p.new s.bytes stands.kept (Sub 2 2 7) last.0.0 2 value
-        (λ answer. refl) tt in
-        let there : place + 28 + 8 + 4 ≡ place + 40 = omega arith in
-        let x2 : p.new 2 ≡ sp = p.kept 2 refl refl ∙ two in
-        let x7 : p.new 7 ≡ size = p.holds in
         record {
-          new = new;
-          moves = subst (λ q. Moves w.areas 6 s (state_at q new s.bytes s.store)) there
-              (and_then w.areas s s2 _ 3 3 (taken fits) (and_then w.areas s2 s3 _ 2 1 p.moves m3));
-          pointer = omega (arith, x2, x7, fits, small, high);
+          new = p.new;
+          moves = and_then w.areas s s2 _ 3 (code_length (move_code size) / 4) (taken fits) p.moves;
+          pointer = p.holds;
           kept_one = p.kept 1 refl refl ∙ first.kept 1 refl refl;
-          same = λ q is. set_there 2 value q p.new (other_home 2 q refl is) ∙ p.kept q (other_home 7 q refl is) (other_home 7 q refl is)
-              ∙ first.kept q (other_home 7 q refl is) (other_home 6 q refl is);
+          same = λ q is. p.kept q (other_home 7 q refl is) (other_home 2 q refl is) ∙ first.kept q (other_home 7 q refl is) (other_home 6 q refl is);
         }

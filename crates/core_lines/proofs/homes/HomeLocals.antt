@@ -1,32 +1,19 @@
--- A local that is in a register is loaded and stored: no byte of memory changes, and no other local.
+-- A local that is in a register gets another value: no byte of memory changes, and no other local.
 use Rattle.std.specs.Prelude.{nat_eq, ◌&&◌, if◌then◌else◌}
-use Rattle.std.proofs.Common.{◌≡◌, ℕ, suc, pos, ◌+◌, ◌/◌, ◌%◌, ◌^◌, ◌<◌, Bool, true, false, List, [], ◌∷◌, ◌++◌, Some, None, refl, sym, ap, ◌∙◌, subst, arith}
+use Rattle.std.proofs.Common.{◌≡◌, ℕ, suc, ◌%◌, ◌^◌, ◌<◌, Bool, true, false, List, [], ◌∷◌, Some, None, refl, sym, ap, ◌∙◌, subst}
 use Rattle.std.proofs.lemmas.Bool.{eqb-true, eq-eqb, and_parts, and_from}
 use Rattle.std.proofs.lemmas.Option.{same_Some, none-some}
-use Rattle.std.proofs.lemmas.Nat.{and_mask}
-use Rattle.cyc_words.specs.Words.{word}
-use Rattle.rv32_isa.specs.declared.instruction.Instr.TheVariants as instr
-use Rattle.rv32_machine.specs.State.{Areas, set_register}
+use Rattle.rv32_machine.specs.State.{Areas}
 use Rattle.core_meaning.specs.Memory.{Spot, Content, Part, Memory, same_spot, with_part}
-use Rattle.core_meaning.specs.Operations.{low_byte}
-use Rattle.core_lines.specs.declared.line.Line.{Line}
-use Rattle.core_lines.specs.declared.line.Line.TheVariants.{Plain}
-use Rattle.core_lines.specs.Lines.{code_length}
-use Rattle.core_lines.specs.Frames.{load_code, save_code, slot_of}
 use Rattle.core_lines.specs.Homes.{is_home}
 use Rattle.core_lines.specs.Machines.{Machine, Store}
 use Rattle.core_lines.specs.Lies.{Maps, Shows, Activation, Name, Slot, Cell, PartLies, Lies, Fits, HomeLies, HomesLie, HasNone, local_at}
-use Rattle.core_lines.proofs.memory.Relations.{Moves, World, IsInOrder, Has, Waiting, back_of, FrameShows, Stands, At}
-use Rattle.core_lines.proofs.memory.Moving.{Comes, comes_then, comes_as}
-use Rattle.core_lines.proofs.Steps.{state_at, gives_value}
-use Rattle.core_lines.proofs.memory.Slots.{Kept, set_here, set_there}
+use Rattle.core_lines.proofs.memory.Relations.{World, IsInOrder, Stands}
+use Rattle.core_lines.proofs.Steps.{state_at}
+use Rattle.core_lines.proofs.memory.Slots.{Kept}
 use Rattle.core_lines.proofs.memory.Fitting.{spot_same}
 use Rattle.core_lines.proofs.homes.Homes.{other_home}
-use Rattle.core_lines.proofs.memory.Storing.{known_part, low_shows}
-use Rattle.core_lines.proofs.memory.Access.{behind, written_out, reads}
-use Rattle.core_lines.proofs.frames.Passing.{has_first, has_second, temp_lies}
-use Rattle.core_lines.proofs.operations.Registers.{AtWith, InRegister, in_turn, saves_temp}
-use Rattle.core_lines.proofs.operations.Operations.{having, loads_into}
+use Rattle.core_lines.proofs.memory.Storing.{known_part}
 
 -- ---- a part without an address gets another content
 
@@ -177,99 +164,3 @@ module _ (w : World) (order : IsInOrder w) (mem : Memory) (place : ℕ) (m : Map
           let again : a.homes k o ≡ Some t = ap (λ i. a.homes i o) (sym both.0) ∙ ap (λ i. a.homes q i) (sym both.1) ∙ e in
           let equal = same_Some t (suc r) (sym again ∙ is) in
           absurd (cc (other, eq-eqb t (suc r) equal))) its)
-
--- ---- code
-
-module _ (w : World) (order : IsInOrder w) (x : Waiting) (outer : List Waiting) (mem : Memory) (k o r : ℕ) (yes : is_home (suc r) ≡ true) (part : Part)
-    (has_part : mem.parts (local_at k o) 0 ≡ Some part)
-    (found : (m : Maps) (a : Activation) → FrameShows w m x (back_of w outer) a → a.homes k o ≡ Some (suc r)) where
-  -- a local into a temporary
-  pub get_home : (t place : ℕ) → t < x.fn.temporaries → Has w place (save_code (suc r) (slot_of x.fn.passed t))
-      → Comes w (At w x outer mem place) (At w (having t part.content x) outer mem (place + code_length (save_code (suc r) (slot_of x.fn.passed t))))
-  get_home t place named has = comes_then w _ (AtWith w x outer mem place (InRegister (suc r) part.content)) _
-      (comes_as w _ _ (λ s a. record {
-        maps = a.maps;
-        frame = a.frame;
-        others = a.others;
-        sp = a.sp;
-        stands = a.stands;
-        shows = a.shows;
-        stack = a.stack;
-        holds = (
-          (a.stands.homes.0.lie k o (suc r) (found a.maps a.frame a.shows)).shows part has_part,
-          a.stands.homes.0.small (suc r) yes,
-        );
-      }))
-      (saves_temp w order x outer mem r t place part.content named (other_home 7 (suc r) refl yes) has)
-
-  abbrev put_in : Content → Memory
-  put_in v = with_part mem (local_at k o) 0 (record part { content = v })
-
-  -- a temporary into a local of a word
-  pub put_word : (y place : ℕ) → y < x.fn.temporaries → Has w place (load_code (suc r) (slot_of x.fn.passed y))
-      → Comes w (At w x outer mem place) (At w x outer (put_in (x.config.temps y)) (place + code_length (load_code (suc r) (slot_of x.fn.passed y))))
-  put_word y place named has =
-      let lines = load_code (suc r) (slot_of x.fn.passed y) in
-      record {
-        count = code_length lines / 4;
-        by = λ s a.
-            let l = reads w order mem place a.maps (a.frame ∷ a.others) a.sp s a.stands 0 (slot_of x.fn.passed y) (slot_of x.fn.passed y) r (x.config.temps y)
-            (temp_lies w order x outer mem a.maps (back_of w outer) a.frame a.others a.sp y named a.shows a.stands.stacked) has in
-            record {
-              next = state_at (place + code_length lines) l.new s.bytes s.store;
-              moves = l.moves;
-              there = record {
-                maps = a.maps;
-                frame = a.frame;
-                others = a.others;
-                sp = a.sp;
-                stands = home_stored w order mem place a.maps a.frame a.others a.sp s a.stands k o r (found a.maps a.frame a.shows) part has_part
-                    (x.config.temps y) (place + code_length lines) l.new (behind place lines a.stands.aligned) l.kept l.holds l.below;
-                shows = a.shows;
-                stack = a.stack;
-              };
-            };
-      }
-
-  -- and into one of a byte
-  byte_one : (v : Content) (place : ℕ) → Has w place (Plain (instr.Andi (suc r) 6 (pos 255)) ∷ [])
-      → Comes w (AtWith w x outer mem place (InRegister 6 v)) (At w x outer (put_in (low_byte v)) (place + 4))
-  byte_one v place has = record {
-    count = 1;
-    by = λ s a.
-        let value = Rattle.std.specs.Prelude.bit_and (s.registers 6) (word (pos 255)) in
-        let masked : value ≡ s.registers 6 % 256 = and_mask (s.registers 6) 8 in
-        let new = set_register (suc r) value s.registers in
-        let here = set_here r value s.registers in
-        let aligned = a.stands.aligned in
-        record {
-          next = state_at (place + 4) new s.bytes s.store;
-          moves = subst (λ (t : Machine). Moves w.areas 1 t (state_at (place + 4) new s.bytes s.store))
-              (sym (written_out w order mem place a.maps (a.frame ∷ a.others) a.sp s a.stands))
-              (gives_value w.areas w.code order.code_within s.store place s.registers s.bytes a.stands.kept (instr.Andi (suc r) 6 (pos 255)) has.0.0 (suc r) value
-              (λ answer. refl) tt);
-          there = record {
-            maps = a.maps;
-            frame = a.frame;
-            others = a.others;
-            sp = a.sp;
-            stands = home_stored w order mem place a.maps a.frame a.others a.sp s a.stands k o r (found a.maps a.frame a.shows) part has_part (low_byte v)
-                (place + 4) new (omega (arith, aligned)) (λ q not7 other. set_there (suc r) value q s.registers other)
-                (subst (λ i. Shows a.maps (low_byte v) i) (sym (here ∙ masked)) (low_shows a.maps v (s.registers 6) a.holds.0)) (omega (arith, here, masked));
-            shows = a.shows;
-            stack = a.stack;
-          };
-        };
-  }
-
-  pub put_byte : (y place : ℕ) → y < x.fn.temporaries
-      → Has w place (load_code 6 (slot_of x.fn.passed y) ++ (Plain (instr.Andi (suc r) 6 (pos 255)) ∷ []))
-      → Comes w (At w x outer mem place) (At w x outer (put_in (low_byte (x.config.temps y)))
-      (place + code_length (load_code 6 (slot_of x.fn.passed y) ++ (Plain (instr.Andi (suc r) 6 (pos 255)) ∷ []))))
-  put_byte y place named has =
-      let first = load_code 6 (slot_of x.fn.passed y) in
-      let last : List Line = Plain (instr.Andi (suc r) 6 (pos 255)) ∷ [] in
-      in_turn w (At w x outer mem place) (λ p. AtWith w x outer mem p (InRegister 6 (x.config.temps y))) (λ p. At w x outer (put_in (low_byte (x.config.temps y))) p)
-      place first last
-      (loads_into w order x outer mem 5 y place named refl (has_first w place first last has))
-      (byte_one (x.config.temps y) (place + code_length first) (has_second w place first last has))

@@ -1,13 +1,13 @@
--- No function saves more than twelve registers; how long its first and last lines and its returns are.
-use Rattle.std.specs.Prelude.{nat_eq, length, if◌then◌else◌}
+-- No function saves more than twelve registers; how long its first and last lines are.
+use Rattle.std.specs.Prelude.{nat_eq, nat_lt, pos, length, ◌++◌, if◌then◌else◌}
 use Rattle.std.proofs.Common.{◌≡◌, ℕ, zero, suc, ◌+◌, ◌*◌, ◌≤◌, Bool, true, false, List, [], ◌∷◌, refl, ap, ◌∙◌, subst, arith}
 use Rattle.std.proofs.lemmas.Bool.{eqb-true, ne_eqb}
+use Rattle.rv32_isa.specs.declared.instruction.Instr.TheVariants.{Addi, Add, Jalr}
 use Rattle.core_meaning.specs.Core.{Function}
 use Rattle.core_lines.specs.declared.line.Line.{Line}
-use Rattle.core_lines.specs.declared.line.Line.TheVariants.{Jump}
+use Rattle.core_lines.specs.declared.line.Line.TheVariants.{Plain}
 use Rattle.core_lines.specs.Lines.{code_length}
-use Rattle.core_lines.specs.Frames.{is_short, load_code, save_code, slot_of, saves_code, restores_code}
-use Rattle.core_lines.specs.Frames.{values_code, leave_code, return_code, epilogue_code}
+use Rattle.core_lines.specs.Frames.{is_short, word_code, load_code, save_code, saves_code, restores_code, give_code, leave_code, epilogue_code}
 use Rattle.core_lines.specs.Homes.{eligible_of, flag_at, home_for, homes_from, home_registers, some_of, saved_by}
 use Rattle.core_lines.proofs.memory.Access.{length_of_both}
 
@@ -103,16 +103,13 @@ restores_within k [] = omega arith
 restores_within k (r ∷ rs) =
     let a = load_within r k in let b = restores_within (suc k) rs in omega (arith, length_of_both (load_code r k) (restores_code (suc k) rs), a, b)
 
-values_within : (passed r : ℕ) (ts : List ℕ) → code_length (values_code passed r ts) ≤ 12 * length ts
-values_within passed r [] = omega arith
-values_within passed r (t ∷ ts) =
-    let a = load_within (suc r) (slot_of passed t) in
-    let b = values_within passed (suc r) ts in
-    omega (arith, length_of_both (load_code (suc r) (slot_of passed t)) (values_code passed (suc r) ts), a, b)
-
--- a return counts for 64 bytes and 64 for each word: it has fewer
-pub return_within : (passed : ℕ) (ts : List ℕ) (exit : ℕ) → code_length (return_code passed ts exit) ≤ 64 * (1 + length ts)
-return_within passed ts exit = let a = values_within passed 9 ts in omega (arith, length_of_both (values_code passed 9 ts) (Jump exit ∷ []), a)
+give_within : (bytes : ℕ) → code_length (give_code bytes) ≤ 12
+give_within bytes = by (nat_lt bytes 2048)
+  where
+    by : (small : Bool)
+        → code_length (if small then Plain (Addi 2 2 (pos bytes)) ∷ [] else word_code 7 bytes ++ (Plain (Add 2 2 7) ∷ [])) ≤ 12
+    by true = omega arith
+    by false = omega arith
 
 -- a function counts for 512 bytes and 64 for each parameter beside its statements: its first and last lines have fewer
 pub ends_within : (f : Function) (bytes : ℕ) → 52 + code_length (saves_code (1 + f.passed + f.temporaries) (saved_by f)) + 24 * f.parameters
@@ -122,5 +119,7 @@ ends_within f bytes =
     let few = saved_few f in
     let a = saves_within k (saved_by f) in
     let b = restores_within k (saved_by f) in
-    let last : code_length (leave_code bytes) ≤ 20 = omega arith in
+    let given = give_within bytes in
+    let last : code_length (leave_code bytes) ≤ 20 =
+    omega (arith, length_of_both (give_code bytes) (Plain (Jalr 0 1 (pos 0)) ∷ []), given) in
     omega (arith, length_of_both (restores_code k (saved_by f)) (leave_code bytes), a, b, few, last)

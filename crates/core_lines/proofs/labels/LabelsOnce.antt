@@ -1,7 +1,7 @@
 -- Each label of a program's code is placed once: functions have the first labels, and the statements of each function those behind the statements before.
-use Rattle.std.proofs.Common.{Bool, ◌≡◌, ℕ, ◌+◌, ◌≤◌, ◌<◌, ◌⊎◌, inl, inr, false, nat_eq, List, [], ◌∷◌, ◌++◌, None, refl}
+use Rattle.std.proofs.Common.{Bool, ◌≡◌, ℕ, ◌+◌, ◌≤◌, ◌<◌, ◌⊎◌, inl, inr, false, nat_eq, List, [], ◌∷◌, ◌++◌, refl}
 use Rattle.std.proofs.Common.{sym, ap, subst, ◌∙◌, arith, append_assoc, append-nil}
-use Rattle.std.specs.Prelude.{length}
+use Rattle.std.specs.Prelude.{length, drop}
 use Rattle.std.specs.List.{All}
 use Rattle.std.proofs.lemmas.List.Elements.{All-nil, All-cons, All-head, All-tail, All-same, All-append, All-weaker}
 use Rattle.std.proofs.lemmas.Bool.{ne_eqb}
@@ -11,14 +11,16 @@ use Rattle.core_meaning.specs.Core.{MoreStatements, Function, Program}
 use Rattle.core_lines.specs.declared.line.Line.{Line}
 use Rattle.core_lines.specs.declared.line.Line.TheVariants.{Label, Jump}
 use Rattle.core_lines.specs.Lines.{labels_placed, AreOnce}
-use Rattle.core_lines.specs.Frames.{call_code, raise_code}
-use Rattle.core_lines.specs.Frames.{prologue_code, return_code, epilogue_code}
+use Rattle.core_lines.specs.Frames.{raise_code, epilogue_code}
 use Rattle.core_lines.specs.Selected.{frame_bytes, Surroundings}
-use Rattle.core_lines.specs.Choosing.{held_behind, held_behind_all, choice_code}
+use Rattle.core_lines.specs.Held.{held_behind, held_behind_all}
+use Rattle.core_lines.specs.Operands.{call_code, return_code, prologue_code}
+use Rattle.core_lines.specs.Choosing.{choice_code}
+use Rattle.core_lines.specs.Saved.{results_in, results_all, live_at_start, saves_at}
 use Rattle.core_lines.specs.Selected.{operation_code, labels_in, labels_of, labels_within, holding, naming, names_after, names_after_all, within_block}
 use Rattle.core_lines.specs.Selected.{statement_code, statements_code, around, function_code, functions_code, program_code}
 use Rattle.core_lines.specs.Running.{data_offsets}
-use Rattle.core_lines.specs.Homes.{saved_by, saved_slot}
+use Rattle.core_lines.specs.Homes.{saved_by, saved_slot, flag_at}
 use Rattle.core_lines.proofs.labels.NoLabels.{labels_placed-append, operation_none, choice_code_none, call_none, return_none, epilogue_none, prologue_none}
 
 -- ---- lists of labels
@@ -75,67 +77,71 @@ one_from label lines one = record {
 -- The labels of a statement's code are numbered from `next` on. A choice and a loop have two of their own: `next`, and the one behind those of the first part;
 -- a `Leave` has one, `next`.
 mutual
-  pub statement_places : (bytes : ℕ) (u : Surroundings) (next out again : ℕ) (s : Statement) → PlacesFrom next (next + labels_in s)
-      (statement_code bytes u next out again s)
-  statement_places bytes u next out again (Do operation) = none_from next (next + 0) (operation_code u operation) (operation_none u operation)
-  statement_places bytes u next out again (If t these those) =
+  pub statement_places : (flags : List Bool) (u : Surroundings) (next out again : ℕ) (s : Statement) → PlacesFrom next (next + labels_in s)
+      (statement_code flags u next out again s)
+  statement_places flags u next out again (Do operation) =
+      let keeps = flag_at flags 0 in none_from next (next + 0) (operation_code keeps u operation) (operation_none keeps u operation)
+  statement_places flags u next out again (If t these those) =
+      let left = drop (results_all these) flags in
       let behind = next + 1 + labels_of these in
       let end = next + labels_in (If t these those) in
-      let front = choice_code u.wide u.passed u.held t next ++ statements_code bytes (holding None u) (next + 1) out again these in
+      let front = choice_code u.wide u.passed u.held t next ++ statements_code flags u (next + 1) out again these in
       let over : List Line = Jump behind ∷ Label next ∷ [] in
-      let second = statements_code bytes (holding None (naming (names_after_all these u.names) u)) (behind + 1) out again those in
+      let second = statements_code left (naming (names_after_all these u.names) u) (behind + 1) out again those in
       let last : List Line = Label behind ∷ [] in
       let first : PlacesFrom (next + 1) behind front =
       join (next + 1) behind (none_from (next + 1) (next + 1) (choice_code u.wide u.passed u.held t next) (choice_code_none u.wide u.passed u.held t next))
-      (statements_places bytes (holding None u) (next + 1) out again these)
+      (statements_places flags u (next + 1) out again these)
       (omega arith) (omega arith) (omega arith) (omega arith) (inl (omega arith)) in
       let choice : PlacesFrom next behind (front ++ over) =
       join next behind first (one_from next over refl) (omega arith) (omega arith) (omega arith) (omega arith) (inr (omega arith)) in
       let others : PlacesFrom behind end (second ++ last) =
-      join behind end (statements_places bytes (holding None (naming (names_after_all these u.names) u)) (behind + 1) out again those) (one_from behind last refl) (omega arith) (omega arith)
-      (omega arith) (omega arith) (inr (omega arith)) in
+      join behind end (statements_places left (naming (names_after_all these u.names) u) (behind + 1) out again those)
+      (one_from behind last refl) (omega arith) (omega arith) (omega arith) (omega arith) (inr (omega arith)) in
       subst (PlacesFrom next end) (sym (append_assoc (front ++ over) second last))
       (join next end choice others (omega arith) (omega arith) (omega arith) (omega arith) (inl (omega arith)))
-  statement_places bytes u next out again (While test t body) =
+  statement_places flags u next out again (While test t body) =
+      let left = drop (results_all test) flags in
       let behind = next + 1 + labels_of test in
       let end = next + labels_in (While test t body) in
       let start : List Line = Label next ∷ [] in
-      let front = start ++ statements_code bytes (holding None u) (next + 1) out again test in
-      let held = held_behind_all None test in
+      let front = start ++ statements_code flags (holding [] u) (next + 1) out again test in
+      let held = held_behind_all u.homes u.statics [] test in
       let leaves = choice_code u.wide u.passed held t behind in
-      let v = holding None (naming (names_after_all test u.names) u) in
-      let inside = statements_code bytes v (behind + 1) behind next body in
+      let v = holding [] (naming (names_after_all test u.names) u) in
+      let inside = statements_code left v (behind + 1) behind next body in
       let last : List Line = Jump next ∷ Label behind ∷ [] in
       let first : PlacesFrom next behind front =
-      join next behind (one_from next start refl) (statements_places bytes (holding None u) (next + 1) out again test) (omega arith) (omega arith)
+      join next behind (one_from next start refl) (statements_places flags (holding [] u) (next + 1) out again test) (omega arith) (omega arith)
       (omega arith) (omega arith) (inl (omega arith)) in
       let tested : PlacesFrom next behind (front ++ leaves) =
-      join next behind first (none_from behind behind leaves (choice_code_none u.wide u.passed held t behind)) (omega arith) (omega arith) (omega arith) (omega arith)
-      (inl (omega arith)) in
+      join next behind first (none_from behind behind leaves (choice_code_none u.wide u.passed held t behind))
+      (omega arith) (omega arith) (omega arith) (omega arith) (inl (omega arith)) in
       let others : PlacesFrom behind end (inside ++ last) =
-      join behind end (statements_places bytes v (behind + 1) behind next body) (one_from behind last refl) (omega arith) (omega arith)
+      join behind end (statements_places left v (behind + 1) behind next body) (one_from behind last refl) (omega arith) (omega arith)
       (omega arith) (omega arith) (inr (omega arith)) in
       subst (PlacesFrom next end) (sym (append_assoc (front ++ leaves) inside last))
       (join next end tested others (omega arith) (omega arith) (omega arith) (omega arith) (inl (omega arith)))
-  statement_places bytes u next out again (Block locals body) = statements_places bytes (within_block locals u) next out again body
-  statement_places bytes u next out again (Leave body) =
+  statement_places flags u next out again (Block locals body) = statements_places flags (within_block locals u) next out again body
+  statement_places flags u next out again (Leave body) =
       let last : List Line = Label next ∷ [] in
-      join next (next + labels_in (Leave body)) (statements_places bytes u (next + 1) next again body) (one_from next last refl)
+      join next (next + labels_in (Leave body)) (statements_places flags u (next + 1) next again body) (one_from next last refl)
       (omega arith) (omega arith) (omega arith) (omega arith) (inr (omega arith))
-  statement_places bytes u next out again Break = none_from next (next + 0) (Jump out ∷ []) refl
-  statement_places bytes u next out again Continue = none_from next (next + 0) (Jump again ∷ []) refl
-  statement_places bytes u next out again (Call results f arguments) =
-      none_from next (next + 0) (call_code u.passed results f arguments) (call_none u.passed results f arguments)
-  statement_places bytes u next out again (Return values) = none_from next (next + 0) (return_code u.passed values u.exit)
-      (return_none u.passed values u.exit)
-  statement_places bytes u next out again (Raise kind) = none_from next (next + 0) (raise_code kind) refl
+  statement_places flags u next out again Break = none_from next (next + 0) (Jump out ∷ []) refl
+  statement_places flags u next out again Continue = none_from next (next + 0) (Jump again ∷ []) refl
+  statement_places flags u next out again (Call results f arguments) =
+      none_from next (next + 0) (call_code flags u.passed u.held results f arguments) (call_none flags u.passed u.held results f arguments)
+  statement_places flags u next out again (Return values) = none_from next (next + 0) (return_code u.passed u.held values u.exit)
+      (return_none u.passed u.held values u.exit)
+  statement_places flags u next out again (Raise kind) = none_from next (next + 0) (raise_code kind) refl
 
-  pub statements_places : (bytes : ℕ) (u : Surroundings) (next out again : ℕ) (ss : Statements) → PlacesFrom next (next + labels_of ss)
-      (statements_code bytes u next out again ss)
-  statements_places bytes u next out again NoStatements = none_from next (next + 0) [] refl
-  statements_places bytes u next out again (MoreStatements s ss) =
-      join next (next + labels_of (MoreStatements s ss)) (statement_places bytes u next out again s)
-      (statements_places bytes (holding (held_behind s) (naming (names_after s u.names) u)) (next + labels_in s) out again ss)
+  pub statements_places : (flags : List Bool) (u : Surroundings) (next out again : ℕ) (ss : Statements) → PlacesFrom next (next + labels_of ss)
+      (statements_code flags u next out again ss)
+  statements_places flags u next out again NoStatements = none_from next (next + 0) [] refl
+  statements_places flags u next out again (MoreStatements s ss) =
+      let left = drop (results_in s) flags in
+      join next (next + labels_of (MoreStatements s ss)) (statement_places flags u next out again s)
+      (statements_places left (holding (held_behind u.homes u.statics u.held s) (naming (names_after s u.names) u)) (next + labels_in s) out again ss)
       (omega arith) (omega arith) (omega arith) (omega arith) (inl (omega arith))
 
 -- ---- functions
@@ -155,13 +161,14 @@ record FunctionPlaces (number next : ℕ) (f : Function) (lines : List Line) : T
   pub within : All (λ label. (next ≤ label) × (label < next + labels_within f)) labels
   pub once : AreOnce (number ∷ labels)
 
-function_places : (wide : ℕ → Bool) (statics : List ℕ) (number next : ℕ) (f : Function) → number < next → FunctionPlaces number next f (function_code wide statics number next f)
+function_places : (wide : ℕ → Bool) (statics : List ℕ) (number next : ℕ) (f : Function) → number < next
+    → FunctionPlaces number next f (function_code wide statics number next f)
 function_places wide statics number next f less =
-    let prologue = prologue_code (frame_bytes f) f.passed (saved_slot f) (saved_by f) f.parameters in
-    let body = statements_code (frame_bytes f) (around wide statics next f) (next + 1) number number f.body in
+    let prologue = prologue_code (frame_bytes f) f.passed (saved_slot f) (saved_by f) (live_at_start statics f) f.parameters in
+    let body = statements_code (saves_at statics f) (around wide statics next f) (next + 1) number number f.body in
     let leaves = epilogue_code (frame_bytes f) (saved_slot f) (saved_by f) in
     let front : List Line = (Label number ∷ []) ++ prologue in
-    let p = statements_places (frame_bytes f) (around wide statics next f) (next + 1) number number f.body in
+    let p = statements_places (saves_at statics f) (around wide statics next f) (next + 1) number number f.body in
     let wide : ℕ → Type 0 = λ label. (next ≤ label) × (label < next + labels_within f) in
     let of_body : All wide (labels_placed body) =
     All-weaker (λ label. (next + 1 ≤ label) × (label < next + 1 + labels_of f.body)) wide
@@ -169,7 +176,7 @@ function_places wide statics number next f less =
     let one : labels_placed (front ++ body) ≡ number ∷ labels_placed body =
     labels_placed-append front body
     ∙ ap (λ ls. ls ++ labels_placed body) (labels_placed-append (Label number ∷ []) prologue
-    ∙ ap (λ ls. number ∷ ls) (prologue_none (frame_bytes f) f.passed (saved_slot f) (saved_by f) f.parameters)) in
+    ∙ ap (λ ls. number ∷ ls) (prologue_none (frame_bytes f) f.passed (saved_slot f) (saved_by f) (live_at_start statics f) f.parameters)) in
     let two : labels_placed (((front ++ body) ++ (Label next ∷ [])) ++ leaves) ≡ number ∷ (labels_placed body ++ (next ∷ [])) =
     labels_placed-append ((front ++ body) ++ (Label next ∷ [])) leaves
     ∙ ap (λ ls. labels_placed ((front ++ body) ++ (Label next ∷ [])) ++ ls) (epilogue_none (frame_bytes f) (saved_slot f) (saved_by f))
@@ -192,8 +199,8 @@ function_places wide statics number next f less =
       );
     }
 
-functions_places : (wide : ℕ → Bool) (statics : List ℕ) (number next : ℕ) (fs : List Function) → number + length fs ≤ next → PlacesOf number (number + length fs) next
-    (functions_code wide statics number next fs)
+functions_places : (wide : ℕ → Bool) (statics : List ℕ) (number next : ℕ) (fs : List Function) → number + length fs ≤ next
+    → PlacesOf number (number + length fs) next (functions_code wide statics number next fs)
 functions_places wide statics number next [] room = record { within = All-nil (IsOf number (number + 0) next); once = tt }
 functions_places wide statics number next (f ∷ fs) room =
     let first = function_code wide statics number next f in

@@ -1,11 +1,12 @@
 -- What is said of each jump on zero of a program can be said of its label: the lines that are shortened so are those that the program has where these labels
 -- are out of reach. So a machine that has them does what the program does.
-use Rattle.std.specs.Prelude.{nat_eq, length, if◌then◌else◌}
+use Rattle.std.specs.Prelude.{nat_eq, length, drop, if◌then◌else◌}
 use Rattle.std.specs.List.{All}
-use Rattle.std.proofs.Common.{◌≡◌, ℕ, zero, suc, ◌+◌, Bool, true, false, List, [], ◌∷◌, ◌++◌, Option, None, refl, sym, ap, ◌∙◌, subst, arith}
+use Rattle.std.proofs.Common.{◌≡◌, ℕ, zero, suc, ◌+◌, Bool, false, List, [], ◌∷◌, ◌++◌, Option, Some, None, refl, sym, ap, ◌∙◌, subst, arith}
 use Rattle.std.proofs.lemmas.Bool.{eq-eqb}
 use Rattle.std.proofs.lemmas.List.Elements.{All-head, All-tail}
-use Rattle.core_meaning.specs.Core.{Operation, Statement, Do, If, While, Block, Leave, Break, Continue, Call, Return, Raise, Statements, NoStatements, MoreStatements, Function, Program}
+use Rattle.core_meaning.specs.Core.{Operation, Statement, Do, If, While, Block, Leave, Break, Continue, Call, Return, Raise, Statements, NoStatements}
+use Rattle.core_meaning.specs.Core.{MoreStatements, Function, Program}
 use Rattle.core_lines.specs.declared.line.Line.{Line}
 use Rattle.core_lines.specs.declared.line.Line.TheVariants.{Plain, Label, Jump, JumpIfZero, BranchIfZero, CallTo}
 use Rattle.core_meaning.specs.Core.{
@@ -41,15 +42,19 @@ use Rattle.core_meaning.specs.Core.{
   KeyFree,
 }
 use Rattle.core_lines.specs.Lines.{AreOnce}
-use Rattle.core_lines.specs.Frames.{environment_code, raise_code, call_code, return_code, epilogue_code, prologue_code}
-use Rattle.core_lines.specs.Homes.{saved_by, saved_slot}
-use Rattle.core_lines.specs.Choosing.{far, held_behind, held_behind_all, jump_if_zero, held_or_loaded, choice_code}
-use Rattle.core_lines.specs.Selected.{Surroundings, frame_bytes, offsets_from, datum_locals, local_home, local_offset, get_code, put_code, operation_code, labels_in, labels_of}
+use Rattle.core_lines.specs.Frames.{environment_code, raise_code, epilogue_code}
+use Rattle.core_lines.specs.Homes.{saved_by, saved_slot, flag_at}
+use Rattle.core_lines.specs.Held.{Holding, held_behind, held_behind_all, source_of, result_register, same_as}
+use Rattle.core_lines.specs.Operands.{operand_in, operand_code, call_code, return_code, prologue_code}
+use Rattle.core_lines.specs.Choosing.{far, jump_if_zero, choice_code}
+use Rattle.core_lines.specs.Saved.{results_in, results_all, live_at_start, saves_at}
+use Rattle.core_lines.specs.Selected.{Surroundings, frame_bytes, offsets_from, datum_locals, local_home, local_offset, immediate_for, has_operand, both_code}
+use Rattle.core_lines.specs.Selected.{keep_result, applied_kept, get_code, put_code, operation_code, labels_in, labels_of}
 use Rattle.core_lines.specs.Selected.{labels_within, holding, naming, names_after, names_after_all, within_block, statement_code, statements_code, around}
 use Rattle.core_lines.specs.Selected.{function_code, functions_code, program_code}
 use Rattle.core_lines.specs.Selectable.{IsSelectable}
 use Rattle.core_lines.specs.Running.{DoesAsCore}
-use Rattle.core_lines.proofs.labels.NoTargets.{held_none, operation_none, call_none, return_none, epilogue_none, prologue_none}
+use Rattle.core_lines.proofs.labels.NoTargets.{operand_none, operation_none, call_none, return_none, epilogue_none, prologue_none}
 use Rattle.core_lines.proofs.labels.TargetsOnce.{program_targets_once}
 use Rattle.core_lines.proofs.DoesAsCore.{does_as_core}
 use Rattle.core_lines.specs.Relaxed.{shortened, shorten_to, shortened_to, wide_to, targets}
@@ -61,7 +66,8 @@ same_where f g (Plain instr ∷ lines) same = ap (λ ls. Plain instr ∷ ls) (sa
 same_where f g (Label l ∷ lines) same = ap (λ ls. Label l ∷ ls) (same_where f g lines same)
 same_where f g (Jump l ∷ lines) same = ap (λ ls. Jump l ∷ ls) (same_where f g lines same)
 same_where f g (JumpIfZero register l ∷ lines) same =
-    ap (λ b. (if b then JumpIfZero register l else BranchIfZero register l) ∷ shortened_to f lines) (All-head (λ label. f label ≡ g label) l (targets lines) same)
+    ap (λ b. (if b then JumpIfZero register l else BranchIfZero register l) ∷ shortened_to f lines)
+    (All-head (λ label. f label ≡ g label) l (targets lines) same)
     ∙ ap (λ ls. (if g l then JumpIfZero register l else BranchIfZero register l) ∷ ls)
     (same_where f g lines (All-tail (λ label. f label ≡ g label) l (targets lines) same))
 same_where f g (BranchIfZero register l ∷ lines) same =
@@ -108,41 +114,51 @@ abbrev with_wide : (ℕ → Bool) → Surroundings → Surroundings
 with_wide wide u = record u { wide = wide }
 
 -- an operation's code doesn't depend on it
-operation_same : (f g : ℕ → Bool) (u : Surroundings) (o : Operation) → operation_code (with_wide f u) o ≡ operation_code (with_wide g u) o
-operation_same f g u (Constant t w) = refl
-operation_same f g u (NullPointer t) = refl
-operation_same f g u (Move t x) = refl
-operation_same f g u (Narrow t x) = refl
-operation_same f g u (Apply o t x y) = refl
-operation_same f g u (LocalAddress t out local) = refl
-operation_same f g u (OwnAddress t object) = refl
-operation_same f g u (DataAddress t object) = refl
-operation_same f g u (Offset t p cells bytes) = refl
-operation_same f g u (Element t p i cells bytes) = refl
-operation_same f g u (Load t p d) = refl
-operation_same f g u (Store p d x) = refl
-operation_same f g u (Copy to from layout) = refl
-operation_same f g u (Clear p layout count) = refl
-operation_same f g u (IsNull t p) = refl
-operation_same f g u (SamePlace t p q) = refl
-operation_same f g u (Getchar t) = refl
-operation_same f g u (Putchar t x) = refl
-operation_same f g u (HeapHandle t) = refl
-operation_same f g u (RegionNew t) = refl
-operation_same f g u (RegionAlloc t h n layout) = refl
-operation_same f g u (RegionFree h) = refl
-operation_same f g u (UniqueAlloc t layout) = refl
-operation_same f g u (UniqueFree p) = refl
-operation_same f g u (KeyNew t) = refl
-operation_same f g u (KeyOpen k) = refl
-operation_same f g u (KeyClose k) = refl
-operation_same f g u (KeyFree k) = refl
-operation_same f g u (Get t out local width) = by (local_home u out local)
+operation_same : (f g : ℕ → Bool) (keeps : Bool) (u : Surroundings) (o : Operation)
+    → operation_code keeps (with_wide f u) o ≡ operation_code keeps (with_wide g u) o
+operation_same f g keeps u (Constant t w) = refl
+operation_same f g keeps u (NullPointer t) = refl
+operation_same f g keeps u (Move t x) = refl
+operation_same f g keeps u (Narrow t x) = refl
+operation_same f g keeps u (Apply o t x y) = by (same_as o x y (source_of u.held x) (source_of u.held y))
   where
-    by : (h : ℕ) → get_code (with_wide f u) h t width (local_offset u out local) ≡ get_code (with_wide g u) h t width (local_offset u out local)
+    in_both : (lines : Option (List Line))
+        → both_code (with_wide f u) o (result_register t) x y lines ≡ both_code (with_wide g u) o (result_register t) x y lines
+    in_both None = refl
+    in_both (Some lines) = refl
+
+    by : (same : Option ℕ) → applied_kept keeps (with_wide f u) o t x y same ≡ applied_kept keeps (with_wide g u) o t x y same
+    by None = ap (λ ls. ls ++ keep_result keeps u t) (in_both (immediate_for o (result_register t) (has_operand u 5 x) (source_of u.held y)))
+    by (Some z) = refl
+operation_same f g keeps u (LocalAddress t out local) = refl
+operation_same f g keeps u (OwnAddress t object) = refl
+operation_same f g keeps u (DataAddress t object) = refl
+operation_same f g keeps u (Offset t p cells bytes) = refl
+operation_same f g keeps u (Element t p i cells bytes) = refl
+operation_same f g keeps u (Load t p d) = refl
+operation_same f g keeps u (Store p d x) = refl
+operation_same f g keeps u (Copy to from layout) = refl
+operation_same f g keeps u (Clear p layout count) = refl
+operation_same f g keeps u (IsNull t p) = refl
+operation_same f g keeps u (SamePlace t p q) = refl
+operation_same f g keeps u (Getchar t) = refl
+operation_same f g keeps u (Putchar t x) = refl
+operation_same f g keeps u (HeapHandle t) = refl
+operation_same f g keeps u (RegionNew t) = refl
+operation_same f g keeps u (RegionAlloc t h n layout) = refl
+operation_same f g keeps u (RegionFree h) = refl
+operation_same f g keeps u (UniqueAlloc t layout) = refl
+operation_same f g keeps u (UniqueFree p) = refl
+operation_same f g keeps u (KeyNew t) = refl
+operation_same f g keeps u (KeyOpen k) = refl
+operation_same f g keeps u (KeyClose k) = refl
+operation_same f g keeps u (KeyFree k) = refl
+operation_same f g keeps u (Get t out local width) = by (local_home u out local)
+  where
+    by : (h : ℕ) → get_code keeps (with_wide f u) h t width (local_offset u out local) ≡ get_code keeps (with_wide g u) h t width (local_offset u out local)
     by zero = refl
     by (suc h) = refl
-operation_same f g u (Put out local width x) = by (local_home u out local)
+operation_same f g keeps u (Put out local width x) = by (local_home u out local)
   where
     by : (h : ℕ) → put_code (with_wide f u) h width (local_offset u out local) x ≡ put_code (with_wide g u) h width (local_offset u out local) x
     by zero = refl
@@ -152,84 +168,91 @@ module _ (wide : ℕ → Bool) where
   both : (a b c d : List Line) → shortened_to wide a ≡ c → shortened_to wide b ≡ d → shortened_to wide (a ++ b) ≡ c ++ d
   both a b c d first second = append_short wide a b ∙ ap (λ ls. ls ++ shortened_to wide b) first ∙ ap (λ ls. c ++ ls) second
 
-  choice_short : (passed : ℕ) (held : Option ℕ) (t label : ℕ) → shortened_to wide (choice_code far passed held t label) ≡ choice_code wide passed held t label
-  choice_short passed held t label =
-      both (held_or_loaded passed held t) (jump_if_zero far 5 label ∷ []) (held_or_loaded passed held t) (jump_if_zero wide 5 label ∷ [])
-      (no_targets_stay wide (held_or_loaded passed held t) (held_none passed held t)) refl
+  choice_short : (passed : ℕ) (hs : List Holding) (t label : ℕ) → shortened_to wide (choice_code far passed hs t label) ≡ choice_code wide passed hs t label
+  choice_short passed hs t label =
+      let operand = operand_code passed hs 5 t in
+      let register = operand_in hs 5 t in
+      both operand (jump_if_zero far register label ∷ []) operand (jump_if_zero wide register label ∷ [])
+      (no_targets_stay wide operand (operand_none passed hs 5 t)) refl
 
   mutual
-    statement_short : (bytes : ℕ) (u : Surroundings) (next out again : ℕ) (s : Statement)
-        → shortened_to wide (statement_code bytes (with_wide far u) next out again s) ≡ statement_code bytes (with_wide wide u) next out again s
-    statement_short bytes u next out again (Do operation) =
-        no_targets_stay wide (operation_code (with_wide far u) operation) (operation_none (with_wide far u) operation) ∙ operation_same far wide u operation
-    statement_short bytes u next out again (If t these those) =
+    statement_short : (flags : List Bool) (u : Surroundings) (next out again : ℕ) (s : Statement)
+        → shortened_to wide (statement_code flags (with_wide far u) next out again s) ≡ statement_code flags (with_wide wide u) next out again s
+    statement_short flags u next out again (Do operation) =
+        no_targets_stay wide (operation_code (flag_at flags 0) (with_wide far u) operation) (operation_none (flag_at flags 0) (with_wide far u) operation)
+        ∙ operation_same far wide (flag_at flags 0) u operation
+    statement_short flags u next out again (If t these those) =
+        let left = drop (results_all these) flags in
         let behind = next + 1 + labels_of these in
-        let v = holding None (naming (names_after_all these u.names) u) in
+        let v = naming (names_after_all these u.names) u in
         let over : List Line = Jump behind ∷ Label next ∷ [] in
         let last : List Line = Label behind ∷ [] in
         let a = choice_code far u.passed u.held t next in
         let a' = choice_code wide u.passed u.held t next in
-        let b = statements_code bytes (with_wide far (holding None u)) (next + 1) out again these in
-        let b' = statements_code bytes (with_wide wide (holding None u)) (next + 1) out again these in
-        let c = statements_code bytes (with_wide far v) (behind + 1) out again those in
-        let c' = statements_code bytes (with_wide wide v) (behind + 1) out again those in
+        let b = statements_code flags (with_wide far u) (next + 1) out again these in
+        let b' = statements_code flags (with_wide wide u) (next + 1) out again these in
+        let c = statements_code left (with_wide far v) (behind + 1) out again those in
+        let c' = statements_code left (with_wide wide v) (behind + 1) out again those in
         both (((a ++ b) ++ over) ++ c) last (((a' ++ b') ++ over) ++ c') last
         (both ((a ++ b) ++ over) c ((a' ++ b') ++ over) c'
         (both (a ++ b) over (a' ++ b') over
-        (both a b a' b' (choice_short u.passed u.held t next) (statements_short bytes (holding None u) (next + 1) out again these)) refl)
-        (statements_short bytes v (behind + 1) out again those)) refl
-    statement_short bytes u next out again (While test t body) =
+        (both a b a' b' (choice_short u.passed u.held t next) (statements_short flags u (next + 1) out again these)) refl)
+        (statements_short left v (behind + 1) out again those)) refl
+    statement_short flags u next out again (While test t body) =
+        let left = drop (results_all test) flags in
         let behind = next + 1 + labels_of test in
-        let v = holding None (naming (names_after_all test u.names) u) in
-        let held = held_behind_all None test in
+        let v = holding [] (naming (names_after_all test u.names) u) in
+        let held = held_behind_all u.homes u.statics [] test in
         let start : List Line = Label next ∷ [] in
         let last : List Line = Jump next ∷ Label behind ∷ [] in
-        let a = statements_code bytes (with_wide far (holding None u)) (next + 1) out again test in
-        let a' = statements_code bytes (with_wide wide (holding None u)) (next + 1) out again test in
+        let a = statements_code flags (with_wide far (holding [] u)) (next + 1) out again test in
+        let a' = statements_code flags (with_wide wide (holding [] u)) (next + 1) out again test in
         let b = choice_code far u.passed held t behind in
         let b' = choice_code wide u.passed held t behind in
-        let c = statements_code bytes (with_wide far v) (behind + 1) behind next body in
-        let c' = statements_code bytes (with_wide wide v) (behind + 1) behind next body in
+        let c = statements_code left (with_wide far v) (behind + 1) behind next body in
+        let c' = statements_code left (with_wide wide v) (behind + 1) behind next body in
         both (((start ++ a) ++ b) ++ c) last (((start ++ a') ++ b') ++ c') last
         (both ((start ++ a) ++ b) c ((start ++ a') ++ b') c'
         (both (start ++ a) b (start ++ a') b'
-        (both start a start a' refl (statements_short bytes (holding None u) (next + 1) out again test))
+        (both start a start a' refl (statements_short flags (holding [] u) (next + 1) out again test))
         (choice_short u.passed held t behind))
-        (statements_short bytes v (behind + 1) behind next body)) refl
-    statement_short bytes u next out again (Block locals body) = statements_short bytes (within_block locals u) next out again body
-    statement_short bytes u next out again (Leave body) =
-        both (statements_code bytes (with_wide far u) (next + 1) next again body) (Label next ∷ [])
-        (statements_code bytes (with_wide wide u) (next + 1) next again body) (Label next ∷ [])
-        (statements_short bytes u (next + 1) next again body) refl
-    statement_short bytes u next out again Break = refl
-    statement_short bytes u next out again Continue = refl
-    statement_short bytes u next out again (Call results f arguments) =
-        no_targets_stay wide (call_code u.passed results f arguments) (call_none u.passed results f arguments)
-    statement_short bytes u next out again (Return values) =
-        no_targets_stay wide (return_code u.passed values u.exit) (return_none u.passed values u.exit)
-    statement_short bytes u next out again (Raise kind) = no_targets_stay wide (raise_code kind) refl
+        (statements_short left v (behind + 1) behind next body)) refl
+    statement_short flags u next out again (Block locals body) = statements_short flags (within_block locals u) next out again body
+    statement_short flags u next out again (Leave body) =
+        both (statements_code flags (with_wide far u) (next + 1) next again body) (Label next ∷ [])
+        (statements_code flags (with_wide wide u) (next + 1) next again body) (Label next ∷ [])
+        (statements_short flags u (next + 1) next again body) refl
+    statement_short flags u next out again Break = refl
+    statement_short flags u next out again Continue = refl
+    statement_short flags u next out again (Call results f arguments) =
+        no_targets_stay wide (call_code flags u.passed u.held results f arguments) (call_none flags u.passed u.held results f arguments)
+    statement_short flags u next out again (Return values) =
+        no_targets_stay wide (return_code u.passed u.held values u.exit) (return_none u.passed u.held values u.exit)
+    statement_short flags u next out again (Raise kind) = no_targets_stay wide (raise_code kind) refl
 
-    statements_short : (bytes : ℕ) (u : Surroundings) (next out again : ℕ) (ss : Statements)
-        → shortened_to wide (statements_code bytes (with_wide far u) next out again ss) ≡ statements_code bytes (with_wide wide u) next out again ss
-    statements_short bytes u next out again NoStatements = refl
-    statements_short bytes u next out again (MoreStatements s ss) =
-        let v = holding (held_behind s) (naming (names_after s u.names) u) in
-        both (statement_code bytes (with_wide far u) next out again s) (statements_code bytes (with_wide far v) (next + labels_in s) out again ss)
-        (statement_code bytes (with_wide wide u) next out again s) (statements_code bytes (with_wide wide v) (next + labels_in s) out again ss)
-        (statement_short bytes u next out again s) (statements_short bytes v (next + labels_in s) out again ss)
+    statements_short : (flags : List Bool) (u : Surroundings) (next out again : ℕ) (ss : Statements)
+        → shortened_to wide (statements_code flags (with_wide far u) next out again ss) ≡ statements_code flags (with_wide wide u) next out again ss
+    statements_short flags u next out again NoStatements = refl
+    statements_short flags u next out again (MoreStatements s ss) =
+        let left = drop (results_in s) flags in
+        let v = holding (held_behind u.homes u.statics u.held s) (naming (names_after s u.names) u) in
+        both (statement_code flags (with_wide far u) next out again s) (statements_code left (with_wide far v) (next + labels_in s) out again ss)
+        (statement_code flags (with_wide wide u) next out again s) (statements_code left (with_wide wide v) (next + labels_in s) out again ss)
+        (statement_short flags u next out again s) (statements_short left v (next + labels_in s) out again ss)
 
   function_short : (statics : List ℕ) (number next : ℕ) (f : Function)
       → shortened_to wide (function_code far statics number next f) ≡ function_code wide statics number next f
   function_short statics number next f =
-      let front : List Line = (Label number ∷ []) ++ prologue_code (frame_bytes f) f.passed (saved_slot f) (saved_by f) f.parameters in
+      let start = live_at_start statics f in
+      let front : List Line = (Label number ∷ []) ++ prologue_code (frame_bytes f) f.passed (saved_slot f) (saved_by f) start f.parameters in
       let leaves = epilogue_code (frame_bytes f) (saved_slot f) (saved_by f) in
       let exit : List Line = Label next ∷ [] in
-      let a = statements_code (frame_bytes f) (around far statics next f) (next + 1) number number f.body in
-      let a' = statements_code (frame_bytes f) (around wide statics next f) (next + 1) number number f.body in
+      let a = statements_code (saves_at statics f) (around far statics next f) (next + 1) number number f.body in
+      let a' = statements_code (saves_at statics f) (around wide statics next f) (next + 1) number number f.body in
       both ((front ++ a) ++ exit) leaves ((front ++ a') ++ exit) leaves
       (both (front ++ a) exit (front ++ a') exit
-      (both front a front a' (no_targets_stay wide front (prologue_none (frame_bytes f) f.passed (saved_slot f) (saved_by f) f.parameters))
-      (statements_short (frame_bytes f) (around wide statics next f) (next + 1) number number f.body)) refl)
+      (both front a front a' (no_targets_stay wide front (prologue_none (frame_bytes f) f.passed (saved_slot f) (saved_by f) start f.parameters))
+      (statements_short (saves_at statics f) (around wide statics next f) (next + 1) number number f.body)) refl)
       (no_targets_stay wide leaves (epilogue_none (frame_bytes f) (saved_slot f) (saved_by f)))
 
   functions_short : (statics : List ℕ) (number next : ℕ) (fs : List Function)

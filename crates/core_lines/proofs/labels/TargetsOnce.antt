@@ -1,7 +1,7 @@
 -- No two jumps on zero of a program go to one label.
-use Rattle.std.proofs.Common.{Bool, ◌≡◌, ℕ, ◌+◌, ◌≤◌, ◌<◌, ◌⊎◌, inl, false, nat_eq, List, [], ◌∷◌, ◌++◌, None, refl}
+use Rattle.std.proofs.Common.{Bool, ◌≡◌, ℕ, ◌+◌, ◌≤◌, ◌<◌, ◌⊎◌, inl, false, nat_eq, List, [], ◌∷◌, ◌++◌, refl}
 use Rattle.std.proofs.Common.{sym, subst, arith}
-use Rattle.std.specs.Prelude.{length}
+use Rattle.std.specs.Prelude.{length, drop}
 use Rattle.std.specs.List.{All}
 use Rattle.std.proofs.lemmas.List.Elements.{All-nil, All-cons, All-head, All-tail, All-same, All-append, All-weaker}
 use Rattle.std.proofs.lemmas.Bool.Decides.{nat_tests}
@@ -11,14 +11,16 @@ use Rattle.core_lines.specs.declared.line.Line.{Line}
 use Rattle.core_lines.specs.declared.line.Line.TheVariants.{Label, Jump}
 use Rattle.core_lines.specs.Lines.{AreOnce}
 use Rattle.core_lines.specs.Relaxed.{targets}
-use Rattle.core_lines.specs.Frames.{call_code, raise_code}
-use Rattle.core_lines.specs.Frames.{prologue_code, return_code, epilogue_code}
+use Rattle.core_lines.specs.Frames.{raise_code, epilogue_code}
 use Rattle.core_lines.specs.Selected.{frame_bytes, Surroundings}
-use Rattle.core_lines.specs.Choosing.{held_behind, held_behind_all, choice_code}
+use Rattle.core_lines.specs.Held.{held_behind, held_behind_all}
+use Rattle.core_lines.specs.Operands.{call_code, return_code, prologue_code}
+use Rattle.core_lines.specs.Choosing.{choice_code}
+use Rattle.core_lines.specs.Saved.{results_in, results_all, live_at_start, saves_at}
 use Rattle.core_lines.specs.Selected.{operation_code, labels_in, labels_of, labels_within, holding, naming, names_after, names_after_all, within_block}
 use Rattle.core_lines.specs.Selected.{statement_code, statements_code, around, function_code, functions_code, program_code}
 use Rattle.core_lines.specs.Running.{data_offsets}
-use Rattle.core_lines.specs.Homes.{saved_by, saved_slot}
+use Rattle.core_lines.specs.Homes.{saved_by, saved_slot, flag_at}
 use Rattle.core_lines.proofs.labels.NoTargets.{targets_append, operation_none, choice_one, call_none, return_none, epilogue_none, prologue_none}
 
 -- ---- lists of labels
@@ -74,64 +76,68 @@ one_from label lines one = record {
 
 -- The labels of a statement's code are numbered from `next` on. A choice and a loop have two of their own: `next`, and the one behind those of the first part.
 mutual
-  pub statement_targets : (bytes : ℕ) (u : Surroundings) (next out again : ℕ) (s : Statement) → TargetsFrom next (next + labels_in s)
-      (statement_code bytes u next out again s)
-  statement_targets bytes u next out again (Do operation) = none_from next (next + 0) (operation_code u operation) (operation_none u operation)
-  statement_targets bytes u next out again (If t these those) =
+  pub statement_targets : (flags : List Bool) (u : Surroundings) (next out again : ℕ) (s : Statement) → TargetsFrom next (next + labels_in s)
+      (statement_code flags u next out again s)
+  statement_targets flags u next out again (Do operation) =
+      let keeps = flag_at flags 0 in none_from next (next + 0) (operation_code keeps u operation) (operation_none keeps u operation)
+  statement_targets flags u next out again (If t these those) =
+      let left = drop (results_all these) flags in
       let behind = next + 1 + labels_of these in
       let end = next + labels_in (If t these those) in
-      let v = holding None (naming (names_after_all these u.names) u) in
+      let v = naming (names_after_all these u.names) u in
       let choice = choice_code u.wide u.passed u.held t next in
-      let first = statements_code bytes (holding None u) (next + 1) out again these in
+      let first = statements_code flags u (next + 1) out again these in
       let over : List Line = Jump behind ∷ Label next ∷ [] in
-      let second = statements_code bytes v (behind + 1) out again those in
+      let second = statements_code left v (behind + 1) out again those in
       let last : List Line = Label behind ∷ [] in
       let a : TargetsFrom next behind (choice ++ first) =
-      join next behind (one_from next choice (choice_one u.wide u.passed u.held t next)) (statements_targets bytes (holding None u) (next + 1) out again these)
+      join next behind (one_from next choice (choice_one u.wide u.passed u.held t next)) (statements_targets flags u (next + 1) out again these)
       (omega arith) (omega arith) (omega arith) (omega arith) (inl (omega arith)) in
       let b : TargetsFrom next behind ((choice ++ first) ++ over) =
       join next behind a (none_from behind behind over refl) (omega arith) (omega arith) (omega arith) (omega arith) (inl (omega arith)) in
       let c : TargetsFrom next end (((choice ++ first) ++ over) ++ second) =
-      join next end b (statements_targets bytes v (behind + 1) out again those) (omega arith) (omega arith) (omega arith) (omega arith) (inl (omega arith)) in
+      join next end b (statements_targets left v (behind + 1) out again those) (omega arith) (omega arith) (omega arith) (omega arith) (inl (omega arith)) in
       join next end c (none_from end end last refl) (omega arith) (omega arith) (omega arith) (omega arith) (inl (omega arith))
-  statement_targets bytes u next out again (While test t body) =
+  statement_targets flags u next out again (While test t body) =
+      let left = drop (results_all test) flags in
       let behind = next + 1 + labels_of test in
       let end = next + labels_in (While test t body) in
-      let v = holding None (naming (names_after_all test u.names) u) in
+      let v = holding [] (naming (names_after_all test u.names) u) in
       let start : List Line = Label next ∷ [] in
-      let first = statements_code bytes (holding None u) (next + 1) out again test in
-      let choice = choice_code u.wide u.passed (held_behind_all None test) t behind in
-      let second = statements_code bytes v (behind + 1) behind next body in
+      let first = statements_code flags (holding [] u) (next + 1) out again test in
+      let choice = choice_code u.wide u.passed (held_behind_all u.homes u.statics [] test) t behind in
+      let second = statements_code left v (behind + 1) behind next body in
       let last : List Line = Jump next ∷ Label behind ∷ [] in
       let a : TargetsFrom next behind (start ++ first) =
-      join next behind (none_from next next start refl) (statements_targets bytes (holding None u) (next + 1) out again test)
+      join next behind (none_from next next start refl) (statements_targets flags (holding [] u) (next + 1) out again test)
       (omega arith) (omega arith) (omega arith) (omega arith) (inl (omega arith)) in
       let b : TargetsFrom next (behind + 1) ((start ++ first) ++ choice) =
-      join next (behind + 1) a (one_from behind choice (choice_one u.wide u.passed (held_behind_all None test) t behind))
+      join next (behind + 1) a (one_from behind choice (choice_one u.wide u.passed (held_behind_all u.homes u.statics [] test) t behind))
       (omega arith) (omega arith) (omega arith) (omega arith) (inl (omega arith)) in
       let c : TargetsFrom next end (((start ++ first) ++ choice) ++ second) =
-      join next end b (statements_targets bytes v (behind + 1) behind next body) (omega arith) (omega arith) (omega arith) (omega arith) (inl (omega arith)) in
+      join next end b (statements_targets left v (behind + 1) behind next body) (omega arith) (omega arith) (omega arith) (omega arith) (inl (omega arith)) in
       join next end c (none_from end end last refl) (omega arith) (omega arith) (omega arith) (omega arith) (inl (omega arith))
-  statement_targets bytes u next out again (Block locals body) = statements_targets bytes (within_block locals u) next out again body
-  statement_targets bytes u next out again (Leave body) =
+  statement_targets flags u next out again (Block locals body) = statements_targets flags (within_block locals u) next out again body
+  statement_targets flags u next out again (Leave body) =
       let end = next + labels_in (Leave body) in
       let last : List Line = Label next ∷ [] in
-      join next end (statements_targets bytes u (next + 1) next again body) (none_from end end last refl)
+      join next end (statements_targets flags u (next + 1) next again body) (none_from end end last refl)
       (omega arith) (omega arith) (omega arith) (omega arith) (inl (omega arith))
-  statement_targets bytes u next out again Break = none_from next (next + 0) (Jump out ∷ []) refl
-  statement_targets bytes u next out again Continue = none_from next (next + 0) (Jump again ∷ []) refl
-  statement_targets bytes u next out again (Call results f arguments) =
-      none_from next (next + 0) (call_code u.passed results f arguments) (call_none u.passed results f arguments)
-  statement_targets bytes u next out again (Return values) = none_from next (next + 0) (return_code u.passed values u.exit)
-      (return_none u.passed values u.exit)
-  statement_targets bytes u next out again (Raise kind) = none_from next (next + 0) (raise_code kind) refl
+  statement_targets flags u next out again Break = none_from next (next + 0) (Jump out ∷ []) refl
+  statement_targets flags u next out again Continue = none_from next (next + 0) (Jump again ∷ []) refl
+  statement_targets flags u next out again (Call results f arguments) =
+      none_from next (next + 0) (call_code flags u.passed u.held results f arguments) (call_none flags u.passed u.held results f arguments)
+  statement_targets flags u next out again (Return values) = none_from next (next + 0) (return_code u.passed u.held values u.exit)
+      (return_none u.passed u.held values u.exit)
+  statement_targets flags u next out again (Raise kind) = none_from next (next + 0) (raise_code kind) refl
 
-  pub statements_targets : (bytes : ℕ) (u : Surroundings) (next out again : ℕ) (ss : Statements) → TargetsFrom next (next + labels_of ss)
-      (statements_code bytes u next out again ss)
-  statements_targets bytes u next out again NoStatements = none_from next (next + 0) [] refl
-  statements_targets bytes u next out again (MoreStatements s ss) =
-      join next (next + labels_of (MoreStatements s ss)) (statement_targets bytes u next out again s)
-      (statements_targets bytes (holding (held_behind s) (naming (names_after s u.names) u)) (next + labels_in s) out again ss)
+  pub statements_targets : (flags : List Bool) (u : Surroundings) (next out again : ℕ) (ss : Statements) → TargetsFrom next (next + labels_of ss)
+      (statements_code flags u next out again ss)
+  statements_targets flags u next out again NoStatements = none_from next (next + 0) [] refl
+  statements_targets flags u next out again (MoreStatements s ss) =
+      let left = drop (results_in s) flags in
+      join next (next + labels_of (MoreStatements s ss)) (statement_targets flags u next out again s)
+      (statements_targets left (holding (held_behind u.homes u.statics u.held s) (naming (names_after s u.names) u)) (next + labels_in s) out again ss)
       (omega arith) (omega arith) (omega arith) (omega arith) (inl (omega arith))
 
 -- ---- functions
@@ -141,13 +147,13 @@ function_targets : (wide : ℕ → Bool) (statics : List ℕ) (number next : ℕ
 function_targets wide statics number next f =
     let low = next + 1 in
     let high = next + labels_within f in
-    let prologue = prologue_code (frame_bytes f) f.passed (saved_slot f) (saved_by f) f.parameters in
-    let body = statements_code (frame_bytes f) (around wide statics next f) (next + 1) number number f.body in
+    let prologue = prologue_code (frame_bytes f) f.passed (saved_slot f) (saved_by f) (live_at_start statics f) f.parameters in
+    let body = statements_code (saves_at statics f) (around wide statics next f) (next + 1) number number f.body in
     let leaves = epilogue_code (frame_bytes f) (saved_slot f) (saved_by f) in
     let front : List Line = (Label number ∷ []) ++ prologue in
     let a : TargetsFrom low high (front ++ body) =
-    join low high (none_from low low front (prologue_none (frame_bytes f) f.passed (saved_slot f) (saved_by f) f.parameters))
-    (statements_targets (frame_bytes f) (around wide statics next f) (next + 1) number number f.body)
+    join low high (none_from low low front (prologue_none (frame_bytes f) f.passed (saved_slot f) (saved_by f) (live_at_start statics f) f.parameters))
+    (statements_targets (saves_at statics f) (around wide statics next f) (next + 1) number number f.body)
     (omega arith) (omega arith) (omega arith) (omega arith) (inl (omega arith)) in
     let b : TargetsFrom low high ((front ++ body) ++ (Label next ∷ [])) =
     join low high a (none_from high high (Label next ∷ []) refl) (omega arith) (omega arith) (omega arith) (omega arith) (inl (omega arith)) in

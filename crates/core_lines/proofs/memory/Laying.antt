@@ -20,7 +20,7 @@ use Rattle.core_lines.proofs.homes.Homed.{homed_fits, laid_homed}
 use Rattle.core_lines.proofs.memory.Relations.{World, IsInOrder, Waiting, Place, BlocksLie, back_of, At, Phase, Inside, changed_in, as_home, home_of, IsHomeIn, AreHomes}
 use Rattle.core_lines.proofs.memory.Fitting.{extends_self, extends_on}
 use Rattle.core_lines.proofs.memory.Knowing.{known_block}
-use Rattle.core_lines.proofs.frames.Entering.{begun_fits, counted_fits}
+use Rattle.core_lines.proofs.frames.Begun.{begun_fits, counted_fits}
 use Rattle.core_lines.proofs.memory.Extending.{frame_extends, stack_extends}
 use Rattle.core_lines.proofs.memory.Reframing.{reframed, counterpart, reframed_fits}
 pub use Rattle.core_lines.proofs.memory.Placing.{LaidOut, laid_high, slots_above}

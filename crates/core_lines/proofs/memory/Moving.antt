@@ -26,6 +26,8 @@ use Rattle.std.proofs.Common.{
   ◌∙◌,
   arith,
   add-sub_of_le,
+  zero-add,
+  suc-add,
 }
 use Rattle.cyc_words.specs.Events.{AreBytes, SourceEvent, visible}
 use Rattle.cyc_words.specs.Events as events
@@ -104,6 +106,14 @@ and_then n s t u a b first second = record {
   lawful = λ input answers es. lawful_more n a b _ (first.lawful input answers es)
       (subst (AreLawful n b) (sym (first.moved input answers es)) (second.lawful input answers es));
 }
+
+-- the accesses of some steps, and of more
+lawful_parts : (n : Areas) (first more : ℕ) (r : Run) → AreLawful n (first + more) r → AreLawful n first r × AreLawful n more (run_steps n first r)
+lawful_parts n zero more r all = (tt, subst (λ count. AreLawful n count r) (zero-add more) all)
+lawful_parts n (suc first) more r all =
+    let both = subst (λ count. AreLawful n count r) (suc-add first more) all in
+    let others = lawful_parts n first more (run_step n r) both.1 in
+    ((both.0, others.0), others.1)
 
 pub stays : (n : Areas) (s : Machine) → Moves n 0 s s
 stays n s = record { moved = λ input answers es. refl; lawful = λ input answers es. tt }
@@ -212,6 +222,9 @@ module _ (w : World) (R : Machine → Type 0) (active : List (List ℕ)) where
   led_said (Visible e) silent active' acts r o l = absurd (cc silent)
   led_said (Called f) silent active' acts r o (inl l) = inl (record { events = l.events; ends = l.ends })
   led_said (Called f) silent active' acts r o (inr l) = let k = l.cut in inr (record {
+    last = l.last;
+    soon = l.soon;
+    lawful = l.lawful;
     why = l.why;
     over = l.over;
     refused = l.refused;
@@ -226,6 +239,9 @@ module _ (w : World) (R : Machine → Type 0) (active : List (List ℕ)) where
   })
   led_said (Returned f) silent active' acts r o (inl l) = inl (record { events = l.events; ends = l.ends })
   led_said (Returned f) silent active' acts r o (inr l) = let k = l.cut in inr (record {
+    last = l.last;
+    soon = l.soon;
+    lawful = l.lawful;
     why = l.why;
     over = l.over;
     refused = l.refused;
@@ -275,13 +291,42 @@ goes_nowhere w R active most c none = record {
   };
 }
 
--- by some steps or fewer the machine stops because the stack is too short
+-- by two steps more at most the machine stops because the stack is too short
 pub record Full (w : World) (most : ℕ) (s : Machine) : Type 0 where
   pub count : ℕ
-  pub within : count ≤ most
+  pub within : count ≤ most + 2
   pub last : Machine
   pub moves : Moves w.areas count s last
   pub over : last.mode ≡ Over (Stop.Exhausted)
+
+-- what a run that is too short of stack is by so many steps
+record IsFull (w : World) (count : ℕ) (start : Run) : Type 0 where
+  pub last : Run
+  pub ends : run_steps w.areas count start ≡ last
+  pub lawful : AreLawful w.areas count start
+  pub over : last.state.mode ≡ Over (Stop.Exhausted)
+  pub silent : last.events ≡ []
+  pub unasked : last.refused ≡ None
+
+is_full : (w : World) (most more : ℕ) (s : Machine) → Full w most s → (input : List ℕ) (answers : ℕ → Answer)
+    → IsFull w (most + more + 2) (run_from s input answers)
+is_full w most more s full input answers =
+    let n = w.areas in
+    let start = run_from s input answers in
+    let last = run_from full.last input answers in
+    let rest = most + more + 2 - full.count in
+    let longer : full.count ≤ most + more + 2 = omega (arith, full.within) in
+    let moved : run_steps n full.count start ≡ last = full.moves.moved input answers [] in
+    record {
+      last = last;
+      ends = ap (λ k. run_steps n k start) (sym (add-sub_of_le longer)) ∙ run_more n full.count rest start ∙ ap (run_steps n rest) moved
+          ∙ over_steps n rest last (Stop.Exhausted) full.over;
+      lawful = subst (λ k. AreLawful n k start) (add-sub_of_le longer) (lawful_more n full.count rest start (full.moves.lawful input answers [])
+          (subst (AreLawful n rest) (sym moved) (over_lawful n rest last (Stop.Exhausted) full.over)));
+      over = full.over;
+      silent = refl;
+      unasked = refl;
+    }
 
 -- A function is entered: its frame is made, or the stack is too short, which cuts the run before the call.
 pub goes_entered : (w : World) (R R' : Machine → Type 0) (active : List (List ℕ)) (most f count : ℕ) (d : Step)
@@ -300,31 +345,28 @@ goes_entered w R R' active most f count d enters goes = record { at = by }
               led_said w R' active (Called f) refl (w.names f ∷ active) (λ es. refl) (run_steps w.areas (count + l.count) (run_from s input answers)) o
               (led_after w R' (w.names f ∷ active) count l.count o s x.next input answers x.moves (l.leads x.next answers x.there)))
               (λ (x : Full w count s × (w.areas.stack < frames w.bound (w.names f ∷ active))).
-              let full = x.0 in
-              let longer : full.count ≤ count + l.count = omega (arith, full.within) in
-              let first : run_steps w.areas full.count (run_from s input answers) ≡ run_from full.last input answers = full.moves.moved input answers [] in
-              let whole : run_steps w.areas (count + l.count) (run_from s input answers) ≡ run_from full.last input answers =
-              ap (λ k. run_steps w.areas k (run_from s input answers)) (sym (add-sub_of_le longer))
-              ∙ run_more w.areas full.count (count + l.count - full.count) (run_from s input answers)
-              ∙ ap (run_steps w.areas (count + l.count - full.count)) first
-              ∙ over_steps w.areas (count + l.count - full.count) (run_from full.last input answers) (Stop.Exhausted) full.over in
-              subst (λ (r : Run). Led w r (after (Called f) o) ⊎ Cut w active r (after (Called f) o)) (sym whole)
-              (inr (record {
+              let full = is_full w count l.count s x.0 input answers in
+              inr (record {
+                last = full.last;
+                soon = sym (run_more w.areas (count + l.count) 2 (run_from s input answers)) ∙ full.ends;
+                lawful = (lawful_parts w.areas (count + l.count) 2 (run_from s input answers) full.lawful).1;
                 why = NoStack;
                 over = full.over;
-                refused = refl;
-                cut = record { before = []; next = events.Called (w.names f); rest = named w.names o.events; split = refl; same = refl; because = x.1 };
-              })))
+                refused = full.unasked;
+                cut = record {
+                  before = [];
+                  next = events.Called (w.names f);
+                  rest = named w.names o.events;
+                  split = refl;
+                  same = full.silent;
+                  because = x.1;
+                };
+              }))
               (enters s r);
           paid = λ running. let above = l.paid running in omega (arith, above);
           lawful = λ s answers r. ⊎_elim
               (λ (x : Reach w.areas count R' s). lawful_after w R' active count l.count s x.next input answers x.moves (l.lawful x.next answers x.there))
               (λ (x : Full w count s × (w.areas.stack < frames w.bound (w.names f ∷ active))).
-              let full = x.0 in
-              let longer : full.count ≤ count + l.count = omega (arith, full.within) in
-              subst (λ k. AreLawful w.areas k (run_from s input answers)) (add-sub_of_le longer)
-              (lawful_more w.areas full.count (count + l.count - full.count) (run_from s input answers) (full.moves.lawful input answers [])
-              (subst (AreLawful w.areas (count + l.count - full.count)) (sym (full.moves.moved input answers []))
-              (over_lawful w.areas (count + l.count - full.count) (run_from full.last input answers) (Stop.Exhausted) full.over))))
+              (lawful_parts w.areas (count + l.count) 2 (run_from s input answers) (is_full w count l.count s x.0 input answers).lawful).0)
               (enters s r);
         }

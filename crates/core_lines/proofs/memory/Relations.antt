@@ -1,6 +1,6 @@
 -- When Core and the machine stand at the same point, and when they do the same from there on.
-use Rattle.std.proofs.Common.{◌≡◌, ℕ, suc, ◌+◌, ◌*◌, ◌%◌, ◌≤◌, ◌<◌, ◌⊎◌, ◌^◌, List, [], ◌∷◌, Option, Some, None, refl}
-use Rattle.std.specs.Prelude.{Bool, zero, slice_get, length, true}
+use Rattle.std.proofs.Common.{◌≡◌, ℕ, suc, ◌+◌, ◌*◌, ◌%◌, ◌≤◌, ◌<◌, ◌⊎◌, ◌^◌, List, [], ◌∷◌, ◌++◌, Option, Some, None, refl}
+use Rattle.std.specs.Prelude.{Bool, zero, slice_get, length, true, false}
 use Rattle.cyc_words.specs.Events.{AreBytes, SourceEnding, SourceEvent, Request, visible}
 use Rattle.cyc_words.specs.Events as events
 use Rattle.arena_laws.specs.Lawful.{Answer}
@@ -14,7 +14,7 @@ use Rattle.core_meaning.specs.Core.{Function}
 use Rattle.core_meaning.specs.Steps.{Config, Step, Event, Invocation}
 use Rattle.core_lines.specs.declared.line.Line.{Line}
 use Rattle.core_lines.specs.Lines.{HasLines, IsPlace}
-use Rattle.core_lines.specs.Homes.{is_among, saved_slot, saved_by}
+use Rattle.core_lines.specs.Homes.{is_among, saved_slot, saved_by, flag_at}
 use Rattle.core_lines.specs.Selected.{nth}
 use Rattle.core_lines.specs.Frames.{epilogue_code}
 use Rattle.core_lines.specs.Machines.{Machine, run_of, run_from}
@@ -84,12 +84,15 @@ pub record Led (w : World) (r : Run) (o : Outcome Event) : Type 0 where
   pub events : r.events ≡ visible (named w.names o.events)
   pub ends : IsAt o.ending r.state.mode
 
--- or it was cut, where these functions are active
+-- Or it is cut by two steps more, where these functions are active: a run that is refused the stack takes up to two more than one that enters a function.
 pub record Cut (w : World) (active : List (List ℕ)) (r : Run) (o : Outcome Event) : Type 0 where
+  pub last : Run
+  pub soon : run_steps w.areas 2 r ≡ last
+  pub lawful : AreLawful w.areas 2 r
   pub why : Cause
-  pub over : r.state.mode ≡ Over (stop_of why)
-  pub refused : r.refused ≡ refused_of why
-  pub cut : IsCut r.events (named w.names o.events) (λ before next. IsNext w.bound w.areas.stack why (active_after active before) next)
+  pub over : last.state.mode ≡ Over (stop_of why)
+  pub refused : last.refused ≡ refused_of why
+  pub cut : IsCut last.events (named w.names o.events) (λ before next. IsNext w.bound w.areas.stack why (active_after active before) next)
 
 -- From each machine in a relation: the number of steps comes before the machine and the answers. There are no fewer of them than units of fuel where these are
 -- used up.
@@ -126,7 +129,7 @@ pub data Phase : Type 0 where
   Restoring : List ℕ → Phase
 
 -- an activation as Core has it, and where its code goes on when what it called returns; its blocks' locals' offsets from its frame on, as those of its unnamed
--- values
+-- values; and of which temporaries the slots show the words, as flags
 pub record Waiting : Type 0 where
   pub function : ℕ
   pub fn : Function
@@ -135,7 +138,41 @@ pub record Waiting : Type 0 where
   pub unnamed : List ℕ
   pub own_high : ℕ
   pub config : Config
+  pub kept : List Bool
   pub behind : ℕ
+
+-- with others of whose temporaries the slots show the words
+abbrev pub keeping : List Bool → Waiting → Waiting
+keeping flags x = record x { kept = flags }
+
+-- what is flagged in the second is in the first
+abbrev pub Covers : List Bool → List Bool → Type 0
+Covers more less = (u : ℕ) → flag_at less u ≡ true → flag_at more u ≡ true
+
+-- Behind what gives these temporaries words, and saves them or not: what is flagged is one of them that is saved, or another one that was flagged before.
+abbrev pub Follows : Bool → List ℕ → List Bool → List Bool → Type 0
+Follows keeps ts before after =
+    (u : ℕ) → flag_at after u ≡ true → ((is_among u ts ≡ true) × (keeps ≡ true)) ⊎ ((is_among u ts ≡ false) × (flag_at before u ≡ true))
+
+-- all of these are flagged
+abbrev pub AreFlagged : List Bool → List ℕ → Type 0
+AreFlagged flags [] = Unit {0}
+AreFlagged flags (t ∷ ts) = (flag_at flags t ≡ true) × AreFlagged flags ts
+
+pub flagged_first : (flags : List Bool) (ts us : List ℕ) → AreFlagged flags (ts ++ us) → AreFlagged flags ts
+flagged_first flags [] us are = tt
+flagged_first flags (t ∷ ts) us are = (are.0, flagged_first flags ts us are.1)
+
+pub flagged_second : (flags : List Bool) (ts us : List ℕ) → AreFlagged flags (ts ++ us) → AreFlagged flags us
+flagged_second flags [] us are = are
+flagged_second flags (t ∷ ts) us are = flagged_second flags ts us are.1
+
+-- the slot of a temporary shows its word, or those of all of these
+abbrev pub IsKept : World → Waiting → ℕ → Type 0
+IsKept w x t = flag_at x.kept t ≡ true
+
+abbrev pub AreKept : World → Waiting → List ℕ → Type 0
+AreKept w x ts = AreFlagged x.kept ts
 
 abbrev pub slots_in : Function → ℕ
 slots_in fn = saved_slot fn + length (saved_by fn)
@@ -209,7 +246,7 @@ pub record FrameShows (w : World) (m : Maps) (x : Waiting) (back : ℕ) (a : Act
   pub is : slice_get w.functions x.function ≡ Some x.fn
   pub returns_to : a.slots 0 ≡ Word (code_base + back)
   pub back_place : IsPlace back
-  pub temps : (t : ℕ) → t < x.fn.temporaries → a.slots (1 + x.fn.passed + t) ≡ x.config.temps t
+  pub temps : (t : ℕ) → t < x.fn.temporaries → flag_at x.kept t ≡ true → a.slots (1 + x.fn.passed + t) ≡ x.config.temps t
   pub blocks : BlocksLie m a.at x.nest x.config.blocks a.zones
   pub own : a.own ≡ x.config.own
   pub own_high : a.own_high ≡ x.own_high

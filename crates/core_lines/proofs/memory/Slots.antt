@@ -1,7 +1,7 @@
 -- What the code of a word, of a load from a slot and of a save into one does. Registers are told by what they hold, and that all but x7 stay.
-use Rattle.std.proofs.Common.{◌≡◌, ℕ, zero, suc, ◌+◌, ◌*◌, ◌/◌, ◌^◌, ◌<◌, List, [], ◌∷◌, Bool, true, false, if◌then◌else◌, refl, sym, ap, subst, ◌∙◌, arith}
-use Rattle.std.specs.Prelude.{nat_eq}
-use Rattle.std.proofs.lemmas.Bool.{eq-eqb}
+use Rattle.std.proofs.Common.{◌≡◌, ℕ, zero, suc, ◌+◌, ◌*◌, ◌/◌, ◌%◌, ◌^◌, ◌<◌, List, [], ◌∷◌, Bool, true, false, refl, sym, ap, subst, ◌∙◌, arith}
+use Rattle.std.specs.Prelude.{nat_eq, if◌then◌else◌}
+use Rattle.std.proofs.lemmas.Bool.{eq-eqb, eqb-true}
 use Rattle.cyc_words.specs.Words.{word, sum_of}
 use Rattle.rv32_isa.specs.declared.instruction.Instr.TheVariants.{Lui, Lw, Sw, Addi, Add}
 use Rattle.core_lines.specs.Machines.{Store}
@@ -10,6 +10,7 @@ use Rattle.core_lines.specs.declared.line.Line.{Line}
 use Rattle.core_lines.specs.declared.line.Line.TheVariants.{Plain}
 use Rattle.core_lines.specs.Lines.{code_length}
 use Rattle.core_lines.specs.Frames.{is_short, upper_of, lower_of, word_code, load_code, save_code}
+use Rattle.core_lines.specs.Operands.{number_code}
 use Rattle.core_lines.proofs.memory.Relations.{Moves, World, IsInOrder, Has}
 use Rattle.core_lines.proofs.memory.Words.{parts_added, parts_joined, short_word}
 use Rattle.core_lines.proofs.memory.Moving.{and_then}
@@ -72,6 +73,45 @@ module _ (w : World) (order : IsInOrder w) (place : ℕ) (registers bytes : ℕ 
         holds = set_here r both (set_register (suc r) upper registers) ∙ value;
         kept = λ q not7 other. set_there (suc r) both q (set_register (suc r) upper registers) other ∙ set_there (suc r) upper q registers other;
       }
+
+  -- and by one instruction, where one of its parts is all of it
+  pub puts_number : (r v : ℕ) → v < 2 ^ 32 → Has w place (number_code (suc r) v)
+      → Puts w place (place + code_length (number_code (suc r) v)) (code_length (number_code (suc r) v) / 4) (suc r) v registers bytes st
+  puts_number r v few has = by (is_short v) refl has
+    where
+      upper_lines : Bool → List Line
+      upper_lines none = (if none then Plain (Lui (suc r) (upper_of v)) ∷ [] else word_code (suc r) v)
+
+      in_part : (none : Bool) → nat_eq (v % 2 ^ 12) 0 ≡ none → Has w place (upper_lines none)
+          → Puts w place (place + code_length (upper_lines none)) (code_length (upper_lines none) / 4) (suc r) v registers bytes st
+      in_part true none has =
+          let upper = upper_of v * 2 ^ 12 in
+          let even = eqb-true (v % 2 ^ 12) 0 none in
+          record {
+            new = set_register (suc r) upper registers;
+            moves = gives_value w.areas w.code order.code_within st place registers bytes below (Lui (suc r) (upper_of v)) has.0.0 (suc r) upper
+                (λ answer. refl) tt;
+            holds = set_here r upper registers ∙ omega (arith, even, few);
+            kept = λ q not7 other. set_there (suc r) upper q registers other;
+          }
+      in_part false some has = puts_word r v few has
+
+      number_lines : Bool → List Line
+      number_lines short = (if short then Plain (Addi (suc r) 0 (lower_of v)) ∷ [] else upper_lines (nat_eq (v % 2 ^ 12) 0))
+
+      by : (short : Bool) → is_short v ≡ short → Has w place (number_lines short)
+          → Puts w place (place + code_length (number_lines short)) (code_length (number_lines short) / 4) (suc r) v registers bytes st
+      by true short has =
+          let value = sum_of 0 (word (lower_of v)) in
+          let same = short_word v short few in
+          record {
+            new = set_register (suc r) value registers;
+            moves = gives_value w.areas w.code order.code_within st place registers bytes below (Addi (suc r) 0 (lower_of v)) has.0.0 (suc r) value
+                (λ answer. refl) tt;
+            holds = set_here r value registers ∙ omega (arith, same, few);
+            kept = λ q not7 other. set_there (suc r) value q registers other;
+          }
+      by false long has = in_part (nat_eq (v % 2 ^ 12) 0) refl has
 
   -- the upper part of an offset and the stack pointer, into x7
   far_base : (offset : ℕ) (last : Line) → Has w place (Plain (Lui 7 (upper_of offset)) ∷ Plain (Add 7 7 2) ∷ last ∷ [])

@@ -1,26 +1,46 @@
 -- A function is entered: its unnamed values get their bytes behind its slots. No instruction is needed.
-use Rattle.std.proofs.Common.{◌≡◌, ℕ, ◌+◌, ◌≤◌, true, List, [], ◌∷◌, Some, sym, subst, arith}
+use Rattle.std.proofs.Common.{◌≡◌, ℕ, zero, suc, ◌+◌, ◌≤◌, true, List, [], ◌∷◌, Some, sym, subst, arith}
 use Rattle.rv32_machine.specs.State.{data_base}
-use Rattle.core_meaning.specs.Memory.{Own, Born, Memory, is_live}
+use Rattle.core_meaning.specs.Memory.{Content, Own, Born, Memory, is_live}
 use Rattle.core_meaning.specs.Meaning.{with_objects}
 use Rattle.core_lines.specs.Machines.{Machine}
-use Rattle.core_lines.specs.Lies.{Activation}
+use Rattle.core_lines.specs.Held.{Source, Register, Number, Holding}
+use Rattle.core_lines.specs.Lies.{Maps, Extends, Activation}
 use Rattle.core_lines.proofs.homes.Homes.{homes_spared}
-use Rattle.core_lines.proofs.memory.Relations.{no_zones, World, IsInOrder, Waiting, BlocksLie, back_of, At}
+use Rattle.core_lines.proofs.memory.Relations.{no_zones, World, IsInOrder, Waiting, BlocksLie, back_of}
 use Rattle.core_lines.proofs.memory.Extending.{frame_extends, stack_extends}
 use Rattle.core_lines.proofs.memory.Laying.{LaidOut}
 use Rattle.core_lines.proofs.memory.Owning.{owns}
+use Rattle.core_lines.proofs.memory.Alike.{shows_on}
+use Rattle.core_lines.proofs.operations.Holding.{IsThere, AreThere}
+use Rattle.core_lines.proofs.operations.Standing.{AtHolding, with_there, as_holding}
 
 -- an activation with its unnamed values at these offsets, up to one, and with this memory
 abbrev pub owning : Waiting → List ℕ → ℕ → Memory → Waiting
 owning x offsets high mem = record x { unnamed = offsets; own_high = high; config = record x.config { memory = mem } }
 
-pub owned_at : (w : World) (order : IsInOrder w) (x : Waiting) (outer : List Waiting) (offsets : List ℕ) (high : ℕ) (mem : Memory) (place : ℕ) (s : Machine)
-    → x.nest ≡ [] → x.config.blocks ≡ [] → LaidOut x.fn.own offsets x.own_high high → high ≤ w.frame_bytes x.function
-    → mem.objects (Own x.config.own) ≡ 0 → is_live (mem.standing (Own x.config.own)) ≡ true → At w x outer mem place s
-    → At w (owning x offsets high (with_objects (Own x.config.own) x.fn.own mem)) outer (with_objects (Own x.config.own) x.fn.own mem) place s
-owned_at w order x outer offsets high mem place s nest blocks laid room none live a =
+-- what is known where temporaries' words are stays, where more have addresses
+source_extends : (m m' : Maps) (s : Source) (v : Content) (registers : ℕ → ℕ) → Extends m m' → IsThere s v m registers → IsThere s v m' registers
+source_extends m m' (Register zero) v registers extends a = tt
+source_extends m m' (Register (suc r)) v registers extends a = ((shows_on m m' v (registers (suc r)) extends a.0.0, a.0.1), a.1)
+source_extends m m' (Number n) v registers extends a = (shows_on m m' v n extends a.0, a.1)
+
+there_extends : (m m' : Maps) (hs : List Holding) (temps : ℕ → Content) (registers : ℕ → ℕ) → Extends m m' → AreThere hs temps m registers
+    → AreThere hs temps m' registers
+there_extends m m' [] temps registers extends a = tt
+there_extends m m' (h ∷ hs) temps registers extends a = (
+  source_extends m m' h.source (temps h.temporary) registers extends a.0,
+  there_extends m m' hs temps registers extends a.1,
+)
+
+pub owned_at : (w : World) (order : IsInOrder w) (x : Waiting) (outer : List Waiting) (offsets : List ℕ) (high : ℕ) (mem : Memory) (place : ℕ)
+    (held : List Holding) (s : Machine) → x.nest ≡ [] → x.config.blocks ≡ [] → LaidOut x.fn.own offsets x.own_high high → high ≤ w.frame_bytes x.function
+    → mem.objects (Own x.config.own) ≡ 0 → is_live (mem.standing (Own x.config.own)) ≡ true → AtHolding w x outer mem place held s
+    → AtHolding w (owning x offsets high (with_objects (Own x.config.own) x.fn.own mem)) outer (with_objects (Own x.config.own) x.fn.own mem) place held s
+owned_at w order x outer offsets high mem place held s nest blocks laid room none live known =
     let k = x.config.own in
+    let mem' = with_objects (Own k) x.fn.own mem in
+    let a = with_there w x outer mem place held s known in
     let fr = a.frame in
     let fs = a.others in
     let bytes = a.shows.bytes in
@@ -31,7 +51,7 @@ owned_at w order x outer offsets high mem place s nest blocks laid room none liv
     x.fn.own offsets fr.own_high 0 a.maps mem from none live a.stands.stacked a.stands.fits a.stands.known in
     let after : Activation = record fr { own_high = l.end } in
     let f = frame_extends w a.maps l.maps x (back_of w outer) fr l.extends a.shows in
-    record {
+    as_holding w (owning x offsets high mem') outer mem' place held s (record {
       maps = l.maps;
       frame = after;
       others = fs;
@@ -45,7 +65,7 @@ owned_at w order x outer offsets high mem place s nest blocks laid room none liv
         kept = a.stands.kept;
         stacked = l.stacked;
         fits = l.fits;
-        homes = homes_spared a.maps mem l.maps (with_objects (Own k) x.fn.own mem) (after ∷ fs) s.registers l.spares a.stands.homes;
+        homes = homes_spared a.maps mem l.maps mem' (after ∷ fs) s.registers l.spares a.stands.homes;
         known = l.known;
         holds_blocks = a.stands.holds_blocks;
         data_based = λ o y e. l.extends.base (Born 0) o (data_base + y) (a.stands.data_based o y e);
@@ -67,4 +87,5 @@ owned_at w order x outer offsets high mem place s nest blocks laid room none liv
         homes = f.homes;
       };
       stack = stack_extends w a.maps l.maps outer fs l.extends a.stack;
-    }
+      holds = there_extends a.maps l.maps held x.config.temps s.registers l.extends a.holds;
+    })

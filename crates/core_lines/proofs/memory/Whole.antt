@@ -4,6 +4,7 @@ use Rattle.std.proofs.Common.{
   ◌≢◌,
   ℕ,
   suc,
+  ◌+◌,
   ◌-◌,
   ◌≤◌,
   ◌<◌,
@@ -37,7 +38,7 @@ use Rattle.rv32_machine.specs.Ledger.{unborn}
 use Rattle.rv32_machine.specs.Run.{Run, run_steps, from, ending_of, ending_in}
 use Rattle.rv32_machine.specs.Audit.{IsLawful, IsLawfulIn}
 use Rattle.rv32_machine.specs.Implements.{Meaning, IsCut, IsBeginning, AgreesIn, EndsWith, Reaches, Implements, is_cut_short, active_after}
-use Rattle.rv32_machine.proofs.LongerRuns.{run_more, lawful_at, over_steps, steps_show}
+use Rattle.rv32_machine.proofs.LongerRuns.{AreLawful, run_more, lawful_more, lawful_at, over_steps, steps_show}
 use Rattle.step_trees.specs.Trees.{Outcome}
 use Rattle.core_meaning.specs.Steps.{Step, Event}
 use Rattle.core_lines.specs.Machines.{Machine, state_of, run_from}
@@ -111,6 +112,18 @@ ends_at (SourceEnding.Raised kind) r meant at same = (ap (λ (m : Mode). ending_
 ends_at SourceEnding.Running r meant at same = tt
 ends_at SourceEnding.Stuck r meant at same = tt
 
+-- some steps later it still is
+ends_later : (n : Areas) (more : ℕ) (e : SourceEnding) (r : Run) (meant : List events.Event) → IsAt e r.state.mode → r.events ≡ meant
+    → EndsWith e meant (run_steps n more r)
+ends_later n more (SourceEnding.Ended status) r meant at same =
+    let e = SourceEnding.Ended status in
+    subst (EndsWith e meant) (sym (over_steps n more r (Stop.Ended status) at)) (ends_at e r meant at same)
+ends_later n more (SourceEnding.Raised kind) r meant at same =
+    let e = SourceEnding.Raised kind in
+    subst (EndsWith e meant) (sym (over_steps n more r (Stop.Raised kind) at)) (ends_at e r meant at same)
+ends_later n more SourceEnding.Running r meant at same = tt
+ends_later n more SourceEnding.Stuck r meant at same = tt
+
 -- the machine is over
 record IsOver (mode : Mode) : Type 0 where
   pub why : Stop
@@ -145,36 +158,66 @@ module _ (w : World) (s : Machine) (input : List ℕ) (bytes : AreBytes input) (
   AgreesWith r fuel = AgreesIn w.bound w.areas (ending_of r) r.events (named w.names (meant fuel).events) (meant fuel).ending
 
   -- how a run that was cut has ended
-  cut_ending : (fuel : ℕ) (r : Run) (x : Cut w [] r (meant fuel)) → ending_of r ≡ ending_in (Over (stop_of x.why)) (refused_of x.why)
-  cut_ending fuel r x = ap (λ (m : Mode). ending_in m r.refused) x.over ∙ ap (ending_in (Over (stop_of x.why))) x.refused
+  cut_ending : (fuel : ℕ) (r : Run) (x : Cut w [] r (meant fuel)) → ending_of x.last ≡ ending_in (Over (stop_of x.why)) (refused_of x.why)
+  cut_ending fuel r x = ap (λ (m : Mode). ending_in m x.last.refused) x.over ∙ ap (ending_in (Over (stop_of x.why))) x.refused
 
-  -- what is led agrees
-  led_agrees : (answers : ℕ → Answer) (fuel : ℕ) → AgreesWith (ran answers (leads fuel).count) fuel
-  led_agrees answers fuel =
+  cut_at : (answers : ℕ → Answer) (fuel : ℕ) (x : Cut w [] (ran answers (leads fuel).count) (meant fuel)) → ran answers ((leads fuel).count + 2) ≡ x.last
+  cut_at answers fuel x = run_more w.areas (leads fuel).count 2 (run_from s input answers) ∙ x.soon
+
+  -- so many steps agree and are lawful; and where there are fewer than units of fuel, the run is over
+  record Agreeing (answers : ℕ → Answer) (fuel : ℕ) : Type 0 where
+    pub count : ℕ
+    pub agrees : AgreesWith (ran answers count) fuel
+    pub lawful : AreLawful w.areas count (run_from s input answers)
+    pub over : count < fuel → IsOver (ran answers count).state.mode
+
+  led_agrees : (answers : ℕ → Answer) (fuel : ℕ) → Led w (ran answers (leads fuel).count) (meant fuel) → Agreeing answers fuel
+  led_agrees answers fuel l =
       let r = ran answers (leads fuel).count in
+      record {
+        count = (leads fuel).count;
+        agrees = agrees_at w.bound w.areas (meant fuel).ending r.state.mode r.refused r.events (named w.names (meant fuel).events) (sound fuel) l.ends l.events;
+        lawful = (leads fuel).lawful s answers there;
+        over = λ less. is_over (meant fuel).ending r.state.mode (λ running. let paid = (leads fuel).paid running in omega (arith, less, paid)) (sound fuel)
+            l.ends;
+      }
+
+  cut_agrees : (answers : ℕ → Answer) (fuel : ℕ) → Cut w [] (ran answers (leads fuel).count) (meant fuel) → Agreeing answers fuel
+  cut_agrees answers fuel x =
       let es = named w.names (meant fuel).events in
+      let is = cut_at answers fuel x in
+      record {
+        count = (leads fuel).count + 2;
+        agrees = subst (λ (r : Run). AgreesWith r fuel) (sym is)
+            (subst (λ (m : MachineEnding). AgreesIn w.bound w.areas m x.last.events es (meant fuel).ending)
+            (sym (cut_ending fuel (ran answers (leads fuel).count) x))
+            (agrees_cut w.bound w.areas x.why x.last.events es (meant fuel).ending x.cut));
+        lawful = lawful_more w.areas (leads fuel).count 2 (run_from s input answers) ((leads fuel).lawful s answers there) x.lawful;
+        over = λ less. record { why = stop_of x.why; over = ap (λ (r : Run). r.state.mode) is ∙ x.over };
+      }
+
+  agreeing : (answers : ℕ → Answer) (fuel : ℕ) → Agreeing answers fuel
+  agreeing answers fuel = ⊎_elim (led_agrees answers fuel) (cut_agrees answers fuel) ((leads fuel).leads s answers there)
+
+  stays_over : (answers : ℕ → Answer) (fuel count : ℕ) (k : Agreeing answers fuel) → k.count < fuel → k.count ≤ count → ran answers count ≡ ran answers k.count
+  stays_over answers fuel count k less within =
+      let o = k.over less in
+      later w.areas (run_from s input answers) k.count count within ∙ over_steps w.areas (count - k.count) (ran answers k.count) o.why o.over
+
+  -- two steps later what is led has come as far
+  reaches : (answers : ℕ → Answer) (fuel : ℕ) → Reaches (ran answers ((leads fuel).count + 2)) meaning fuel
+  reaches answers fuel =
+      let r = ran answers (leads fuel).count in
+      let es = visible (named w.names (meant fuel).events) in
       ⊎_elim
-      (λ (l : Led w r (meant fuel)). agrees_at w.bound w.areas (meant fuel).ending r.state.mode r.refused r.events es (sound fuel) l.ends l.events)
+      (λ (l : Led w r (meant fuel)).
+      subst (λ (q : Run). Reaches q meaning fuel) (sym (run_more w.areas (leads fuel).count 2 (run_from s input answers))) (inr (
+        subst (λ shown. IsBeginning shown (run_steps w.areas 2 r).events) l.events (steps_show w.areas 2 r),
+        ends_later w.areas 2 (meant fuel).ending r es l.ends l.events,
+      )))
       (λ (x : Cut w [] r (meant fuel)).
-      subst (λ (m : MachineEnding). AgreesIn w.bound w.areas m r.events es (meant fuel).ending) (sym (cut_ending fuel r x))
-      (agrees_cut w.bound w.areas x.why r.events es (meant fuel).ending x.cut))
+      inl (ap (λ (q : Run). is_cut_short (ending_of q)) (cut_at answers fuel x) ∙ ap is_cut_short (cut_ending fuel r x) ∙ cut_short x.why))
       ((leads fuel).leads s answers there)
-
-  -- fewer steps than units of fuel: the run is over
-  led_over : (answers : ℕ → Answer) (fuel : ℕ) → (leads fuel).count < fuel → IsOver (ran answers (leads fuel).count).state.mode
-  led_over answers fuel less = ⊎_elim
-      (λ (l : Led w (ran answers (leads fuel).count) (meant fuel)).
-      is_over (meant fuel).ending (ran answers (leads fuel).count).state.mode (λ running. let paid = (leads fuel).paid running in omega (arith, less, paid))
-      (sound fuel) l.ends)
-      (λ (x : Cut w [] (ran answers (leads fuel).count) (meant fuel)). record { why = stop_of x.why; over = x.over })
-      ((leads fuel).leads s answers there)
-
-  stays_over : (answers : ℕ → Answer) (fuel count : ℕ) → (leads fuel).count < fuel → (leads fuel).count ≤ count → ran answers count ≡ ran answers
-      (leads fuel).count
-  stays_over answers fuel count less within =
-      let o = led_over answers fuel less in
-      later w.areas (run_from s input answers) (leads fuel).count count within
-      ∙ over_steps w.areas (count - (leads fuel).count) (ran answers (leads fuel).count) o.why o.over
 
   -- what goes on at each amount of fuel does as a whole what Core does
   pub implements : s.store.ledger ≡ unborn → Implements w.bound w.areas (state_of s) input meaning
@@ -184,35 +227,28 @@ module _ (w : World) (s : Machine) (input : List ℕ) (bytes : AreBytes input) (
       record {
         each_run = λ answers count. (
           count,
-          subst (λ (q : Run). AgreesWith (run_steps w.areas count q) count) (sym (start answers)) (⊎_elim
-              (λ (less : (leads count).count < count).
-              subst (λ (r : Run). AgreesWith r count) (sym (stays_over answers count count less (le_of_lt less))) (led_agrees answers count))
-              (λ (within : count ≤ (leads count).count).
-              agrees_before w.bound w.areas ((leads count).count - count) (ran answers count) (named w.names (meant count).events) (meant count).ending
+          subst (λ (q : Run). AgreesWith (run_steps w.areas count q) count) (sym (start answers))
+              (let k = agreeing answers count in ⊎_elim
+              (λ (less : k.count < count).
+              subst (λ (r : Run). AgreesWith r count) (sym (stays_over answers count count k less (le_of_lt less))) k.agrees)
+              (λ (within : count ≤ k.count).
+              agrees_before w.bound w.areas (k.count - count) (ran answers count) (named w.names (meant count).events) (meant count).ending
               (ran answers count).state.mode refl
-              (subst (λ (r : Run). AgreesWith r count) (later w.areas (run_from s input answers) count (leads count).count within) (led_agrees answers count)))
-              (cases_lt (leads count).count count)),
+              (subst (λ (r : Run). AgreesWith r count) (later w.areas (run_from s input answers) count k.count within) k.agrees))
+              (cases_lt k.count count)),
         );
         each_fuel = λ fuel. (
-          (leads fuel).count,
+          (leads fuel).count + 2,
           λ answers.
-              subst (λ (q : Run). Reaches (run_steps w.areas (leads fuel).count q) meaning fuel) (sym (start answers)) (⊎_elim
-              (λ (l : Led w (ran answers (leads fuel).count) (meant fuel)).
-              inr (
-                ([], l.events ∙ sym (append-nil (visible (named w.names (meant fuel).events)))),
-                ends_at (meant fuel).ending (ran answers (leads fuel).count) (visible (named w.names (meant fuel).events)) l.ends l.events,
-              ))
-              (λ (x : Cut w [] (ran answers (leads fuel).count) (meant fuel)).
-              inl (ap is_cut_short (cut_ending fuel (ran answers (leads fuel).count) x) ∙ cut_short x.why))
-              ((leads fuel).leads s answers there)),
+              subst (λ (q : Run). Reaches (run_steps w.areas ((leads fuel).count + 2) q) meaning fuel) (sym (start answers)) (reaches answers fuel),
         );
         lawful = λ answers count.
-            subst (λ (q : Run). IsLawful w.areas (run_steps w.areas count q)) (sym (start answers)) (⊎_elim
-            (λ (less : count < (leads (suc count)).count).
-            lawful_at w.areas count (leads (suc count)).count (run_from s input answers) less ((leads (suc count)).lawful s answers there))
-            (λ (within : (leads (suc count)).count ≤ count).
-            let o = led_over answers (suc count) (omega (arith, within)) in
-            subst (λ (r : Run). IsLawful w.areas r) (sym (stays_over answers (suc count) count (omega (arith, within)) within))
-            (subst (λ (m : Mode). IsLawfulIn m w.areas (ran answers (leads (suc count)).count)) (sym o.over) tt))
-            (cases_lt count (leads (suc count)).count));
+            subst (λ (q : Run). IsLawful w.areas (run_steps w.areas count q)) (sym (start answers))
+            (let k = agreeing answers (suc count) in ⊎_elim
+            (λ (less : count < k.count). lawful_at w.areas count k.count (run_from s input answers) less k.lawful)
+            (λ (within : k.count ≤ count).
+            let o = k.over (omega (arith, within)) in
+            subst (λ (r : Run). IsLawful w.areas r) (sym (stays_over answers (suc count) count k (omega (arith, within)) within))
+            (subst (λ (m : Mode). IsLawfulIn m w.areas (ran answers k.count)) (sym o.over) tt))
+            (cases_lt count k.count));
       }

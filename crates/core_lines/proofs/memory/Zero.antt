@@ -1,33 +1,38 @@
--- NULL into a temporary: its slot gets x0.
-use Rattle.std.specs.Prelude.{if◌then◌else◌}
+-- NULL into a temporary: its slot gets x0, where the temporary is saved.
 use Rattle.std.proofs.Common.{◌≡◌, ℕ, ℤ, suc, ◌+◌, ◌*◌, ◌^◌, ◌<◌, inl, inr, Bool, true, false, List, [], ◌∷◌, refl, sym, ap, subst, ◌∙◌, arith}
 use Rattle.cyc_words.specs.Words.{word, sum_of}
 use Rattle.rv32_isa.specs.declared.instruction.Instr.TheVariants.{Lui, Add, Sw}
-use Rattle.rv32_machine.specs.State.{set_word}
+use Rattle.rv32_machine.specs.State.{set_word, set_register}
 use Rattle.core_meaning.specs.Memory.{Null, Memory}
 use Rattle.core_lines.specs.declared.line.Line.TheVariants.{Plain}
 use Rattle.core_lines.specs.Machines.{Machine}
 use Rattle.core_lines.specs.Lines.{code_length}
-use Rattle.core_lines.specs.Frames.{is_short, upper_of, lower_of, save_code, slot_of}
+use Rattle.core_lines.specs.Held.{Number, Holding, with_source}
+use Rattle.core_lines.specs.Operands.{keep_code}
+use Rattle.core_lines.specs.Frames.{is_short, upper_of, lower_of, slot_of}
 use Rattle.core_lines.specs.Lies.{Maps, Slot, SlotsLie}
-use Rattle.core_lines.proofs.memory.Relations.{Moves, World, IsInOrder, Has, Waiting, back_of, At}
+use Rattle.core_lines.proofs.memory.Relations.{Moves, World, IsInOrder, Has, Waiting, Follows, keeping, back_of}
 use Rattle.core_lines.proofs.memory.Moving.{Comes, comes_then, comes_as}
 use Rattle.core_lines.proofs.memory.Words.{parts_added, short_word}
 use Rattle.core_lines.proofs.Steps.{state_at, IsAllowed, stores_word}
 use Rattle.core_lines.proofs.memory.Fitting.{Writes, writes_word, store_fits, slot_change, with_slot, allowed, inside, slot_ground}
 use Rattle.core_lines.proofs.memory.Access.{written_out}
+use Rattle.core_lines.proofs.memory.Slots.{save_lines}
 use Rattle.core_lines.proofs.frames.Passing.{frame_set}
-use Rattle.core_lines.proofs.operations.Registers.{AtWith, at_with, puts}
-use Rattle.core_lines.proofs.operations.Operations.{having}
+use Rattle.core_lines.proofs.operations.Registers.{having, AtWith, AtHolding, with_there, AreThere, there_kept, there_source, set_kept, puts, unkept_there}
 
-module _ (w : World) (order : IsInOrder w) (x : Waiting) (outer : List Waiting) (mem : Memory) (t : ℕ) (named : t < x.fn.temporaries) where
+module _ (w : World) (order : IsInOrder w) (x : Waiting) (outer : List Waiting) (mem : Memory) (after : List Bool) (t : ℕ) (named : t < x.fn.temporaries) where
+  abbrev with_none : Waiting
+  with_none = keeping after (having t Null x)
+
   abbrev at_slot : ℕ
   at_slot = 4 * slot_of x.fn.passed t
 
-  zero_one : (f : ℕ) (offset : ℤ) (place : ℕ) (P : Maps → (ℕ → ℕ) → Type 0)
+  zero_one : Follows true (t ∷ []) x.kept after → (f : ℕ) (offset : ℤ) (place : ℕ) (P Q : Maps → (ℕ → ℕ) → Type 0)
+      → ((m : Maps) (registers : ℕ → ℕ) → P m registers → Q m registers)
       → ((m : Maps) (registers : ℕ → ℕ) → P m registers → registers 2 + at_slot < 2 ^ 23 → sum_of (registers (suc f)) (word offset) ≡ registers 2 + at_slot)
-      → Has w place (Plain (Sw (suc f) 0 offset) ∷ []) → Comes w (AtWith w x outer mem place P) (At w (having t Null x) outer mem (place + 4))
-  zero_one f offset place P reach has = record {
+      → Has w place (Plain (Sw (suc f) 0 offset) ∷ []) → Comes w (AtWith w x outer mem place P) (AtWith w with_none outer mem (place + 4) Q)
+  zero_one follows f offset place P Q gets reach has = record {
     count = 1;
     by = λ s r.
         let a = r.frame in
@@ -88,44 +93,59 @@ module _ (w : World) (order : IsInOrder w) (x : Waiting) (outer : List Waiting) 
               holds_blocks = stands.holds_blocks;
               data_based = stands.data_based;
             };
-            shows = frame_set w r.maps x (back_of w outer) a t Null named r.shows;
+            shows = frame_set w r.maps x (back_of w outer) a t Null after named follows r.shows;
             stack = r.stack;
+            holds = gets r.maps s.registers r.holds;
           };
         };
   }
 
-  abbrev Free : Maps → (ℕ → ℕ) → Type 0
-  Free m registers = Unit {0}
+  module _ (place : ℕ) (hs : List Holding) where
+    abbrev Known : Maps → (ℕ → ℕ) → Type 0
+    Known m registers = AreThere hs x.config.temps m registers
 
-  abbrev Based : Maps → (ℕ → ℕ) → Type 0
-  Based m registers = registers 7 ≡ sum_of (upper_of at_slot * 2 ^ 12) (registers 2)
+    abbrev Known_after : Maps → (ℕ → ℕ) → Type 0
+    Known_after m registers = AreThere (with_source t (Number 0) hs) with_none.config.temps m registers
 
-  pub null_pointer : (place : ℕ) → Has w place (save_code 0 (slot_of x.fn.passed t))
-      → Comes w (At w x outer mem place) (At w (having t Null x) outer mem (place + code_length (save_code 0 (slot_of x.fn.passed t))))
-  null_pointer place has = comes_then w _ (AtWith w x outer mem place Free) _ (comes_as w _ _ (at_with w order x outer mem place))
-      (by (is_short at_slot) refl has)
-    where
-      by : (short : Bool) → is_short at_slot ≡ short
-          → Has w place (if short then Plain (Sw 2 0 (lower_of at_slot)) ∷ []
-          else Plain (Lui 7 (upper_of at_slot)) ∷ Plain (Add 7 7 2) ∷ Plain (Sw 7 0 (lower_of at_slot)) ∷ [])
-          → Comes w (AtWith w x outer mem place Free) (At w (having t Null x) outer mem
-          (place + code_length (if short then Plain (Sw 2 0 (lower_of at_slot)) ∷ []
-          else Plain (Lui 7 (upper_of at_slot)) ∷ Plain (Add 7 7 2) ∷ Plain (Sw 7 0 (lower_of at_slot)) ∷ [])))
-      by true short has =
-          zero_one 1 (lower_of at_slot) place Free
-          (λ m registers h near. let part = short_word at_slot short (omega (arith, near)) in omega (arith, part, near)) has
-      by false long has =
-          let end : place + 4 + 4 + 4 ≡ place + 12 = omega arith in
-          subst (λ p. Comes w (AtWith w x outer mem place Free) (At w (having t Null x) outer mem p)) end
-          (comes_then w _ (AtWith w x outer mem (place + 4) (λ m registers. registers 7 ≡ upper_of at_slot * 2 ^ 12)) _
-          (puts w order x outer mem 6 place Free (λ m registers. registers 7 ≡ upper_of at_slot * 2 ^ 12) (Lui 7 (upper_of at_slot))
-          (λ registers. upper_of at_slot * 2 ^ 12) refl
-          has.0.0 (λ r b st n. refl) (λ _. tt) (λ m registers h. refl))
-          (comes_then w _ (AtWith w x outer mem (place + 4 + 4) Based) _
-          (puts w order x outer mem 6 (place + 4) (λ m registers. registers 7 ≡ upper_of at_slot * 2 ^ 12) Based (Add 7 7 2)
-          (λ registers. sum_of (registers 7) (registers 2)) refl
-          has.2.0.0 (λ r b st n. refl) (λ _. tt) (λ m registers h. ap (λ k. sum_of k (registers 2)) h))
-          (zero_one 6 (lower_of at_slot) (place + 4 + 4) Based
-          (λ m registers h near.
-          let sum = parts_added at_slot (registers 2) in
-          ap (λ k. sum_of k (word (lower_of at_slot))) h ∙ omega (arith, sum, near)) has.2.2)))
+    abbrev Lifted : Maps → (ℕ → ℕ) → Type 0
+    Lifted m registers = (registers 7 ≡ upper_of at_slot * 2 ^ 12) × Known m registers
+
+    abbrev Based : Maps → (ℕ → ℕ) → Type 0
+    Based m registers = (registers 7 ≡ sum_of (upper_of at_slot * 2 ^ 12) (registers 2)) × Known m registers
+
+    still : (v : ℕ) (m : Maps) (registers : ℕ → ℕ) → Known m registers → Known m (set_register 7 v registers)
+    still v m registers h = there_kept 6 hs x.config.temps refl m (set_register 7 v registers) registers (set_kept 6 v registers) h
+
+    behind : (m : Maps) (registers : ℕ → ℕ) → Known m registers → Known_after m registers
+    behind m registers h = there_source t Null (Number 0) hs x.config.temps m registers (refl, omega arith) h
+
+    saved : Follows true (t ∷ []) x.kept after → (short : Bool) → is_short at_slot ≡ short → Has w place (save_lines short 0 at_slot)
+        → Comes w (AtWith w x outer mem place Known) (AtWith w with_none outer mem (place + code_length (save_lines short 0 at_slot)) Known_after)
+    saved follows true short has =
+        zero_one follows 1 (lower_of at_slot) place Known Known_after behind
+        (λ m registers h near. let part = short_word at_slot short (omega (arith, near)) in omega (arith, part, near)) has
+    saved follows false long has =
+        let end : place + 4 + 4 + 4 ≡ place + 12 = omega arith in
+        subst (λ p. Comes w (AtWith w x outer mem place Known) (AtWith w with_none outer mem p Known_after)) end
+        (comes_then w _ (AtWith w x outer mem (place + 4) Lifted) _
+        (puts w order x outer mem 6 place Known Lifted (Lui 7 (upper_of at_slot)) (λ registers. upper_of at_slot * 2 ^ 12) refl
+        has.0.0 (λ r b st n. refl) (λ _. tt) (λ m registers h. (refl, still (upper_of at_slot * 2 ^ 12) m registers h)))
+        (comes_then w _ (AtWith w x outer mem (place + 4 + 4) Based) _
+        (puts w order x outer mem 6 (place + 4) Lifted Based (Add 7 7 2) (λ registers. sum_of (registers 7) (registers 2)) refl
+        has.2.0.0 (λ r b st n. refl) (λ _. tt)
+        (λ m registers h. (ap (λ k. sum_of k (registers 2)) h.0, still (sum_of (registers 7) (registers 2)) m registers h.1)))
+        (zero_one follows 6 (lower_of at_slot) (place + 4 + 4) Based Known_after (λ m registers h. behind m registers h.1)
+        (λ m registers h near.
+        let sum = parts_added at_slot (registers 2) in
+        ap (λ k. sum_of k (word (lower_of at_slot))) h.0 ∙ omega (arith, sum, near)) has.2.2)))
+
+    saved_or_not : (keeps : Bool) → Follows keeps (t ∷ []) x.kept after → Has w place (keep_code keeps x.fn.passed 0 t)
+        → Comes w (AtWith w x outer mem place Known) (AtWith w with_none outer mem (place + code_length (keep_code keeps x.fn.passed 0 t)) Known_after)
+    saved_or_not true follows has = saved follows (is_short at_slot) refl has
+    saved_or_not false follows has = unkept_there w order x outer mem after t place Null Known Known_after follows behind
+
+    pub null_pointer : (keeps : Bool) → Follows keeps (t ∷ []) x.kept after → Has w place (keep_code keeps x.fn.passed 0 t)
+        → Comes w (AtHolding w x outer mem place hs)
+        (AtHolding w with_none outer mem (place + code_length (keep_code keeps x.fn.passed 0 t)) (with_source t (Number 0) hs))
+    null_pointer keeps follows has =
+        comes_then w _ (AtWith w x outer mem place Known) _ (comes_as w _ _ (with_there w x outer mem place hs)) (saved_or_not keeps follows has)

@@ -15,7 +15,7 @@ use Rattle.core_lines.specs.Loops.{are_words, clear_loop}
 use Rattle.core_lines.specs.Selected.{further_code, bytes_in}
 use Rattle.core_lines.specs.Lies.{Maps, Shows, Points, read}
 use Rattle.core_lines.specs.Layouts.{IsLayout, IsFull, IsNothing, IsZero}
-use Rattle.core_lines.proofs.memory.Relations.{Moves, World, IsInOrder, Has, Waiting, At}
+use Rattle.core_lines.proofs.memory.Relations.{Moves, World, IsInOrder, Has, Waiting, At, IsKept}
 use Rattle.core_lines.proofs.memory.Moving.{Reach, Comes, comes_then, comes_as}
 use Rattle.core_lines.proofs.Steps.{state_at}
 use Rattle.core_lines.proofs.memory.Access.{written_out}
@@ -141,12 +141,12 @@ module _ (w : World) (order : IsInOrder w) (x : Waiting) (outer : List Waiting) 
           })
 
   -- all of it
-  module _ (t : ℕ) (named : t < x.fn.temporaries) (is : x.config.temps t ≡ Pointer s b) where
+  module _ (t : ℕ) (named : t < x.fn.temporaries) (kept : IsKept w x t) (is : x.config.temps t ≡ Pointer s b) where
     abbrev loads : List Line
     loads = loading w order x outer mem 5 t
 
     abbrev clear_lines : Bool → List Line
-    clear_lines none = (if none then [] else loads ++ further_code 7 (bytes_in l count) ++ clear_loop (are_words l))
+    clear_lines none = (if none then [] else loads ++ further_code 7 5 (bytes_in l count) ++ clear_loop (are_words l))
 
     pub clear : (place : ℕ) → Has w place (clear_lines (nat_eq (bytes_in l count) 0))
         → Comes w (Here w order x outer mem place) (At w x outer (cleared l count s mem) (place + code_length (clear_lines (nat_eq (bytes_in l count) 0))))
@@ -165,7 +165,7 @@ module _ (w : World) (order : IsInOrder w) (x : Waiting) (outer : List Waiting) 
         by true none has = comes_as w _ _ (λ q a.
             let slot = a.sp + 4 * slot_of x.fn.passed t in
             let p : Points a.maps s b (word_at q.bytes slot) =
-            subst (λ v. Shows a.maps v (word_at q.bytes slot)) is (temp_shown w order x outer mem t place q a named) in
+            subst (λ v. Shows a.maps v (word_at q.bytes slot)) is (temp_shown w order x outer mem t place q a named kept) in
             let empty = nothing q a p.base p.known (eqb-true (bytes_in l count) 0 none) in
             let here : place ≡ place + 0 = omega arith in
             subst (λ k. At w x outer (cleared l count s mem) k q) here
@@ -175,18 +175,18 @@ module _ (w : World) (order : IsInOrder w) (x : Waiting) (outer : List Waiting) 
             (cleared l count s mem).parts (cleared_part a.maps mem l count s zero) a.stands.aligned (λ r h. refl) a.stands.kept a.stands.small
             (record { inside = λ i less. absurd (omega (arith, less, empty)); outside = λ r far. refl }))))
         by false some has =
-            let second = further_code 7 (bytes_in l count) in
+            let second = further_code 7 5 (bytes_in l count) in
             let third = clear_loop (are_words l) in
             let positive : 0 < bytes_in l count = (let other = eqb-false (bytes_in l count) 0 some in omega (arith, other)) in
             in_turn w (Here w order x outer mem place) (With w order x outer mem Ready) (λ k. At w x outer (cleared l count s mem) k) place
             (loads ++ second) third
             (in_turn w (Here w order x outer mem place) (With w order x outer mem Pointed) (With w order x outer mem Ready) place loads second
             (comes_then w _ _ _
-            (loads_into w order x outer mem 4 t place named refl (has_first w place loads second (has_first w place (loads ++ second) third has)))
+            (loads_into w order x outer mem 4 t place named kept refl (has_first w place loads second (has_first w place (loads ++ second) third has)))
             (comes_as w _ _ (λ q a. knows w order x outer mem (place + code_length loads) (InRegister 5 (x.config.temps t)) Pointed q
             (λ m registers h. subst (λ v. Shows m v (registers 5)) is h.0) a)))
             (further_into w order x outer mem 6 (bytes_in l count) (place + code_length loads) Pointed Ready refl (omega arith)
-            (has_second w place loads second (has_first w place (loads ++ second) third has)) (λ m new old seven kept h.
-            let five = kept 5 refl refl in
+            (has_second w place loads second (has_first w place (loads ++ second) third has)) (λ m new old seven stay h.
+            let five = stay 5 refl refl in
             (subst (λ v. Points m s b v) (sym five) h, seven ∙ ap (λ v. sum_of v (bytes_in l count)) (sym five)))))
             (loop (are_words l) refl positive (place + code_length (loads ++ second)) (has_second w place (loads ++ second) third has))

@@ -46,7 +46,7 @@ use Rattle.core_lines.specs.Loops.{are_words, copy_loop}
 use Rattle.core_lines.specs.Selected.{further_code}
 use Rattle.core_lines.specs.Lies.{Maps, Shows, Points, read, Activation, Cell, PartLies, Fits}
 use Rattle.core_lines.specs.Layouts.{IsLayout, IsFull}
-use Rattle.core_lines.proofs.memory.Relations.{Moves, World, IsInOrder, Has, Waiting, At}
+use Rattle.core_lines.proofs.memory.Relations.{Moves, World, IsInOrder, Has, Waiting, At, IsKept}
 use Rattle.core_lines.proofs.memory.Moving.{Reach, Comes, comes_then, comes_as}
 use Rattle.core_lines.proofs.Steps.{state_at}
 use Rattle.core_lines.proofs.memory.Storing.{live_lasts}
@@ -183,21 +183,22 @@ module _ (w : World) (order : IsInOrder w) (x : Waiting) (outer : List Waiting) 
           })
 
   -- all of it
-  module _ (to from : ℕ) (named : to < x.fn.temporaries) (named' : from < x.fn.temporaries) (is : x.config.temps to ≡ Pointer s b)
+  module _ (to from : ℕ) (named : to < x.fn.temporaries) (kept : IsKept w x to) (named' : from < x.fn.temporaries) (kept' : IsKept w x from)
+      (is : x.config.temps to ≡ Pointer s b)
       (is' : x.config.temps from ≡ Pointer t c) where
     abbrev loads : List Line
     loads = loading w order x outer mem 5 to ++ loading w order x outer mem 6 from
 
     abbrev copy_lines : Bool → List Line
-    copy_lines none = (if none then [] else loads ++ further_code 7 l.bytes ++ copy_loop (are_words l))
+    copy_lines none = (if none then [] else loads ++ further_code 7 5 l.bytes ++ copy_loop (are_words l))
 
     -- the end is found
-    ends : (place : ℕ) → 0 < l.bytes → Has w place (further_code 7 l.bytes)
-        → Comes w (With w order x outer mem Pointed place) (With w order x outer mem Ready (place + code_length (further_code 7 l.bytes)))
+    ends : (place : ℕ) → 0 < l.bytes → Has w place (further_code 7 5 l.bytes)
+        → Comes w (With w order x outer mem Pointed place) (With w order x outer mem Ready (place + code_length (further_code 7 5 l.bytes)))
     ends place some has = ⊎_elim
-        (λ (less : l.bytes < 2 ^ 32). further_into w order x outer mem 6 l.bytes place Pointed Ready refl less has (λ m new old seven kept h.
-        let five = kept 5 refl refl in
-        let six = kept 6 refl refl in (
+        (λ (less : l.bytes < 2 ^ 32). further_into w order x outer mem 6 l.bytes place Pointed Ready refl less has (λ m new old seven stay h.
+        let five = stay 5 refl refl in
+        let six = stay 6 refl refl in (
           (subst (λ v. Points m s b v) (sym five) h.0, subst (λ v. Points m t c v) (sym six) h.1),
           seven ∙ ap (λ v. sum_of v l.bytes) (sym five),
         )))
@@ -220,9 +221,10 @@ module _ (w : World) (order : IsInOrder w) (x : Waiting) (outer : List Waiting) 
         by true none has = comes_as w _ _ (λ q a.
             let nothing = eqb-true l.bytes 0 none in
             let p : Points a.maps s b (word_at q.bytes (a.sp + 4 * slot_of x.fn.passed to)) =
-            subst (λ v. Shows a.maps v (word_at q.bytes (a.sp + 4 * slot_of x.fn.passed to))) is (temp_shown w order x outer mem to place q a named) in
+            subst (λ v. Shows a.maps v (word_at q.bytes (a.sp + 4 * slot_of x.fn.passed to))) is (temp_shown w order x outer mem to place q a named kept) in
             let p' : Points a.maps t c (word_at q.bytes (a.sp + 4 * slot_of x.fn.passed from)) =
-            subst (λ v. Shows a.maps v (word_at q.bytes (a.sp + 4 * slot_of x.fn.passed from))) is' (temp_shown w order x outer mem from place q a named') in
+            subst (λ v. Shows a.maps v (word_at q.bytes (a.sp + 4 * slot_of x.fn.passed from))) is'
+            (temp_shown w order x outer mem from place q a named' kept') in
             let here : place ≡ place + 0 = omega arith in
             let fs = a.frame ∷ a.others in
             subst (λ k. At w x outer (copied l s t mem) k q) here
@@ -233,13 +235,14 @@ module _ (w : World) (order : IsInOrder w) (x : Waiting) (outer : List Waiting) 
             a.stands.aligned (λ r h. refl) a.stands.kept a.stands.small
             (record { inside = λ i less. absurd (omega (arith, less, nothing)); outside = λ r far. refl }))))
         by false some has =
-            let second = further_code 7 l.bytes in
+            let second = further_code 7 5 l.bytes in
             let third = copy_loop (are_words l) in
             let positive : 0 < l.bytes = (let other = eqb-false l.bytes 0 some in omega (arith, other)) in
             in_turn w (Here w order x outer mem place) (With w order x outer mem Ready) (λ k. At w x outer (copied l s t mem) k) place (loads ++ second) third
             (in_turn w (Here w order x outer mem place) (With w order x outer mem Pointed) (With w order x outer mem Ready) place loads second
             (comes_then w _ _ _
-            (loads_both w order x outer mem to from place named named' (has_first w place loads second (has_first w place (loads ++ second) third has)))
+            (loads_both w order x outer mem to from place named kept named' kept'
+            (has_first w place loads second (has_first w place (loads ++ second) third has)))
             (comes_as w _ _ (λ q a. knows w order x outer mem (place + code_length loads)
             (Loaded w order x outer mem (x.config.temps to) (x.config.temps from)) Pointed q (λ m registers h. (
               subst (λ v. Shows m v (registers 5)) is h.0.0,

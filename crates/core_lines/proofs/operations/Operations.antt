@@ -2,38 +2,104 @@
 use Rattle.rv32_machine.specs.Run.{Run}
 use Rattle.arena_laws.specs.Lawful.{Answer}
 use Rattle.core_lines.specs.Machines.{state_of}
-use Rattle.std.specs.Prelude.{bit_and, if◌then◌else◌}
-use Rattle.std.proofs.Common.{◌≡◌, ℕ, suc, pos, ◌+◌, ◌*◌, ◌%◌, ◌^◌, ◌<◌, Bool, true, false, nat_lt, List, [], ◌∷◌, ◌++◌, refl, sym, ap, subst, ◌∙◌, arith}
+use Rattle.std.specs.Prelude.{bit_and}
+use Rattle.std.proofs.Common.{
+  ◌≡◌,
+  ℕ,
+  zero,
+  suc,
+  pos,
+  ◌+◌,
+  ◌*◌,
+  ◌%◌,
+  ◌^◌,
+  ◌<◌,
+  ◌≤◌,
+  ◌⊎◌,
+  inl,
+  inr,
+  Bool,
+  true,
+  false,
+  nat_eq,
+  nat_lt,
+  List,
+  [],
+  ◌∷◌,
+  ◌++◌,
+  Option,
+  Some,
+  None,
+  refl,
+  sym,
+  ap,
+  subst,
+  ◌∙◌,
+  arith,
+}
 use Rattle.std.proofs.lemmas.Nat.{and_mask}
-use Rattle.std.proofs.lemmas.Bool.{lt-ltb, le-ltb}
-use Rattle.cyc_words.specs.Words.{word, sum_of}
+use Rattle.std.proofs.lemmas.Bool.{lt-ltb, le-ltb, cases_lt}
+use Rattle.cyc_words.specs.Words.{word}
+use Rattle.rv32_isa.specs.declared.instruction.Instr.{Instr}
 use Rattle.rv32_isa.specs.declared.instruction.Instr.TheVariants as instr
-use Rattle.core_meaning.specs.Memory.{Spot, Content, Word, Null, Pointer, Memory}
-use Rattle.core_meaning.specs.Core.{Binary}
-use Rattle.core_meaning.specs.Steps.{with_temp}
-use Rattle.core_meaning.specs.Words.{two}
-use Rattle.core_lines.specs.Machines.{Machine}
+use Rattle.core_meaning.specs.Memory.{Spot, Content, Word, Null, Pointer, Birth, Memory}
+use Rattle.core_lines.specs.Machines.{Machine, Store}
 use Rattle.core_lines.specs.Lies.{Maps, Shows, Points, Slot}
-use Rattle.rv32_machine.specs.Step.{truth}
+use Rattle.rv32_machine.specs.Step.{truth, effect, gives}
+use Rattle.rv32_machine.specs.Audit.{AccessIsLawful}
 use Rattle.rv32_machine.specs.State.{word_at}
 use Rattle.core_lines.specs.declared.line.Line.{Line}
 use Rattle.core_lines.specs.declared.line.Line.TheVariants.{Plain}
 use Rattle.core_lines.specs.Lines.{code_length}
-use Rattle.core_lines.specs.Frames.{is_short, lower_of, word_code, load_code, save_code, slot_of}
-use Rattle.core_lines.specs.Selected.{constant_code, binary_code}
+use Rattle.core_lines.specs.Frames.{load_code, save_code, slot_of}
+use Rattle.core_lines.specs.Held.{
+  Source,
+  Register,
+  Number,
+  Holding,
+  source_of,
+  with_source,
+  with_result,
+  with_moved,
+  result_index,
+  result_register,
+}
+use Rattle.core_lines.specs.Operands.{operand_in, operand_code, keep_code, number_kept, move_kept}
 use Rattle.core_lines.specs.Homes.{stays}
-use Rattle.core_lines.proofs.memory.Relations.{World, IsInOrder, Has, Waiting, At, back_of}
+use Rattle.core_lines.proofs.memory.Relations.{World, IsInOrder, Has, Waiting, Follows, IsKept, keeping, At, back_of}
+use Rattle.core_lines.proofs.memory.Bytes.{word_is_small}
 use Rattle.core_lines.proofs.memory.Moving.{Comes, comes_then, comes_as}
-use Rattle.core_lines.proofs.memory.Words.{short_word}
 use Rattle.core_lines.proofs.Steps.{state_at}
-use Rattle.core_lines.proofs.memory.Slots.{Kept}
 use Rattle.core_lines.proofs.frames.Passing.{has_first, has_second, temp_lies}
-use Rattle.core_lines.proofs.operations.Registers.{AtWith, InRegister, in_turn, knows, at_with, loads_temp, saves_held, puts, puts_into}
-use Rattle.core_lines.proofs.operations.Values.{Both, computes}
-
--- an activation with a temporary set
-abbrev pub having : ℕ → Content → Waiting → Waiting
-having t v x = record x { config = with_temp t v x.config }
+pub use Rattle.core_lines.proofs.operations.Registers.{having}
+use Rattle.core_lines.proofs.operations.Registers.{
+  AtWith,
+  AtHolding,
+  with_there,
+  as_holding,
+  InRegister,
+  AreThere,
+  IsServed,
+  is_spare,
+  spare_apart,
+  in_turn,
+  knows,
+  now_known,
+  at_with,
+  at_of,
+  loads_new,
+  loads_temp,
+  there_found,
+  there_kept,
+  there_without,
+  there_source,
+  source_not_zero,
+  result_stays,
+  on_operand,
+  keep_into,
+  result_into,
+  number_into,
+}
 
 module _ (w : World) (order : IsInOrder w) (x : Waiting) (outer : List Waiting) (mem : Memory) where
   abbrev pub Here : ℕ → Machine → Type 0
@@ -45,30 +111,48 @@ module _ (w : World) (order : IsInOrder w) (x : Waiting) (outer : List Waiting) 
   abbrev Free : Maps → (ℕ → ℕ) → Type 0
   Free m registers = Unit {0}
 
-  -- with a temporary set whose value is in x5
-  abbrev pub Having : ℕ → Content → ℕ → Machine → Type 0
-  Having t v place = AtWith w (having t v x) outer mem place (InRegister 5 v)
-
   abbrev pub loading : ℕ → ℕ → List Line
   loading r t = load_code r (slot_of x.fn.passed t)
 
   abbrev pub saving : ℕ → ℕ → List Line
   saving r t = save_code r (slot_of x.fn.passed t)
 
+  abbrev pub operand : List Holding → ℕ → ℕ → List Line
+  operand hs spare t = operand_code x.fn.passed hs spare t
+
   -- what a temporary holds is shown by the word in its slot
-  pub temp_shown : (t place : ℕ) (s : Machine) (a : At w x outer mem place s) → t < x.fn.temporaries
+  pub temp_shown : (t place : ℕ) (s : Machine) (a : At w x outer mem place s) → t < x.fn.temporaries → IsKept w x t
       → Shows a.maps (x.config.temps t) (word_at s.bytes (a.sp + 4 * slot_of x.fn.passed t))
-  temp_shown t place s a named =
+  temp_shown t place s a named kept =
       let slot = slot_of x.fn.passed t in
       a.stands.fits.shows (Slot 0 slot) (a.sp + 4 * slot) 4 (x.config.temps t)
-      (temp_lies w order x outer mem a.maps (back_of w outer) a.frame a.others a.sp t named a.shows a.stands.stacked)
+      (temp_lies w order x outer mem a.maps (back_of w outer) a.frame a.others a.sp t named kept a.shows a.stands.stacked)
+
+  -- and a word is below 2 ^ 32
+  pub word_few : (y n place : ℕ) (hs : List Holding) (s : Machine) → AtWith w x outer mem place (AreThere hs x.config.temps) s → y < x.fn.temporaries
+      → IsServed w x hs y → x.config.temps y ≡ Word n → n < 2 ^ 32
+  word_few y n place hs s a named served is = by (source_of hs y) refl
+    where
+      below : (k : ℕ) → Shows a.maps (x.config.temps y) k → k < 2 ^ 32 → n < 2 ^ 32
+      below k shows few = let same : k ≡ n = subst (λ v. Shows a.maps v k) is shows in subst (λ j. j < 2 ^ 32) same few
+
+      by : (o : Option Source) → source_of hs y ≡ o → n < 2 ^ 32
+      by None e =
+          let at = a.sp + 4 * slot_of x.fn.passed y in
+          let small = a.stands.small in
+          below (word_at s.bytes at) (temp_shown y place s (at_of w order x outer mem place (AreThere hs x.config.temps) s a) named (served e))
+          (word_is_small s.bytes at (small at) (small (at + 1)) (small (at + 2)) (small (at + 3)))
+      by (Some (Register zero)) e = absurd (source_not_zero hs y e)
+      by (Some (Register (suc q))) e =
+          let found = there_found hs y (Register (suc q)) x.config.temps a.maps s.registers a.holds e in below (s.registers (suc q)) found.0.0 found.0.1
+      by (Some (Number k)) e = let found = there_found hs y (Number k) x.config.temps a.maps s.registers a.holds e in below k found.0 found.1
 
   -- a temporary into a register
-  pub loads_into : (r t place : ℕ) → t < x.fn.temporaries → stays (suc r) ≡ false → Has w place (loading (suc r) t)
+  pub loads_into : (r t place : ℕ) → t < x.fn.temporaries → IsKept w x t → stays (suc r) ≡ false → Has w place (loading (suc r) t)
       → Comes w (Here place) (With (InRegister (suc r) (x.config.temps t)) (place + code_length (loading (suc r) t)))
-  loads_into r t place named other has =
+  loads_into r t place named kept other has =
       comes_then w _ (With Free place) _ (comes_as w _ _ (at_with w order x outer mem place))
-      (comes_then w _ _ _ (loads_temp w order x outer mem r t place Free named other (λ m new old kept h. tt) has)
+      (comes_then w _ _ _ (loads_temp w order x outer mem r t place Free named kept other (λ m new old kept h. tt) has)
       (comes_as w _ _ (λ s a. knows w order x outer mem (place + code_length (loading (suc r) t)) _ (InRegister (suc r) (x.config.temps t)) s
       (λ m registers h. h.0) a)))
 
@@ -76,121 +160,153 @@ module _ (w : World) (order : IsInOrder w) (x : Waiting) (outer : List Waiting) 
   abbrev pub Loaded : Content → Content → Maps → (ℕ → ℕ) → Type 0
   Loaded a b m registers = InRegister 5 a m registers × InRegister 6 b m registers
 
-  pub loads_both : (t u place : ℕ) → t < x.fn.temporaries → u < x.fn.temporaries → Has w place (loading 5 t ++ loading 6 u)
+  pub loads_both : (t u place : ℕ) → t < x.fn.temporaries → IsKept w x t → u < x.fn.temporaries → IsKept w x u → Has w place (loading 5 t ++ loading 6 u)
       → Comes w (Here place) (With (Loaded (x.config.temps t) (x.config.temps u)) (place + code_length (loading 5 t ++ loading 6 u)))
-  loads_both t u place named named' has =
+  loads_both t u place named kept named' kept' has =
       in_turn w (Here place) (With (InRegister 5 (x.config.temps t))) (With (Loaded (x.config.temps t) (x.config.temps u))) place (loading 5 t) (loading 6 u)
-      (loads_into 4 t place named refl (has_first w place (loading 5 t) (loading 6 u) has))
+      (loads_into 4 t place named kept refl (has_first w place (loading 5 t) (loading 6 u) has))
       (comes_then w _ _ _
-      (loads_temp w order x outer mem 5 u (place + code_length (loading 5 t)) (InRegister 5 (x.config.temps t)) named' refl
-      (λ m new old kept h. subst (λ v. Shows m (x.config.temps t) v × (v < 2 ^ 32)) (sym (kept 5 refl refl)) h)
+      (loads_temp w order x outer mem 5 u (place + code_length (loading 5 t)) (InRegister 5 (x.config.temps t)) named' kept' refl
+      (λ m new old same h. subst (λ v. Shows m (x.config.temps t) v × (v < 2 ^ 32)) (sym (same 5 refl refl)) h)
       (has_second w place (loading 5 t) (loading 6 u) has))
       (comes_as w _ _ (λ s a. knows w order x outer mem (place + code_length (loading 5 t) + code_length (loading 6 u)) _
       (Loaded (x.config.temps t) (x.config.temps u)) s
       (λ m registers h. (h.1, h.0)) a)))
 
-  -- code that leaves a value in x5, which is saved
-  pub then_saves : (t place : ℕ) (v : Content) (first : List Line) → t < x.fn.temporaries → Has w place (first ++ saving 5 t)
-      → (Has w place first → Comes w (Here place) (With (InRegister 5 v) (place + code_length first)))
-      → Comes w (Here place) (Having t v (place + code_length (first ++ saving 5 t)))
-  then_saves t place v first named has comes =
-      in_turn w (Here place) (With (InRegister 5 v)) (Having t v) place first (saving 5 t)
-      (comes (has_first w place first (saving 5 t) has))
-      (saves_held w order x outer mem 4 t (place + code_length first) v named refl (has_second w place first (saving 5 t) has))
+  -- where no machine is
+  pub never : (R R' : Machine → Type 0) → ((s : Machine) → R s → ⊥) → Comes w R R'
+  never R R' none = comes_as w R R' (λ s r. absurd (none s r))
 
-  -- ---- constants
+  -- ---- results: a temporary gets a value, and it is saved or not
 
-  -- a word into a register, where something stays
-  pub word_into : (r v place : ℕ) (P Q : Maps → (ℕ → ℕ) → Type 0) → stays (suc r) ≡ false → v < 2 ^ 32 → Has w place (word_code (suc r) v)
-      → ((m : Maps) (new old : ℕ → ℕ) → new (suc r) ≡ v → Kept (suc r) new old → P m old → Q m new)
-      → Comes w (With P place) (With Q (place + 8))
-  word_into r v place P Q other small has gets = puts_into w order x outer mem r v place P Q small other has gets
+  module _ (keeps : Bool) (after : List Bool) (t : ℕ) (named : t < x.fn.temporaries) (follows : Follows keeps (t ∷ []) x.kept after) where
+    abbrev with_value : Content → Waiting
+    with_value v = keeping after (having t v x)
 
-  pub constant_into : (v place : ℕ) → v < 2 ^ 32 → Has w place (constant_code v)
-      → Comes w (Here place) (With (λ m registers. registers 5 ≡ v) (place + code_length (constant_code v)))
-  constant_into v place small has = comes_then w _ (With Free place) _ (comes_as w _ _ (at_with w order x outer mem place)) (by (is_short v) refl has)
-    where
-      by : (short : Bool) → is_short v ≡ short → Has w place (if short then Plain (instr.Addi 5 0 (lower_of v)) ∷ [] else word_code 5 v)
-          → Comes w (With Free place) (With (λ m registers. registers 5 ≡ v)
-          (place + code_length (if short then Plain (instr.Addi 5 0 (lower_of v)) ∷ [] else word_code 5 v)))
-      by true short has =
-          puts w order x outer mem 4 place Free (λ m registers. registers 5 ≡ v) (instr.Addi 5 0 (lower_of v))
-          (λ registers. sum_of 0 (word (lower_of v))) refl has.0.0
-          (λ r b st n. refl) (λ _. tt) (λ m registers h. let same = short_word v short small in omega (arith, same, small))
-      by false long has = word_into 4 v place Free (λ m registers. registers 5 ≡ v) refl small has (λ m new old is kept h. is)
+    abbrev pub kept_lines : List Line
+    kept_lines = keep_code keeps x.fn.passed (result_register t) t
 
-  pub constant : (t v place : ℕ) → t < x.fn.temporaries → v < 2 ^ 32 → Has w place (constant_code v ++ saving 5 t)
-      → Comes w (Here place) (Having t (Word v) (place + code_length (constant_code v ++ saving 5 t)))
-  constant t v place named small has = then_saves t place (Word v) (constant_code v) named has
-      (λ has. comes_then w _ _ _ (constant_into v place small has)
-      (comes_as w _ _ (λ s a. knows w order x outer mem (place + code_length (constant_code v)) _ (InRegister 5 (Word v)) s
-      (λ m registers h. (h, subst (λ k. k < 2 ^ 32) (sym h) small)) a)))
+    abbrev numbered : ℕ → List Line
+    numbered n = number_kept keeps x.fn.passed t n
 
-  -- ---- moves, and operations on words
+    pub constant : (v place : ℕ) (hs : List Holding) → v < 2 ^ 32 → Has w place (numbered v)
+        → Comes w (AtHolding w x outer mem place hs)
+        (AtHolding w (with_value (Word v)) outer mem (place + code_length (numbered v)) (with_source t (Number v) hs))
+    constant v place hs small has = number_into w order x outer mem keeps after t v place (Word v) hs named follows small (λ s a. refl) has
 
-  pub move : (t u place : ℕ) → t < x.fn.temporaries → u < x.fn.temporaries → Has w place (loading 5 u ++ saving 5 t)
-      → Comes w (Here place) (Having t (x.config.temps u) (place + code_length (loading 5 u ++ saving 5 t)))
-  move t u place named named' has = then_saves t place (x.config.temps u) (loading 5 u) named has (λ has. loads_into 4 u place named' refl has)
+    -- the handle of the heap: its number is 0
+    pub heap_handle : (place : ℕ) (hs : List Holding) → Has w place (numbered 0)
+        → Comes w (AtHolding w x outer mem place hs)
+        (AtHolding w (with_value (Birth 0)) outer mem (place + code_length (numbered 0)) (with_source t (Number 0) hs))
+    heap_handle place hs has =
+        number_into w order x outer mem keeps after t 0 place (Birth 0) hs named follows (omega arith) (λ s a. a.stands.known.zero_is_heap) has
 
-  -- a temporary in x5, and an instruction on it
-  one_more : (u place : ℕ) (i : _) (v : Content) (value : (ℕ → ℕ) → ℕ) → u < x.fn.temporaries → Has w place (loading 5 u ++ (Plain i ∷ []))
-      → ((registers bytes : ℕ → ℕ) (st : _) (answer : Answer)
-      → Rattle.rv32_machine.specs.Step.effect w.areas answer i (state_of (state_at (place + code_length (loading 5 u)) registers bytes st))
-      ≡ Rattle.rv32_machine.specs.Step.gives 5 (value registers) (state_of (state_at (place + code_length (loading 5 u)) registers bytes st)))
-      → ((r : Run) → Rattle.rv32_machine.specs.Audit.AccessIsLawful w.areas r i)
-      → ((m : Maps) (registers : ℕ → ℕ) → InRegister 5 (x.config.temps u) m registers → Shows m v (value registers) × (value registers < 2 ^ 32))
-      → Comes w (Here place) (With (InRegister 5 v) (place + code_length (loading 5 u ++ (Plain i ∷ []))))
-  one_more u place i v value named has e access gets =
-      in_turn w (Here place) (With (InRegister 5 (x.config.temps u))) (With (InRegister 5 v)) place (loading 5 u) (Plain i ∷ [])
-      (loads_into 4 u place named refl (has_first w place (loading 5 u) (Plain i ∷ []) has))
-      (puts w order x outer mem 4 (place + code_length (loading 5 u)) (InRegister 5 (x.config.temps u)) (InRegister 5 v) i value refl
-      (has_second w place (loading 5 u) (Plain i ∷ []) has).0.0 e access gets)
+    -- ---- moves
 
-  pub narrow : (t u n place : ℕ) → t < x.fn.temporaries → u < x.fn.temporaries → x.config.temps u ≡ Word n
-      → Has w place (loading 5 u ++ (Plain (instr.Andi 5 5 (pos 255)) ∷ []) ++ saving 5 t)
-      → Comes w (Here place) (Having t (Word (n % 256))
-      (place + code_length (loading 5 u ++ (Plain (instr.Andi 5 5 (pos 255)) ∷ []) ++ saving 5 t)))
-  narrow t u n place named named' is has = then_saves t place (Word (n % 256)) (loading 5 u ++ (Plain (instr.Andi 5 5 (pos 255)) ∷ [])) named has
-      (λ has. one_more u place (instr.Andi 5 5 (pos 255)) (Word (n % 256)) (λ registers. bit_and (registers 5) (word (pos 255))) named' has (λ r b st a. refl)
-      (λ _. tt)
-      (λ m registers h.
-      let same : registers 5 ≡ n = subst (λ v. Shows m v (registers 5)) is h.0 in
-      let masked : bit_and (registers 5) 255 ≡ registers 5 % 256 = and_mask (registers 5) 8 in
-      (masked ∙ ap (λ k. k % 256) same, omega (arith, masked))))
+    pub move : (y place : ℕ) (hs : List Holding) → y < x.fn.temporaries → IsServed w x hs y
+        → Has w place (move_kept keeps x.fn.passed (result_register t) t y (source_of hs y))
+        → Comes w (AtHolding w x outer mem place hs) (AtHolding w (with_value (x.config.temps y)) outer mem
+        (place + code_length (move_kept keeps x.fn.passed (result_register t) t y (source_of hs y))) (with_moved t (source_of hs y) hs))
+    move y place hs named' served has = by (source_of hs y) refl has
+      where
+        v : Content
+        v = x.config.temps y
 
-  pub apply : (o : Binary) (t u v a b place : ℕ) → t < x.fn.temporaries → u < x.fn.temporaries → v < x.fn.temporaries → x.config.temps u ≡ Word a
-      → x.config.temps v ≡ Word b
-      → Has w place (loading 5 u ++ loading 6 v ++ binary_code o ++ saving 5 t)
-      → Comes w (Here place) (Having t (Word (two o a b)) (place + code_length (loading 5 u ++ loading 6 v ++ binary_code o ++ saving 5 t)))
-  apply o t u v a b place named named' named'' is is' has = then_saves t place (Word (two o a b)) (loading 5 u ++ loading 6 v ++ binary_code o) named has
-      (λ has. in_turn w (Here place) (With (Both a b)) (With (InRegister 5 (Word (two o a b)))) place (loading 5 u ++ loading 6 v) (binary_code o)
-      (subst (λ c. Comes w (Here place) (With (Loaded (Word a) c) (place + code_length (loading 5 u ++ loading 6 v)))) is'
-      (subst (λ c. Comes w (Here place) (With (Loaded c (x.config.temps v)) (place + code_length (loading 5 u ++ loading 6 v)))) is
-      (loads_both u v place named' named'' (has_first w place (loading 5 u ++ loading 6 v) (binary_code o) has))))
-      (computes w order x outer mem a b o (place + code_length (loading 5 u ++ loading 6 v))
-      (has_second w place (loading 5 u ++ loading 6 v) (binary_code o) has)))
+        Known : Maps → (ℕ → ℕ) → Type 0
+        Known m registers = AreThere hs x.config.temps m registers
 
-  -- a pointer, or none
-  module _ (t u place : ℕ) (named : t < x.fn.temporaries) (named' : u < x.fn.temporaries)
-      (has : Has w place (loading 5 u ++ (Plain (instr.Sltiu 5 5 (pos 1)) ∷ []) ++ saving 5 t)) where
-    is_null_as : (n : ℕ) → ((m : Maps) (registers : ℕ → ℕ) → InRegister 5 (x.config.temps u) m registers → (truth (nat_lt (registers 5) 1) ≡ n) × (n < 2 ^ 32))
-        → Comes w (Here place) (Having t (Word n) (place + code_length
-        (loading 5 u ++ (Plain (instr.Sltiu 5 5 (pos 1)) ∷ []) ++ saving 5 t)))
-    is_null_as n gets = then_saves t place (Word n) (loading 5 u ++ (Plain (instr.Sltiu 5 5 (pos 1)) ∷ [])) named has
-        (λ has. one_more u place (instr.Sltiu 5 5 (pos 1)) (Word n) (λ registers. truth (nat_lt (registers 5) 1)) named' has (λ r b st a. refl) (λ _. tt)
-        (λ m registers h. let g = gets m registers h in (g.0, subst (λ k. k < 2 ^ 32) (sym g.0) g.1)))
+        To : (s : Option Source) → Machine → Type 0
+        To s = AtHolding w (with_value v) outer mem
+            (place + code_length (move_kept keeps x.fn.passed (result_register t) t y s)) (with_moved t s hs)
 
-    pub null_is : x.config.temps u ≡ Null
-        → Comes w (Here place) (Having t (Word 1) (place + code_length
-        (loading 5 u ++ (Plain (instr.Sltiu 5 5 (pos 1)) ∷ []) ++ saving 5 t)))
-    null_is is = is_null_as 1 (λ m registers h.
-        let zero_is : registers 5 ≡ 0 = subst (λ v. Shows m v (registers 5)) is h.0 in
-        (ap truth (lt-ltb (registers 5) 1 (omega (arith, zero_is))), omega arith))
+        Found : ℕ → Maps → (ℕ → ℕ) → Type 0
+        Found q m registers = InRegister (suc q) v m registers × ((is_spare (suc q) ≡ false) × Known m registers)
 
-    pub pointer_is : (s : Spot) (b : ℕ) → x.config.temps u ≡ Pointer s b
-        → Comes w (Here place) (Having t (Word 0) (place + code_length
-        (loading 5 u ++ (Plain (instr.Sltiu 5 5 (pos 1)) ∷ []) ++ saving 5 t)))
-    pointer_is s b is = is_null_as 0 (λ m registers h.
-        let points : Points m s b (registers 5) = subst (λ v. Shows m v (registers 5)) is h.0 in
-        let positive = points.positive in
-        (ap truth (le-ltb (registers 5) 1 (omega (arith, positive))), omega arith))
+        -- it goes on to be where it is
+        moved : (q : ℕ) → source_of hs y ≡ Some (Register (suc q)) → (seven : Bool) → nat_eq (suc q) 7 ≡ seven
+            → Has w place (keep_code keeps x.fn.passed (suc q) t) → Comes w (AtWith w x outer mem place Known) (To (Some (Register (suc q))))
+        moved q e true is has = never _ _ (λ s a.
+            let found = there_found hs y (Register (suc q)) x.config.temps a.maps s.registers a.holds e in
+            let apart = spare_apart (suc q) 7 found.1 refl in cc)
+        moved q e false other has =
+            comes_then w _ _ _
+            (comes_as w _ _ (λ s a. knows w order x outer mem place Known (Found q) s
+            (λ m registers h. let found = there_found hs y (Register (suc q)) x.config.temps m registers h e in (found.0, (found.1, h))) a))
+            (now_known w order (with_value v) outer mem (place + code_length (keep_code keeps x.fn.passed (suc q) t)) _ _
+            (AreThere (with_source t (Register (suc q)) hs) (with_value v).config.temps)
+            (λ m registers h. there_source t v (Register (suc q)) hs x.config.temps m registers (h.0, h.1.0) h.1.1)
+            (keep_into w order x outer mem keeps after q t place v (λ m registers. (is_spare (suc q) ≡ false) × Known m registers) named follows other
+            (λ m new old same h. (h.0, there_kept 6 hs x.config.temps refl m new old same h.1)) has))
+
+        as_number : (n : ℕ) → source_of hs y ≡ Some (Number n) → (n < 2 ^ 32) ⊎ (2 ^ 32 ≤ n) → Has w place (numbered n)
+            → Comes w (AtWith w x outer mem place Known) (To (Some (Number n)))
+        as_number n e (inl few) has = comes_then w _ _ _ (comes_as w _ _ (as_holding w x outer mem place hs))
+            (number_into w order x outer mem keeps after t n place v hs named follows few
+            (λ s a. (there_found hs y (Number n) x.config.temps a.maps s.registers a.holds e).0) has)
+        as_number n e (inr many) has = never _ _ (λ s a.
+            let few = (there_found hs y (Number n) x.config.temps a.maps s.registers a.holds e).1 in omega (arith, few, many))
+
+        by : (s : Option Source) → source_of hs y ≡ s → Has w place (move_kept keeps x.fn.passed (result_register t) t y s)
+            → Comes w (AtHolding w x outer mem place hs) (To s)
+        by None e has = result_into w order x outer mem keeps after t place v hs (load_code (result_register t) (slot_of x.fn.passed y)) named follows has
+            (λ has. loads_new w order x outer mem (result_index t) y place Known _ named' (served e) (result_stays t)
+            (λ m new old here same h. (here, there_without (result_index t) hs x.config.temps m new old same h)) has)
+        by (Some (Register zero)) e has = absurd (source_not_zero hs y e)
+        by (Some (Register (suc q))) e has = comes_then w _ _ _ (comes_as w _ _ (with_there w x outer mem place hs)) (moved q e (nat_eq (suc q) 7) refl has)
+        by (Some (Number n)) e has = comes_then w _ _ _ (comes_as w _ _ (with_there w x outer mem place hs)) (as_number n e (cases_lt n (2 ^ 32)) has)
+
+    -- ---- operations on one word
+
+    -- the result of an instruction on an operand
+    one_more : (y place : ℕ) (v : Content) (hs : List Holding) (instr : ℕ → Instr) (value : ℕ → ℕ) → y < x.fn.temporaries → IsServed w x hs y
+        → Has w place (operand hs 5 y ++ (Plain (instr (operand_in hs 5 y)) ∷ []) ++ kept_lines)
+        → ((q here : ℕ) (registers bytes : ℕ → ℕ) (st : Store) (answer : Answer)
+        → effect w.areas answer (instr (suc q)) (state_of (state_at here registers bytes st)) ≡ gives (result_register t) (value (registers (suc q)))
+        (state_of (state_at here registers bytes st)))
+        → ((q : ℕ) (s : Run) → AccessIsLawful w.areas s (instr (suc q)))
+        → ((m : Maps) (n : ℕ) → Shows m (x.config.temps y) n → n < 2 ^ 32 → Shows m v (value n) × (value n < 2 ^ 32))
+        → Comes w (AtHolding w x outer mem place hs) (AtHolding w (with_value v) outer mem
+        (place + code_length (operand hs 5 y ++ (Plain (instr (operand_in hs 5 y)) ∷ []) ++ kept_lines)) (with_result t hs))
+    one_more y place v hs instr value named' served has e access shows =
+        result_into w order x outer mem keeps after t place v hs (operand hs 5 y ++ (Plain (instr (operand_in hs 5 y)) ∷ [])) named follows has
+        (λ has. on_operand w order x outer mem (result_index t) y place v hs instr value named' served (result_stays t) has e access shows)
+
+    abbrev narrow_lines : List Holding → ℕ → List Line
+    narrow_lines hs y = operand hs 5 y ++ (Plain (instr.Andi (result_register t) (operand_in hs 5 y) (pos 255)) ∷ []) ++ kept_lines
+
+    pub narrow : (y n place : ℕ) (hs : List Holding) → y < x.fn.temporaries → IsServed w x hs y → x.config.temps y ≡ Word n → Has w place (narrow_lines hs y)
+        → Comes w (AtHolding w x outer mem place hs)
+        (AtHolding w (with_value (Word (n % 256))) outer mem (place + code_length (narrow_lines hs y)) (with_result t hs))
+    narrow y n place hs named' served is has =
+        one_more y place (Word (n % 256)) hs (λ q. instr.Andi (result_register t) q (pos 255)) (λ k. bit_and k (word (pos 255))) named' served has
+        (λ q here r b st a. refl) (λ q _. tt)
+        (λ m k shows few.
+        let same : k ≡ n = subst (λ v. Shows m v k) is shows in
+        let masked : bit_and k 255 ≡ k % 256 = and_mask k 8 in
+        (masked ∙ ap (λ j. j % 256) same, omega (arith, masked)))
+
+    -- a pointer, or none
+    abbrev null_lines : List Holding → ℕ → List Line
+    null_lines hs y = operand hs 5 y ++ (Plain (instr.Sltiu (result_register t) (operand_in hs 5 y) (pos 1)) ∷ []) ++ kept_lines
+
+    module _ (y place : ℕ) (hs : List Holding) (named' : y < x.fn.temporaries) (served : IsServed w x hs y) (has : Has w place (null_lines hs y)) where
+      abbrev Told : ℕ → Type 0
+      Told n = Comes w (AtHolding w x outer mem place hs)
+          (AtHolding w (with_value (Word n)) outer mem (place + code_length (null_lines hs y)) (with_result t hs))
+
+      is_null_as : (n : ℕ) → n < 2 ^ 32 → ((m : Maps) (k : ℕ) → Shows m (x.config.temps y) k → truth (nat_lt k 1) ≡ n) → Told n
+      is_null_as n small gets =
+          one_more y place (Word n) hs (λ q. instr.Sltiu (result_register t) q (pos 1)) (λ k. truth (nat_lt k 1)) named' served has
+          (λ q here r b st a. refl) (λ q _. tt)
+          (λ m k shows few. let same = gets m k shows in (same, subst (λ j. j < 2 ^ 32) (sym same) small))
+
+      pub null_is : x.config.temps y ≡ Null → Told 1
+      null_is is = is_null_as 1 (omega arith) (λ m k shows.
+          let none : k ≡ 0 = subst (λ v. Shows m v k) is shows in
+          ap truth (lt-ltb k 1 (omega (arith, none))))
+
+      pub pointer_is : (s : Spot) (b : ℕ) → x.config.temps y ≡ Pointer s b → Told 0
+      pointer_is s b is = is_null_as 0 (omega arith) (λ m k shows.
+          let points : Points m s b k = subst (λ v. Shows m v k) is shows in
+          let positive = points.positive in
+          ap truth (le-ltb k 1 (omega (arith, positive))))

@@ -12,7 +12,7 @@ use Rattle.core_lines.specs.Frames.{word_code}
 use Rattle.core_lines.specs.Lies.{Maps, Shows}
 use Rattle.core_lines.specs.Lines.{code_length}
 use Rattle.core_lines.specs.Selected.{bytes_code}
-use Rattle.core_lines.proofs.memory.Relations.{World, IsInOrder, Has, Waiting, At}
+use Rattle.core_lines.proofs.memory.Relations.{World, IsInOrder, Has, Waiting, At, IsKept}
 use Rattle.core_lines.proofs.memory.Moving.{Comes, comes_then, comes_as}
 use Rattle.core_lines.proofs.frames.Passing.{has_first, has_second}
 use Rattle.core_lines.proofs.operations.Registers.{AtWith, InRegister, in_turn, knows, loads_temp, puts, puts_into}
@@ -105,22 +105,23 @@ module _ (w : World) (order : IsInOrder w) (x : Waiting) (outer : List Waiting) 
         (comes_then w _ _ _ first (comes_then w _ _ _ second (comes_then w _ _ _ third (comes_then w _ _ _ fourth (comes_then w _ _ _ fifth sixth)))))
 
     -- the two temporaries into x10 and x5, and from there
-    pub wants : (h n place : ℕ) → h < x.fn.temporaries → n < x.fn.temporaries → x.config.temps h ≡ Birth d → x.config.temps n ≡ Word count
+    pub wants : (h n place : ℕ) → h < x.fn.temporaries → IsKept w x h → n < x.fn.temporaries → IsKept w x n
+        → x.config.temps h ≡ Birth d → x.config.temps n ≡ Word count
         → Has w place (loading w order x outer mem 10 h ++ loading w order x outer mem 5 n ++ bytes_code bytes)
         → Comes w (At w x outer mem place)
         (AtWith w x outer mem (place + code_length (loading w order x outer mem 10 h ++ loading w order x outer mem 5 n ++ bytes_code bytes)) Wanted)
-    wants h n place named named' is is' has =
+    wants h n place named kept named' kept' is is' has =
         let first = loading w order x outer mem 10 h in
         let second = loading w order x outer mem 5 n in
         let has_both = has_first w place (first ++ second) (bytes_code bytes) has in
         let handle : Comes w (At w x outer mem place) (AtWith w x outer mem (place + code_length first) Handle) =
         subst (λ c. Comes w (At w x outer mem place) (AtWith w x outer mem (place + code_length first) (InRegister 10 c))) is
-        (loads_into w order x outer mem 9 h place named refl (has_first w place first second has_both)) in
+        (loads_into w order x outer mem 9 h place named kept refl (has_first w place first second has_both)) in
         let number : Comes w (AtWith w x outer mem (place + code_length first) Handle)
         (AtWith w x outer mem (place + code_length first + code_length second) Counted) =
         comes_then w _ _ _
-        (loads_temp w order x outer mem 4 n (place + code_length first) Handle named' refl
-        (λ m new old kept g. (subst (λ y. Shows m (Birth d) y) (sym (kept 10 refl refl)) g.0, subst (λ y. y < 2 ^ 32) (sym (kept 10 refl refl)) g.1))
+        (loads_temp w order x outer mem 4 n (place + code_length first) Handle named' kept' refl
+        (λ m new old stay g. (subst (λ y. Shows m (Birth d) y) (sym (stay 10 refl refl)) g.0, subst (λ y. y < 2 ^ 32) (sym (stay 10 refl refl)) g.1))
         (has_second w place first second has_both))
         (comes_as w _ _ (λ s a. knows w order x outer mem (place + code_length first + code_length second) _ Counted s
         (λ m registers g. (subst (λ c. Shows m c (registers 5)) is' g.0.0, g.1)) a)) in

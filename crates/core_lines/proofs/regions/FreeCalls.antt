@@ -12,7 +12,7 @@ use Rattle.core_lines.specs.Frames.{environment_code}
 use Rattle.core_lines.specs.Lies.{TagOf, IsNumber}
 use Rattle.core_lines.specs.Lines.{code_length}
 use Rattle.core_lines.specs.Machines.{Machine}
-use Rattle.core_lines.proofs.memory.Relations.{World, IsInOrder, Has, Waiting, At, Goes}
+use Rattle.core_lines.proofs.memory.Relations.{World, IsInOrder, Has, Waiting, At, Goes, IsKept}
 use Rattle.core_lines.proofs.operations.Registers.{AtWith, InRegister}
 use Rattle.core_lines.proofs.operations.Operations.{loading}
 use Rattle.core_lines.proofs.regions.RegionsFreed.{is_freed}
@@ -59,7 +59,7 @@ module _ (w : World) (order : IsInOrder w) (x : Waiting) (outer : List Waiting) 
       }
 
   pub region_free_goes : mem.standing (Born d) ≡ Live → (most : ℕ) (active : List (List ℕ)) (rest : Step) (t place : ℕ) → t < x.fn.temporaries
-      → x.config.temps t ≡ Birth d → Has w place (loading w order x outer mem 10 t ++ environment_code 6)
+      → IsKept w x t → x.config.temps t ≡ Birth d → Has w place (loading w order x outer mem 10 t ++ environment_code 6)
       → Goes w most rest (At w x outer freed (place + code_length (loading w order x outer mem 10 t ++ environment_code 6))) active
       → Goes w most (Says (Visible event) rest) (At w x outer mem place) active
   region_free_goes live =

@@ -1,5 +1,5 @@
 -- What the code of the operations on keys does: a key is asked for, opened, closed and freed.
-use Rattle.std.proofs.Common.{◌≡◌, ℕ, ◌+◌, ◌<◌, ◌⊎◌, inl, inr, ⊎_elim, List, [], ◌∷◌, ◌++◌, Some, refl, sym, ap, ◌∙◌, arith}
+use Rattle.std.proofs.Common.{◌≡◌, ℕ, ◌+◌, ◌<◌, ◌⊎◌, inl, inr, ⊎_elim, Bool, true, List, [], ◌∷◌, ◌++◌, Some, refl, sym, ap, ◌∙◌, arith}
 use Rattle.cyc_words.specs.Events as events
 use Rattle.arena_laws.specs.declared.refusal.StoreRefusal.TheVariants.{Full, Memory as NoMemory}
 use Rattle.arena_laws.specs.declared.standing.Standing.{Standing as Tag}
@@ -14,7 +14,7 @@ use Rattle.core_lines.specs.Frames.{environment_code}
 use Rattle.core_lines.specs.Lies.{Maps, TagOf}
 use Rattle.core_lines.specs.Lines.{code_length}
 use Rattle.core_lines.specs.Machines.{Machine}
-use Rattle.core_lines.proofs.memory.Relations.{World, IsInOrder, Has, Waiting, At, Goes}
+use Rattle.core_lines.proofs.memory.Relations.{World, IsInOrder, Has, Waiting, Follows, keeping, At, Goes, IsKept}
 use Rattle.core_lines.proofs.frames.Passing.{has_first}
 use Rattle.core_lines.proofs.operations.Registers.{AtWith, InRegister}
 use Rattle.core_lines.proofs.operations.Operations.{having, loading, saving}
@@ -74,16 +74,17 @@ module _ (w : World) (order : IsInOrder w) (x : Waiting) (outer : List Waiting) 
       (makes_or_not tag.Closed answer st.holdings)
 
   pub key_new_goes : (most : ℕ) (active : List (List ℕ)) (rest : Step) (t place : ℕ) → t < x.fn.temporaries
+      → (after : List Bool) → Follows true (t ∷ []) x.kept after
       → Has w place (environment_code 9 ++ saving w order x outer mem 10 t)
-      → Goes w most rest (At w (having t (Birth mem.births) x) outer (born Closed mem)
+      → Goes w most rest (At w (keeping after (having t (Birth mem.births) x)) outer (born Closed mem)
       (place + code_length (environment_code 9 ++ saving w order x outer mem 10 t))) active
       → Goes w most (Says (Visible new_event) rest) (At w x outer mem place) active
-  key_new_goes most active rest t place named has goes =
+  key_new_goes most active rest t place named after follows has goes =
       let first = environment_code 9 in
       call_goes w order x outer mem (born Closed mem) 9 (omega arith) (λ a b. KeyNew) new_event Free Number (λ answer a b s. refl) new_answered most active rest
       place [] (At w x outer mem place) (λ m registers v k. tt) (from_free w order x outer mem place)
       (has_first w place first (saving w order x outer mem 10 t) has)
-      (then_saved w order x outer (born Closed mem) most active rest t place first (Birth mem.births) named has goes)
+      (then_saved w order x outer (born Closed mem) most active rest t place first (Birth mem.births) named after follows has goes)
 
   module _ (d : ℕ) where
     -- a region that doesn't stand as the heap does isn't the heap's
@@ -115,7 +116,7 @@ module _ (w : World) (order : IsInOrder w) (x : Waiting) (outer : List Waiting) 
         }
 
     pub key_open_goes : mem.standing (Born d) ≡ Closed → (most : ℕ) (active : List (List ℕ)) (rest : Step) (t place : ℕ) → t < x.fn.temporaries
-        → x.config.temps t ≡ Birth d → Has w place (loading w order x outer mem 10 t ++ environment_code 10)
+        → IsKept w x t → x.config.temps t ≡ Birth d → Has w place (loading w order x outer mem 10 t ++ environment_code 10)
         → Goes w most rest (At w x outer (with_standing mem (Born d) Opened) (place + code_length (loading w order x outer mem 10 t ++ environment_code 10))) active
         → Goes w most (Says (Visible (events.KeyOpen d)) rest) (At w x outer mem place) active
     key_open_goes closed =
@@ -147,7 +148,7 @@ module _ (w : World) (order : IsInOrder w) (x : Waiting) (outer : List Waiting) 
         }
 
     pub key_close_goes : mem.standing (Born d) ≡ Opened → (most : ℕ) (active : List (List ℕ)) (rest : Step) (t place : ℕ) → t < x.fn.temporaries
-        → x.config.temps t ≡ Birth d → Has w place (loading w order x outer mem 10 t ++ environment_code 11)
+        → IsKept w x t → x.config.temps t ≡ Birth d → Has w place (loading w order x outer mem 10 t ++ environment_code 11)
         → Goes w most rest (At w x outer (with_standing mem (Born d) Closed) (place + code_length (loading w order x outer mem 10 t ++ environment_code 11))) active
         → Goes w most (Says (Visible (events.KeyClose d)) rest) (At w x outer mem place) active
     key_close_goes opened =
@@ -179,7 +180,7 @@ module _ (w : World) (order : IsInOrder w) (x : Waiting) (outer : List Waiting) 
         }
 
     pub key_free_goes : mem.standing (Born d) ≡ Closed → (most : ℕ) (active : List (List ℕ)) (rest : Step) (t place : ℕ) → t < x.fn.temporaries
-        → x.config.temps t ≡ Birth d → Has w place (loading w order x outer mem 10 t ++ environment_code 12)
+        → IsKept w x t → x.config.temps t ≡ Birth d → Has w place (loading w order x outer mem 10 t ++ environment_code 12)
         → Goes w most rest (At w x outer (with_standing mem (Born d) Dead) (place + code_length (loading w order x outer mem 10 t ++ environment_code 12))) active
         → Goes w most (Says (Visible (events.KeyFree d)) rest) (At w x outer mem place) active
     key_free_goes closed =

@@ -17,7 +17,7 @@ use Rattle.core_lines.specs.Frames.{environment_code}
 use Rattle.core_lines.specs.Lies.{Maps}
 use Rattle.core_lines.specs.Lines.{code_length}
 use Rattle.core_lines.specs.Machines.{Machine}
-use Rattle.core_lines.proofs.memory.Relations.{World, IsInOrder, Has, Waiting, At, Goes}
+use Rattle.core_lines.proofs.memory.Relations.{World, IsInOrder, Has, Waiting, Follows, keeping, At, Goes}
 use Rattle.core_lines.proofs.memory.Moving.{Comes, comes_as}
 use Rattle.core_lines.proofs.frames.Passing.{has_first}
 use Rattle.core_lines.proofs.operations.Registers.{AtWith, InRegister, at_with}
@@ -103,13 +103,14 @@ module _ (w : World) (order : IsInOrder w) (x : Waiting) (outer : List Waiting) 
       (makes_or_not tag.Lexical answer st.holdings)
 
   pub region_new_goes : (most : ℕ) (active : List (List ℕ)) (rest : Step) (t place : ℕ) → t < x.fn.temporaries
+      → (after : List Bool) → Follows true (t ∷ []) x.kept after
       → Has w place (environment_code 4 ++ saving w order x outer mem 10 t)
-      → Goes w most rest (At w (having t (Birth mem.births) x) outer (born Live mem)
+      → Goes w most rest (At w (keeping after (having t (Birth mem.births) x)) outer (born Live mem)
       (place + code_length (environment_code 4 ++ saving w order x outer mem 10 t))) active
       → Goes w most (Says (Visible event) rest) (At w x outer mem place) active
-  region_new_goes most active rest t place named has goes =
+  region_new_goes most active rest t place named after follows has goes =
       let first = environment_code 4 in
       call_goes w order x outer mem (born Live mem) 4 (omega arith) (λ a b. RegionNew) event Free Number (λ answer a b s. refl) new_answered most active rest place
       [] (At w x outer mem place) (λ m registers v k. tt) (from_free w order x outer mem place)
       (has_first w place first (saving w order x outer mem 10 t) has)
-      (then_saved w order x outer (born Live mem) most active rest t place first (Birth mem.births) named has goes)
+      (then_saved w order x outer (born Live mem) most active rest t place first (Birth mem.births) named after follows has goes)

@@ -1,6 +1,6 @@
 -- The operations on regions, unique blocks and keys, from their code and with what goes on behind it.
 use Rattle.std.specs.Prelude.{not, nat_eq, ◌&&◌}
-use Rattle.std.proofs.Common.{◌≡◌, ℕ, ◌+◌, ◌*◌, ◌%◌, ◌^◌, ◌<◌, ◌≤◌, true, List, ◌∷◌, ◌++◌, refl, sym, ap, subst, ◌∙◌, arith}
+use Rattle.std.proofs.Common.{◌≡◌, ℕ, ◌+◌, ◌*◌, ◌%◌, ◌^◌, ◌<◌, ◌≤◌, Bool, true, List, [], ◌∷◌, ◌++◌, refl, sym, ap, subst, ◌∙◌, arith}
 use Rattle.std.proofs.lemmas.Bool.{and_parts, eqb-true, eq-eqb}
 use Rattle.cyc_words.specs.Events as events
 use Rattle.core_meaning.specs.Memory.{
@@ -39,7 +39,7 @@ use Rattle.core_lines.specs.Frames.{word_code, environment_code}
 use Rattle.core_lines.specs.Layouts.{IsLayout}
 use Rattle.core_lines.specs.Lines.{code_length}
 use Rattle.core_lines.specs.Selected.{bytes_code}
-use Rattle.core_lines.proofs.memory.Relations.{World, IsInOrder, Has, Waiting, At, Goes, active_of}
+use Rattle.core_lines.proofs.memory.Relations.{World, IsInOrder, Has, Waiting, Follows, keeping, At, Goes, active_of, IsKept}
 use Rattle.core_lines.proofs.memory.Moving.{goes_as, goes_stuck}
 use Rattle.core_lines.proofs.memory.Growing.{ObjectFits}
 use Rattle.core_lines.proofs.memory.Arrays.{object_fits}
@@ -92,12 +92,12 @@ module _ (w : World) (order : IsInOrder w) (x : Waiting) (outer : List Waiting) 
   active = active_of w (x ∷ outer)
 
   -- with a temporary set and another memory
-  behind_goes : (c : Config) (t : ℕ) (v : Content) (m : Memory) (end : ℕ) → IsIn x c → GoesFrom w x outer fuel end next
-      → Goes w fuel (next (with_temp t v (with_memory m c))) (At w (having t v (with_config x c)) outer m end) active
-  behind_goes c t v m end is ends =
-      let after = with_temp t v (with_memory m c) in
-      goes_as w (At w (having t v (with_config x c)) outer m end) active fuel (next after) (At w (with_config x after) outer m end)
-      (λ s a. at_config w x outer (with_temp t v c) after m end s refl refl refl a) (ends after (record { blocks = is.blocks; own = is.own }))
+  behind_goes : (c : Config) (t : ℕ) (v : Content) (m : Memory) (after : List Bool) (end : ℕ) → IsIn x c → GoesFrom w (keeping after x) outer fuel end next
+      → Goes w fuel (next (with_temp t v (with_memory m c))) (At w (keeping after (having t v (with_config x c))) outer m end) active
+  behind_goes c t v m after end is ends =
+      let d = with_temp t v (with_memory m c) in
+      goes_as w (At w (keeping after (having t v (with_config x c))) outer m end) active fuel (next d) (At w (with_config (keeping after x) d) outer m end)
+      (λ s a. at_config w (keeping after x) outer (with_temp t v c) d m end s refl refl refl a) (ends d (record { blocks = is.blocks; own = is.own }))
 
   -- with another memory
   stands_goes : (c : Config) (m : Memory) (end : ℕ) → IsIn x c → GoesFrom w x outer fuel end next
@@ -107,23 +107,25 @@ module _ (w : World) (order : IsInOrder w) (x : Waiting) (outer : List Waiting) 
       goes_as w (At w (with_config x c) outer m end) active fuel (next after) (At w (with_config x after) outer m end)
       (λ s a. at_config w x outer c after m end s refl refl refl a) (ends after (record { blocks = is.blocks; own = is.own }))
 
-  pub new_region_does : (mem : Memory) (t : ℕ) → t < x.fn.temporaries → Has w place (environment_code 4 ++ saving w order x outer mem 10 t)
-      → GoesFrom w x outer fuel (place + code_length (environment_code 4 ++ saving w order x outer mem 10 t)) next
+  pub new_region_does : (mem : Memory) (t : ℕ) → t < x.fn.temporaries → (after : List Bool) → Follows true (t ∷ []) x.kept after
+      → Has w place (environment_code 4 ++ saving w order x outer mem 10 t)
+      → GoesFrom w (keeping after x) outer fuel (place + code_length (environment_code 4 ++ saving w order x outer mem 10 t)) next
       → GoesFrom w x outer fuel place (does (RegionNew t) next)
-  new_region_does mem t named has ends c is =
+  new_region_does mem t named after follows has ends c is =
       let lines = environment_code 4 ++ saving w order x outer mem 10 t in
       let d = c.memory.births in
       let m = born Live c.memory in
-      region_new_goes w order (with_config x c) outer c.memory fuel active (next (with_temp t (Birth d) (with_memory m c))) t place named has
-      (behind_goes c t (Birth d) m (place + code_length lines) is ends)
+      region_new_goes w order (with_config x c) outer c.memory fuel active (next (with_temp t (Birth d) (with_memory m c))) t place named after follows has
+      (behind_goes c t (Birth d) m after (place + code_length lines) is ends)
 
-  pub alloc_region_does : (mem : Memory) (t h n : ℕ) (l : Layout) → t < x.fn.temporaries → h < x.fn.temporaries → n < x.fn.temporaries → IsLayout l
+  pub alloc_region_does : (mem : Memory) (t h n : ℕ) (l : Layout) → t < x.fn.temporaries → (after : List Bool) → Follows true (t ∷ []) x.kept after
+      → h < x.fn.temporaries → IsKept w x h → n < x.fn.temporaries → IsKept w x n → IsLayout l
       → Has w place (loading w order x outer mem 10 h ++ loading w order x outer mem 5 n ++ bytes_code l.bytes ++ environment_code 5
       ++ saving w order x outer mem 10 t)
-      → GoesFrom w x outer fuel (place + code_length (loading w order x outer mem 10 h ++ loading w order x outer mem 5 n ++ bytes_code l.bytes
+      → GoesFrom w (keeping after x) outer fuel (place + code_length (loading w order x outer mem 10 h ++ loading w order x outer mem 5 n ++ bytes_code l.bytes
       ++ environment_code 5 ++ saving w order x outer mem 10 t)) next
       → GoesFrom w x outer fuel place (does (core.RegionAlloc t h n l) next)
-  alloc_region_does mem t h n l named named_h named_n ok has ends c is =
+  alloc_region_does mem t h n l named after follows named_h kept_h named_n kept_n ok has ends c is =
       let first = loading w order x outer mem 10 h ++ loading w order x outer mem 5 n ++ bytes_code l.bytes in
       let second = environment_code 5 in
       let third = saving w order x outer mem 10 t in
@@ -143,26 +145,30 @@ module _ (w : World) (order : IsInOrder w) (x : Waiting) (outer : List Waiting) 
       call_goes w order y outer c.memory m 5 (omega arith) (λ h b. RegionAlloc h b) (events.RegionAlloc d bytes)
       (Wanted w order y outer c.memory d bytes o fits live) (Object w order y outer c.memory d bytes o fits live) (λ answer a b s. refl)
       (block_answered w order y outer c.memory d bytes o fits live) fuel active rest place first R (λ m registers q k. k)
-      (wants w order y outer c.memory d count l.bytes h n place named_h named_n e e' (has_first w place first second has_both)) has_both
-      (then_saved w order y outer m fuel active rest t place (first ++ second) v named has (behind_goes c t v m (place + code_length lines) is ends)))))
+      (wants w order y outer c.memory d count l.bytes h n place named_h kept_h named_n kept_n e e' (has_first w place first second has_both)) has_both
+      (then_saved w order y outer m fuel active rest t place (first ++ second) v named after follows has
+      (behind_goes c t v m after (place + code_length lines) is ends)))))
 
-  pub alloc_unique_does : (mem : Memory) (t : ℕ) (l : Layout) → t < x.fn.temporaries → IsLayout l → l.bytes < 2 ^ 32
+  pub alloc_unique_does : (mem : Memory) (t : ℕ) (l : Layout) → t < x.fn.temporaries → (after : List Bool) → Follows true (t ∷ []) x.kept after → IsLayout l
+      → l.bytes < 2 ^ 32
       → Has w place (word_code 10 (l.bytes % 2 ^ 32) ++ environment_code 7 ++ saving w order x outer mem 10 t)
-      → GoesFrom w x outer fuel (place + code_length (word_code 10 (l.bytes % 2 ^ 32) ++ environment_code 7 ++ saving w order x outer mem 10 t)) next
+      → GoesFrom w (keeping after x) outer fuel
+      (place + code_length (word_code 10 (l.bytes % 2 ^ 32) ++ environment_code 7 ++ saving w order x outer mem 10 t)) next
       → GoesFrom w x outer fuel place (does (UniqueAlloc t l) next)
-  alloc_unique_does mem t l named ok small has ends c is =
+  alloc_unique_does mem t l named after follows ok small has ends c is =
       let lines = word_code 10 (l.bytes % 2 ^ 32) ++ environment_code 7 ++ saving w order x outer mem 10 t in
       let d = c.memory.births in
       let v = Pointer (record { region = Born d; object = 0; cell = 0 }) 0 in
       let m = with_object (born Single c.memory) (Born d) (blanks l 1) in
       let bytes : 1 * l.bytes ≡ l.bytes = omega arith in
       unique_alloc_goes w order (with_config x c) outer c.memory l.bytes small (blanks l 1) (subst (ObjectFits (blanks l 1)) bytes (object_fits l 1 ok)) fuel active
-      (next (with_temp t v (with_memory m c))) t place named has (behind_goes c t v m (place + code_length lines) is ends)
+      (next (with_temp t v (with_memory m c))) t place named after follows has
+      (behind_goes c t v m after (place + code_length lines) is ends)
 
-  pub free_unique_does : (mem : Memory) (p : ℕ) → p < x.fn.temporaries → Has w place (loading w order x outer mem 10 p ++ environment_code 8)
+  pub free_unique_does : (mem : Memory) (p : ℕ) → p < x.fn.temporaries → IsKept w x p → Has w place (loading w order x outer mem 10 p ++ environment_code 8)
       → GoesFrom w x outer fuel (place + code_length (loading w order x outer mem 10 p ++ environment_code 8)) next
       → GoesFrom w x outer fuel place (does (UniqueFree p) next)
-  free_unique_does mem p named has ends c is =
+  free_unique_does mem p named kept has ends c is =
       let R = At w (with_config x c) outer c.memory place in
       pointer_goes w R active fuel (c.temps p) _ (λ s b e. checked_goes w R active fuel (nat_eq b 0) _ (λ first.
       let points : c.temps p ≡ Pointer s 0 = e ∙ ap (λ q. Pointer s q) (eqb-true b 0 first) in
@@ -175,13 +181,13 @@ module _ (w : World) (order : IsInOrder w) (x : Waiting) (outer : List Waiting) 
       by s points (Born d) there = checked_goes w _ active fuel (is_single (c.memory.standing (Born d))) _ (λ single.
           let m = with_standing c.memory (Born d) Dead in
           unique_free_goes w order (with_config x c) outer c.memory d (single_is (c.memory.standing (Born d)) single) s there fuel active (next (with_memory m c)) p place named
-          points has
+          kept points has
           (stands_goes c m (place + code_length (loading w order x outer mem 10 p ++ environment_code 8)) is ends))
 
-  pub free_region_does : (mem : Memory) (h : ℕ) → h < x.fn.temporaries → Has w place (loading w order x outer mem 10 h ++ environment_code 6)
+  pub free_region_does : (mem : Memory) (h : ℕ) → h < x.fn.temporaries → IsKept w x h → Has w place (loading w order x outer mem 10 h ++ environment_code 6)
       → GoesFrom w x outer fuel (place + code_length (loading w order x outer mem 10 h ++ environment_code 6)) next
       → GoesFrom w x outer fuel place (does (RegionFree h) next)
-  free_region_does mem h named has ends c is =
+  free_region_does mem h named kept has ends c is =
       let end = place + code_length (loading w order x outer mem 10 h ++ environment_code 6) in
       let R = At w (with_config x c) outer c.memory place in
       birth_goes w R active fuel (c.temps h) _ (λ d e.
@@ -189,50 +195,54 @@ module _ (w : World) (order : IsInOrder w) (x : Waiting) (outer : List Waiting) 
       let both = and_parts (not (nat_eq d 0)) (is_lexical (c.memory.standing (Born d))) may in
       let m = with_standing c.memory (Born d) Dead in
       region_free_goes w order (with_config x c) outer c.memory d (λ zero_is. cc (both.0, eq-eqb d 0 zero_is))
-      (lexical_live (c.memory.standing (Born d)) both.1) fuel active (next (with_memory m c)) h place named e has
+      (lexical_live (c.memory.standing (Born d)) both.1) fuel active (next (with_memory m c)) h place named kept e has
       (stands_goes c m end is ends)))
 
   -- ---- keys
 
-  pub new_key_does : (mem : Memory) (t : ℕ) → t < x.fn.temporaries → Has w place (environment_code 9 ++ saving w order x outer mem 10 t)
-      → GoesFrom w x outer fuel (place + code_length (environment_code 9 ++ saving w order x outer mem 10 t)) next
+  pub new_key_does : (mem : Memory) (t : ℕ) → t < x.fn.temporaries → (after : List Bool) → Follows true (t ∷ []) x.kept after
+      → Has w place (environment_code 9 ++ saving w order x outer mem 10 t)
+      → GoesFrom w (keeping after x) outer fuel (place + code_length (environment_code 9 ++ saving w order x outer mem 10 t)) next
       → GoesFrom w x outer fuel place (does (KeyNew t) next)
-  new_key_does mem t named has ends c is =
+  new_key_does mem t named after follows has ends c is =
       let lines = environment_code 9 ++ saving w order x outer mem 10 t in
       let d = c.memory.births in
       let m = born Closed c.memory in
-      key_new_goes w order (with_config x c) outer c.memory fuel active (next (with_temp t (Birth d) (with_memory m c))) t place named has
-      (behind_goes c t (Birth d) m (place + code_length lines) is ends)
+      key_new_goes w order (with_config x c) outer c.memory fuel active (next (with_temp t (Birth d) (with_memory m c))) t place named after follows has
+      (behind_goes c t (Birth d) m after (place + code_length lines) is ends)
 
-  pub open_key_does : (mem : Memory) (k : ℕ) → k < x.fn.temporaries → Has w place (loading w order x outer mem 10 k ++ environment_code 10)
+  pub open_key_does : (mem : Memory) (k : ℕ) → k < x.fn.temporaries → IsKept w x k → Has w place (loading w order x outer mem 10 k ++ environment_code 10)
       → GoesFrom w x outer fuel (place + code_length (loading w order x outer mem 10 k ++ environment_code 10)) next
       → GoesFrom w x outer fuel place (does (KeyOpen k) next)
-  open_key_does mem k named has ends c is =
+  open_key_does mem k named kept has ends c is =
       let end = place + code_length (loading w order x outer mem 10 k ++ environment_code 10) in
       let R = At w (with_config x c) outer c.memory place in
       birth_goes w R active fuel (c.temps k) _ (λ d e. checked_goes w R active fuel (is_closed (c.memory.standing (Born d))) _ (λ may.
       let m = with_standing c.memory (Born d) Opened in
-      key_open_goes w order (with_config x c) outer c.memory d (closed_is (c.memory.standing (Born d)) may) fuel active (next (with_memory m c)) k place named e has
+      key_open_goes w order (with_config x c) outer c.memory d (closed_is (c.memory.standing (Born d)) may) fuel active
+      (next (with_memory m c)) k place named kept e has
       (stands_goes c m end is ends)))
 
-  pub close_key_does : (mem : Memory) (k : ℕ) → k < x.fn.temporaries → Has w place (loading w order x outer mem 10 k ++ environment_code 11)
+  pub close_key_does : (mem : Memory) (k : ℕ) → k < x.fn.temporaries → IsKept w x k → Has w place (loading w order x outer mem 10 k ++ environment_code 11)
       → GoesFrom w x outer fuel (place + code_length (loading w order x outer mem 10 k ++ environment_code 11)) next
       → GoesFrom w x outer fuel place (does (KeyClose k) next)
-  close_key_does mem k named has ends c is =
+  close_key_does mem k named kept has ends c is =
       let end = place + code_length (loading w order x outer mem 10 k ++ environment_code 11) in
       let R = At w (with_config x c) outer c.memory place in
       birth_goes w R active fuel (c.temps k) _ (λ d e. checked_goes w R active fuel (is_opened (c.memory.standing (Born d))) _ (λ may.
       let m = with_standing c.memory (Born d) Closed in
-      key_close_goes w order (with_config x c) outer c.memory d (opened_is (c.memory.standing (Born d)) may) fuel active (next (with_memory m c)) k place named e has
+      key_close_goes w order (with_config x c) outer c.memory d (opened_is (c.memory.standing (Born d)) may) fuel active
+      (next (with_memory m c)) k place named kept e has
       (stands_goes c m end is ends)))
 
-  pub free_key_does : (mem : Memory) (k : ℕ) → k < x.fn.temporaries → Has w place (loading w order x outer mem 10 k ++ environment_code 12)
+  pub free_key_does : (mem : Memory) (k : ℕ) → k < x.fn.temporaries → IsKept w x k → Has w place (loading w order x outer mem 10 k ++ environment_code 12)
       → GoesFrom w x outer fuel (place + code_length (loading w order x outer mem 10 k ++ environment_code 12)) next
       → GoesFrom w x outer fuel place (does (KeyFree k) next)
-  free_key_does mem k named has ends c is =
+  free_key_does mem k named kept has ends c is =
       let end = place + code_length (loading w order x outer mem 10 k ++ environment_code 12) in
       let R = At w (with_config x c) outer c.memory place in
       birth_goes w R active fuel (c.temps k) _ (λ d e. checked_goes w R active fuel (is_closed (c.memory.standing (Born d))) _ (λ may.
       let m = with_standing c.memory (Born d) Dead in
-      key_free_goes w order (with_config x c) outer c.memory d (closed_is (c.memory.standing (Born d)) may) fuel active (next (with_memory m c)) k place named e has
+      key_free_goes w order (with_config x c) outer c.memory d (closed_is (c.memory.standing (Born d)) may) fuel active
+      (next (with_memory m c)) k place named kept e has
       (stands_goes c m end is ends)))

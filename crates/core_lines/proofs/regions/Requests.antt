@@ -65,6 +65,9 @@ goes_asked w R R' active most e d asks lawful goes = record { at = by }
               ap (run_steps n l.count) x.stops ∙ over_steps n l.count x.last (stop_of x.why) x.over in
               subst (λ (q : Run). Led w q (after (Visible e) o) ⊎ Cut w active q (after (Visible e) o)) (sym whole)
               (inr (record {
+                last = x.last;
+                soon = over_steps n 2 x.last (stop_of x.why) x.over;
+                lawful = over_lawful n 2 x.last (stop_of x.why) x.over;
                 why = x.why;
                 over = x.over;
                 refused = x.refused;

@@ -20,7 +20,7 @@ use Rattle.core_lines.specs.Lies.{Maps, Activation}
 use Rattle.core_lines.specs.Lines.{code_length}
 use Rattle.core_lines.specs.Machines.{Machine, Store, state_of}
 use Rattle.core_lines.proofs.homes.Homes.{Stays, homes_of, set_stays, homes_on, homes_spared, Changed}
-use Rattle.core_lines.proofs.memory.Relations.{World, IsInOrder, Has, Waiting, back_of, At, Goes}
+use Rattle.core_lines.proofs.memory.Relations.{World, IsInOrder, Has, Waiting, Follows, keeping, back_of, At, Goes, IsKept}
 use Rattle.core_lines.proofs.memory.Moving.{Comes, comes_then, goes_from, goes_as}
 use Rattle.core_lines.proofs.Steps.{state_at}
 use Rattle.core_lines.proofs.memory.Access.{length_of_both}
@@ -194,16 +194,18 @@ module _ (w : World) (order : IsInOrder w) (x : Waiting) (outer : List Waiting) 
 
 -- what the call gives is saved into a temporary
 pub then_saved : (w : World) (order : IsInOrder w) (x : Waiting) (outer : List Waiting) (mem : Memory) (most : ℕ) (active : List (List ℕ)) (rest : Step)
-    (t place : ℕ) (first : List Line) (v : Content) → t < x.fn.temporaries → Has w place (first ++ saving w order x outer mem 10 t)
-    → Goes w most rest (At w (having t v x) outer mem (place + code_length (first ++ saving w order x outer mem 10 t))) active
+    (t place : ℕ) (first : List Line) (v : Content) → t < x.fn.temporaries → (after : List Bool) → Follows true (t ∷ []) x.kept after
+    → Has w place (first ++ saving w order x outer mem 10 t)
+    → Goes w most rest (At w (keeping after (having t v x)) outer mem (place + code_length (first ++ saving w order x outer mem 10 t))) active
     → Goes w most rest (AtWith w x outer mem (place + code_length first) (InRegister 10 v)) active
-then_saved w order x outer mem most active rest t place first v named has goes =
+then_saved w order x outer mem most active rest t place first v named after follows has goes =
     let second = saving w order x outer mem 10 t in
     let middle = place + code_length first in
     let end : middle + code_length second ≡ place + code_length (first ++ second) = omega (arith, length_of_both first second) in
-    goes_from w (AtWith w x outer mem middle (InRegister 10 v)) active most rest (At w (having t v x) outer mem (place + code_length (first ++ second)))
-    (subst (λ p. Comes w (AtWith w x outer mem middle (InRegister 10 v)) (At w (having t v x) outer mem p)) end
-    (saves_temp w order x outer mem 9 t middle v named refl (has_second w place first second has))) goes
+    goes_from w (AtWith w x outer mem middle (InRegister 10 v)) active most rest
+    (At w (keeping after (having t v x)) outer mem (place + code_length (first ++ second)))
+    (subst (λ p. Comes w (AtWith w x outer mem middle (InRegister 10 v)) (At w (keeping after (having t v x)) outer mem p)) end
+    (saves_temp w order x outer mem 9 t middle v after named follows refl (has_second w place first second has))) goes
 
 abbrev pub Free : Maps → (ℕ → ℕ) → Type 0
 Free m registers = Unit {0}
@@ -214,16 +216,16 @@ pub passed_goes : (w : World) (order : IsInOrder w) (x : Waiting) (outer : List 
     → ((answer : Answer) (a b : ℕ) (s : State) → calls w.areas answer number a b s ≡ asks answer (asked a) s)
     → ((place : ℕ) (s : Machine) (a : AtWith w x outer mem place (λ m registers. (registers 17 ≡ number) × InRegister 10 v m registers) s) (answer : Answer)
     → Carries w.areas a.maps (a.frame ∷ a.others) mem mem' s.bytes s.registers s.store (asked (s.registers 10)) answer e Free)
-    → (most : ℕ) (active : List (List ℕ)) (rest : Step) (t place : ℕ) → t < x.fn.temporaries → x.config.temps t ≡ v
+    → (most : ℕ) (active : List (List ℕ)) (rest : Step) (t place : ℕ) → t < x.fn.temporaries → IsKept w x t → x.config.temps t ≡ v
     → Has w place (loading w order x outer mem 10 t ++ environment_code number)
     → Goes w most rest (At w x outer mem' (place + code_length (loading w order x outer mem 10 t ++ environment_code number))) active
     → Goes w most (Says (Visible e) rest) (At w x outer mem place) active
-passed_goes w order x outer mem mem' number small asked e v calls_it carries most active rest t place named is has goes =
+passed_goes w order x outer mem mem' number small asked e v calls_it carries most active rest t place named kept is has goes =
     let first = loading w order x outer mem 10 t in
     let second = environment_code number in
     let end = place + code_length (first ++ second) in
     call_goes w order x outer mem mem' number small (λ a b. asked a) e (InRegister 10 v) Free calls_it (λ place s a answer. inl (carries place s a answer))
     most active rest place first (At w x outer mem place) (λ m registers q k. k)
     (subst (λ c. Comes w (At w x outer mem place) (AtWith w x outer mem (place + code_length first) (InRegister 10 c))) is
-    (loads_into w order x outer mem 9 t place named refl (has_first w place first second has))) has
+    (loads_into w order x outer mem 9 t place named kept refl (has_first w place first second has))) has
     (goes_as w (AtWith w x outer mem' end Free) active most rest (At w x outer mem' end) (λ s a. at_of w order x outer mem' end Free s a) goes)

@@ -1,6 +1,33 @@
 -- What the code that asks for a unique block does, and the code that frees one.
 use Rattle.std.specs.Prelude.{if◌then◌else◌}
-use Rattle.std.proofs.Common.{◌≡◌, ℕ, ◌+◌, ◌%◌, ◌^◌, ◌<◌, ◌≤◌, ◌⊎◌, inl, inr, ⊎_elim, Bool, true, false, List, ◌∷◌, ◌++◌, Option, Ok, refl, sym, ap, subst, ◌∙◌, arith}
+use Rattle.std.proofs.Common.{
+  ◌≡◌,
+  ℕ,
+  ◌+◌,
+  ◌%◌,
+  ◌^◌,
+  ◌<◌,
+  ◌≤◌,
+  ◌⊎◌,
+  inl,
+  inr,
+  ⊎_elim,
+  Bool,
+  true,
+  false,
+  List,
+  [],
+  ◌∷◌,
+  ◌++◌,
+  Option,
+  Ok,
+  refl,
+  sym,
+  ap,
+  subst,
+  ◌∙◌,
+  arith,
+}
 use Rattle.std.proofs.lemmas.Bool.{ltb-false, eq-eqb}
 use Rattle.cyc_words.specs.Events as events
 use Rattle.arena_laws.specs.declared.refusal.StoreRefusal.TheVariants.{Full, NotABlock, Memory as NoMemory}
@@ -16,7 +43,7 @@ use Rattle.core_lines.specs.Frames.{word_code, environment_code}
 use Rattle.core_lines.specs.Lies.{Maps, IsBlock}
 use Rattle.core_lines.specs.Lines.{code_length}
 use Rattle.core_lines.specs.Machines.{Machine, Store}
-use Rattle.core_lines.proofs.memory.Relations.{World, IsInOrder, Has, Waiting, At, Goes}
+use Rattle.core_lines.proofs.memory.Relations.{World, IsInOrder, Has, Waiting, Follows, keeping, At, Goes, IsKept}
 use Rattle.core_lines.proofs.memory.Moving.{comes_then, comes_as}
 use Rattle.core_lines.proofs.memory.Growing.{ObjectFits}
 use Rattle.core_lines.proofs.frames.Passing.{has_first}
@@ -115,11 +142,12 @@ module _ (w : World) (order : IsInOrder w) (x : Waiting) (outer : List Waiting) 
         (alone_or_not bytes answer st.holdings))
 
   pub unique_alloc_goes : (most : ℕ) (active : List (List ℕ)) (rest : Step) (t place : ℕ) → t < x.fn.temporaries
+      → (after : List Bool) → Follows true (t ∷ []) x.kept after
       → Has w place (word_code 10 (bytes % 2 ^ 32) ++ environment_code 7 ++ saving w order x outer mem 10 t)
-      → Goes w most rest (At w (having t (Pointer (record { region = Born mem.births; object = 0; cell = 0 }) 0) x) outer born_alone
+      → Goes w most rest (At w (keeping after (having t (Pointer (record { region = Born mem.births; object = 0; cell = 0 }) 0) x)) outer born_alone
       (place + code_length (word_code 10 (bytes % 2 ^ 32) ++ environment_code 7 ++ saving w order x outer mem 10 t))) active
       → Goes w most (Says (Visible event) rest) (At w x outer mem place) active
-  unique_alloc_goes most active rest t place named has goes =
+  unique_alloc_goes most active rest t place named after follows has goes =
       let first = word_code 10 (bytes % 2 ^ 32) in
       let second = environment_code 7 in
       let third = saving w order x outer mem 10 t in
@@ -131,7 +159,7 @@ module _ (w : World) (order : IsInOrder w) (x : Waiting) (outer : List Waiting) 
       (puts_into w order x outer mem 9 (bytes % 2 ^ 32) place Free Sized (omega arith) refl (has_first w place first second has_both)
       (λ m new old is kept k. is ∙ same))) has_both
       (then_saved w order x outer born_alone most active rest t place (first ++ second) (Pointer (record { region = Born mem.births; object = 0; cell = 0 }) 0) named
-      has goes)
+      after follows has goes)
 
 -- ---- it is freed
 
@@ -166,7 +194,8 @@ module _ (w : World) (order : IsInOrder w) (x : Waiting) (outer : List Waiting) 
         holds = tt;
       }
 
-  pub unique_free_goes : (most : ℕ) (active : List (List ℕ)) (rest : Step) (t place : ℕ) → t < x.fn.temporaries → x.config.temps t ≡ Pointer p 0
+  pub unique_free_goes : (most : ℕ) (active : List (List ℕ)) (rest : Step) (t place : ℕ) → t < x.fn.temporaries → IsKept w x t
+      → x.config.temps t ≡ Pointer p 0
       → Has w place (loading w order x outer mem 10 t ++ environment_code 8)
       → Goes w most rest (At w x outer freed (place + code_length (loading w order x outer mem 10 t ++ environment_code 8))) active
       → Goes w most (Says (Visible gone) rest) (At w x outer mem place) active

@@ -19,12 +19,12 @@ use Rattle.cycc_driver.proofs.compiling.lay_out.Goals as goal
 pub returns-in-Err-TooLarge-clause-refused : goal.returns-in-Err-TooLarge-clause-refused
 returns-in-Err-TooLarge-clause-refused c =
     let made = c.in_ok-core.ensures in
-    let are = subst (λ (p : core.Program). AreLinesOf p c.in_ok-labelled.labelled) made.code c.in_ok-labelled.ensures.lines in
+    let are = subst (λ (p : core.Program). AreLinesOf p c.in_ok-labelled.labelled.lines) made.code c.in_ok-labelled.ensures.lines in
     let all = accepted_do c.args.checked.now made.accepted made.few in
     let large = c.in-Err-TooLarge.ensures.too_large (ap (λ (f : LayoutFault). Err f) c.in-Err-TooLarge.field-0-is) in
     record {
       long =
-          let shorter = no_longer (wide_in c.in_ok-labelled.labelled) c.in_ok-labelled.labelled in
+          let shorter = no_longer (wide_in c.in_ok-labelled.labelled.lines) c.in_ok-labelled.labelled.lines in
           let within = are.within in
           let bound = all.promised.code in
           omega (arith, large, shorter, within, bound);
@@ -41,10 +41,10 @@ returns-in-Ok-data-clause-code c =
 pub returns-in-Ok-data-clause-implemented : goal.returns-in-Ok-data-clause-implemented
 returns-in-Ok-data-clause-implemented c = λ parts is_code is_statics from_first fits.
     let made = c.in_ok-core.ensures in
-    let are = subst (λ (p : core.Program). AreLinesOf p c.in_ok-labelled.labelled) made.code c.in_ok-labelled.ensures.lines in
+    let are = subst (λ (p : core.Program). AreLinesOf p c.in_ok-labelled.labelled.lines) made.code c.in_ok-labelled.ensures.lines in
     let placed = c.in-Ok.ensures in
     implemented c.args.checked.now c.in-Ok.code.bytes.items c.in-Ok-data.data.items parts record {
-      lines = c.in_ok-labelled.labelled;
+      lines = c.in_ok-labelled.labelled.lines;
       are = are;
       words = placed.words;
       has = placed.has are.once;

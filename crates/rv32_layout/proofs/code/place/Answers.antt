@@ -16,24 +16,25 @@ returns-clause-words c =
 
 pub returns-clause-short : goal.returns-clause-short
 returns-clause-short c =
-    let is : c.as_slice.result.now ≡ shortened (wide_in c.args.labelled.now) c.args.labelled.now = c.as_slice.ensures.value ∙ c.in_ok-relaxed.ensures.lines in
+    let lines = c.args.labelled.now.lines in
+    let is : c.as_slice.result.now ≡ shortened (wide_in lines) lines = c.as_slice.ensures.value ∙ c.in_ok-relaxed.ensures.lines in
     omega (arith, c.in_ok-bytes.ensures.length, ap code_length is)
 
 pub returns-clause-length : goal.returns-clause-length
 returns-clause-length c =
-    let lines = c.args.labelled.now in
+    let lines = c.args.labelled.now.lines in
     let is : c.as_slice.result.now ≡ shortened (wide_in lines) lines = c.as_slice.ensures.value ∙ c.in_ok-relaxed.ensures.lines in
     omega (arith, c.in_ok-bytes.ensures.length, ap code_length is, no_longer (wide_in lines) lines)
 
 pub returns-clause-some : goal.returns-clause-some
 returns-clause-some c = λ some.
-    let lines = c.args.labelled.now in
+    let lines = c.args.labelled.now.lines in
     let is : c.as_slice.result.now ≡ shortened (wide_in lines) lines = c.as_slice.ensures.value ∙ c.in_ok-relaxed.ensures.lines in
     omega (arith, c.in_ok-bytes.ensures.length, ap code_length is, some_short (wide_in lines) lines some)
 
 pub returns-clause-has : goal.returns-clause-has
 returns-clause-has c = λ once.
-    let lines = c.args.labelled.now in
+    let lines = c.args.labelled.now.lines in
     let wide = wide_in lines in
     let is : c.as_slice.result.now ≡ shortened wide lines = c.as_slice.ensures.value ∙ c.in_ok-relaxed.ensures.lines in
     let within : code_length (shortened wide lines) ≤ code_limit = omega (arith, c.in_ok-relaxed.ensures.placeable.within, ap code_length c.in_ok-relaxed.ensures.lines) in

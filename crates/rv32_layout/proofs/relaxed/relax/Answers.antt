@@ -10,13 +10,13 @@ use Rattle.rv32_layout.proofs.relaxed.relax.Goals as goal
 
 pub rounds-init : goal.rounds-init
 rounds-init c =
-    at_first c.args.labelled.now c.in_ok-lines.lines.items
+    at_first c.args.labelled.now.lines c.in_ok-lines.lines.items
     (c.in_ok-lines.ensures ∙ ap (λ (ls : List Line). shortened (none_wide ls) ls) c.lines.ensures.same)
 
 pub returns-then-is_none-clause-too_large : goal.returns-then-is_none-clause-too_large
 returns-then-is_none-clause-too_large c = λ _.
     let over : code_limit < code_length c.as_slice.result.now = grind (arith, c.length.ensures.over, c.is_none.ensures, c.if-is_none.true) in
-    omega (arith, over, ap code_length c.as_slice.ensures.value, no_longer_yet c.args.labelled.now c.rounds.lines.items c.rounds.invariant)
+    omega (arith, over, ap code_length c.as_slice.ensures.value, no_longer_yet c.args.labelled.now.lines c.rounds.lines.items c.rounds.invariant)
 
 pub returns-then-all_reach-clause-lines : goal.returns-then-all_reach-clause-lines
 returns-then-all_reach-clause-lines c =
@@ -26,7 +26,7 @@ returns-then-all_reach-clause-lines c =
     λ label. c.in_ok-places.ensures label ∙ ap (λ ls. place_of ls label) c.as_slice-in-rounds.ensures.value in
     let reach : all_reach table 0 placed ≡ true =
     ap (λ ls. all_reach table 0 ls) (sym c.as_slice-in-rounds-2.ensures.value) ∙ sym c.all_reach.ensures ∙ c.if-all_reach.true in
-    at_last c.args.labelled.now placed table same c.lines.ensures.long c.rounds.invariant reach
+    at_last c.args.labelled.now.lines placed table same c.lines.ensures.long c.rounds.invariant reach
 
 pub returns-then-all_reach-clause-placeable : goal.returns-then-all_reach-clause-placeable
 returns-then-all_reach-clause-placeable c =
@@ -37,8 +37,8 @@ returns-then-all_reach-clause-placeable c =
     let reach : all_reach table 0 placed ≡ true =
     ap (λ ls. all_reach table 0 ls) (sym c.as_slice-in-rounds-2.ensures.value) ∙ sym c.all_reach.ensures ∙ c.if-all_reach.true in
     let short : code_length c.as_slice.result.now ≤ code_limit = grind (arith, c.length.ensures.over, c.is_none.ensures, c.if-is_none.false) in
-    placeable c.args.labelled.now placed c.in_ok-places.places c.lines.ensures.begins c.lines.ensures.long
-    (at_last c.args.labelled.now placed table same c.lines.ensures.long c.rounds.invariant reach)
+    placeable c.args.labelled.now.lines placed c.in_ok-places.places c.lines.ensures.begins c.lines.ensures.long
+    (at_last c.args.labelled.now.lines placed table same c.lines.ensures.long c.rounds.invariant reach)
     (omega (arith, short, ap code_length c.as_slice.ensures.value)) same
 
 pub rounds-smaller : goal.rounds-smaller
@@ -58,4 +58,4 @@ rounds-preserved c =
     let same : (label : ℕ) → table label ≡ place_of placed label =
     λ label. c.in_ok-places.ensures label ∙ ap (λ ls. place_of ls label) c.as_slice-in-rounds.ensures.value in
     let next = c.in_ok-lines-2.ensures ∙ ap (λ ls. lengthened table 0 ls) c.as_slice-in-rounds-3.ensures.value in
-    subst (AreBetween c.args.labelled.now) (sym next) (one_more c.args.labelled.now placed table same c.lines.ensures.long c.rounds.invariant)
+    subst (AreBetween c.args.labelled.now.lines) (sym next) (one_more c.args.labelled.now.lines placed table same c.lines.ensures.long c.rounds.invariant)

@@ -5,7 +5,7 @@ use Rattle.rv32_layout.proofs.Rounds.{AreBetween}
 use Rattle.rv32_layout.proofs.relaxed.relax.Given as goal
 
 abbrev pub invariant-rounds : goal.invariant-rounds
-invariant-rounds l = AreBetween l.labelled l.lines.items
+invariant-rounds l = AreBetween l.labelled.lines l.lines.items
 
 abbrev pub decreases-rounds : goal.decreases-rounds
 decreases-rounds l = code_limit + 1 - code_length l.lines.items

@@ -1,7 +1,8 @@
 use Rattle.std.specs.Prelude.{length, map}
-use Rattle.std.proofs.Common.{◌<◌, arith}
+use Rattle.std.proofs.Common.{◌<◌, ap, ◌∙◌, arith}
 use Rattle.std.proofs.lemmas.List.{length-map}
 use Rattle.cyc_core.specs.Trees.{function_tree, program_tree}
+use Rattle.rv32_select.specs.Listing.{homes_listed}
 use Rattle.rv32_select.proofs.Beginning.{program_begins}
 use Rattle.rv32_select.proofs.NoBranches.{program_long}
 use Rattle.rv32_select.proofs.Meaning.{lines_are}
@@ -15,4 +16,7 @@ invariant_of-result c =
     (program_begins (program_tree program) lines c.in_ok-lines.ensures there, program_long (program_tree program) lines c.in_ok-lines.ensures)
 
 pub returns : goal.returns
-returns c = record { lines = lines_are (program_tree c.args.program.now) c.in_ok-lines.lines.items c.in_ok-lines.ensures }
+returns c = record {
+  lines = lines_are (program_tree c.args.program.now) c.in_ok-lines.lines.items c.in_ok-lines.ensures;
+  homes = c.in_ok-homes.ensures ∙ ap (λ fs. homes_listed (map function_tree fs)) c.deref.ensures.value;
+}

@@ -1,8 +1,9 @@
 use Rattle.std.proofs.Common.{◌≡◌, ◌+◌, ◌≤◌, ◌++◌, drop}
 use Rattle.cyc_core.specs.Trees.{statement_tree, body_tree}
-use Rattle.core_lines.specs.Choosing.{held_behind_all}
+use Rattle.core_lines.specs.Held.{held_behind_all}
 use Rattle.core_lines.specs.Selected.{statements_code, labels_of, names_after_all, holding, naming}
-use Rattle.rv32_select.specs.Places.{surroundings}
+use Rattle.core_lines.specs.Saved.{results_all}
+use Rattle.rv32_select.specs.Places.{surroundings, saves_left}
 use Rattle.rv32_select.proofs.Sizes.{statement_size, statements_size}
 use Rattle.rv32_select.proofs.statement.+statement.Given as goal
 
@@ -28,13 +29,17 @@ decreases-put_leavable l = statements_size (body_tree l.body.now) + 1
 abbrev pub invariant-put_statements-each : goal.invariant-put_statements-each
 invariant-put_statements-each l = record {
   code : l.lines.items ++
-      statements_code 0 (surroundings l.place) l.free l.ways.out l.ways.again (body_tree (drop l.statement-index l.statements)) ≡
-      l.initial.lines.items ++ statements_code 0 (surroundings l.initial.place) l.next l.ways.out l.ways.again (body_tree l.statements);
+      statements_code (saves_left l.place) (surroundings l.place) l.free l.ways.out l.ways.again (body_tree (drop l.statement-index l.statements)) ≡
+      l.initial.lines.items ++
+      statements_code (saves_left l.initial.place) (surroundings l.initial.place) l.next l.ways.out l.ways.again (body_tree l.statements);
   free : l.free + labels_of (body_tree (drop l.statement-index l.statements)) ≡ l.next + labels_of (body_tree l.statements);
   same : surroundings l.place ≡ holding (surroundings l.place).held (naming (surroundings l.place).names (surroundings l.initial.place));
   names : names_after_all (body_tree (drop l.statement-index l.statements)) (surroundings l.place).names ≡
       names_after_all (body_tree l.statements) (surroundings l.initial.place).names;
-  held : held_behind_all (surroundings l.place).held (body_tree (drop l.statement-index l.statements)) ≡
-      held_behind_all (surroundings l.initial.place).held (body_tree l.statements);
+  held : held_behind_all (surroundings l.initial.place).homes (surroundings l.initial.place).statics (surroundings l.place).held
+      (body_tree (drop l.statement-index l.statements)) ≡
+      held_behind_all (surroundings l.initial.place).homes (surroundings l.initial.place).statics (surroundings l.initial.place).held (body_tree l.statements);
+  saves : drop (results_all (body_tree (drop l.statement-index l.statements))) (saves_left l.place) ≡
+      drop (results_all (body_tree l.statements)) (saves_left l.initial.place);
   size : statements_size (body_tree (drop l.statement-index l.statements)) ≤ statements_size (body_tree l.statements);
 }

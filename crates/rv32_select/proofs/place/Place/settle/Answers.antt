@@ -1,4 +1,4 @@
-use Rattle.std.proofs.Common.{◌*◌, [], ap, map, ◌∙◌}
+use Rattle.std.proofs.Common.{◌*◌, [], ap, map, refl, ◌∙◌}
 use Rattle.cyc_core.specs.Trees.{local_tree, function_tree}
 use Rattle.core_lines.specs.Selected.{end_from, offsets_from, shrunk}
 use Rattle.rv32_select.proofs.Entering.{settled}
@@ -11,7 +11,10 @@ returns c =
     let begins = c.in_ok-first.ensures ∙ ap (λ n. 4 * n) c.requires.slots in
     let own = c.in_ok-own.ensures ∙ ap (λ ls. offsets_from first (shrunk (map local_tree ls) [])) c.deref.ensures.value in
     let low = c.in_ok-low.ensures ∙ ap (λ ls. end_from first (shrunk (map local_tree ls) [])) c.deref-2.ensures.value in
+    let blocks = ap (map (λ scope. scope.offsets.items)) c.new.ensures.items in
+    let homes = ap (map (λ scope. scope.homes.items)) c.new.ensures.items in
     record {
-      place = settled f c.args.self.now.statics.items c.in_ok-own.own.items c.args.self.now.homes.items _ _ c.args.exit first c.in_ok-low.low begins own low
-          c.requires.homes (ap (map (λ scope. scope.offsets.items)) c.new.ensures.items) (ap (map (λ scope. scope.homes.items)) c.new.ensures.items);
+      place = settled f c.args.self.now.statics.items c.in_ok-own.own.items c.args.self.now.homes.items _ _ c.args.exit first c.in_ok-low.low _
+          begins own low c.requires.homes blocks homes c.in_ok-hold_taken.ensures;
+      homes = refl;
     }

@@ -1,0 +1,249 @@
+-- What is known of the words of temporaries besides their slots, at a machine.
+use Rattle.std.specs.Prelude.{nat_eq, nat_lt, ◌||◌, if◌then◌else◌}
+use Rattle.std.proofs.Common.{
+  ◌≡◌,
+  ℕ,
+  zero,
+  suc,
+  ◌+◌,
+  ◌%◌,
+  ◌^◌,
+  ◌<◌,
+  ◌⊎◌,
+  ⊎_elim,
+  Bool,
+  true,
+  false,
+  List,
+  [],
+  ◌∷◌,
+  Option,
+  Some,
+  None,
+  refl,
+  sym,
+  ap,
+  subst,
+  ◌∙◌,
+  arith,
+}
+use Rattle.std.proofs.lemmas.Bool.{eq-eqb, ne_eqb, eqb-true}
+use Rattle.std.proofs.lemmas.Bool.Decides.{nat_tests}
+use Rattle.core_meaning.specs.Memory.{Content}
+use Rattle.core_meaning.specs.Steps.{set_temp, with_temp}
+use Rattle.core_lines.specs.Held.{
+  Source,
+  Register,
+  Number,
+  Holding,
+  some_source,
+  source_of,
+  is_in,
+  without_register,
+  without_temporary,
+  with_source,
+  result_register,
+}
+use Rattle.core_lines.specs.Homes.{flag_at, stays}
+use Rattle.core_lines.specs.Lies.{Maps, Shows}
+use Rattle.core_lines.specs.Loaded.{if_unknown, unknown_in}
+use Rattle.core_lines.specs.Operands.{register_for, operand_in}
+use Rattle.core_lines.proofs.memory.Relations.{World, Waiting, Covers, Follows, IsKept, AreKept}
+use Rattle.core_lines.proofs.memory.Slots.{Kept}
+
+-- an activation with a temporary set
+abbrev pub having : ℕ → Content → Waiting → Waiting
+having t v x = record x { config = with_temp t v x.config }
+
+-- ---- registers
+
+-- x5, x6 and x7, in which nothing stays
+abbrev pub is_spare : ℕ → Bool
+is_spare q = nat_eq q 5 || (nat_eq q 6 || nat_eq q 7)
+
+spare_cases : (q : ℕ) → is_spare q ≡ true → (q ≡ 5) ⊎ ((q ≡ 6) ⊎ (q ≡ 7))
+spare_cases q spare = grind (arith, nat_tests)
+
+pub spare_leaves : (q : ℕ) → is_spare q ≡ true → stays q ≡ false
+spare_leaves q spare = ⊎_elim (λ e. ap stays e) (λ h. ⊎_elim (λ e. ap stays e) (λ e. ap stays e) h) (spare_cases q spare)
+
+pub spare_apart : (q r : ℕ) → is_spare q ≡ false → is_spare r ≡ true → nat_eq q r ≡ false
+spare_apart q r free spare = ne_eqb q r (λ e. let same : is_spare q ≡ is_spare r = ap is_spare e in cc)
+
+-- a register has a word that shows a value
+abbrev pub InRegister : ℕ → Content → Maps → (ℕ → ℕ) → Type 0
+InRegister r v m registers = Shows m v (registers r) × (registers r < 2 ^ 32)
+
+-- an operand's register is the spare one that it was loaded into, or none of them
+abbrev pub IsFree : ℕ → ℕ → Type 0
+IsFree spare r = (nat_eq r spare ≡ true) ⊎ (is_spare r ≡ false)
+
+abbrev pub InOperand : ℕ → ℕ → Content → Maps → (ℕ → ℕ) → Type 0
+InOperand spare r v m registers = InRegister r v m registers × IsFree spare r
+
+-- what goes on being so where no register changes but one, and x7
+abbrev pub Stable : ℕ → (Maps → (ℕ → ℕ) → Type 0) → Type 0
+Stable r H = (m : Maps) (new old : ℕ → ℕ) → Kept r new old → H m old → H m new
+
+pub register_stays : (q r : ℕ) (v : Content) (m : Maps) (new old : ℕ → ℕ) → Kept r new old → nat_eq q 7 ≡ false → nat_eq q r ≡ false
+    → InRegister q v m old → InRegister q v m new
+register_stays q r v m new old kept not7 other a = subst (λ n. Shows m v n × (n < 2 ^ 32)) (sym (kept q not7 other)) a
+
+-- an operand stays where another spare register changes
+pub operand_stays : (spare r q : ℕ) (v : Content) → nat_eq spare 7 ≡ false → nat_eq spare q ≡ false → is_spare q ≡ true → Stable q (InOperand spare r v)
+operand_stays spare r q v not7 other changes m new old kept a = ⊎_elim
+    (λ (is : nat_eq r spare ≡ true).
+    let same : r ≡ spare = eqb-true r spare is in
+    (register_stays r q v m new old kept (ap (λ k. nat_eq k 7) same ∙ not7) (ap (λ k. nat_eq k q) same ∙ other) a.0, a.1))
+    (λ (free : is_spare r ≡ false). (register_stays r q v m new old kept (spare_apart r 7 free refl) (spare_apart r q free changes) a.0, a.1))
+    a.1
+
+-- ---- the registers of results
+
+result_facts : (k : ℕ) → k < 8 → (stays (suc (if nat_lt k 4 then 11 + k else 23 + k)) ≡ false)
+    × (is_spare (suc (if nat_lt k 4 then 11 + k else 23 + k)) ≡ false)
+result_facts zero within = (refl, refl)
+result_facts (suc zero) within = (refl, refl)
+result_facts (suc (suc zero)) within = (refl, refl)
+result_facts (suc (suc (suc zero))) within = (refl, refl)
+result_facts (suc (suc (suc (suc zero)))) within = (refl, refl)
+result_facts (suc (suc (suc (suc (suc zero))))) within = (refl, refl)
+result_facts (suc (suc (suc (suc (suc (suc zero)))))) within = (refl, refl)
+result_facts (suc (suc (suc (suc (suc (suc (suc zero))))))) within = (refl, refl)
+result_facts (suc (suc (suc (suc (suc (suc (suc (suc k)))))))) within = absurd (omega arith)
+
+pub result_stays : (t : ℕ) → stays (result_register t) ≡ false
+result_stays t = (result_facts (t % 8) (omega arith)).0
+
+pub result_free : (t : ℕ) → is_spare (result_register t) ≡ false
+result_free t = (result_facts (t % 8) (omega arith)).1
+
+-- ---- what is known
+
+-- a source shows a value
+abbrev pub IsThere : Source → Content → Maps → (ℕ → ℕ) → Type 0
+IsThere (Register zero) v m registers = Unit {0}
+IsThere (Register (suc r)) v m registers = InRegister (suc r) v m registers × (is_spare (suc r) ≡ false)
+IsThere (Number n) v m registers = Shows m v n × (n < 2 ^ 32)
+
+-- each temporary's word is where it is said to be
+abbrev pub AreThere : List Holding → (ℕ → Content) → Maps → (ℕ → ℕ) → Type 0
+AreThere [] temps m registers = Unit {0}
+AreThere (h ∷ hs) temps m registers = IsThere h.source (temps h.temporary) m registers × AreThere hs temps m registers
+
+-- what is looked up is there
+
+some_not_zero : (s : Source) → some_source s ≡ Some (Register zero) → ⊥
+some_not_zero (Register zero) e = cc
+some_not_zero (Register (suc r)) e = let same : suc r ≡ zero = cc in omega (arith, same)
+some_not_zero (Number n) e = cc
+
+pub source_not_zero : (hs : List Holding) (t : ℕ) → source_of hs t ≡ Some (Register zero) → ⊥
+source_not_zero [] t e = cc
+source_not_zero (h ∷ hs) t e = by (nat_eq h.temporary t) (source_not_zero hs t) e
+  where
+    by : (c : Bool) → (source_of hs t ≡ Some (Register zero) → ⊥) → (if c then some_source h.source else source_of hs t) ≡ Some (Register zero) → ⊥
+    by true rest e = some_not_zero h.source e
+    by false rest e = rest e
+
+some_there : (is s : Source) (v : Content) (m : Maps) (registers : ℕ → ℕ) → some_source is ≡ Some s → IsThere is v m registers → IsThere s v m registers
+some_there (Register zero) s v m registers e a = absurd (cc)
+some_there (Register (suc r)) s v m registers e a = let same : Register (suc r) ≡ s = cc in subst (λ q. IsThere q v m registers) same a
+some_there (Number n) s v m registers e a = let same : Number n ≡ s = cc in subst (λ q. IsThere q v m registers) same a
+
+pub there_found : (hs : List Holding) (t : ℕ) (s : Source) (temps : ℕ → Content) (m : Maps) (registers : ℕ → ℕ) → AreThere hs temps m registers
+    → source_of hs t ≡ Some s → IsThere s (temps t) m registers
+there_found [] t s temps m registers a e = absurd (cc)
+there_found (h ∷ hs) t s temps m registers a e = by (nat_eq h.temporary t) refl (there_found hs t s temps m registers a.1) e
+  where
+    by : (c : Bool) → nat_eq h.temporary t ≡ c → (source_of hs t ≡ Some s → IsThere s (temps t) m registers)
+        → (if c then some_source h.source else source_of hs t) ≡ Some s → IsThere s (temps t) m registers
+    by true same rest e = subst (λ q. IsThere s (temps q) m registers) (eqb-true h.temporary t same)
+        (some_there h.source s (temps h.temporary) m registers e a.0)
+    by false other rest e = rest e
+
+-- the register of an operand isn't x0
+pub operand_some : (hs : List Holding) (spare t : ℕ) → (r : ℕ) × (operand_in hs (suc spare) t ≡ suc r)
+operand_some hs spare t = by (source_of hs t) refl
+  where
+    by : (s : Option Source) → source_of hs t ≡ s → (r : ℕ) × (register_for (suc spare) s ≡ suc r)
+    by None e = (spare, refl)
+    by (Some (Register zero)) e = absurd (source_not_zero hs t e)
+    by (Some (Register (suc r))) e = (r, refl)
+    by (Some (Number n)) e = (spare, refl)
+
+-- what stays where a register changes
+
+source_kept : (r : ℕ) (s : Source) (v : Content) → is_in r s ≡ false → Stable r (IsThere s v)
+source_kept r (Register zero) v other m new old kept a = tt
+source_kept r (Register (suc q)) v other m new old kept a = (register_stays (suc q) r v m new old kept (spare_apart (suc q) 7 a.1 refl) other a.0, a.1)
+source_kept r (Number n) v other m new old kept a = a
+
+not_in_spare : (r : ℕ) (s : Source) (v : Content) → is_spare r ≡ true → Stable r (IsThere s v)
+not_in_spare r (Register zero) v spare m new old kept a = tt
+not_in_spare r (Register (suc q)) v spare m new old kept a =
+    (register_stays (suc q) r v m new old kept (spare_apart (suc q) 7 a.1 refl) (spare_apart (suc q) r a.1 spare) a.0, a.1)
+not_in_spare r (Number n) v spare m new old kept a = a
+
+pub there_kept : (r : ℕ) (hs : List Holding) (temps : ℕ → Content) → is_spare (suc r) ≡ true → Stable (suc r) (AreThere hs temps)
+there_kept r [] temps spare m new old kept a = tt
+there_kept r (h ∷ hs) temps spare m new old kept a =
+    (not_in_spare (suc r) h.source (temps h.temporary) spare m new old kept a.0, there_kept r hs temps spare m new old kept a.1)
+
+pub there_without : (r : ℕ) (hs : List Holding) (temps : ℕ → Content) (m : Maps) (new old : ℕ → ℕ) → Kept (suc r) new old → AreThere hs temps m old
+    → AreThere (without_register (suc r) hs) temps m new
+there_without r [] temps m new old kept a = tt
+there_without r (h ∷ hs) temps m new old kept a = by (is_in (suc r) h.source) refl (there_without r hs temps m new old kept a.1)
+  where
+    by : (c : Bool) → is_in (suc r) h.source ≡ c → AreThere (without_register (suc r) hs) temps m new
+        → AreThere (if c then without_register (suc r) hs else h ∷ without_register (suc r) hs) temps m new
+    by true is rest = rest
+    by false other rest = (source_kept (suc r) h.source (temps h.temporary) other m new old kept a.0, rest)
+
+-- a temporary gets another value
+
+pub there_set : (t : ℕ) (v : Content) (hs : List Holding) (temps : ℕ → Content) (m : Maps) (registers : ℕ → ℕ) → AreThere hs temps m registers
+    → AreThere (without_temporary t hs) (set_temp t v temps) m registers
+there_set t v [] temps m registers a = tt
+there_set t v (h ∷ hs) temps m registers a = by (nat_eq h.temporary t) refl (there_set t v hs temps m registers a.1)
+  where
+    by : (c : Bool) → nat_eq h.temporary t ≡ c → AreThere (without_temporary t hs) (set_temp t v temps) m registers
+        → AreThere (if c then without_temporary t hs else h ∷ without_temporary t hs) (set_temp t v temps) m registers
+    by true is rest = rest
+    by false other rest = (subst (λ u. IsThere h.source u m registers) (sym (ap (λ c. if c then v else temps h.temporary) other)) a.0, rest)
+
+pub there_source : (t : ℕ) (v : Content) (s : Source) (hs : List Holding) (temps : ℕ → Content) (m : Maps) (registers : ℕ → ℕ) → IsThere s v m registers
+    → AreThere hs temps m registers → AreThere (with_source t s hs) (set_temp t v temps) m registers
+there_source t v s hs temps m registers here a = (
+  subst (λ u. IsThere s u m registers) (sym (ap (λ c. if c then v else temps t) (eq-eqb t t refl))) here,
+  there_set t v hs temps m registers a,
+)
+
+-- ---- what is saved
+
+-- where there is no result, nothing more is shown than before
+pub follows_none : (keeps : Bool) (before after : List Bool) → Follows keeps [] before after → Covers before after
+follows_none keeps before after follows u now =
+    ⊎_elim (λ (h : (false ≡ true) × (keeps ≡ true)). absurd (cc (h.0))) (λ (h : (false ≡ false) × (flag_at before u ≡ true)). h.1) (follows u now)
+
+-- a temporary is saved, unless it is known where else its word is
+abbrev pub IsServed : World → Waiting → List Holding → ℕ → Type 0
+IsServed w x hs t = source_of hs t ≡ None → IsKept w x t
+
+-- the first of those that code uses, and the others
+pub served_first : (w : World) (x : Waiting) (hs : List Holding) (t : ℕ) (ts : List ℕ) → AreKept w x (unknown_in hs (t ∷ ts)) → IsServed w x hs t
+served_first w x hs t ts kept e = (subst (λ s. AreKept w x (if_unknown s t (unknown_in hs ts))) e kept).0
+
+pub served_others : (w : World) (x : Waiting) (hs : List Holding) (t : ℕ) (ts : List ℕ) → AreKept w x (unknown_in hs (t ∷ ts))
+    → AreKept w x (unknown_in hs ts)
+served_others w x hs t ts kept = by (source_of hs t) kept
+  where
+    by : (s : Option Source) → AreKept w x (if_unknown s t (unknown_in hs ts)) → AreKept w x (unknown_in hs ts)
+    by None kept = kept.1
+    by (Some s) kept = kept
+
+pub served_one : (w : World) (x : Waiting) (hs : List Holding) (t : ℕ) → AreKept w x (unknown_in hs (t ∷ [])) → IsServed w x hs t
+served_one w x hs t kept = served_first w x hs t [] kept
+
+pub served_two : (w : World) (x : Waiting) (hs : List Holding) (t u : ℕ) → AreKept w x (unknown_in hs (t ∷ u ∷ [])) → IsServed w x hs t × IsServed w x hs u
+served_two w x hs t u kept = (served_first w x hs t (u ∷ []) kept, served_one w x hs u (served_others w x hs t (u ∷ []) kept))

@@ -1,0 +1,236 @@
+-- Where the words of temporaries are known to be besides their slots: in registers, or as numbers that the code can make again.
+use Rattle.std.specs.Prelude.{ℕ, zero, suc, ◌+◌, ◌%◌, ◌^◌, Bool, true, false, ◌&&◌, List, [], ◌∷◌, Option, Some, None, nat_eq, nat_lt, if◌then◌else◌}
+use Rattle.rv32_machine.specs.State.{data_base}
+use Rattle.core_meaning.specs.Core.{
+  Binary,
+  Add,
+  Operation,
+  Constant,
+  NullPointer,
+  Move,
+  Narrow,
+  Apply,
+  LocalAddress,
+  OwnAddress,
+  DataAddress,
+  Offset,
+  Element,
+  Get,
+  Put,
+  Load,
+  Store,
+  Copy,
+  Clear,
+  IsNull,
+  SamePlace,
+  Getchar,
+  Putchar,
+  HeapHandle,
+  RegionNew,
+  RegionAlloc,
+  RegionFree,
+  UniqueAlloc,
+  UniqueFree,
+  KeyNew,
+  KeyOpen,
+  KeyClose,
+  KeyFree,
+  Statement,
+  Do,
+  If,
+  While,
+  Block,
+  Leave,
+  Break,
+  Continue,
+  Call,
+  Return,
+  Raise,
+  Statements,
+  NoStatements,
+  MoreStatements,
+}
+
+-- ---- what is known
+
+-- where a word is: a register has it, or it is a number
+pub data Source : Type 0 where
+  Register : (register : ℕ) → Source
+  Number : (word : ℕ) → Source
+
+-- a temporary's word is there
+pub record Holding : Type 0 where
+  pub temporary : ℕ
+  pub source : Source
+
+-- x0 holds no temporary
+abbrev pub some_source : Source → Option Source
+some_source (Register zero) = None
+some_source (Register (suc r)) = Some (Register (suc r))
+some_source (Number w) = Some (Number w)
+
+-- where a temporary's word is, if that is known
+abbrev pub source_of : List Holding → ℕ → Option Source
+source_of [] t = None
+source_of (h ∷ hs) t = (if nat_eq h.temporary t then some_source h.source else source_of hs t)
+
+abbrev pub is_in : ℕ → Source → Bool
+is_in r (Register q) = nat_eq q r
+is_in r (Number w) = false
+
+-- what is still known where a register changes
+abbrev pub without_register : ℕ → List Holding → List Holding
+without_register r [] = []
+without_register r (h ∷ hs) = (if is_in r h.source then without_register r hs else h ∷ without_register r hs)
+
+-- and where a temporary does
+abbrev pub without_temporary : ℕ → List Holding → List Holding
+without_temporary t [] = []
+without_temporary t (h ∷ hs) = (if nat_eq h.temporary t then without_temporary t hs else h ∷ without_temporary t hs)
+
+-- a temporary gets a word that is there
+abbrev pub with_source : ℕ → Source → List Holding → List Holding
+with_source t s hs = record { temporary = t; source = s } ∷ without_temporary t hs
+
+-- ---- the registers of results
+
+-- The register that an operation leaves its result in, by the temporary that gets it: one of x12 to x15 and x28 to x31.
+abbrev pub result_index : ℕ → ℕ
+result_index t = (if nat_lt (t % 8) 4 then 11 + t % 8 else 23 + t % 8)
+
+abbrev pub result_register : ℕ → ℕ
+result_register t = suc (result_index t)
+
+-- a temporary gets what is in its register
+abbrev pub with_result : ℕ → List Holding → List Holding
+with_result t hs = with_source t (Register (result_register t)) (without_register (result_register t) hs)
+
+-- parameters from one on, each in the register of its temporary
+abbrev pub with_taken : ℕ → ℕ → List Holding → List Holding
+with_taken k zero hs = hs
+with_taken k (suc more) hs = with_taken (suc k) more (with_result k hs)
+
+-- a temporary gets the word of another one, by way of its own register where that word isn't known to be elsewhere
+abbrev pub with_moved : ℕ → Option Source → List Holding → List Holding
+with_moved t None hs = with_result t hs
+with_moved t (Some s) hs = with_source t s hs
+
+-- ---- sums with 0
+
+abbrev pub is_zero : Option Source → Bool
+is_zero None = false
+is_zero (Some (Register r)) = false
+is_zero (Some (Number zero)) = true
+is_zero (Some (Number (suc w))) = false
+
+-- the temporary whose word a sum is, where the other one is known to be 0
+abbrev pub same_as : Binary → (x y : ℕ) → Option Source → Option Source → Option ℕ
+same_as Add x y of_x of_y = (if is_zero of_x then Some y else (if is_zero of_y then Some x else None))
+same_as o x y of_x of_y = None
+
+-- a temporary gets what an operation on two gives
+abbrev pub with_applied : ℕ → Option ℕ → List Holding → List Holding
+with_applied t None hs = with_result t hs
+with_applied t (Some z) hs = with_moved t (source_of hs z) hs
+
+-- the n-th of a list, or 0 behind it
+abbrev pub nth : List ℕ → ℕ → ℕ
+nth [] k = 0
+nth (x ∷ xs) zero = x
+nth (x ∷ xs) (suc k) = nth xs k
+
+abbrev pub nth_block : List (List ℕ) → ℕ → List ℕ
+nth_block [] k = []
+nth_block (b ∷ bs) zero = b
+nth_block (b ∷ bs) (suc k) = nth_block bs k
+
+-- a temporary gets what a local has, whose register this is, or 0
+abbrev pub with_local : ℕ → ℕ → List Holding → List Holding
+with_local t zero hs = with_result t hs
+with_local t (suc h) hs = with_source t (Register (suc h)) hs
+
+-- a local changes
+abbrev pub without_local : ℕ → List Holding → List Holding
+without_local zero hs = hs
+without_local (suc h) hs = without_register (suc h) hs
+
+-- ---- behind operations
+
+-- What is known behind an operation, where locals have these registers and the data these offsets. Nothing is known behind what calls the environment or goes
+-- over whole objects.
+abbrev pub held_behind_operation : List (List ℕ) → List ℕ → List Holding → Operation → List Holding
+held_behind_operation homes statics hs (Constant t w) = with_source t (Number (w % 2 ^ 32)) hs
+held_behind_operation homes statics hs (NullPointer t) = with_source t (Number 0) hs
+held_behind_operation homes statics hs (Move t x) = with_moved t (source_of hs x) hs
+held_behind_operation homes statics hs (Narrow t x) = with_result t hs
+held_behind_operation homes statics hs (Apply o t x y) = with_applied t (same_as o x y (source_of hs x) (source_of hs y)) hs
+held_behind_operation homes statics hs (LocalAddress t out local) = with_result t hs
+held_behind_operation homes statics hs (OwnAddress t object) = with_result t hs
+held_behind_operation homes statics hs (DataAddress t object) = with_source t (Number (data_base + nth statics object)) hs
+held_behind_operation homes statics hs (Offset t p cells bytes) = with_result t hs
+held_behind_operation homes statics hs (Element t p i cells bytes) = with_result t hs
+held_behind_operation homes statics hs (Get t out local width) = with_local t (nth (nth_block homes out) local) hs
+held_behind_operation homes statics hs (Put out local width x) = without_local (nth (nth_block homes out) local) hs
+held_behind_operation homes statics hs (Load t p d) = with_result t hs
+held_behind_operation homes statics hs (Store p d x) = hs
+held_behind_operation homes statics hs (Copy to from layout) = []
+held_behind_operation homes statics hs (Clear p layout count) = []
+held_behind_operation homes statics hs (IsNull t p) = with_result t hs
+held_behind_operation homes statics hs (SamePlace t p q) = with_result t hs
+held_behind_operation homes statics hs (Getchar t) = []
+held_behind_operation homes statics hs (Putchar t x) = []
+held_behind_operation homes statics hs (HeapHandle t) = with_source t (Number 0) hs
+held_behind_operation homes statics hs (RegionNew t) = []
+held_behind_operation homes statics hs (RegionAlloc t h n layout) = []
+held_behind_operation homes statics hs (RegionFree h) = []
+held_behind_operation homes statics hs (UniqueAlloc t layout) = []
+held_behind_operation homes statics hs (UniqueFree p) = []
+held_behind_operation homes statics hs (KeyNew t) = []
+held_behind_operation homes statics hs (KeyOpen k) = []
+held_behind_operation homes statics hs (KeyClose k) = []
+held_behind_operation homes statics hs (KeyFree k) = []
+
+-- ---- behind statements
+
+-- whether statements do no more than raise an exception, one or another
+abbrev mutual
+  pub raises : Statement → Bool
+  raises (Do operation) = false
+  raises (If t these those) = raises_only these && raises_only those
+  raises (While test t body) = false
+  raises (Block locals body) = false
+  raises (Leave body) = false
+  raises Break = false
+  raises Continue = false
+  raises (Call results f arguments) = false
+  raises (Return values) = false
+  raises (Raise kind) = true
+
+  pub raises_only : Statements → Bool
+  raises_only NoStatements = false
+  raises_only (MoreStatements s NoStatements) = raises s
+  raises_only (MoreStatements s (MoreStatements s' ss)) = false
+
+-- the results of a call, each in the register behind the one before it
+abbrev pub with_results : ℕ → List ℕ → List Holding → List Holding
+with_results r [] hs = hs
+with_results r (t ∷ ts) hs = with_results (suc r) ts (with_source t (Register (suc r)) hs)
+
+-- Behind a statement: what its operation leaves, or the results of its call. Behind a choice of which the second way only raises an exception it is what the
+-- first one leaves: so a check costs nothing of what is known. Behind each other statement nothing is: others may have come there by a jump.
+abbrev mutual
+  pub held_behind : List (List ℕ) → List ℕ → List Holding → Statement → List Holding
+  held_behind homes statics hs (Do operation) = held_behind_operation homes statics hs operation
+  held_behind homes statics hs (If t these those) = (if raises_only those then held_behind_all homes statics hs these else [])
+  held_behind homes statics hs (While test t body) = []
+  held_behind homes statics hs (Block locals body) = []
+  held_behind homes statics hs (Leave body) = []
+  held_behind homes statics hs Break = []
+  held_behind homes statics hs Continue = []
+  held_behind homes statics hs (Call results f arguments) = with_results 9 results []
+  held_behind homes statics hs (Return values) = []
+  held_behind homes statics hs (Raise kind) = []
+
+  pub held_behind_all : List (List ℕ) → List ℕ → List Holding → Statements → List Holding
+  held_behind_all homes statics hs NoStatements = hs
+  held_behind_all homes statics hs (MoreStatements s ss) = held_behind_all homes statics (held_behind homes statics hs s) ss

@@ -1,0 +1,101 @@
+-- How code comes by the words of temporaries, also in calls and returns: it loads them from their slots where they aren't known to be elsewhere. How it saves
+-- them, and the first lines of a function.
+use Rattle.std.specs.Prelude.{ℕ, zero, suc, pos, ◌+◌, ◌/◌, ◌%◌, ◌^◌, drop, Bool, List, [], ◌∷◌, ◌++◌, Option, Some, None, nat_eq, if◌then◌else◌}
+use Rattle.rv32_isa.specs.declared.instruction.Instr.TheVariants.{Lui, Addi}
+use Rattle.core_lines.specs.declared.line.Line.{Line}
+use Rattle.core_lines.specs.declared.line.Line.TheVariants.{Plain, Jump, CallTo}
+use Rattle.core_lines.specs.Frames.{upper_of, lower_of, is_short, word_code, load_code, save_code, slot_of, test_code, move_code, saves_code}
+use Rattle.core_lines.specs.Homes.{flag_at}
+use Rattle.core_lines.specs.Held.{Source, Register, Number, Holding, source_of, without_register, result_register}
+
+-- a word into a register: ADDI alone where the lower part is the word, LUI alone where there is none
+abbrev pub number_code : ℕ → ℕ → List Line
+number_code to w =
+    (if is_short w then Plain (Addi to 0 (lower_of w)) ∷ [] else
+    (if nat_eq (w % 2 ^ 12) 0 then Plain (Lui to (upper_of w)) ∷ [] else word_code to w))
+
+-- ---- operands
+
+-- the register that has an operand: where its word is known to be, and else a spare one
+abbrev pub register_for : ℕ → Option Source → ℕ
+register_for spare None = spare
+register_for spare (Some (Register r)) = r
+register_for spare (Some (Number w)) = spare
+
+abbrev pub operand_in : List Holding → ℕ → ℕ → ℕ
+operand_in hs spare t = register_for spare (source_of hs t)
+
+-- what puts it there
+abbrev pub bring_code : (passed : ℕ) → ℕ → ℕ → Option Source → List Line
+bring_code passed spare t None = load_code spare (slot_of passed t)
+bring_code passed spare t (Some (Register r)) = []
+bring_code passed spare t (Some (Number w)) = number_code spare w
+
+abbrev pub operand_code : (passed : ℕ) → List Holding → ℕ → ℕ → List Line
+operand_code passed hs spare t = bring_code passed spare t (source_of hs t)
+
+-- a register's word into another one
+abbrev pub copied_code : ℕ → ℕ → List Line
+copied_code to r = (if nat_eq r to then [] else Plain (Addi to r (pos 0)) ∷ [])
+
+-- a temporary's word into just this register
+abbrev pub fetch_code : (passed : ℕ) → ℕ → ℕ → Option Source → List Line
+fetch_code passed to t None = load_code to (slot_of passed t)
+fetch_code passed to t (Some (Register r)) = copied_code to r
+fetch_code passed to t (Some (Number w)) = number_code to w
+
+abbrev pub into_code : (passed : ℕ) → List Holding → ℕ → ℕ → List Line
+into_code passed hs to t = fetch_code passed to t (source_of hs t)
+
+-- ---- what is saved
+
+-- a result in a register, into its temporary's slot, if it is to be saved
+abbrev pub keep_code : Bool → (passed : ℕ) → ℕ → ℕ → List Line
+keep_code keeps passed register t = (if keeps then save_code register (slot_of passed t) else [])
+
+-- a number that a temporary gets
+abbrev pub number_kept : Bool → (passed : ℕ) → ℕ → ℕ → List Line
+number_kept keeps passed t w = (if keeps then number_code 5 w ++ save_code 5 (slot_of passed t) else [])
+
+-- a temporary gets what another one has
+abbrev pub move_kept : Bool → (passed : ℕ) → (own t x : ℕ) → Option Source → List Line
+move_kept keeps passed own t x None = load_code own (slot_of passed x) ++ keep_code keeps passed own t
+move_kept keeps passed own t x (Some (Register r)) = keep_code keeps passed r t
+move_kept keeps passed own t x (Some (Number w)) = number_kept keeps passed t w
+
+-- ---- calls and returns
+
+-- temporaries into slots from one on, which are a callee's words
+abbrev pub pass_code : (passed : ℕ) → List Holding → ℕ → List ℕ → List Line
+pass_code passed hs k [] = []
+pass_code passed hs k (t ∷ ts) = operand_code passed hs 5 t ++ save_code (operand_in hs 5 t) (1 + k) ++ pass_code passed hs (k + 1) ts
+
+-- results come in the registers behind x9; these flags say in turn which are saved
+abbrev pub result_code : List Bool → (passed : ℕ) → ℕ → List ℕ → List Line
+result_code flags passed r [] = []
+result_code flags passed r (t ∷ ts) = keep_code (flag_at flags 0) passed (suc r) t ++ result_code (drop 1 flags) passed (suc r) ts
+
+-- the label of a function is its number
+abbrev pub call_code : List Bool → (passed : ℕ) → List Holding → List ℕ → ℕ → List ℕ → List Line
+call_code flags passed hs results f arguments = pass_code passed hs 0 arguments ++ (CallTo f ∷ []) ++ result_code flags passed 9 results
+
+-- a function's results into the registers behind one; what a register had before isn't known any more
+abbrev pub values_code : (passed : ℕ) → List Holding → ℕ → List ℕ → List Line
+values_code passed hs r [] = []
+values_code passed hs r (t ∷ ts) = into_code passed hs (suc r) t ++ values_code passed (without_register (suc r) hs) (suc r) ts
+
+-- and on to where the function ends
+abbrev pub return_code : (passed : ℕ) → List Holding → List ℕ → ℕ → List Line
+return_code passed hs values exit = values_code passed hs 9 values ++ (Jump exit ∷ [])
+
+-- ---- the start of a function
+
+-- each parameter's word, from the caller's frame above into the register of its temporary; those that are flagged are saved
+abbrev pub take_code : ℕ → (passed : ℕ) → List Bool → ℕ → ℕ → List Line
+take_code bytes passed start k zero = []
+take_code bytes passed start k (suc more) =
+    load_code (result_register k) (bytes / 4 + 1 + k) ++ keep_code (flag_at start k) passed (result_register k) k ++ take_code bytes passed start (k + 1) more
+
+abbrev pub prologue_code : ℕ → (passed : ℕ) → ℕ → List ℕ → List Bool → ℕ → List Line
+prologue_code bytes passed first saved start parameters =
+    test_code bytes ++ move_code bytes ++ save_code 1 0 ++ saves_code first saved ++ take_code bytes passed start 0 parameters

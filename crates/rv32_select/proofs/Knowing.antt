@@ -1,0 +1,83 @@
+-- What is known of temporaries, as the code's list has it.
+use Rattle.std.specs.Prelude.{filter, not, nat_eq, if◌then◌else◌}
+use Rattle.std.proofs.Common.{◌≡◌, ℕ, zero, suc, ◌+◌, ◌-◌, ◌<◌, Bool, true, false, List, [], ◌∷◌, Option, Some, None, map, refl, sym, ap, ◌∙◌, arith}
+use Rattle.std.proofs.lemmas.Bool.{ne_eqb}
+use Rattle.core_lines.specs.Held as lines
+use Rattle.core_lines.specs.Held.{source_of, some_source, is_in, without_register, without_temporary}
+use Rattle.core_lines.specs.Held.{with_moved, with_source, with_result, with_taken, with_local, without_local, is_zero, with_applied}
+use Rattle.rv32_select.specs.declared.held.Holding.{Holding}
+use Rattle.rv32_select.specs.Known.{source_tree, holding_tree}
+
+-- one more, where those behind it are known
+some_more : (b : Bool) (h : Holding) (kept : List Holding) (rest : List lines.Holding) → map holding_tree kept ≡ rest
+    → map holding_tree (if not b then h ∷ kept else kept) ≡ (if b then rest else holding_tree h ∷ rest)
+some_more true h kept rest e = e
+some_more false h kept rest e = ap (λ ks. holding_tree h ∷ ks) e
+
+pub without_there : (r : ℕ) (hs : List Holding)
+    → map holding_tree (filter (λ h. not (is_in r (source_tree h.source))) hs) ≡ without_register r (map holding_tree hs)
+without_there r [] = refl
+without_there r (h ∷ hs) =
+    some_more (is_in r (source_tree h.source)) h (filter (λ k. not (is_in r (source_tree k.source))) hs) (without_register r (map holding_tree hs))
+    (without_there r hs)
+
+pub without_it : (t : ℕ) (hs : List Holding)
+    → map holding_tree (filter (λ h. not (nat_eq h.temporary.0 t)) hs) ≡ without_temporary t (map holding_tree hs)
+without_it t [] = refl
+without_it t (h ∷ hs) =
+    some_more (nat_eq h.temporary.0 t) h (filter (λ k. not (nat_eq k.temporary.0 t)) hs) (without_temporary t (map holding_tree hs)) (without_it t hs)
+
+-- locals, by their registers
+module _ (hs : List lines.Holding) where
+  pub local_without : (t h : ℕ) (after : List lines.Holding) → h ≡ 0 → after ≡ with_result t hs → after ≡ with_local t h hs
+  local_without t zero after none e = e
+  local_without t (suc h) after none e = absurd (omega (arith, none))
+
+  pub local_with : (t h : ℕ) (after : List lines.Holding) → 0 < h → after ≡ with_source t (lines.Register h) hs → after ≡ with_local t h hs
+  local_with t zero after some e = absurd (omega (arith, some))
+  local_with t (suc h) after some e = e
+
+  pub changed_without : (h : ℕ) → h ≡ 0 → hs ≡ without_local h hs
+  changed_without zero none = refl
+  changed_without (suc h) none = absurd (omega (arith, none))
+
+  pub changed_with : (h : ℕ) (after : List lines.Holding) → 0 < h → after ≡ without_register h hs → after ≡ without_local h hs
+  changed_with zero after some e = absurd (omega (arith, some))
+  changed_with (suc h) after some e = e
+
+  -- by where another one's word is
+  pub moved_none : (t x : ℕ) (after : List lines.Holding) → None ≡ source_of hs x → after ≡ with_result t hs → after ≡ with_moved t (source_of hs x) hs
+  moved_none t x after is e = e ∙ ap (λ s. with_moved t s hs) is
+
+  pub moved_some : (t x : ℕ) (s : lines.Source) (after : List lines.Holding) → Some s ≡ source_of hs x → after ≡ with_source t s hs
+      → after ≡ with_moved t (source_of hs x) hs
+  moved_some t x s after is e = e ∙ ap (λ k. with_moved t k hs) is
+
+  -- by which of two words their sum is
+  pub applied_none : (t : ℕ) (same : Option ℕ) (after : List lines.Holding) → None ≡ same → after ≡ with_result t hs → after ≡ with_applied t same hs
+  applied_none t same after is e = e ∙ ap (λ k. with_applied t k hs) is
+
+  pub applied_some : (t z : ℕ) (same : Option ℕ) (after : List lines.Holding) → Some z ≡ same → after ≡ with_moved t (source_of hs z) hs
+      → after ≡ with_applied t same hs
+  applied_some t z same after is e = e ∙ ap (λ k. with_applied t k hs) is
+
+  -- one parameter more
+  pub taken_more : (k n : ℕ) → k < n → with_taken (k + 1) (n - (k + 1)) (with_result k hs) ≡ with_taken k (n - k) hs
+  taken_more k n less =
+      let one : suc k ≡ k + 1 = omega arith in
+      let e : n - k ≡ suc (n - (k + 1)) = omega (arith, less) in
+      sym (ap (λ m. with_taken k m hs) e ∙ ap (λ j. with_taken j (n - (k + 1)) (with_result k hs)) one)
+
+-- a word that is known to be 0
+zero_is : (w : ℕ) → nat_eq w 0 ≡ is_zero (Some (lines.Number w))
+zero_is zero = refl
+zero_is (suc w) = ne_eqb (suc w) 0 (λ e. absurd (omega (arith, e)))
+
+pub zero_number : (w : ℕ) (s : Option lines.Source) (b : Bool) → Some (lines.Number w) ≡ s → b ≡ nat_eq w 0 → b ≡ is_zero s
+zero_number w s b is e = e ∙ zero_is w ∙ ap is_zero is
+
+pub zero_register : (r : ℕ) (s : Option lines.Source) → Some (lines.Register r) ≡ s → false ≡ is_zero s
+zero_register r s is = ap is_zero is
+
+pub zero_none : (s : Option lines.Source) → None ≡ s → false ≡ is_zero s
+zero_none s is = ap is_zero is

@@ -1,0 +1,122 @@
+-- One statement more: its lines and labels, what it loads, and the place behind it.
+use Rattle.std.proofs.Common.{◌≡◌, ℕ, ◌+◌, Bool, true, List, [], ◌∷◌, ◌++◌, drop, sym, ap, ◌∙◌}
+use Rattle.std.proofs.lemmas.List.{append_assoc, drop-drop}
+use Rattle.core_meaning.specs.Core.{Statement, Statements, If, While, MoreStatements}
+use Rattle.core_lines.specs.declared.line.Line.{Line}
+use Rattle.core_lines.specs.Held.{held_behind, held_behind_all}
+use Rattle.core_lines.specs.Loaded.{unknown_in, loads_in, loads_of}
+use Rattle.core_lines.specs.Saved.{all_flagged, results_in, results_all}
+use Rattle.core_lines.specs.Selected.{Surroundings, statement_code, statements_code, labels_in, names_after, names_after_all, holding, naming}
+use Rattle.rv32_select.specs.Starts.{Start, start_at, starts_of}
+use Rattle.rv32_select.proofs.Flagging.{flagged_both}
+
+-- the place at the start of statements, before one of them, and behind it
+module _ (start before behind : Surroundings) (s : Statement) (ss all : Statements)
+    (same : before ≡ holding before.held (naming before.names start))
+    (step : behind ≡ holding (held_behind before.homes before.statics before.held s) (naming (names_after s before.names) before))
+    (is : all ≡ MoreStatements s ss) where
+  homes : before.homes ≡ start.homes
+  homes = ap (λ (u : Surroundings). u.homes) same
+
+  statics : before.statics ≡ start.statics
+  statics = ap (λ (u : Surroundings). u.statics) same
+
+  names : behind.names ≡ names_after s before.names
+  names = ap (λ (u : Surroundings). u.names) step
+
+  held : behind.held ≡ held_behind start.homes start.statics before.held s
+  held = ap (λ (u : Surroundings). u.held) step ∙ (λ i. held_behind (homes i) (statics i) before.held s)
+
+  pub same_behind : behind ≡ holding behind.held (naming behind.names start)
+  same_behind =
+      let there = ap (λ (u : Surroundings). u.held) step in
+      step ∙ (λ i. holding (held_behind before.homes before.statics before.held s) (naming (names_after s before.names) (same i))) ∙
+      (λ i. holding (sym there i) (naming (sym names i) start))
+
+  pub names_behind : names_after_all ss behind.names ≡ names_after_all all before.names
+  names_behind = ap (names_after_all ss) names ∙ ap (λ more. names_after_all more before.names) (sym is)
+
+  pub held_there : held_behind_all start.homes start.statics behind.held ss ≡ held_behind_all start.homes start.statics before.held all
+  held_there =
+      ap (λ hs. held_behind_all start.homes start.statics hs ss) held ∙ ap (λ more. held_behind_all start.homes start.statics before.held more) (sym is)
+
+  pub flags_behind : (old new : List Bool) → new ≡ all_flagged true (loads_in before.homes before.statics before.names before.held s) old
+      → all_flagged true (loads_of start.homes start.statics behind.names behind.held ss) new
+      ≡ all_flagged true (loads_of start.homes start.statics before.names before.held all) old
+  flags_behind old new e =
+      let first = e ∙ (λ i. all_flagged true (loads_in (homes i) (statics i) before.names before.held s) old) in
+      let later = held_behind start.homes start.statics before.held s in
+      (λ i. all_flagged true (loads_of start.homes start.statics (names i) (held i) ss) (first i)) ∙
+      sym (flagged_both (loads_in start.homes start.statics before.names before.held s)
+      (loads_of start.homes start.statics (names_after s before.names) later ss) old) ∙
+      ap (λ more. all_flagged true (loads_of start.homes start.statics before.names before.held more) old) (sym is)
+
+  -- where the statements that are left begin
+  pub starts_behind : (old new : List Start) → new ≡ old ++ start_at before ∷ []
+      → new ++ starts_of start.homes start.statics behind.names behind.held ss ≡ old ++ starts_of start.homes start.statics before.names before.held all
+  starts_behind old new e =
+      let later = held_behind start.homes start.statics before.held s in
+      (λ i. e i ++ starts_of start.homes start.statics (names i) (held i) ss) ∙
+      append_assoc old (start_at before ∷ []) (starts_of start.homes start.statics (names_after s before.names) later ss) ∙
+      ap (λ more. old ++ starts_of start.homes start.statics before.names before.held more) (sym is)
+
+  -- of the flags of its results, those behind the statement
+  pub flags_left : (kept now : List Bool) → now ≡ drop (results_in s) kept → drop (results_all ss) now ≡ drop (results_all all) kept
+  flags_left kept now k =
+      ap (drop (results_all ss)) k ∙ drop-drop (results_all ss) (results_in s) kept ∙ ap (λ more. drop (results_all more) kept) (sym is)
+
+  pub code_behind : (old new : List Line) (kept now : List Bool) (next free out again : ℕ) → new ≡ old ++ statement_code kept before next out again s
+      → now ≡ drop (results_in s) kept → free ≡ next + labels_in s
+      → new ++ statements_code now behind free out again ss ≡ old ++ statements_code kept before next out again all
+  code_behind old new kept now next free out again e k f =
+      let later = holding (held_behind before.homes before.statics before.held s) (naming (names_after s before.names) before) in
+      (λ i. e i ++ statements_code (k i) (step i) (f i) out again ss) ∙
+      append_assoc old (statement_code kept before next out again s) (statements_code (drop (results_in s) kept) later (next + labels_in s) out again ss) ∙
+      ap (λ more. old ++ statements_code kept before next out again more) (sym is)
+
+-- the place behind a choice: where its second statements begin, the same is known as where its first do
+module _ (u first second : Surroundings) (t : ℕ) (these those : Statements)
+    (behind : first ≡ holding (held_behind_all u.homes u.statics u.held these) (naming (names_after_all these u.names) u))
+    (again : second ≡ holding u.held first) where
+  second_is : second ≡ naming (names_after_all these u.names) u
+  second_is = again ∙ ap (λ (v : Surroundings). holding u.held v) behind
+
+  pub choice_flags : (before tested middle after : List Bool) → tested ≡ all_flagged true (unknown_in u.held (t ∷ [])) before
+      → middle ≡ all_flagged true (loads_of u.homes u.statics u.names u.held these) tested
+      → after ≡ all_flagged true (loads_of second.homes second.statics second.names second.held those) middle
+      → after ≡ all_flagged true (loads_in u.homes u.statics u.names u.held (If t these those)) before
+  choice_flags before tested middle after e f g =
+      let one = loads_of u.homes u.statics u.names u.held these in
+      let two = loads_of u.homes u.statics (names_after_all these u.names) u.held those in
+      let unknown = unknown_in u.held (t ∷ []) in
+      g ∙ (λ i. all_flagged true (loads_of ((second_is i).homes) ((second_is i).statics) ((second_is i).names) ((second_is i).held) those) (f i)) ∙
+      ap (λ flags. all_flagged true two (all_flagged true one flags)) e ∙ ap (all_flagged true two) (sym (flagged_both unknown one before)) ∙
+      sym (flagged_both (unknown ++ one) two before)
+
+-- and behind a loop
+module _ (u empty first second : Surroundings) (t : ℕ) (test body : Statements)
+    (begin : empty ≡ holding [] u)
+    (behind : first ≡ holding (held_behind_all empty.homes empty.statics empty.held test) (naming (names_after_all test empty.names) empty))
+    (again : second ≡ holding [] first) where
+  first_is : first ≡ holding (held_behind_all u.homes u.statics [] test) (naming (names_after_all test u.names) u)
+  first_is =
+      behind ∙ (λ i. holding (held_behind_all ((begin i).homes) ((begin i).statics) ((begin i).held) test)
+      (naming (names_after_all test ((begin i).names)) (begin i)))
+
+  body_is : second ≡ holding [] (naming (names_after_all test u.names) u)
+  body_is = again ∙ ap (λ (v : Surroundings). holding [] v) first_is
+
+  pub loop_flags : (before tested middle after : List Bool)
+      → tested ≡ all_flagged true (loads_of empty.homes empty.statics empty.names empty.held test) before
+      → middle ≡ all_flagged true (unknown_in first.held (t ∷ [])) tested
+      → after ≡ all_flagged true (loads_of second.homes second.statics second.names second.held body) middle
+      → after ≡ all_flagged true (loads_in u.homes u.statics u.names u.held (While test t body)) before
+  loop_flags before tested middle after e f g =
+      let one = loads_of u.homes u.statics u.names [] test in
+      let two = loads_of u.homes u.statics (names_after_all test u.names) [] body in
+      let unknown = unknown_in (held_behind_all u.homes u.statics [] test) (t ∷ []) in
+      let f' = f ∙ (λ i. all_flagged true (unknown_in ((first_is i).held) (t ∷ [])) tested) in
+      let e' = e ∙ (λ i. all_flagged true (loads_of ((begin i).homes) ((begin i).statics) ((begin i).names) ((begin i).held) test) before) in
+      g ∙ (λ i. all_flagged true (loads_of ((body_is i).homes) ((body_is i).statics) ((body_is i).names) ((body_is i).held) body) (f' i)) ∙
+      ap (λ flags. all_flagged true two (all_flagged true unknown flags)) e' ∙ ap (all_flagged true two) (sym (flagged_both one unknown before)) ∙
+      sym (flagged_both (one ++ unknown) two before)

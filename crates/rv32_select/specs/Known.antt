@@ -1,0 +1,12 @@
+-- What is known of temporaries, as the definition of code has it.
+use Rattle.core_lines.specs.Held as lines
+use Rattle.rv32_select.specs.declared.held.Source.{Source}
+use Rattle.rv32_select.specs.declared.held.Source.TheVariants as source
+use Rattle.rv32_select.specs.declared.held.Holding.{Holding}
+
+abbrev pub source_tree : Source → lines.Source
+source_tree (source.Register r) = lines.Register r
+source_tree (source.Number w) = lines.Number w
+
+abbrev pub holding_tree : Holding → lines.Holding
+holding_tree h = record { temporary = h.temporary.0; source = source_tree h.source }

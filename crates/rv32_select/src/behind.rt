@@ -1,0 +1,54 @@
+// What is known of temporaries behind an operation.
+
+ghost use Rattle.std.specs.Prelude.{◌≡◌, ◌%◌, ◌^◌, OnOk};
+ghost use Rattle.core_lines.specs.Held.{held_behind_operation};
+ghost use Rattle.core_lines.specs.Selected.{holding};
+ghost use Rattle.cyc_core.specs.Trees.{operation_tree};
+ghost use Rattle.rv32_select.specs.Places.{surroundings};
+
+use crate::place::{HEAP, Place};
+use cyc_core::Operation;
+use std::alloc::AllocError;
+
+/// Goes on behind an operation.
+pub fn hold_behind(place: &mut Place, operation: Operation) -> Result<(), AllocError>
+    ensures same { let u = surroundings place.old in OnOk result (surroundings place.new
+        ≡ holding (held_behind_operation u.homes u.statics u.held (operation_tree operation)) u) }
+    ensures saves { place.new.saves.items ≡ place.old.saves.items }
+    ensures homes { place.new.homes.items ≡ place.old.homes.items }
+{
+    match operation {
+        Operation::Constant(to, word) => place.held.hold_number(to, u64::from(word)),
+        Operation::NullPointer(to) | Operation::HeapHandle(to) => place.held.hold_number(to, HEAP),
+        Operation::DataAddress(to, object) => {
+            let address = place.data_address(object)?;
+            place.held.hold_number(to, address)
+        }
+        Operation::Move(to, from) => place.held.hold_moved(to, from),
+        Operation::Get(to, variable, _) => {
+            let home = place.home(variable);
+            place.held.hold_local(to, home)
+        }
+        Operation::Put(variable, _, _) => {
+            let home = place.home(variable);
+            place.held.forget_local(home);
+            Ok(())
+        }
+        Operation::Store(..) => Ok(()),
+        Operation::Apply(binary, to, left, right) => {
+            place.held.hold_applied(binary, to, left, right)
+        }
+        Operation::Narrow(to, _)
+        | Operation::LocalAddress(to, _)
+        | Operation::OwnAddress(to, _)
+        | Operation::Offset(to, _, _, _)
+        | Operation::Element(to, _, _, _, _)
+        | Operation::Load(to, _, _)
+        | Operation::IsNull(to, _)
+        | Operation::SamePlace(to, _, _) => place.held.hold_result(to),
+        _ => {
+            place.held.forget();
+            Ok(())
+        }
+    }
+}

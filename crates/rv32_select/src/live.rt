@@ -1,0 +1,379 @@
+// Which results of a function are saved, by one walk from its end backwards: what is loaded from slots behind each statement is known before the statement is
+// looked at.
+
+ghost use Rattle.std.specs.Prelude.{◌≡◌, true, false, [], ◌∷◌, ◌++◌, reverse, IfOk, OnOk, map};
+ghost use Rattle.core_meaning.specs.Core as core;
+ghost use Rattle.core_lines.specs.Choosing.{far};
+ghost use Rattle.core_lines.specs.Homes.{homes_in};
+ghost use Rattle.core_lines.specs.Loaded.{unknown_in, loads_of_operation, loads_of_values};
+ghost use Rattle.core_lines.specs.Saved.{cleared, all_flagged, flags_of, results_of, at_loop, live_in, live_of, behind_test, saves_in, saves_of};
+ghost use Rattle.core_lines.specs.Saved.{live_at_start, saves_at};
+ghost use Rattle.core_lines.specs.Selected.{around, names_after_all, holding, naming};
+ghost use Rattle.cyc_core.specs.Trees.{operation_tree, optional_tree, temporary_tree, local_tree, statement_tree, body_tree, function_tree};
+ghost use Rattle.rv32_select.specs.Places.{surroundings, saves_left};
+ghost use Rattle.rv32_select.specs.Starts.{point_start, starts_of};
+
+use crate::flags::{cleared, copied, either, no_flags, set_flag};
+use crate::held::Known;
+use crate::loads::{
+    flag_arguments, flag_operation, flag_return, flag_statement, flag_unknown, flag_while, pass,
+};
+use crate::place::{Place, Point};
+use crate::settling::{settle, settle_operation, settle_results};
+use cyc_core::{Function, Local, Operation, Statement, Temporary, Words};
+use std::alloc::AllocError;
+
+/// Goes back over an operation.
+fn live_operation(
+    saves: &mut Vec<bool>,
+    held: &Known,
+    live: &mut Vec<bool>,
+    operation: Operation,
+) -> Result<(), AllocError>
+    ensures saves { OnOk result (saves.new.items ≡ saves.old.items ++ reverse (flags_of live.old.items (results_of (operation_tree operation)))) }
+    ensures live { OnOk result (live.new.items ≡ all_flagged true (loads_of_operation held.now (operation_tree operation))
+        (all_flagged false (results_of (operation_tree operation)) live.old.items)) }
+{
+    settle_operation(saves, live, operation)?;
+    flag_operation(live, held, operation);
+    Ok(())
+}
+
+/// Goes back over a request for so many elements of a region.
+fn live_request(
+    saves: &mut Vec<bool>,
+    live: &mut Vec<bool>,
+    to: Temporary,
+    handle: Temporary,
+    count: Temporary,
+) -> Result<(), AllocError>
+    ensures saves { OnOk result (saves.new.items ≡ saves.old.items ++ reverse (flags_of live.old.items (to.0 ∷ []))) }
+    ensures live { OnOk result (live.new.items ≡ all_flagged true (handle.0 ∷ count.0 ∷ []) (all_flagged false (to.0 ∷ []) live.old.items)) }
+{
+    settle(saves, live, to)?;
+    set_flag(live, handle, true);
+    set_flag(live, count, true);
+    Ok(())
+}
+
+/// Goes back over a call.
+fn live_call(
+    saves: &mut Vec<bool>,
+    held: &Known,
+    live: &mut Vec<bool>,
+    results: Option<Words>,
+    arguments: &[Temporary],
+) -> Result<(), AllocError>
+    ensures saves { OnOk result (saves.new.items ≡ saves.old.items ++ reverse (flags_of live.old.items (optional_tree results))) }
+    ensures live { OnOk result (live.new.items ≡ all_flagged true (unknown_in held.now (map temporary_tree arguments.now))
+        (all_flagged false (optional_tree results) live.old.items)) }
+{
+    settle_results(saves, live, results)?;
+    flag_arguments(live, held, arguments);
+    Ok(())
+}
+
+/// Goes back over what ends a function or the program: nothing is loaded behind it.
+fn live_end(place: &Place, live: &mut Vec<bool>) -> Result<(), AllocError>
+    ensures { OnOk result (live.new.items ≡ cleared live.old.items) }
+{
+    let none = cleared(place.alloc, live)?;
+    *live = none;
+    Ok(())
+}
+
+/// Goes back over a return.
+fn live_return(
+    place: &mut Place,
+    live: &mut Vec<bool>,
+    value: Option<Words>,
+) -> Result<(), AllocError>
+    ensures live { OnOk result (live.new.items ≡ all_flagged true (loads_of_values place.old.held 9 (optional_tree value)) (cleared live.old.items)) }
+    ensures same { OnOk result (surroundings place.new ≡ holding place.new.held (naming (surroundings place.new).names (surroundings place.old))) }
+    ensures homes { OnOk result (place.new.homes.items ≡ place.old.homes.items) }
+{
+    live_end(place, live)?;
+    flag_return(live, place, value);
+    Ok(())
+}
+
+/// Goes back over a jump to where these are loaded.
+fn live_jump(live: &mut Vec<bool>, there: &[bool]) -> Result<(), AllocError>
+    ensures { OnOk result (live.new.items ≡ there.now) }
+{
+    live.clear();
+    live.extend_from_slice(there)?;
+    Ok(())
+}
+
+/// Goes back over a statement, before which the place is, behind which `live` are loaded, and where a `Break` and a `Continue` go `out` and `again`.
+/// Appends which of its results are saved, the last one first. The place is somewhere in the same block then.
+#[cycle(live)]
+fn live_statement(
+    saves: &mut Vec<bool>,
+    place: &mut Place,
+    live: &mut Vec<bool>,
+    out: &[bool],
+    again: &[bool],
+    statement: &Statement,
+) -> Result<(), AllocError>
+    ensures saves { let u = surroundings place.old in OnOk result (saves.new.items ≡ saves.old.items
+        ++ reverse (saves_in u.homes u.statics u.names u.held live.old.items out.now again.now (statement_tree statement.now))) }
+    ensures live { let u = surroundings place.old in OnOk result (live.new.items
+        ≡ live_in u.homes u.statics u.names u.held live.old.items out.now again.now (statement_tree statement.now)) }
+    ensures same { OnOk result (surroundings place.new ≡ holding place.new.held (naming (surroundings place.new).names (surroundings place.old))) }
+    ensures homes { OnOk result (place.new.homes.items ≡ place.old.homes.items) }
+{
+    match statement {
+        Statement::Do(operation) => live_operation(saves, &place.held, live, *operation),
+        Statement::Copy(to, from, _) => {
+            set_flag(live, *to, true);
+            set_flag(live, *from, true);
+            Ok(())
+        }
+        Statement::Clear(pointer, _, _) => {
+            set_flag(live, *pointer, true);
+            Ok(())
+        }
+        Statement::RegionAlloc(to, handle, count, _) => {
+            live_request(saves, live, *to, *handle, *count)
+        }
+        Statement::UniqueAlloc(to, _) => settle(saves, live, *to),
+        Statement::If(test, these, those) => {
+            live_if(saves, place, live, out, again, *test, these, those)
+        }
+        Statement::While(test, flag, body) => {
+            live_while(saves, place, live, out, again, test, *flag, body)
+        }
+        Statement::Block(locals, body) => live_block(saves, place, live, out, again, locals, body),
+        Statement::Leave(body) => live_leavable(saves, place, live, again, body),
+        Statement::Break => live_jump(live, out),
+        Statement::Continue => live_jump(live, again),
+        Statement::Call(results, _, arguments) => {
+            live_call(saves, &place.held, live, *results, arguments)
+        }
+        Statement::Return(value) => live_return(place, live, *value),
+        Statement::Raise(_) => live_end(place, live),
+    }
+}
+
+/// The same of a choice.
+#[cycle(live)]
+fn live_if(
+    saves: &mut Vec<bool>,
+    place: &mut Place,
+    live: &mut Vec<bool>,
+    out: &[bool],
+    again: &[bool],
+    test: Temporary,
+    these: &[Statement],
+    those: &[Statement],
+) -> Result<(), AllocError>
+    ensures saves { let u = surroundings place.old in OnOk result (saves.new.items ≡ saves.old.items ++ reverse (saves_in u.homes u.statics u.names u.held
+        live.old.items out.now again.now (core.If test.0 (body_tree these.now) (body_tree those.now)))) }
+    ensures live { let u = surroundings place.old in OnOk result (live.new.items ≡ live_in u.homes u.statics u.names u.held
+        live.old.items out.now again.now (core.If test.0 (body_tree these.now) (body_tree those.now))) }
+    ensures same { OnOk result (surroundings place.new ≡ holding place.new.held (naming (surroundings place.new).names (surroundings place.old))) }
+    ensures homes { OnOk result (place.new.homes.items ≡ place.old.homes.items) }
+{
+    let start = place.named;
+    let known = place.known()?;
+    let mut other = copied(place.alloc, live)?;
+    pass(place, these)?;
+    place.go_back(place.named, &known)?;
+    live_statements(saves, place, &mut other, out, again, those)?;
+    place.go_back(start, &known)?;
+    live_statements(saves, place, live, out, again, these)?;
+    *live = either(place.alloc, live, &other)?;
+    flag_unknown(live, &known, test);
+    Ok(())
+}
+
+/// What is loaded from the start of a loop on: all that it loads, and what is loaded where it is left. The place goes on behind the loop.
+fn loop_head(
+    place: &mut Place,
+    after: &[bool],
+    out: &[bool],
+    again: &[bool],
+    test: &[Statement],
+    flag: Temporary,
+    body: &[Statement],
+) -> Result<Vec<bool>, AllocError>
+    ensures head { let u = surroundings place.old in IfOk result (λ head. head.items ≡ at_loop u.homes u.statics u.names
+        after.now out.now again.now (core.While (body_tree test.now) flag.0 (body_tree body.now))) }
+    ensures same { OnOk result (surroundings place.new ≡ holding place.new.held (naming (surroundings place.new).names (surroundings place.old))) }
+    ensures homes { OnOk result (place.new.homes.items ≡ place.old.homes.items) }
+{
+    let ways = either(place.alloc, out, again)?;
+    let mut head = either(place.alloc, after, &ways)?;
+    flag_while(&mut head, place, test, flag, body)?;
+    Ok(head)
+}
+
+/// Goes back over a loop's body, and to behind its test, where the place is at the loop's start. Answers what is loaded behind the test.
+#[cycle(live)]
+fn live_body(
+    saves: &mut Vec<bool>,
+    place: &mut Place,
+    after: &[bool],
+    head: &[bool],
+    test: &[Statement],
+    flag: Temporary,
+    body: &[Statement],
+) -> Result<Vec<bool>, AllocError>
+    ensures saves { let u = surroundings place.old in OnOk result (saves.new.items ≡ saves.old.items ++ reverse (saves_of u.homes u.statics
+        (names_after_all (body_tree test.now) u.names) [] head.now after.now head.now (body_tree body.now))) }
+    ensures behind { let u = surroundings place.old in IfOk result (λ behind. behind.items ≡ behind_test u.homes u.statics u.names
+        after.now head.now (body_tree test.now) flag.0 (body_tree body.now)) }
+    ensures same { OnOk result (surroundings place.new ≡ holding place.new.held (naming (surroundings place.new).names (surroundings place.old))) }
+    ensures homes { OnOk result (place.new.homes.items ≡ place.old.homes.items) }
+{
+    place.held.forget();
+    pass(place, test)?;
+    let known = place.known()?;
+    place.held.forget();
+    let mut inside = copied(place.alloc, head)?;
+    live_statements(saves, place, &mut inside, after, head, body)?;
+    let mut behind = either(place.alloc, after, &inside)?;
+    flag_unknown(&mut behind, &known, flag);
+    Ok(behind)
+}
+
+/// Goes back over a loop.
+#[cycle(live)]
+fn live_while(
+    saves: &mut Vec<bool>,
+    place: &mut Place,
+    live: &mut Vec<bool>,
+    out: &[bool],
+    again: &[bool],
+    test: &[Statement],
+    flag: Temporary,
+    body: &[Statement],
+) -> Result<(), AllocError>
+    ensures saves { let u = surroundings place.old in OnOk result (saves.new.items ≡ saves.old.items ++ reverse (saves_in u.homes u.statics u.names u.held
+        live.old.items out.now again.now (core.While (body_tree test.now) flag.0 (body_tree body.now)))) }
+    ensures live { let u = surroundings place.old in OnOk result (live.new.items ≡ live_in u.homes u.statics u.names u.held
+        live.old.items out.now again.now (core.While (body_tree test.now) flag.0 (body_tree body.now))) }
+    ensures same { OnOk result (surroundings place.new ≡ holding place.new.held (naming (surroundings place.new).names (surroundings place.old))) }
+    ensures homes { OnOk result (place.new.homes.items ≡ place.old.homes.items) }
+{
+    let start = place.named;
+    let nothing = Known::new(place.alloc);
+    let head = loop_head(place, live, out, again, test, flag, body)?;
+    place.go_back(start, &nothing)?;
+    let mut behind = live_body(saves, place, live, &head, test, flag, body)?;
+    place.go_back(start, &nothing)?;
+    live_statements(saves, place, &mut behind, out, again, test)?;
+    *live = head;
+    Ok(())
+}
+
+/// Goes back over a block with these locals.
+#[cycle(live)]
+fn live_block(
+    saves: &mut Vec<bool>,
+    place: &mut Place,
+    live: &mut Vec<bool>,
+    out: &[bool],
+    again: &[bool],
+    locals: &[Local],
+    body: &[Statement],
+) -> Result<(), AllocError>
+    ensures saves { let u = surroundings place.old in OnOk result (saves.new.items ≡ saves.old.items ++ reverse (saves_in u.homes u.statics u.names u.held
+        live.old.items out.now again.now (core.Block (map local_tree locals.now) (body_tree body.now)))) }
+    ensures live { let u = surroundings place.old in OnOk result (live.new.items ≡ live_in u.homes u.statics u.names u.held
+        live.old.items out.now again.now (core.Block (map local_tree locals.now) (body_tree body.now))) }
+    ensures same { OnOk result (surroundings place.new ≡ holding place.new.held (naming (surroundings place.new).names (surroundings place.old))) }
+    ensures homes { OnOk result (place.new.homes.items ≡ place.old.homes.items) }
+{
+    let low = place.enter(locals)?;
+    live_statements(saves, place, live, out, again, body)?;
+    place.leave(low);
+    Ok(())
+}
+
+/// Goes back over statements that a `Break` among them leaves.
+#[cycle(live)]
+fn live_leavable(
+    saves: &mut Vec<bool>,
+    place: &mut Place,
+    live: &mut Vec<bool>,
+    again: &[bool],
+    body: &[Statement],
+) -> Result<(), AllocError>
+    ensures saves { let u = surroundings place.old in OnOk result (saves.new.items ≡ saves.old.items
+        ++ reverse (saves_of u.homes u.statics u.names u.held live.old.items live.old.items again.now (body_tree body.now))) }
+    ensures live { let u = surroundings place.old in OnOk result (live.new.items
+        ≡ live_of u.homes u.statics u.names u.held live.old.items live.old.items again.now (body_tree body.now)) }
+    ensures same { OnOk result (surroundings place.new ≡ holding place.new.held (naming (surroundings place.new).names (surroundings place.old))) }
+    ensures homes { OnOk result (place.new.homes.items ≡ place.old.homes.items) }
+{
+    let behind = copied(place.alloc, live)?;
+    live_statements(saves, place, live, &behind, again, body)
+}
+
+/// Where each of these statements begins, the first of them where the place is.
+fn points_of(place: &mut Place, statements: &[Statement]) -> Result<Vec<Point>, AllocError>
+    ensures points { let u = surroundings place.old in IfOk result (λ points. map (point_start place.old.homes.items) points.items
+        ≡ starts_of u.homes u.statics u.names u.held (body_tree statements.now)) }
+    ensures same { OnOk result (surroundings place.new ≡ holding place.new.held (naming (surroundings place.new).names (surroundings place.old))) }
+    ensures homes { OnOk result (place.new.homes.items ≡ place.old.homes.items) }
+{
+    let mut none = Vec::new(place.alloc);
+    let mut points = Vec::new(place.alloc);
+    'each: for statement in statements {
+        let point = place.point()?;
+        points.push(point)?;
+        flag_statement(&mut none, place, statement)?;
+    }
+    Ok(points)
+}
+
+/// Goes back over statements, the last one first. The place is somewhere in the same block then.
+#[cycle(live)]
+fn live_statements(
+    saves: &mut Vec<bool>,
+    place: &mut Place,
+    live: &mut Vec<bool>,
+    out: &[bool],
+    again: &[bool],
+    statements: &[Statement],
+) -> Result<(), AllocError>
+    ensures saves { let u = surroundings place.old in OnOk result (saves.new.items ≡ saves.old.items
+        ++ reverse (saves_of u.homes u.statics u.names u.held live.old.items out.now again.now (body_tree statements.now))) }
+    ensures live { let u = surroundings place.old in OnOk result (live.new.items
+        ≡ live_of u.homes u.statics u.names u.held live.old.items out.now again.now (body_tree statements.now)) }
+    ensures same { OnOk result (surroundings place.new ≡ holding place.new.held (naming (surroundings place.new).names (surroundings place.old))) }
+    ensures homes { OnOk result (place.new.homes.items ≡ place.old.homes.items) }
+{
+    let mut points = points_of(place, statements)?;
+    'each: while let Some(point) = points.pop() {
+        place.go_to(point);
+        let statement = &statements[points.len()];
+        live_statement(saves, place, live, out, again, statement)?;
+    }
+    Ok(())
+}
+
+/// Goes over a function at whose start the place is, and back to its start, where it is known which results are saved. Answers which temporaries are
+/// loaded from their slots from there on.
+pub fn find_saves(
+    place: &mut Place,
+    function: &Function,
+    exit: usize,
+) -> Result<Vec<bool>, AllocError>
+    requires place { surroundings place.old ≡ around far place.old.statics.items exit (function_tree function.now) }
+    requires homes { place.old.homes.items ≡ homes_in (function_tree function.now) }
+    ensures place { OnOk result (surroundings place.new ≡ surroundings place.old) }
+    ensures saves { OnOk result (saves_left place.new ≡ saves_at place.old.statics.items (function_tree function.now)) }
+    ensures live { IfOk result (λ live. live.items ≡ live_at_start place.old.statics.items (function_tree function.now)) }
+{
+    let count = function.temporaries as usize;
+    let mut saves = Vec::new(place.alloc);
+    let mut live = no_flags(place.alloc, count)?;
+    let none = no_flags(place.alloc, count)?;
+    live_statements(&mut saves, place, &mut live, &none, &none, &function.body)?;
+    place.begin_again(function.parameters, saves)?;
+    Ok(live)
+}

@@ -1,0 +1,257 @@
+// Which temporaries code loads from their slots.
+
+ghost use Rattle.std.specs.Prelude.{◌≡◌, true, [], ◌∷◌, OnOk, map};
+ghost use Rattle.core_meaning.specs.Core as core;
+ghost use Rattle.core_lines.specs.Held.{held_behind, held_behind_all};
+ghost use Rattle.core_lines.specs.Loaded.{unknown_in, loads_of_operation, loads_of_values, loads_in, loads_of};
+ghost use Rattle.core_lines.specs.Saved.{all_flagged};
+ghost use Rattle.core_lines.specs.Selected.{names_after, names_after_all, holding, naming};
+ghost use Rattle.cyc_core.specs.Trees.{operation_tree, optional_tree, temporary_tree, local_tree, statement_tree, body_tree};
+ghost use Rattle.rv32_select.specs.Places.{surroundings};
+
+use crate::behind::hold_behind;
+use crate::calls::hold_called;
+use crate::flags::set_flag;
+use crate::held::Known;
+use crate::place::Place;
+use cyc_core::{Local, Operation, Statement, Temporary, Words};
+use rv32_isa::Register;
+use std::alloc::AllocError;
+
+/// Flags a temporary whose word isn't known to be elsewhere than in its slot.
+pub fn flag_unknown(flags: &mut Vec<bool>, held: &Known, temporary: Temporary)
+    ensures { flags.new.items ≡ all_flagged true (unknown_in held.now (temporary.0 ∷ [])) flags.old.items }
+{
+    match held.source(temporary) {
+        Some(_) => {}
+        None => set_flag(flags, temporary, true),
+    }
+}
+
+/// Flags those of two temporaries.
+fn flag_both(flags: &mut Vec<bool>, held: &Known, first: Temporary, second: Temporary)
+    ensures { flags.new.items ≡ all_flagged true (unknown_in held.now (first.0 ∷ second.0 ∷ [])) flags.old.items }
+{
+    flag_unknown(flags, held, first);
+    flag_unknown(flags, held, second);
+}
+
+/// Flags those of several.
+pub fn flag_arguments(flags: &mut Vec<bool>, held: &Known, arguments: &[Temporary])
+    ensures { flags.new.items ≡ all_flagged true (unknown_in held.now (map temporary_tree arguments.now)) flags.old.items }
+{
+    'each: for argument in arguments {
+        flag_unknown(flags, held, *argument);
+    }
+}
+
+/// Flags what an operation loads.
+pub fn flag_operation(flags: &mut Vec<bool>, held: &Known, operation: Operation)
+    ensures { flags.new.items ≡ all_flagged true (loads_of_operation held.now (operation_tree operation)) flags.old.items }
+{
+    match operation {
+        Operation::Move(_, from)
+        | Operation::Narrow(_, from)
+        | Operation::Offset(_, from, _, _)
+        | Operation::Put(_, _, from)
+        | Operation::Load(_, from, _)
+        | Operation::IsNull(_, from) => flag_unknown(flags, held, from),
+        Operation::Apply(_, _, first, second)
+        | Operation::Element(_, second, first, _, _)
+        | Operation::Store(first, _, second)
+        | Operation::SamePlace(_, first, second) => flag_both(flags, held, first, second),
+        Operation::Putchar(_, from)
+        | Operation::RegionFree(from)
+        | Operation::UniqueFree(from)
+        | Operation::KeyOpen(from)
+        | Operation::KeyClose(from)
+        | Operation::KeyFree(from) => set_flag(flags, from, true),
+        Operation::Constant(..)
+        | Operation::NullPointer(..)
+        | Operation::LocalAddress(..)
+        | Operation::OwnAddress(..)
+        | Operation::DataAddress(..)
+        | Operation::Get(..)
+        | Operation::Getchar(..)
+        | Operation::HeapHandle(..)
+        | Operation::RegionNew(..)
+        | Operation::KeyNew(..) => {}
+    }
+}
+
+/// Flags what puts the three words of a function's result into their registers loads. Less is known behind it.
+fn flag_three(
+    flags: &mut Vec<bool>,
+    place: &mut Place,
+    first: Temporary,
+    count: Temporary,
+    index: Temporary,
+)
+    ensures flags { flags.new.items ≡ all_flagged true (loads_of_values place.old.held 9 (first.0 ∷ count.0 ∷ index.0 ∷ [])) flags.old.items }
+    ensures same { surroundings place.new ≡ holding place.new.held (surroundings place.old) }
+    ensures homes { place.new.homes.items ≡ place.old.homes.items }
+{
+    flag_unknown(flags, &place.held, first);
+    place.held.forget_register(Register::ARGUMENT_0);
+    flag_unknown(flags, &place.held, count);
+    place.held.forget_register(Register::ARGUMENT_1);
+    flag_unknown(flags, &place.held, index);
+}
+
+/// Flags what a return loads. Nothing is known behind it.
+pub fn flag_return(flags: &mut Vec<bool>, place: &mut Place, value: Option<Words>)
+    ensures flags { flags.new.items ≡ all_flagged true (loads_of_values place.old.held 9 (optional_tree value)) flags.old.items }
+    ensures same { surroundings place.new ≡ holding [] (surroundings place.old) }
+    ensures homes { place.new.homes.items ≡ place.old.homes.items }
+{
+    match value {
+        Some(Words::One(from)) => flag_unknown(flags, &place.held, from),
+        Some(Words::Three(first, count, index)) => flag_three(flags, place, first, count, index),
+        None => {}
+    }
+    place.held.forget();
+}
+
+/// Flags what a statement loads, and goes on behind it.
+#[cycle(loads)]
+pub fn flag_statement(
+    flags: &mut Vec<bool>,
+    place: &mut Place,
+    statement: &Statement,
+) -> Result<(), AllocError>
+    ensures flags { let u = surroundings place.old in OnOk result (flags.new.items
+        ≡ all_flagged true (loads_in u.homes u.statics u.names u.held (statement_tree statement.now)) flags.old.items) }
+    ensures same { let u = surroundings place.old in let s = statement_tree statement.now in
+        OnOk result (surroundings place.new ≡ holding (held_behind u.homes u.statics u.held s) (naming (names_after s u.names) u)) }
+    ensures homes { OnOk result (place.new.homes.items ≡ place.old.homes.items) }
+{
+    match statement {
+        Statement::Do(operation) => {
+            flag_operation(flags, &place.held, *operation);
+            return hold_behind(place, *operation);
+        }
+        Statement::Call(results, _, arguments) => {
+            flag_arguments(flags, &place.held, arguments);
+            return hold_called(place, *results);
+        }
+        Statement::If(test, these, those) => {
+            return flag_if(flags, place, *test, these, those);
+        }
+        Statement::While(test, again, body) => {
+            return flag_while(flags, place, test, *again, body);
+        }
+        Statement::Block(locals, body) => return flag_block(flags, place, locals, body),
+        Statement::Leave(body) => flag_all(flags, place, body)?,
+        Statement::Return(value) => flag_return(flags, place, *value),
+        Statement::Copy(to, from, _) => {
+            set_flag(flags, *to, true);
+            set_flag(flags, *from, true);
+        }
+        Statement::RegionAlloc(_, handle, count, _) => {
+            set_flag(flags, *handle, true);
+            set_flag(flags, *count, true);
+        }
+        Statement::Clear(pointer, _, _) => set_flag(flags, *pointer, true),
+        Statement::UniqueAlloc(..) | Statement::Break | Statement::Continue | Statement::Raise(_) =>
+            {}
+    }
+    place.held.forget();
+    Ok(())
+}
+
+/// The same of a choice.
+#[cycle(loads)]
+fn flag_if(
+    flags: &mut Vec<bool>,
+    place: &mut Place,
+    test: Temporary,
+    these: &[Statement],
+    those: &[Statement],
+) -> Result<(), AllocError>
+    ensures flags { let u = surroundings place.old in OnOk result (flags.new.items ≡ all_flagged true
+        (loads_in u.homes u.statics u.names u.held (core.If test.0 (body_tree these.now) (body_tree those.now))) flags.old.items) }
+    ensures same { let u = surroundings place.old in let s = core.If test.0 (body_tree these.now) (body_tree those.now) in
+        OnOk result (surroundings place.new ≡ holding (held_behind u.homes u.statics u.held s) (naming (names_after s u.names) u)) }
+    ensures homes { OnOk result (place.new.homes.items ≡ place.old.homes.items) }
+{
+    flag_unknown(flags, &place.held, test);
+    let known = place.known()?;
+    flag_all(flags, place, these)?;
+    let first = place.exchange(known);
+    flag_all(flags, place, those)?;
+    place.join(first, those);
+    Ok(())
+}
+
+/// The same of a loop.
+#[cycle(loads)]
+pub fn flag_while(
+    flags: &mut Vec<bool>,
+    place: &mut Place,
+    test: &[Statement],
+    again: Temporary,
+    body: &[Statement],
+) -> Result<(), AllocError>
+    ensures flags { let u = surroundings place.old in OnOk result (flags.new.items ≡ all_flagged true
+        (loads_in u.homes u.statics u.names u.held (core.While (body_tree test.now) again.0 (body_tree body.now))) flags.old.items) }
+    ensures same { let u = surroundings place.old in OnOk result (surroundings place.new
+        ≡ holding [] (naming (names_after (core.While (body_tree test.now) again.0 (body_tree body.now)) u.names) u)) }
+    ensures homes { OnOk result (place.new.homes.items ≡ place.old.homes.items) }
+{
+    place.held.forget();
+    flag_all(flags, place, test)?;
+    flag_unknown(flags, &place.held, again);
+    place.held.forget();
+    flag_all(flags, place, body)?;
+    place.held.forget();
+    Ok(())
+}
+
+/// The same of a block with these locals.
+#[cycle(loads)]
+fn flag_block(
+    flags: &mut Vec<bool>,
+    place: &mut Place,
+    locals: &[Local],
+    body: &[Statement],
+) -> Result<(), AllocError>
+    ensures flags { let u = surroundings place.old in OnOk result (flags.new.items ≡ all_flagged true
+        (loads_in u.homes u.statics u.names u.held (core.Block (map local_tree locals.now) (body_tree body.now))) flags.old.items) }
+    ensures same { let u = surroundings place.old in OnOk result (surroundings place.new
+        ≡ holding [] (naming (names_after (core.Block (map local_tree locals.now) (body_tree body.now)) u.names) u)) }
+    ensures homes { OnOk result (place.new.homes.items ≡ place.old.homes.items) }
+{
+    let low = place.enter(locals)?;
+    flag_all(flags, place, body)?;
+    place.leave(low);
+    Ok(())
+}
+
+/// The same of statements, one after the other.
+#[cycle(loads)]
+fn flag_all(
+    flags: &mut Vec<bool>,
+    place: &mut Place,
+    statements: &[Statement],
+) -> Result<(), AllocError>
+    ensures flags { let u = surroundings place.old in OnOk result (flags.new.items
+        ≡ all_flagged true (loads_of u.homes u.statics u.names u.held (body_tree statements.now)) flags.old.items) }
+    ensures same { let u = surroundings place.old in let ss = body_tree statements.now in OnOk result (surroundings place.new
+        ≡ holding (held_behind_all u.homes u.statics u.held ss) (naming (names_after_all ss u.names) u)) }
+    ensures homes { OnOk result (place.new.homes.items ≡ place.old.homes.items) }
+{
+    'each: for statement in statements {
+        flag_statement(flags, place, statement)?;
+    }
+    Ok(())
+}
+
+/// Goes on behind statements.
+pub fn pass(place: &mut Place, statements: &[Statement]) -> Result<(), AllocError>
+    ensures same { let u = surroundings place.old in let ss = body_tree statements.now in OnOk result (surroundings place.new
+        ≡ holding (held_behind_all u.homes u.statics u.held ss) (naming (names_after_all ss u.names) u)) }
+    ensures homes { OnOk result (place.new.homes.items ≡ place.old.homes.items) }
+{
+    let mut none = Vec::new(place.alloc);
+    flag_all(&mut none, place, statements)
+}

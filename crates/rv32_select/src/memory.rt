@@ -1,0 +1,208 @@
+// Instructions for operations on pointers and on memory.
+
+ghost use Rattle.std.specs.Prelude.{◌≡◌, ◌+◌, ◌%◌, ◌^◌, true, ◌++◌, OnOk};
+ghost use Rattle.core_meaning.specs.Core as core;
+ghost use Rattle.core_lines.specs.Held.{result_register};
+ghost use Rattle.core_lines.specs.Selected.{element_code, operation_code};
+ghost use Rattle.cyc_core.specs.Trees.{operation_tree, distance_tree};
+ghost use Rattle.rv32_select.specs.Places.{surroundings, is_on_pointers, is_on_memory};
+
+use crate::emit::{FIRST, SECOND, put, put_further, put_number, put_read, put_write};
+use crate::held::result_register;
+use crate::operands::{put_kept, put_number_kept, put_operand, put_result};
+use crate::place::Place;
+use crate::words::put_binary;
+use core_lines::Line;
+use cyc_core::{Binary, Distance, Operation, Temporary};
+use rv32_isa::{Instr, Register, Signed12};
+use std::alloc::AllocError;
+
+/// Appends what gives a temporary the address so many bytes behind that in another one.
+fn put_offset(
+    lines: &mut Vec<Line>,
+    place: &Place,
+    keeps: bool,
+    to: Temporary,
+    pointer: Temporary,
+    cells: u32,
+    bytes: u32,
+) -> Result<(), AllocError>
+    ensures { OnOk result (lines.new.items ≡ lines.old.items
+        ++ operation_code keeps (surroundings place.now) (core.Offset to.0 pointer.0 cells bytes)) }
+{
+    let from = put_operand(lines, place, FIRST, pointer)?;
+    put_further(lines, result_register(to), from, u64::from(bytes))?;
+    put_result(lines, place, keeps, to)
+}
+
+/// Appends what puts the address of an element of one byte into a register.
+fn put_byte_element(
+    lines: &mut Vec<Line>,
+    place: &Place,
+    to: Register,
+    pointer: Temporary,
+    index: Temporary,
+) -> Result<(), AllocError>
+    ensures { OnOk result (lines.new.items ≡ lines.old.items ++ element_code (surroundings place.now) to pointer.0 index.0 1) }
+{
+    let count = put_operand(lines, place, FIRST, index)?;
+    let from = put_operand(lines, place, SECOND, pointer)?;
+    put(lines, Instr::Add(to, count, from))
+}
+
+/// Appends what puts the address of an element of so many bytes, which are not one, into a register.
+fn put_long_element(
+    lines: &mut Vec<Line>,
+    place: &Place,
+    to: Register,
+    pointer: Temporary,
+    index: Temporary,
+    bytes: u32,
+) -> Result<(), AllocError>
+    requires { (bytes ≡ 1) → ⊥ }
+    ensures { OnOk result (lines.new.items ≡ lines.old.items ++ element_code (surroundings place.now) to pointer.0 index.0 bytes) }
+{
+    let count = put_operand(lines, place, FIRST, index)?;
+    put_number(lines, SECOND, u64::from(bytes))?;
+    put(lines, Instr::Mul(FIRST, count, SECOND))?;
+    let from = put_operand(lines, place, SECOND, pointer)?;
+    put(lines, Instr::Add(to, FIRST, from))
+}
+
+/// Appends what puts the address of an element of so many bytes into a register.
+fn put_element(
+    lines: &mut Vec<Line>,
+    place: &Place,
+    to: Register,
+    pointer: Temporary,
+    index: Temporary,
+    bytes: u32,
+) -> Result<(), AllocError>
+    ensures { OnOk result (lines.new.items ≡ lines.old.items ++ element_code (surroundings place.now) to pointer.0 index.0 bytes) }
+{
+    if bytes == 1 {
+        put_byte_element(lines, place, to, pointer, index)
+    } else {
+        put_long_element(lines, place, to, pointer, index, bytes)
+    }
+}
+
+/// Appends what gives a temporary whether another one is NULL.
+fn put_is_null(
+    lines: &mut Vec<Line>,
+    place: &Place,
+    keeps: bool,
+    to: Temporary,
+    pointer: Temporary,
+) -> Result<(), AllocError>
+    ensures { OnOk result (lines.new.items ≡ lines.old.items
+        ++ operation_code keeps (surroundings place.now) (core.IsNull to.0 pointer.0)) }
+{
+    let from = put_operand(lines, place, FIRST, pointer)?;
+    let one = Signed12::new(1);
+    put(lines, Instr::Sltiu(result_register(to), from, one))?;
+    put_result(lines, place, keeps, to)
+}
+
+/// Appends what gives a temporary whether two others are the same pointer.
+fn put_same_place(
+    lines: &mut Vec<Line>,
+    place: &Place,
+    keeps: bool,
+    to: Temporary,
+    first: Temporary,
+    second: Temporary,
+) -> Result<(), AllocError>
+    ensures { OnOk result (lines.new.items ≡ lines.old.items
+        ++ operation_code keeps (surroundings place.now) (core.SamePlace to.0 first.0 second.0)) }
+{
+    let left = put_operand(lines, place, FIRST, first)?;
+    let right = put_operand(lines, place, SECOND, second)?;
+    put_binary(lines, Binary::Equal, result_register(to), left, right)?;
+    put_result(lines, place, keeps, to)
+}
+
+/// Appends the instructions of an operation on pointers.
+pub fn put_pointer_operation(
+    lines: &mut Vec<Line>,
+    place: &Place,
+    keeps: bool,
+    operation: Operation,
+) -> Result<(), AllocError>
+    requires { is_on_pointers operation ≡ true }
+    ensures { OnOk result (lines.new.items ≡ lines.old.items ++ operation_code keeps (surroundings place.now) (operation_tree operation)) }
+{
+    match operation {
+        Operation::NullPointer(to) => put_kept(lines, place, keeps, Register::ZERO, to),
+        Operation::Offset(to, pointer, cells, bytes) => {
+            put_offset(lines, place, keeps, to, pointer, cells, bytes)
+        }
+        Operation::Element(to, pointer, index, _, bytes) => {
+            put_element(lines, place, result_register(to), pointer, index, bytes)?;
+            put_result(lines, place, keeps, to)
+        }
+        Operation::IsNull(to, pointer) => put_is_null(lines, place, keeps, to, pointer),
+        Operation::SamePlace(to, first, second) => put_same_place(
+            lines, place, keeps, to, first, second,
+        ),
+        _ => Ok(()),
+    }
+}
+
+/// Appends what gives a temporary the part that lies so far from where another one points.
+fn put_loaded_part(
+    lines: &mut Vec<Line>,
+    place: &Place,
+    keeps: bool,
+    to: Temporary,
+    pointer: Temporary,
+    distance: Distance,
+) -> Result<(), AllocError>
+    ensures { OnOk result (lines.new.items ≡ lines.old.items
+        ++ operation_code keeps (surroundings place.now) (core.Load to.0 pointer.0 (distance_tree distance))) }
+{
+    let from = put_operand(lines, place, FIRST, pointer)?;
+    let (own, bytes) = (result_register(to), u64::from(distance.bytes));
+    put_read(lines, own, distance.width, from, bytes)?;
+    put_result(lines, place, keeps, to)
+}
+
+/// Appends what gives the part that lies so far from where a temporary points the word of another one.
+fn put_stored_part(
+    lines: &mut Vec<Line>,
+    place: &Place,
+    pointer: Temporary,
+    distance: Distance,
+    from: Temporary,
+) -> Result<(), AllocError>
+    ensures { OnOk result (lines.new.items ≡ lines.old.items
+        ++ operation_code true (surroundings place.now) (core.Store pointer.0 (distance_tree distance) from.0)) }
+{
+    let to = put_operand(lines, place, FIRST, pointer)?;
+    let value = put_operand(lines, place, SECOND, from)?;
+    put_write(lines, value, distance.width, to, u64::from(distance.bytes))
+}
+
+/// Appends the instructions of an operation on memory.
+pub fn put_memory_operation(
+    lines: &mut Vec<Line>,
+    place: &Place,
+    keeps: bool,
+    operation: Operation,
+) -> Result<(), AllocError>
+    requires { is_on_memory operation ≡ true }
+    ensures { OnOk result (lines.new.items ≡ lines.old.items ++ operation_code keeps (surroundings place.now) (operation_tree operation)) }
+{
+    match operation {
+        Operation::DataAddress(to, object) => {
+            put_number_kept(lines, place, keeps, to, place.data_address(object)?)
+        }
+        Operation::Load(to, pointer, distance) => {
+            put_loaded_part(lines, place, keeps, to, pointer, distance)
+        }
+        Operation::Store(pointer, distance, from) => {
+            put_stored_part(lines, place, pointer, distance, from)
+        }
+        _ => Ok(()),
+    }
+}

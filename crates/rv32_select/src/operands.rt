@@ -1,0 +1,164 @@
+// How code comes by the words of temporaries, and which it saves.
+
+ghost use Rattle.std.specs.Prelude.{◌≡◌, ◌++◌, IfOk, OnOk};
+ghost use Rattle.core_lines.specs.Held.{result_register, source_of};
+ghost use Rattle.core_lines.specs.Operands.{into_code, keep_code, number_kept, move_kept};
+ghost use Rattle.core_lines.specs.Selected.{from_temp, to_temp, operand, has_operand, keep_result};
+ghost use Rattle.rv32_select.specs.Places.{surroundings};
+
+use crate::emit::{FIRST, put_copied, put_load, put_number, put_save};
+use crate::held::{Source, result_register};
+use crate::place::Place;
+use core_lines::Line;
+use cyc_core::Temporary;
+use rv32_isa::Register;
+use std::alloc::AllocError;
+
+/// Appends the load of a temporary's slot into a register.
+pub fn put_from(
+    lines: &mut Vec<Line>,
+    place: &Place,
+    register: Register,
+    from: Temporary,
+) -> Result<(), AllocError>
+    ensures { OnOk result (lines.new.items ≡ lines.old.items ++ from_temp (surroundings place.now) register from.0) }
+{
+    put_load(lines, register, place.slot(from))
+}
+
+/// Appends the save of a register into a temporary's slot.
+pub fn put_to(
+    lines: &mut Vec<Line>,
+    place: &Place,
+    register: Register,
+    to: Temporary,
+) -> Result<(), AllocError>
+    ensures { OnOk result (lines.new.items ≡ lines.old.items ++ to_temp (surroundings place.now) register to.0) }
+{
+    put_save(lines, register, place.slot(to))
+}
+
+/// Appends what brings a temporary's word into a register, if it isn't in one: then into a spare one. Answers which one it is.
+pub fn put_operand(
+    lines: &mut Vec<Line>,
+    place: &Place,
+    spare: Register,
+    from: Temporary,
+) -> Result<Register, AllocError>
+    ensures code { OnOk result (lines.new.items ≡ lines.old.items ++ operand (surroundings place.now) spare from.0) }
+    ensures register { IfOk result (λ register. register ≡ has_operand (surroundings place.now) spare from.0) }
+{
+    match place.held.source(from) {
+        Some(source) => match source {
+            Source::Register(register) => Ok(register),
+            Source::Number(word) => {
+                put_number(lines, spare, word)?;
+                Ok(spare)
+            }
+        },
+        None => {
+            put_from(lines, place, spare, from)?;
+            Ok(spare)
+        }
+    }
+}
+
+/// Appends what puts a temporary's word into just this register.
+pub fn put_into(
+    lines: &mut Vec<Line>,
+    place: &Place,
+    to: Register,
+    from: Temporary,
+) -> Result<(), AllocError>
+    ensures { OnOk result (lines.new.items ≡ lines.old.items ++ into_code place.now.passed place.now.held to from.0) }
+{
+    match place.held.source(from) {
+        Some(source) => match source {
+            Source::Register(register) => put_copied(lines, to, register),
+            Source::Number(word) => put_number(lines, to, word),
+        },
+        None => put_from(lines, place, to, from),
+    }
+}
+
+/// Appends the save of a register into a temporary's slot, if it is to be saved.
+pub fn put_kept(
+    lines: &mut Vec<Line>,
+    place: &Place,
+    keeps: bool,
+    register: Register,
+    to: Temporary,
+) -> Result<(), AllocError>
+    ensures { OnOk result (lines.new.items ≡ lines.old.items ++ keep_code keeps place.now.passed register to.0) }
+{
+    if keeps {
+        put_to(lines, place, register, to)
+    } else {
+        Ok(())
+    }
+}
+
+/// Appends the save of a temporary's result, which is in its register, if it is to be saved.
+pub fn put_result(
+    lines: &mut Vec<Line>,
+    place: &Place,
+    keeps: bool,
+    to: Temporary,
+) -> Result<(), AllocError>
+    ensures { OnOk result (lines.new.items ≡ lines.old.items ++ keep_result keeps (surroundings place.now) to.0) }
+{
+    put_kept(lines, place, keeps, result_register(to), to)
+}
+
+/// Appends the save of a number into a temporary's slot, if it is to be saved.
+pub fn put_number_kept(
+    lines: &mut Vec<Line>,
+    place: &Place,
+    keeps: bool,
+    to: Temporary,
+    word: u64,
+) -> Result<(), AllocError>
+    ensures { OnOk result (lines.new.items ≡ lines.old.items ++ number_kept keeps place.now.passed to.0 word) }
+{
+    if keeps {
+        put_number(lines, FIRST, word)?;
+        put_to(lines, place, FIRST, to)
+    } else {
+        Ok(())
+    }
+}
+
+/// Appends what loads a temporary into the register of another one's result, and the save of that.
+fn put_loaded(
+    lines: &mut Vec<Line>,
+    place: &Place,
+    keeps: bool,
+    to: Temporary,
+    from: Temporary,
+) -> Result<(), AllocError>
+    ensures { let u = surroundings place.now in OnOk result (lines.new.items ≡ lines.old.items
+        ++ from_temp u (result_register to.0) from.0 ++ keep_result keeps u to.0) }
+{
+    put_from(lines, place, result_register(to), from)?;
+    put_result(lines, place, keeps, to)
+}
+
+/// Appends what gives a temporary the word of another one.
+pub fn put_moved(
+    lines: &mut Vec<Line>,
+    place: &Place,
+    keeps: bool,
+    to: Temporary,
+    from: Temporary,
+) -> Result<(), AllocError>
+    ensures { OnOk result (lines.new.items ≡ lines.old.items
+        ++ move_kept keeps place.now.passed (result_register to.0) to.0 from.0 (source_of place.now.held from.0)) }
+{
+    match place.held.source(from) {
+        Some(source) => match source {
+            Source::Register(register) => put_kept(lines, place, keeps, register, to),
+            Source::Number(word) => put_number_kept(lines, place, keeps, to, word),
+        },
+        None => put_loaded(lines, place, keeps, to, from),
+    }
+}

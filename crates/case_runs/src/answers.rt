@@ -1,5 +1,6 @@
 // What the commands of cases answer.
 
+use crate::homes::homes_found;
 use crate::plain::run_over_plain;
 use crate::rules;
 use command_line::command_of;
@@ -66,12 +67,13 @@ fn cycc(alloc: Global, words: &[&str], source: &[u8], input: &[u8]) -> Result<Fo
     with_status(found, answer.status)
 }
 
-/// What a command answers on a source and an input: the words of `cycc`, or one of the commands that look at a source alone.
+/// What a command answers on a source and an input: the words of `cycc`, or one of the commands that run nothing.
 pub fn answer_to(alloc: Global, command: &str, source: &[u8], input: &[u8]) -> io::Result<Found> {
     match command {
         "tokens" => Ok(rules::tokens_found(alloc, source)?),
         "parse" => Ok(rules::program_found(alloc, source)?),
         "judge" => Ok(rules::faults_found(alloc, source)?),
+        "homes" => Ok(homes_found(alloc, source)?),
         _ => {
             let words: Vec<&str> = command.split(' ').collect(alloc)?;
             Ok(cycc(alloc, &words, source, input)?)

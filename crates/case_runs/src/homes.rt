@@ -1,0 +1,47 @@
+// Which registers the locals of a source's functions live in.
+
+use crate::answers::Found;
+use command_line::status::{REFUSED, SUCCESS};
+use cyc_core::Program;
+use cyc_meaning::lower;
+use cycc_driver::front;
+use rv32_select::{Labelled, select};
+use std::alloc::{AllocError, Global};
+
+/// Writes the homes of a function in one line: its number, and of each of its locals in the order of the text the register's number, or 0.
+fn write_homes(written: &mut String, labelled: &Labelled, function: u32) -> Result<(), AllocError> {
+    write!(written, "{function}:")?;
+    for home in labelled.homes(function) {
+        write!(written, " {home}")?;
+    }
+    write!(written, "\n")
+}
+
+/// The homes of so many functions, in a line each.
+fn lines_of(alloc: Global, labelled: &Labelled, functions: u32) -> Result<Found, AllocError> {
+    let mut written = String::new(alloc);
+    for function in 0..functions {
+        write_homes(&mut written, labelled, function)?;
+    }
+    let mut found = Found::nothing(alloc, SUCCESS);
+    found.written = written.into_bytes();
+    Ok(found)
+}
+
+/// The homes of each function of a program, and of the one behind them, which there isn't. None where the program has no `main`.
+fn program_homes(alloc: Global, program: &Program) -> Result<Found, AllocError> {
+    if program.functions.len() <= program.main as usize {
+        return Ok(Found::nothing(alloc, REFUSED));
+    }
+    let labelled = select(alloc, program)?;
+    let functions = u32::try_from(program.functions.len()).unwrap_or(u32::MAX);
+    lines_of(alloc, &labelled, functions.saturating_add(1))
+}
+
+/// The homes of each function of a source, and of the one behind them. None of a source that is refused, for which `cycc check` has the reason.
+pub fn homes_found(alloc: Global, source: &[u8]) -> Result<Found, AllocError> {
+    match front(alloc, source) {
+        Ok(checked) => program_homes(alloc, &lower(alloc, &checked)?),
+        Err(_) => Ok(Found::nothing(alloc, REFUSED)),
+    }
+}

@@ -1,4 +1,4 @@
-//! Tests of images, the machine and its runs between devices: what no clause of theirs says, and no case of `case_runs`.
+//! Tests of images, the machine, its runs between devices and how far a placed jump reaches: what no clause of theirs says, and no case of `case_runs`.
 //!
 //! A crate with tests is proved twice, so those of the crates that take long stand here, where nothing else is proved.
 #![tactic(auto)]
@@ -11,6 +11,8 @@ mod devices;
 mod images;
 #[cfg(test)]
 mod machine;
+#[cfg(test)]
+mod placing;
 #[cfg(test)]
 mod programs;
 #[cfg(test)]

@@ -7,10 +7,13 @@ use Rattle.arena_laws.specs.declared.refusal.StoreRefusal.{StoreRefusal}
 use Rattle.arena_laws.specs.declared.refusal.StoreRefusal.TheVariants.{BadHandle, Full}
 use Rattle.arena_laws.specs.Counts.{is_too_long, room_of}
 use Rattle.arena_laws.specs.Holdings.{Holdings, is_none}
-use Rattle.arena_laws.specs.Lawful.{Answer, Grants, Refuses, Lacks, Done, gives_block, is_in_room, is_lawful_room, refuses, region_free, takes_blocks, with_region_block}
+use Rattle.arena_laws.specs.Lawful.{Answer, Grants, Refuses, Lacks, Done, gives_block, is_in_room, is_lawful_room, refuses, region_free, takes_blocks}
+use Rattle.arena_laws.specs.Lawful.{with_region_block}
 use Rattle.arena_laws.specs.Lawful as lawful
 use Rattle.arena_laws.specs.Laws.{Does, answer_of, is_block_refused, region_alloc}
+use Rattle.arena_laws.specs.Asked.{RegionAlloc}
 use Rattle.arena_laws.proofs.Rooms.{block_placed}
+use Rattle.arena_laws.proofs.StayingPages.{pages_if, pages_stay}
 use Rattle.region_runtime.specs.Pool.{Pooled, is_taken, page_at, word_of}
 use Rattle.region_runtime.specs.Pool as pool
 use Rattle.unique_blocks.specs.Slots.{AreSlots, alone_at, slots_by}
@@ -51,21 +54,9 @@ module _ (old new : Pooled) (words : word_of new ≡ word_of old) where
 
 -- ---- the slots stay in order beside a block of a region
 
-pages_if : (t : Bool) (x y : Done) (n : ℕ) → x.after.pages ≡ n → y.after.pages ≡ n → (if t then x else y).after.pages ≡ n
-pages_if true x y n e f = e
-pages_if false x y n e f = f
-
-block_pages : (n room : ℕ) (a : Answer) (s : Holdings) → (gives_block n room a s).after.pages ≡ s.pages
-block_pages n room (Grants at) s =
-    pages_if (is_lawful_room s at room) (record { says = Ok at; after = with_region_block n at room s }) (refuses Full s) s.pages refl refl
-block_pages n room Refuses s = refl
-block_pages n room Lacks s = refl
-
 alloc_pages : (n bytes : ℕ) (a : Answer) (s : Holdings) → (region_alloc n bytes a s).after.pages ≡ s.pages
 alloc_pages n bytes a s =
-    pages_if (is_block_refused n bytes s) (refuses Full s) (lawful.region_alloc n bytes a s) s.pages refl
-    (pages_if (takes_blocks n (s.standing n)) (if is_too_long bytes then refuses Full s else gives_block n (room_of bytes) a s) (refuses BadHandle s) s.pages
-    (pages_if (is_too_long bytes) (refuses Full s) (gives_block n (room_of bytes) a s) s.pages refl (block_pages n (room_of bytes) a s)) refl)
+    pages_if (is_block_refused n bytes s) (refuses Full s) (lawful.region_alloc n bytes a s) s.pages refl (pages_stay (RegionAlloc n bytes) a s)
 
 pub alloc_sound : (old new : Pooled) (heads : List ℕ) (n bytes : ℕ) (r : Result ℕ StoreRefusal) → word_of new ≡ word_of old →
     Does r (pool.held new) (region_alloc n bytes (answer_of r) (pool.held old)) → AreSlots (pool.held old).pages heads (slots_of old) →

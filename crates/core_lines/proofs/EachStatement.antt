@@ -2,7 +2,8 @@
 use Rattle.std.specs.Prelude.{length, drop}
 use Rattle.std.proofs.Common.{◌≡◌, ℕ, zero, suc, Bool, true, false, Some, ◌+◌, ◌^◌, ◌≤◌, List, [], ◌∷◌, ◌++◌, refl, sym, ◌∙◌, arith, append_assoc}
 use Rattle.std.proofs.lemmas.Bool.{and_parts}
-use Rattle.core_meaning.specs.Core.{Local, Statement, Do, If, While, Block, Leave, Break, Continue, Call, Return, Raise, Statements, NoStatements, MoreStatements}
+use Rattle.core_meaning.specs.Core.{Local, Statement, Do, If, While, Block, Leave, Break, Continue, Call, Return, Raise, Statements, NoStatements}
+use Rattle.core_meaning.specs.Core.{MoreStatements}
 use Rattle.core_meaning.specs.Meaning as core
 use Rattle.core_meaning.specs.Steps.{Falls}
 use Rattle.core_lines.specs.declared.line.Line.TheVariants.{Jump}
@@ -14,7 +15,6 @@ use Rattle.core_lines.specs.Selected.{nth_block, shrunk, shrunk_in, shrunk_of, h
 use Rattle.core_lines.specs.Homes.{is_home, flag_at}
 use Rattle.core_lines.specs.Selectable.{HasLinesIn, HaveLinesIn, AreBelow}
 use Rattle.core_lines.proofs.memory.Relations.{Inside, EndsThere, home_of, active_of, World, IsInOrder, Waiting, Place, keeping}
-use Rattle.core_lines.proofs.frames.Passing.{AreWithin}
 use Rattle.core_lines.proofs.frames.Bodies.{with_config, goes_any, BodyGoes, call_goes, return_goes}
 use Rattle.core_lines.proofs.Flags.{length_cleared, length_all, more_flagged, flags_behind, follows_flags}
 use Rattle.core_lines.proofs.Live.{few_results, saved_in, saved_of, choice_to_after, choice_to_body, head_to_test}
@@ -24,7 +24,7 @@ use Rattle.core_lines.proofs.Shown.{AreWhole, showing, showing_all, saving, savi
 use Rattle.core_lines.proofs.Shown.{at_choice, of_test, of_body, whole_test, whole_body, loop_shows, loop_served}
 use Rattle.core_lines.proofs.Forms.{within_block, break_does, continue_does, nothing_does, sequence_does, block_does}
 use Rattle.core_lines.proofs.Choices.{test, jumps, choice_does, choice_either, leave_does, loop_does}
-use Rattle.core_lines.proofs.memory.Laying.{NestFits}
+use Rattle.core_lines.proofs.memory.Nested.{NestFits}
 use Rattle.core_lines.proofs.homes.Locals.{shrunk_layouts, as_many_shrunk, offsets_lie, as_many_offsets, end_above, offset_below, highest_of_above, both_below}
 use Rattle.core_lines.proofs.homes.Nests.{BlocksAre}
 use Rattle.core_lines.proofs.homes.Fine.{FitsIn, IsFine, AreFine, tiny, fit}
@@ -41,10 +41,6 @@ pub record IsAround (w : World) (x : Waiting) (ns : List ℕ) (oss hss : List (L
   pub framed : w.frame_bytes x.function ≡ bytes
   pub small : bytes ≤ 2 ^ 20
   pub own_small : OwnSmall x
-
-same_below : (most : ℕ) (ts : List ℕ) → AreBelow most ts → AreWithin most ts
-same_below most [] below = tt
-same_below most (t ∷ ts) below = (below.0, same_below most ts below.1)
 
 -- ---- what only raises an exception
 
@@ -248,8 +244,8 @@ module _ (w : World) (order : IsInOrder w) (outer : List Waiting) (small : DataS
           let y = keeping (showing w hss names held needs (Call results f arguments)) x in
           let loads = unknown_in held arguments in
           let others = all_flagged false results needs.after in
-          call_goes w order y outer fuel results f arguments (same_below x.fn.temporaries results has.0)
-          (same_below x.fn.temporaries arguments has.1) has.2 k held
+          call_goes w order y outer fuel results f arguments has.0
+          has.1 has.2 k held
           (loads_show x.fn.temporaries loads others (length_all false results needs.after ∙ whole.after)
           (unknown_below x.fn.temporaries held arguments has.1)) needs.after flags rest (more_flagged loads others) are place aligned lines
           (λ j less. calls j (omega (arith, less, le)) f) ways.falls;
@@ -257,7 +253,7 @@ module _ (w : World) (order : IsInOrder w) (outer : List Waiting) (small : DataS
     statement_does x ns oss hss names low held needs flags rest next out again (Return values) whole are around has fine below = record {
       goes = λ place fuel le k aligned lines ways.
           let y = keeping (showing w hss names held needs (Return values)) x in
-          return_goes w order y outer fuel values k held place around.ends around.inside (same_below x.fn.temporaries values has.0)
+          return_goes w order y outer fuel values k held place around.ends around.inside has.0
           (loads_show x.fn.temporaries (loads_of_values held 9 values) (cleared needs.after) (length_cleared needs.after ∙ whole.after)
           (values_below x.fn.temporaries held 9 values has.0)) has.1 lines ways.returns;
     }

@@ -24,7 +24,8 @@ use Rattle.core_lines.proofs.frames.Bodies.{with_config, IsIn, GoesFrom, from_sa
 use Rattle.core_lines.specs.Held.{Holding}
 use Rattle.core_lines.specs.Lies.{Maps, Activation}
 use Rattle.core_lines.proofs.operations.Registers.{AtHolding, IsServed, at_any}
-use Rattle.core_lines.proofs.memory.Laying.{AreTiny, LaidOut, NestFits, enters_block}
+use Rattle.core_lines.proofs.memory.Laying.{AreTiny, LaidOut}
+use Rattle.core_lines.proofs.memory.Nested.{NestFits, enters_block}
 use Rattle.core_lines.proofs.memory.Zones.{leaves_block, leaves_block_returning}
 use Rattle.core_meaning.specs.Steps.{LoopTurn}
 use Rattle.step_trees.specs.Trees.{Turns}

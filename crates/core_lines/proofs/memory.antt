@@ -10,6 +10,7 @@ pub mod Fitting
 pub mod Knowing
 pub mod Storing
 pub mod Growing
+pub mod Bare
 pub mod Sparing
 pub mod Arrays
 pub mod Reframing
@@ -17,6 +18,7 @@ pub mod Zones
 pub mod Extending
 pub mod Placing
 pub mod Laying
+pub mod Nested
 pub mod Owning
 pub mod Data
 pub mod DataParts

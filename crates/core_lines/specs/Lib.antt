@@ -8,6 +8,7 @@ pub mod Operands
 pub mod Choosing
 pub mod Loaded
 pub mod Saved
+pub mod Computed
 pub mod Selected
 pub mod Machines
 pub mod Homes

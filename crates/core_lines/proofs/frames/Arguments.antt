@@ -44,6 +44,7 @@ use Rattle.core_lines.specs.Held.{Source, Register, Number, Holding, source_of}
 use Rattle.core_lines.specs.Loaded.{unknown_in}
 use Rattle.core_lines.specs.Operands.{number_code, register_for, bring_code, operand_in, operand_code, pass_code}
 use Rattle.core_lines.specs.Lies.{Maps, Shows, Activation}
+use Rattle.core_lines.specs.Selectable.{AreBelow}
 use Rattle.core_lines.proofs.memory.Relations.{Moves, World, IsInOrder, Has, Waiting, AreKept, back_of, FrameShows, StackShows, Stands, Calling, Passed}
 use Rattle.core_lines.proofs.memory.Moving.{Reach, Comes, comes_then, comes_as, and_then, stays}
 use Rattle.core_lines.proofs.memory.Words.{offset_joined}
@@ -52,7 +53,7 @@ use Rattle.core_lines.proofs.memory.Slots.{puts_number}
 use Rattle.core_lines.proofs.memory.Fitting.{with_slot}
 use Rattle.core_lines.proofs.homes.Homes.{kept_stays, set_stays}
 use Rattle.core_lines.proofs.memory.Access.{Saved, behind, length_of_both, written_out, loads, saves, stands_behind}
-use Rattle.core_lines.proofs.frames.Passing.{has_first, has_second, frame_on, AreWithin, temp_lies}
+use Rattle.core_lines.proofs.frames.Passing.{has_first, has_second, frame_on, temp_lies}
 use Rattle.core_lines.proofs.operations.Holding.{InRegister, AreThere, IsServed, spare_apart, source_not_zero, there_found, there_kept}
 use Rattle.core_lines.proofs.operations.Holding.{served_first, served_others}
 
@@ -202,7 +203,7 @@ module _ (w : World) (order : IsInOrder w) (x : Waiting) (outer : List Waiting) 
             });
       }
 
-  pub passes : (done : List Content) (ts : List ℕ) (place : ℕ) → AreWithin x.fn.temporaries ts → AreKept w x (unknown_in hs ts)
+  pub passes : (done : List Content) (ts : List ℕ) (place : ℕ) → AreBelow x.fn.temporaries ts → AreKept w x (unknown_in hs ts)
       → length done + length ts ≤ x.fn.passed → Has w place (pass_code x.fn.passed hs (length done) ts)
       → Comes w (With_passed done place)
       (With_passed (done ++ values_of x.config.temps ts) (place + code_length (pass_code x.fn.passed hs (length done) ts)))

@@ -19,7 +19,7 @@ use Rattle.core_lines.specs.Lies.{Activation}
 use Rattle.core_lines.proofs.memory.Relations.{StackShows, World, IsInOrder, Has, Waiting, Goes, At, Calling, Returning, Back, Stands, active_of}
 use Rattle.core_lines.proofs.memory.Moving.{Comes, comes_then, comes_as, goes_from, goes_as, goes_said, goes_stuck, goes_called, goes_entered, fewer}
 use Rattle.core_lines.proofs.memory.Access.{length_of_both, behind}
-use Rattle.core_lines.proofs.frames.Passing.{has_first, has_second, frame_fewer, AreWithin}
+use Rattle.core_lines.proofs.frames.Passing.{has_first, has_second, frame_fewer}
 use Rattle.core_lines.proofs.frames.Arguments.{PassedAt, passes, calls_to}
 use Rattle.core_lines.proofs.frames.Entering.{with_call, callee, enters}
 use Rattle.core_lines.proofs.frames.Results.{ResultsAt, result_one}
@@ -39,6 +39,7 @@ use Rattle.std.specs.Prelude.{if◌then◌else◌}
 use Rattle.core_lines.proofs.memory.Moving.{Reach}
 use Rattle.core_lines.proofs.memory.Relations.{Covers, Follows, keeping, AreKept, slots_in, Inside, EndsThere, back_of, restored}
 use Rattle.core_lines.specs.Homes.{saved_by, saved_slot, flag_at}
+use Rattle.core_lines.specs.Selectable.{AreBelow}
 use Rattle.std.proofs.lemmas.Bool.{eq-eqb}
 use Rattle.core_meaning.specs.Memory.{Live, is_live}
 use Rattle.core_lines.proofs.memory.Laying.{LaidOut}
@@ -98,7 +99,7 @@ BodyGoes w most f =
 module _ (w : World) (order : IsInOrder w) (outer : List Waiting) (most : ℕ) (after : List Bool) (next : Config → Step) where
   -- One after the other into their temporaries. Those still to come have no words in their slots.
   results_go : (x : Waiting) (c : Config) (hs : List Holding) (ts : List ℕ) (vs : List Content) (r place : ℕ) (flags rest : List Bool) → IsIn x c → 9 ≤ r
-      → AreWithin x.fn.temporaries ts → flags ≡ flags_of after ts ++ rest → Has w place (result_code flags x.fn.passed r ts)
+      → AreBelow x.fn.temporaries ts → flags ≡ flags_of after ts ++ rest → Has w place (result_code flags x.fn.passed r ts)
       → GoesHolding w (keeping after x) outer most (place + code_length (result_code flags x.fn.passed r ts)) (holding_results r ts hs) next
       → Goes w most (with_results ts vs c next)
       (ResultsAt w (with_config (keeping (all_flagged false ts after) x) c) outer c.memory hs r vs place) (active_of w (x ∷ outer))
@@ -166,7 +167,7 @@ came_back w order x outer c m values place s b = by b.frames b.stands b.stack
     }
 
 module _ (w : World) (order : IsInOrder w) (x : Waiting) (outer : List Waiting) (most : ℕ) (results : List ℕ) (f : ℕ) (arguments : List ℕ)
-    (named_results : AreWithin x.fn.temporaries results) (named : AreWithin x.fn.temporaries arguments) (room : length arguments ≤ x.fn.passed)
+    (named_results : AreBelow x.fn.temporaries results) (named : AreBelow x.fn.temporaries arguments) (room : length arguments ≤ x.fn.passed)
     (next : Exit → Config → Step) (held : List Holding) (served : AreKept w x (unknown_in held arguments)) (after flags rest : List Bool)
     (covers : Covers x.kept (all_flagged false results after)) (are : flags ≡ flags_of after results ++ rest) (place : ℕ) (aligned : place % 4 ≡ 0)
     (has : Has w place (call_code flags x.fn.passed held results f arguments)) (bodies : (j : ℕ) → suc j ≤ most → BodyGoes w j f)
@@ -264,7 +265,7 @@ returning_bare w x outer mem values s a = record {
 }
 
 pub return_goes : (w : World) (order : IsInOrder w) (x : Waiting) (outer : List Waiting) (most : ℕ) (ts : List ℕ) (next : Exit → Config → Step)
-    (held : List Holding) (place : ℕ) → EndsThere w x.function x.fn → x.phase ≡ Inside → AreWithin x.fn.temporaries ts
+    (held : List Holding) (place : ℕ) → EndsThere w x.function x.fn → x.phase ≡ Inside → AreBelow x.fn.temporaries ts
     → AreKept w x (loads_of_values held 9 ts) → length ts ≤ 8 → Has w place (return_code x.fn.passed held ts (w.exits x.function))
     → GoesReturning w (keeping [] x) outer most next → GoesHolding w x outer most place held (core.statement (Return ts) next)
 return_goes w order x outer most ts next held place ends inside named served few has goes c is =

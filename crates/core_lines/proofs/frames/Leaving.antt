@@ -65,6 +65,7 @@ use Rattle.core_lines.proofs.memory.Relations.{
   slots_in,
 }
 use Rattle.core_lines.specs.Homes.{is_home, is_among, saved_by, saved_slot}
+use Rattle.core_lines.specs.Selectable.{AreBelow}
 use Rattle.core_lines.proofs.homes.Homes.{other_home, value_no_home, homes_on}
 use Rattle.core_lines.proofs.homes.Saving.{AreHomeRegisters, saved_homes}
 use Rattle.core_lines.proofs.homes.Homed.{homed_fits, laid_homed}
@@ -73,7 +74,7 @@ use Rattle.core_lines.proofs.Steps.{state_at, goes_to}
 use Rattle.core_lines.proofs.frames.Pointer.{moves_up}
 use Rattle.core_lines.proofs.memory.Fitting.{inside}
 use Rattle.core_lines.proofs.memory.Access.{length_of_both, behind, reads, loads}
-use Rattle.core_lines.proofs.frames.Passing.{has_first, has_second, AreWithin}
+use Rattle.core_lines.proofs.frames.Passing.{has_first, has_second}
 use Rattle.core_lines.proofs.frames.Results.{registers_kept, InValues, ValuesAt, values_come}
 use Rattle.core_lines.proofs.operations.Registers.{AtHolding}
 use Rattle.core_lines.proofs.frames.Jumping.{jumps_with}
@@ -352,7 +353,7 @@ module _ (w : World) (order : IsInOrder w) (x : Waiting) (outer : List Waiting) 
       }
 
   -- a return
-  pub returns : (hs : List Holding) (ts : List ℕ) (place : ℕ) → EndsThere w x.function x.fn → x.phase ≡ Inside → AreWithin x.fn.temporaries ts
+  pub returns : (hs : List Holding) (ts : List ℕ) (place : ℕ) → EndsThere w x.function x.fn → x.phase ≡ Inside → AreBelow x.fn.temporaries ts
       → AreKept w x (loads_of_values hs 9 ts) → length ts ≤ 8 → length (values_of x.config.temps ts) ≤ 8
       → Has w place (return_code passed hs ts (w.exits x.function))
       → Comes w (AtHolding w x outer mem place hs) (Returning w x outer mem (values_of x.config.temps ts))

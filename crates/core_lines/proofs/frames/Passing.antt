@@ -153,11 +153,6 @@ frame_unkept w m x back a t v after follows f = record {
   homes = f.homes;
 }
 
--- all temporaries are the activation's
-abbrev pub AreWithin : ℕ → List ℕ → Type 0
-AreWithin most [] = Unit {0}
-AreWithin most (t ∷ ts) = (t < most) × AreWithin most ts
-
 module _ (w : World) (order : IsInOrder w) (x : Waiting) (outer : List Waiting) (mem : Memory) where
   -- a temporary's slot
   pub temp_lies : (m : Maps) (back : ℕ) (a : Activation) (fs : List Activation) (sp t : ℕ) → t < x.fn.temporaries

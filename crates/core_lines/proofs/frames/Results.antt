@@ -33,11 +33,12 @@ use Rattle.core_lines.specs.Held.{Register, Holding, without_register, with_sour
 use Rattle.core_lines.specs.Loaded.{unknown_in, loads_of_values}
 use Rattle.core_lines.specs.Operands.{into_code, values_code, keep_code}
 use Rattle.core_lines.specs.Lies.{Maps, Shows}
+use Rattle.core_lines.specs.Selectable.{AreBelow}
 use Rattle.core_lines.proofs.memory.Relations.{World, IsInOrder, Has, Waiting, Follows, keeping, AreKept, flagged_first, flagged_second, InRegisters}
 use Rattle.core_lines.proofs.memory.Moving.{Comes, comes_then, comes_as}
 use Rattle.core_lines.proofs.memory.Access.{length_of_both}
 use Rattle.core_lines.proofs.homes.Homes.{value_free}
-use Rattle.core_lines.proofs.frames.Passing.{has_first, has_second, AreWithin}
+use Rattle.core_lines.proofs.frames.Passing.{has_first, has_second}
 use Rattle.core_lines.proofs.operations.Registers.{
   AtWith,
   AtHolding,
@@ -108,7 +109,7 @@ module _ (w : World) (order : IsInOrder w) (x : Waiting) (outer : List Waiting) 
       (fetch_into w order x outer mem r t place hs (InValues done) less (served_one w x hs t served) (value_free (suc r) (omega arith) (omega (arith, few)))
       (ne_eqb (suc r) 7 (λ e. omega (arith, e))) (values_stay done few) has)
 
-  values : (hs : List Holding) (done : List Content) (ts : List ℕ) (place : ℕ) → AreWithin x.fn.temporaries ts
+  values : (hs : List Holding) (done : List Content) (ts : List ℕ) (place : ℕ) → AreBelow x.fn.temporaries ts
       → AreKept w x (loads_of_values hs (9 + length done) ts) → length done + length ts ≤ 8
       → Has w place (values_code x.fn.passed hs (9 + length done) ts)
       → Comes w (Between hs done place)
@@ -139,7 +140,7 @@ module _ (w : World) (order : IsInOrder w) (x : Waiting) (outer : List Waiting) 
       (subst (λ vs. Comes w (Between left more middle) (ValuesAt w x outer mem vs (middle + code_length (values_code x.fn.passed left (9 + length more) ts))))
       same (values left more ts middle within.1 rest_served (omega (arith, few, longer)) rest)))
 
-  pub values_come : (hs : List Holding) (ts : List ℕ) (place : ℕ) → AreWithin x.fn.temporaries ts → AreKept w x (loads_of_values hs 9 ts) → length ts ≤ 8
+  pub values_come : (hs : List Holding) (ts : List ℕ) (place : ℕ) → AreBelow x.fn.temporaries ts → AreKept w x (loads_of_values hs 9 ts) → length ts ≤ 8
       → Has w place (values_code x.fn.passed hs 9 ts)
       → Comes w (AtHolding w x outer mem place hs)
       (ValuesAt w x outer mem (values_of x.config.temps ts) (place + code_length (values_code x.fn.passed hs 9 ts)))

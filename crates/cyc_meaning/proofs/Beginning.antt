@@ -15,8 +15,8 @@ use Rattle.source_meaning.specs.Regions.{in_block}
 use Rattle.source_meaning.specs.Statements.{block_items}
 use Rattle.source_meaning.specs.Programs.{constant_shape, constant_value, entered, first_memory, global_stored, globals_stored, heap_spot, source, start}
 use Rattle.source_meaning.specs.Programs.{result_of, status_of, with_arguments, world_of}
-use Rattle.source_meaning.proofs.Quiet.{AreSilent, IsQuiet, Quiet, converted_quiet, give_quiet, integer_quiet, need_quiet, one_quiet, result_quiet, silent_run}
-use Rattle.source_meaning.proofs.Quiet.{statement_quiet, write_cells_quiet}
+use Rattle.source_meaning.proofs.Quiet.{IsQuiet, Quiet, converted_quiet, give_quiet, integer_quiet, need_quiet, one_quiet, write_cells_quiet}
+use Rattle.source_meaning.proofs.QuietForms.{AreSilent, result_quiet, silent_run, statement_quiet}
 use Rattle.cyc_meaning.specs.Evaluated.{IsEvaluated}
 
 -- ---- globals

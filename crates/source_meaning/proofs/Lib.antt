@@ -18,4 +18,5 @@ pub mod Cases
 pub mod Layouts
 pub mod PlainExpressions
 pub mod Quiet
+pub mod QuietForms
 mod ShapeSamples

@@ -12,6 +12,7 @@ pub mod ReadLists
 pub mod ReadMembers
 pub mod Vectors
 pub mod Eaten
+pub mod Regrouped
 pub mod ReadSome
 pub mod Chains
 pub mod Levels

@@ -1,5 +1,6 @@
 pub mod Levels
 pub mod Parts
+pub mod FunctionParts
 pub mod Reading
 pub mod Tests
 pub mod Reader

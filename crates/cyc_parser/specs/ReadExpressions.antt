@@ -90,6 +90,12 @@ arguments_by expr =
     choose (is_sign sign_of.RightParenthesis) (read (sign sign_of.RightParenthesis) (λ _. done []))
     (read (listed expr) (λ es. read (sign sign_of.RightParenthesis) (λ _. done es))))
 
+-- behind the parenthesis that they begin with
+abbrev pub arguments_behind : Reads Expression → Reads (List Expression)
+arguments_behind expr =
+    choose (is_sign sign_of.RightParenthesis) (read (sign sign_of.RightParenthesis) (λ _. done []))
+    (read (listed expr) (λ es. read (sign sign_of.RightParenthesis) (λ _. done es)))
+
 -- what stands behind a name and `.`
 unfoldable pub member_by : Reads Expression → Name → Reads (Expression × Option Name)
 member_by expr n =
@@ -139,11 +145,19 @@ array_by expr =
     read (sign sign_of.LeftBrace) (λ _. read (keyword word.For) (λ _. read name (λ i. read (sign sign_of.Less) (λ _. read expr (λ count.
     read (sign sign_of.Colon) (λ _. read expr (λ element. read (sign sign_of.RightBrace) (λ _. done (Array i count element)))))))))
 
+abbrev pub array_behind : Reads Expression → Reads Made
+array_behind expr =
+    read (keyword word.For) (λ _. read name (λ i. read (sign sign_of.Less) (λ _. read expr (λ count. read (sign sign_of.Colon) (λ _. read expr (λ element.
+    read (sign sign_of.RightBrace) (λ _. done (Array i count element))))))))
+
 unfoldable pub made_by : (unary expr : Reads Expression) → Reads Made
 made_by unary expr = choose (is_sign sign_of.LeftBrace) (array_by expr) (read unary (λ e. done (One e)))
 
 unfoldable pub made_in_by : (unary expr : Reads Expression) → Reads Expression
 made_in_by unary expr = read (keyword word.Rnew) (λ at. read (parenthesized_by expr) (λ handle. read (made_by unary expr) (λ made. done (NewIn at handle made))))
+
+abbrev pub made_in_behind : (unary expr : Reads Expression) → ℕ → Reads Expression
+made_in_behind unary expr at = read (parenthesized_by expr) (λ handle. read (made_by unary expr) (λ made. done (NewIn at handle made)))
 
 unfoldable pub prefixed_by : Reads Expression → Reads Expression
 prefixed_by unary = read (token is_prefix) (λ t. read unary (λ e. done (Prefixed t.at (prefix_of t.kind) e)))

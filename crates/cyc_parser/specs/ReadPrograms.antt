@@ -18,6 +18,12 @@ void_parameter =
     read (keyword word.Void) (λ at. choose begins_declarator
     (read pointers (λ ps. read name (λ n. done (Some (record { of = record { at = at; base = Void; pointers = ps }; name = n }))))) (done None))
 
+-- behind the word that it begins with, which stands there
+abbrev pub void_behind : ℕ → Reads (Option Member)
+void_behind at =
+    choose begins_declarator
+    (read pointers (λ ps. read name (λ n. done (Some (record { of = record { at = at; base = Void; pointers = ps }; name = n }))))) (done None)
+
 unfoldable pub first_parameter : Reads (Option Member)
 first_parameter =
     choose begins_type (choose (is_keyword word.Void) void_parameter (read typed_name (λ m. done (Some m)))) (done None)
@@ -49,6 +55,13 @@ function_of most result n =
     read (sign sign_of.RightBrace) (λ end.
     done (record { result = result; name = n; parameters = ps; effect = e; bounds = bs; body = items_of is; end = end })))))))))
 
+abbrev pub function_behind : ℕ → TypeName → Name → Reads Function
+function_behind most result n =
+    read parameters (λ ps. read effect (λ e. read bounds (λ bs. read (sign sign_of.RightParenthesis) (λ _.
+    read (sign sign_of.LeftBrace) (λ _. read (items_by (expression_at most) (statement_at most)) (λ is.
+    read (sign sign_of.RightBrace) (λ end.
+    done (record { result = result; name = n; parameters = ps; effect = e; bounds = bs; body = items_of is; end = end }))))))))
+
 -- ---- items
 
 unfoldable pub member : Reads Member
@@ -63,6 +76,11 @@ unfoldable pub tagged_union : Reads Structure
 tagged_union =
     read (sign sign_of.Tagged) (λ at. read (keyword word.Union) (λ _. read name (λ tag. read region_list (λ rs. read members (λ ms.
     done (record { at = at; tag = tag; regions = rs; members = ms }))))))
+
+abbrev pub union_behind : ℕ → Reads Structure
+union_behind at =
+    read (keyword word.Union) (λ _. read name (λ tag. read region_list (λ rs. read members (λ ms.
+    done (record { at = at; tag = tag; regions = rs; members = ms })))))
 
 unfoldable pub initial : Reads Initial
 initial =
@@ -81,6 +99,12 @@ struct_or_typed most =
     read (keyword word.Struct) (λ at. read name (λ tag. read region_list (λ rs. choose (is_sign sign_of.LeftBrace)
     (read members (λ ms. done (StructItem (record { at = at; tag = tag; regions = rs; members = ms }))))
     (read pointers (λ ps. typed most (record { at = at; base = Struct tag rs; pointers = ps }))))))
+
+abbrev pub struct_behind : ℕ → ℕ → Reads Item
+struct_behind most at =
+    read name (λ tag. read region_list (λ rs. choose (is_sign sign_of.LeftBrace)
+    (read members (λ ms. done (StructItem (record { at = at; tag = tag; regions = rs; members = ms }))))
+    (read pointers (λ ps. typed most (record { at = at; base = Struct tag rs; pointers = ps })))))
 
 unfoldable pub item : ℕ → Reads Item
 item most =

@@ -32,10 +32,24 @@ region_declaration =
     read (sign sign_of.Semicolon) (λ _. done (Open at r handle key))))))
     (read (sign sign_of.Semicolon) (λ _. done (tree.Region at r handle))))))
 
+-- behind the word that it begins with, which stands there
+abbrev pub region_behind : ℕ → Reads Declaration
+region_behind at =
+    read one_region (λ r. read name (λ handle.
+    choose (is_sign sign_of.Assign)
+    (read (sign sign_of.Assign) (λ _. read (keyword word.Open) (λ _. read parenthesized_name (λ key.
+    read (sign sign_of.Semicolon) (λ _. done (Open at r handle key))))))
+    (read (sign sign_of.Semicolon) (λ _. done (tree.Region at r handle)))))
+
 unfoldable pub alias_at : ℕ → Reads Declaration
 alias_at at =
     read (keyword word.Alias) (λ _. read one_region (λ r. read type_name (λ t. read name (λ alias. read (sign sign_of.Assign) (λ _. read name (λ pointer.
     read (sign sign_of.Semicolon) (λ _. done (Alias at r t alias pointer))))))))
+
+abbrev pub alias_behind : ℕ → Reads Declaration
+alias_behind at =
+    read one_region (λ r. read type_name (λ t. read name (λ alias. read (sign sign_of.Assign) (λ _. read name (λ pointer.
+    read (sign sign_of.Semicolon) (λ _. done (Alias at r t alias pointer)))))))
 
 unfoldable pub new_key_at : ℕ → Reads Declaration
 new_key_at at =
@@ -45,6 +59,9 @@ new_key_at at =
 
 unfoldable pub binding : Reads Declaration
 binding = read (keyword word.Let) (λ at. choose (is_keyword word.Alias) (alias_at at) (new_key_at at))
+
+abbrev pub binding_behind : ℕ → Reads Declaration
+binding_behind at = choose (is_keyword word.Alias) (alias_at at) (new_key_at at)
 
 unfoldable pub declaration_by : Reads tree.Expression → Reads Declaration
 declaration_by expr = choose (is_keyword word.Region) region_declaration (choose (is_keyword word.Let) binding (local_by expr))
@@ -64,6 +81,11 @@ returned_by expr =
     read (keyword word.Return) (λ at.
     choose (is_sign sign_of.Semicolon) (read (sign sign_of.Semicolon) (λ _. done (Return at None)))
     (read expr (λ e. read (sign sign_of.Semicolon) (λ _. done (Return at (Some e))))))
+
+abbrev pub returned_behind : Reads tree.Expression → ℕ → Reads Statement
+returned_behind expr at =
+    choose (is_sign sign_of.Semicolon) (read (sign sign_of.Semicolon) (λ _. done (Return at None)))
+    (read expr (λ e. read (sign sign_of.Semicolon) (λ _. done (Return at (Some e)))))
 
 unfoldable pub run_by : Reads tree.Expression → Reads Statement
 run_by expr =
@@ -94,6 +116,9 @@ unfoldable pub block_by : Reads tree.Expression → Reads Statement → Reads St
 block_by expr stmt =
     read (sign sign_of.LeftBrace) (λ at. read (items_by expr stmt) (λ is. read (sign sign_of.RightBrace) (λ _. done (Block at (items_of is)))))
 
+abbrev pub block_behind : Reads tree.Expression → Reads Statement → ℕ → Reads Statement
+block_behind expr stmt at = read (items_by expr stmt) (λ is. read (sign sign_of.RightBrace) (λ _. done (Block at (items_of is))))
+
 -- the `else` that may stand behind the statement of an `if`
 unfoldable pub otherwise_by : Reads Statement → ℕ → tree.Expression → Statement → Reads Statement
 otherwise_by stmt at condition body =
@@ -104,9 +129,15 @@ unfoldable pub conditional_by : Reads tree.Expression → Reads Statement → Re
 conditional_by expr stmt =
     read (keyword word.If) (λ at. read (parenthesized_by expr) (λ condition. read stmt (λ body. otherwise_by stmt at condition body)))
 
+abbrev pub conditional_behind : Reads tree.Expression → Reads Statement → ℕ → Reads Statement
+conditional_behind expr stmt at = read (parenthesized_by expr) (λ condition. read stmt (λ body. otherwise_by stmt at condition body))
+
 unfoldable pub repeated_by : Reads tree.Expression → Reads Statement → Reads Statement
 repeated_by expr stmt =
     read (keyword word.While) (λ at. read (parenthesized_by expr) (λ condition. read stmt (λ body. done (While at condition body))))
+
+abbrev pub repeated_behind : Reads tree.Expression → Reads Statement → ℕ → Reads Statement
+repeated_behind expr stmt at = read (parenthesized_by expr) (λ condition. read stmt (λ body. done (While at condition body)))
 
 unfoldable pub pattern : Reads Pattern
 pattern =
@@ -125,6 +156,11 @@ unfoldable pub switch_by : Reads tree.Expression → Reads Statement → Reads S
 switch_by expr stmt =
     read (keyword word.Switch) (λ at. read (parenthesized_by expr) (λ place. read (sign sign_of.LeftBrace) (λ _. read (clauses_by expr stmt) (λ cs.
     read (sign sign_of.RightBrace) (λ _. done (Switch at place (clauses_of cs)))))))
+
+abbrev pub switch_behind : Reads tree.Expression → Reads Statement → ℕ → Reads Statement
+switch_behind expr stmt at =
+    read (parenthesized_by expr) (λ place. read (sign sign_of.LeftBrace) (λ _. read (clauses_by expr stmt) (λ cs.
+    read (sign sign_of.RightBrace) (λ _. done (Switch at place (clauses_of cs))))))
 
 unfoldable pub compound_by : Reads tree.Expression → Reads Statement → Reads Statement
 compound_by expr stmt =

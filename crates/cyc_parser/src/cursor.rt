@@ -1,6 +1,6 @@
 // The tokens that are left to read.
 
-ghost use Rattle.std.specs.Prelude.{◌≡◌, ◌<◌, MatchBool, Ok, OnOk, List, length, map, drop, if◌then◌else◌};
+ghost use Rattle.std.specs.Prelude.{◌≡◌, ◌<◌, MatchBool, Ok, Err, OnOk, List, length, map, drop, if◌then◌else◌};
 ghost use Rattle.cyc_lexer.specs.Tokens.{token_tree};
 ghost use Rattle.cyc_tree.specs.View.{name_tree, region_tree};
 ghost use Rattle.cyc_parser.specs.declared.fault.ParseFault.TheVariants.{Parse, TooDeep};
@@ -132,8 +132,9 @@ impl<'t, 'a> Cursor<'t, 'a> {
         ensures reads { Gives (λ at. at) result self.new (sign_at sign self.old) }
         ensures shorter { OnOk result (length self.new < length self.old) }
     {
-        if self.is_sign(sign) {
-            Ok(self.read()?.at)
+        let at = self.place();
+        if self.eat(sign) {
+            Ok(at)
         } else {
             Err(self.unexpected())
         }
@@ -142,10 +143,23 @@ impl<'t, 'a> Cursor<'t, 'a> {
     /// Reads the next token where it is this sign, and answers whether it is.
     pub fn eat(&mut self, sign: Sign) -> bool
         ensures next { result ≡ next_is (sign_test sign) self.old }
-        ensures reads { MatchBool result (sign_at sign self.old ≡ Ok (next_place self.old, self.new)) (self.new ≡ self.old) }
+        ensures reads { MatchBool result (sign_at sign self.old ≡ Ok (next_place self.old, self.new)) (sign_at sign self.old ≡ Err (Parse (next_place self.new))) }
         ensures shorter { MatchBool result (length self.new < length self.old) (self.new ≡ self.old) }
     {
         let stands = self.is_sign(sign);
+        if stands {
+            self.next += 1;
+        }
+        stands
+    }
+
+    /// Reads the next token where it is this keyword, and answers whether it is.
+    pub fn eat_keyword(&mut self, keyword: Keyword) -> bool
+        ensures next { result ≡ next_is (keyword_test keyword) self.old }
+        ensures reads { MatchBool result (keyword_at keyword self.old ≡ Ok (next_place self.old, self.new)) (keyword_at keyword self.old ≡ Err (Parse (next_place self.new))) }
+        ensures shorter { MatchBool result (length self.new < length self.old) (self.new ≡ self.old) }
+    {
+        let stands = self.is_keyword(keyword);
         if stands {
             self.next += 1;
         }
@@ -157,8 +171,9 @@ impl<'t, 'a> Cursor<'t, 'a> {
         ensures reads { Gives (λ at. at) result self.new (keyword_at keyword self.old) }
         ensures shorter { OnOk result (length self.new < length self.old) }
     {
-        if self.is_keyword(keyword) {
-            Ok(self.read()?.at)
+        let at = self.place();
+        if self.eat_keyword(keyword) {
+            Ok(at)
         } else {
             Err(self.unexpected())
         }

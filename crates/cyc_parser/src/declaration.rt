@@ -4,7 +4,7 @@ ghost use Rattle.std.specs.Prelude.{◌<◌, ◌≤◌, OnOk, length};
 ghost use Rattle.cyc_tree.specs.View.{name_tree, initializer_tree, declaration_tree};
 ghost use Rattle.cyc_parser.specs.Reader.{Gives};
 ghost use Rattle.cyc_parser.specs.ReadExpressions.{expression_at};
-ghost use Rattle.cyc_parser.specs.ReadStatements.{declaration_by, local_by, initializer_by, region_declaration, binding as binding_at, alias_at, new_key_at, parenthesized_name as parenthesized_name_at};
+ghost use Rattle.cyc_parser.specs.ReadStatements.{declaration_by, local_by, initializer_by, region_behind, binding_behind, alias_behind, new_key_at, parenthesized_name as parenthesized_name_at};
 
 use crate::cursor::Cursor;
 use crate::expression::expression;
@@ -16,15 +16,16 @@ use cyc_tree::{Declaration, Initializer, Name};
 use std::alloc::Global;
 
 /// Reads a declaration, whose expression has at most `depth` phrases in one another.
-#[tactic(auto, unfolding(crate::specs::ReadStatements::declaration_by))]
+#[tactic(auto, unfolding(crate::specs::ReadStatements::declaration_by, crate::specs::ReadStatements::region_declaration, crate::specs::ReadStatements::binding))]
 pub fn declaration(alloc: Global, depth: u32, cursor: &mut Cursor<'_, '_>) -> Parsed<Declaration>
     ensures reads { Gives declaration_tree result cursor.new (declaration_by (expression_at depth) cursor.old) }
     ensures shorter { OnOk result (length cursor.new < length cursor.old) }
 {
-    if cursor.is_keyword(Keyword::Region) {
-        region(alloc, cursor)
-    } else if cursor.is_keyword(Keyword::Let) {
-        binding(alloc, cursor)
+    let at = cursor.place();
+    if cursor.eat_keyword(Keyword::Region) {
+        region(alloc, at, cursor)
+    } else if cursor.eat_keyword(Keyword::Let) {
+        binding(alloc, at, cursor)
     } else {
         local(alloc, depth, cursor)
     }
@@ -39,8 +40,11 @@ fn local(alloc: Global, depth: u32, cursor: &mut Cursor<'_, '_>) -> Parsed<Decla
     let of = type_name(alloc, cursor)?;
     let name = cursor.name(alloc)?;
     let initializer = initializer(alloc, depth, cursor)?;
-    cursor.sign(Sign::Semicolon)?;
-    Ok(Declaration::Local(of, name, initializer))
+    if cursor.eat(Sign::Semicolon) {
+        Ok(Declaration::Local(of, name, initializer))
+    } else {
+        Err(cursor.unexpected())
+    }
 }
 
 /// Reads what a local begins with, where that is written.
@@ -58,13 +62,11 @@ fn initializer(alloc: Global, depth: u32, cursor: &mut Cursor<'_, '_>) -> Parsed
     }
 }
 
-/// Reads the declaration of a region: a new one, or one that a key opens.
-#[tactic(auto, unfolding(crate::specs::ReadStatements::region_declaration))]
-fn region(alloc: Global, cursor: &mut Cursor<'_, '_>) -> Parsed<Declaration>
-    ensures reads { Gives declaration_tree result cursor.new (region_declaration cursor.old) }
+/// Reads the declaration of a region, a new one or one that a key opens, from behind its word, which stands at this place.
+fn region(alloc: Global, at: u32, cursor: &mut Cursor<'_, '_>) -> Parsed<Declaration>
+    ensures reads { Gives declaration_tree result cursor.new (region_behind at cursor.old) }
     ensures shorter { OnOk result (length cursor.new < length cursor.old) }
 {
-    let at = cursor.keyword(Keyword::Region)?;
     let region = one_region(alloc, cursor)?;
     let handle = cursor.name(alloc)?;
     if cursor.eat(Sign::Assign) {
@@ -72,40 +74,41 @@ fn region(alloc: Global, cursor: &mut Cursor<'_, '_>) -> Parsed<Declaration>
         let key = parenthesized_name(alloc, cursor)?;
         cursor.sign(Sign::Semicolon)?;
         Ok(Declaration::Open(at, region, handle, key))
-    } else {
-        cursor.sign(Sign::Semicolon)?;
+    } else if cursor.eat(Sign::Semicolon) {
         Ok(Declaration::Region(at, region, handle))
+    } else {
+        Err(cursor.unexpected())
     }
 }
 
-/// Reads a declaration that begins with `let`.
-#[tactic(auto, unfolding(crate::specs::ReadStatements::binding))]
-fn binding(alloc: Global, cursor: &mut Cursor<'_, '_>) -> Parsed<Declaration>
-    ensures reads { Gives declaration_tree result cursor.new (binding_at cursor.old) }
+/// Reads a declaration from behind its `let`, which stands at this place.
+#[tactic(auto, unfolding(crate::specs::ReadStatements::alias_at))]
+fn binding(alloc: Global, at: u32, cursor: &mut Cursor<'_, '_>) -> Parsed<Declaration>
+    ensures reads { Gives declaration_tree result cursor.new (binding_behind at cursor.old) }
     ensures shorter { OnOk result (length cursor.new < length cursor.old) }
 {
-    let at = cursor.keyword(Keyword::Let)?;
-    if cursor.is_keyword(Keyword::Alias) {
+    if cursor.eat_keyword(Keyword::Alias) {
         alias(alloc, at, cursor)
     } else {
         new_key(alloc, at, cursor)
     }
 }
 
-/// Reads the declaration of an alias from `alias` on. The place is that of its `let`.
-#[tactic(auto, unfolding(crate::specs::ReadStatements::alias_at))]
+/// Reads the declaration of an alias from behind `alias`. The place is that of its `let`.
 fn alias(alloc: Global, at: u32, cursor: &mut Cursor<'_, '_>) -> Parsed<Declaration>
-    ensures reads { Gives declaration_tree result cursor.new (alias_at at cursor.old) }
+    ensures reads { Gives declaration_tree result cursor.new (alias_behind at cursor.old) }
     ensures shorter { OnOk result (length cursor.new < length cursor.old) }
 {
-    cursor.keyword(Keyword::Alias)?;
     let region = one_region(alloc, cursor)?;
     let of = type_name(alloc, cursor)?;
     let name = cursor.name(alloc)?;
     cursor.sign(Sign::Assign)?;
     let pointer = cursor.name(alloc)?;
-    cursor.sign(Sign::Semicolon)?;
-    Ok(Declaration::Alias(at, region, of, name, pointer))
+    if cursor.eat(Sign::Semicolon) {
+        Ok(Declaration::Alias(at, region, of, name, pointer))
+    } else {
+        Err(cursor.unexpected())
+    }
 }
 
 /// Reads the declaration of a dynamic region's key from `NewDynamicRegion` on. The place is that of its
@@ -115,17 +118,22 @@ fn new_key(alloc: Global, at: u32, cursor: &mut Cursor<'_, '_>) -> Parsed<Declar
     ensures reads { Gives declaration_tree result cursor.new (new_key_at at cursor.old) }
     ensures shorter { OnOk result (length cursor.new < length cursor.old) }
 {
-    cursor.keyword(Keyword::NewDynamicRegion)?;
-    cursor.sign(Sign::LeftBrace)?;
+    if !(cursor.eat_keyword(Keyword::NewDynamicRegion) && cursor.eat(Sign::LeftBrace)) {
+        return Err(cursor.unexpected());
+    }
     let region = one_region(alloc, cursor)?;
     let key = cursor.name(alloc)?;
-    cursor.sign(Sign::RightBrace)?;
-    cursor.sign(Sign::Assign)?;
-    cursor.keyword(Keyword::NewUkey)?;
-    cursor.sign(Sign::LeftParenthesis)?;
-    cursor.sign(Sign::RightParenthesis)?;
-    cursor.sign(Sign::Semicolon)?;
-    Ok(Declaration::NewKey(at, region, key))
+    let ends = cursor.eat(Sign::RightBrace)
+        && cursor.eat(Sign::Assign)
+        && cursor.eat_keyword(Keyword::NewUkey)
+        && cursor.eat(Sign::LeftParenthesis)
+        && cursor.eat(Sign::RightParenthesis)
+        && cursor.eat(Sign::Semicolon);
+    if ends {
+        Ok(Declaration::NewKey(at, region, key))
+    } else {
+        Err(cursor.unexpected())
+    }
 }
 
 /// Reads a name in parentheses.

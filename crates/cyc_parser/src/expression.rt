@@ -3,14 +3,14 @@
 ghost use Rattle.std.specs.Prelude.{◌≡◌, ◌-◌, ◌<◌, ◌≤◌, OnOk, option_map, map, length};
 ghost use Rattle.cyc_tree.specs.View.{name_tree, expression_tree, made_tree, suffix_tree, link_tree};
 ghost use Rattle.cyc_parser.specs.Levels.{levels_from, levels_left};
-ghost use Rattle.cyc_parser.specs.Reader.{Gives, listed as listed_by};
-ghost use Rattle.cyc_parser.specs.ReadExpressions.{parenthesized_by, primary_by, arguments_by, named_by, suffix_by, suffixes_by, postfix_by, array_by, made_by, made_in_by, prefixed_by, operation_by};
+ghost use Rattle.cyc_parser.specs.Reader.{Gives, done, read, listed as listed_by, sign as sign_at};
+ghost use Rattle.cyc_parser.specs.ReadExpressions.{parenthesized_by, primary_by, arguments_behind, named_by, suffix_by, suffixes_by, postfix_by, array_behind, made_by, made_in_behind, prefixed_by, operation_by};
 ghost use Rattle.cyc_parser.specs.ReadExpressions.{links_by, chain_by, all_of_by, any_of_by, assignment_by, expression_at, unary_at};
 
 use crate::cursor::Cursor;
 use crate::fault::{ParseFault, Parsed};
 use crate::first::{begins_prefixed, begins_suffix, begins_unary};
-use crate::level::{is_unary, linked, next_operator};
+use crate::level::{boxed, is_unary, linked, next_operator};
 use crate::literal::literal;
 use crate::operator::{LOOSEST, Level, prefix_of, tighter};
 use cyc_lexer::{Keyword, Sign};
@@ -40,8 +40,8 @@ fn assignment(alloc: Global, depth: u32, cursor: &mut Cursor<'_, '_>) -> Parsed<
     let first = any_of(alloc, depth, cursor)?;
     if is_unary(&first) && cursor.eat(Sign::Assign) {
         let value = expression(alloc, depth, cursor)?;
-        let place = Box::new(alloc, first)?;
-        Ok(Expression::Assign(place, Box::new(alloc, value)?))
+        let place = boxed(alloc, first)?;
+        Ok(Expression::Assign(place, boxed(alloc, value)?))
     } else {
         Ok(first)
     }
@@ -62,7 +62,7 @@ fn any_of(alloc: Global, depth: u32, cursor: &mut Cursor<'_, '_>) -> Parsed<Expr
     if others.is_empty() {
         Ok(first)
     } else {
-        Ok(Expression::AnyOf(Box::new(alloc, first)?, others))
+        Ok(Expression::AnyOf(boxed(alloc, first)?, others))
     }
 }
 
@@ -81,7 +81,7 @@ fn all_of(alloc: Global, depth: u32, cursor: &mut Cursor<'_, '_>) -> Parsed<Expr
     if others.is_empty() {
         Ok(first)
     } else {
-        Ok(Expression::AllOf(Box::new(alloc, first)?, others))
+        Ok(Expression::AllOf(boxed(alloc, first)?, others))
     }
 }
 
@@ -135,16 +135,16 @@ fn unary(alloc: Global, depth: u32, cursor: &mut Cursor<'_, '_>) -> Parsed<Expre
 
 /// Reads a unary expression. The phrases in it have at most `depth` in one another.
 #[cycle(expression)]
-#[tactic(auto, unfolding(crate::specs::ReadExpressions::operation_by))]
+#[tactic(auto, unfolding(crate::specs::ReadExpressions::operation_by, crate::specs::ReadExpressions::made_in_by))]
 fn operation(alloc: Global, depth: u32, cursor: &mut Cursor<'_, '_>) -> Parsed<Expression>
     ensures reads { Gives expression_tree result cursor.new (operation_by (unary_at depth) (expression_at depth) cursor.old) }
     ensures shorter { OnOk result (length cursor.new < length cursor.old) }
 {
-    if cursor.is_keyword(Keyword::New) {
-        let at = cursor.keyword(Keyword::New)?;
+    let at = cursor.place();
+    if cursor.eat_keyword(Keyword::New) {
         Ok(Expression::New(at, made(alloc, depth, cursor)?))
-    } else if cursor.is_keyword(Keyword::Rnew) {
-        made_in(alloc, depth, cursor)
+    } else if cursor.eat_keyword(Keyword::Rnew) {
+        made_in(alloc, depth, at, cursor)
     } else if begins_prefixed(cursor.kind()) {
         prefixed(alloc, depth, cursor)
     } else {
@@ -164,55 +164,67 @@ fn prefixed(alloc: Global, depth: u32, cursor: &mut Cursor<'_, '_>) -> Parsed<Ex
         return Err(ParseFault::Parse(sign.at));
     };
     let operand = unary(alloc, depth, cursor)?;
-    let operand = Box::new(alloc, operand)?;
+    let operand = boxed(alloc, operand)?;
     Ok(Expression::Prefixed(sign.at, prefix, operand))
 }
 
-/// Reads `rnew`, its handle and what it makes.
+/// Reads the handle of an `rnew` and what it makes, from behind its word, which stands at this place.
 #[cycle(expression)]
-#[tactic(auto, unfolding(crate::specs::ReadExpressions::made_in_by))]
-fn made_in(alloc: Global, depth: u32, cursor: &mut Cursor<'_, '_>) -> Parsed<Expression>
-    ensures reads { Gives expression_tree result cursor.new (made_in_by (unary_at depth) (expression_at depth) cursor.old) }
+fn made_in(alloc: Global, depth: u32, at: u32, cursor: &mut Cursor<'_, '_>) -> Parsed<Expression>
+    ensures reads { Gives expression_tree result cursor.new (made_in_behind (unary_at depth) (expression_at depth) at cursor.old) }
     ensures shorter { OnOk result (length cursor.new < length cursor.old) }
 {
-    let at = cursor.keyword(Keyword::Rnew)?;
-    let handle = parenthesized(alloc, depth, cursor)?;
+    let handle = enclosed(alloc, depth, cursor)?;
     let made = made(alloc, depth, cursor)?;
-    Ok(Expression::NewIn(at, Box::new(alloc, handle)?, made))
+    Ok(Expression::NewIn(at, handle, made))
 }
 
 /// Reads what `new` or `rnew` makes.
 #[cycle(expression)]
-#[tactic(auto, unfolding(crate::specs::ReadExpressions::made_by))]
+#[tactic(auto, unfolding(crate::specs::ReadExpressions::made_by, crate::specs::ReadExpressions::array_by))]
 fn made(alloc: Global, depth: u32, cursor: &mut Cursor<'_, '_>) -> Parsed<Made>
     ensures reads { Gives made_tree result cursor.new (made_by (unary_at depth) (expression_at depth) cursor.old) }
     ensures shorter { OnOk result (length cursor.new < length cursor.old) }
 {
-    if cursor.is_sign(Sign::LeftBrace) {
+    if cursor.eat(Sign::LeftBrace) {
         array(alloc, depth, cursor)
     } else {
         let value = unary(alloc, depth, cursor)?;
-        Ok(Made::One(Box::new(alloc, value)?))
+        Ok(Made::One(boxed(alloc, value)?))
     }
 }
 
-/// Reads an array that is made: the index's name, the count and the element.
+/// Reads an array that is made, from behind its brace: the index's name, the count and the element.
 #[cycle(expression)]
-#[tactic(auto, unfolding(crate::specs::ReadExpressions::array_by))]
 fn array(alloc: Global, depth: u32, cursor: &mut Cursor<'_, '_>) -> Parsed<Made>
-    ensures reads { Gives made_tree result cursor.new (array_by (expression_at depth) cursor.old) }
+    ensures reads { Gives made_tree result cursor.new (array_behind (expression_at depth) cursor.old) }
     ensures shorter { OnOk result (length cursor.new < length cursor.old) }
 {
-    cursor.sign(Sign::LeftBrace)?;
     cursor.keyword(Keyword::For)?;
     let index = cursor.name(alloc)?;
     cursor.sign(Sign::Less)?;
-    let count = expression(alloc, depth, cursor)?;
-    cursor.sign(Sign::Colon)?;
-    let element = expression(alloc, depth, cursor)?;
-    cursor.sign(Sign::RightBrace)?;
-    let count = Box::new(alloc, count)?;
-    Ok(Made::Array(index, count, Box::new(alloc, element)?))
+    let count = closed(alloc, depth, Sign::Colon, cursor)?;
+    let element = closed(alloc, depth, Sign::RightBrace, cursor)?;
+    Ok(Made::Array(index, count, element))
+}
+
+/// Reads an expression and the sign behind it, and answers the expression in a box.
+#[cycle(expression)]
+fn closed(
+    alloc: Global,
+    depth: u32,
+    sign: Sign,
+    cursor: &mut Cursor<'_, '_>,
+) -> Parsed<Box<Expression>>
+    ensures reads { Gives (λ box. expression_tree box.value) result cursor.new (read (expression_at depth) (λ e. read (sign_at sign) (λ _. done e)) cursor.old) }
+    ensures shorter { OnOk result (length cursor.new < length cursor.old) }
+{
+    let expression = expression(alloc, depth, cursor)?;
+    if cursor.eat(sign) {
+        boxed(alloc, expression)
+    } else {
+        Err(cursor.unexpected())
+    }
 }
 
 /// Reads a primary expression and its suffixes.
@@ -231,7 +243,7 @@ fn postfix(alloc: Global, depth: u32, cursor: &mut Cursor<'_, '_>) -> Parsed<Exp
     if suffixes.is_empty() {
         Ok(first)
     } else {
-        Ok(Expression::Suffixed(Box::new(alloc, first)?, suffixes))
+        Ok(Expression::Suffixed(boxed(alloc, first)?, suffixes))
     }
 }
 
@@ -242,21 +254,19 @@ fn primary(alloc: Global, depth: u32, cursor: &mut Cursor<'_, '_>) -> Parsed<Exp
     ensures reads { Gives expression_tree result cursor.new (primary_by (expression_at depth) cursor.old) }
     ensures shorter { OnOk result (length cursor.new < length cursor.old) }
 {
-    if cursor.is_sign(Sign::LeftParenthesis) {
-        let at = cursor.place();
-        let inner = parenthesized(alloc, depth, cursor)?;
-        Ok(Expression::Grouped(at, Box::new(alloc, inner)?))
-    } else if cursor.is_keyword(Keyword::Numelts) {
-        let at = cursor.keyword(Keyword::Numelts)?;
-        let operand = parenthesized(alloc, depth, cursor)?;
-        Ok(Expression::NumElts(at, Box::new(alloc, operand)?))
+    let at = cursor.place();
+    if cursor.eat(Sign::LeftParenthesis) {
+        let inner = closed(alloc, depth, Sign::RightParenthesis, cursor)?;
+        Ok(Expression::Grouped(at, inner))
+    } else if cursor.eat_keyword(Keyword::Numelts) {
+        let operand = enclosed(alloc, depth, cursor)?;
+        Ok(Expression::NumElts(at, operand))
     } else {
         literal(alloc, cursor)
     }
 }
 
 /// Reads an expression in parentheses, and answers it without them.
-#[cycle(expression)]
 #[tactic(auto, unfolding(crate::specs::ReadExpressions::parenthesized_by))]
 pub fn parenthesized(alloc: Global, depth: u32, cursor: &mut Cursor<'_, '_>) -> Parsed<Expression>
     ensures reads { Gives expression_tree result cursor.new (parenthesized_by (expression_at depth) cursor.old) }
@@ -264,14 +274,28 @@ pub fn parenthesized(alloc: Global, depth: u32, cursor: &mut Cursor<'_, '_>) -> 
 {
     cursor.sign(Sign::LeftParenthesis)?;
     let inner = expression(alloc, depth, cursor)?;
-    cursor.sign(Sign::RightParenthesis)?;
-    Ok(inner)
+    if cursor.eat(Sign::RightParenthesis) {
+        Ok(inner)
+    } else {
+        Err(cursor.unexpected())
+    }
+}
+
+/// Reads an expression in parentheses, and answers it without them in a box.
+#[cycle(expression)]
+#[tactic(auto, unfolding(crate::specs::ReadExpressions::parenthesized_by))]
+fn enclosed(alloc: Global, depth: u32, cursor: &mut Cursor<'_, '_>) -> Parsed<Box<Expression>>
+    ensures reads { Gives (λ box. expression_tree box.value) result cursor.new (parenthesized_by (expression_at depth) cursor.old) }
+    ensures shorter { OnOk result (length cursor.new < length cursor.old) }
+{
+    cursor.sign(Sign::LeftParenthesis)?;
+    closed(alloc, depth, Sign::RightParenthesis, cursor)
 }
 
 /// Reads a variable, a call, or the making of a union value. After a variable, a `.` and a member are
 /// read too, since only what follows tells it from a union's tag.
 #[cycle(expression)]
-#[tactic(auto, unfolding(crate::specs::ReadExpressions::named_by, crate::specs::ReadExpressions::member_by))]
+#[tactic(auto, unfolding(crate::specs::ReadExpressions::named_by, crate::specs::ReadExpressions::member_by, crate::specs::ReadExpressions::arguments_by))]
 fn named(
     alloc: Global,
     depth: u32,
@@ -281,7 +305,7 @@ fn named(
     ensures shorter { OnOk result (length cursor.new < length cursor.old) }
 {
     let name = cursor.name(alloc)?;
-    if cursor.is_sign(Sign::LeftParenthesis) {
+    if cursor.eat(Sign::LeftParenthesis) {
         let arguments = arguments(alloc, depth, cursor)?;
         return Ok((Expression::Call(name, arguments), None));
     }
@@ -290,28 +314,28 @@ fn named(
     }
     let member = cursor.name(alloc)?;
     if cursor.is_sign(Sign::LeftParenthesis) {
-        let value = parenthesized(alloc, depth, cursor)?;
-        let value = Box::new(alloc, value)?;
+        let value = enclosed(alloc, depth, cursor)?;
         Ok((Expression::MakeUnion(name, member, value), None))
     } else {
         Ok((Expression::Variable(name), Some(member)))
     }
 }
 
-/// Reads the arguments of a call, with their parentheses.
+/// Reads the arguments of a call from behind their parenthesis, with the one that closes them.
 #[cycle(expression)]
-#[tactic(auto, unfolding(crate::specs::ReadExpressions::arguments_by))]
 fn arguments(alloc: Global, depth: u32, cursor: &mut Cursor<'_, '_>) -> Parsed<Vec<Expression>>
-    ensures reads { Gives (λ arguments. map expression_tree arguments.items) result cursor.new (arguments_by (expression_at depth) cursor.old) }
+    ensures reads { Gives (λ arguments. map expression_tree arguments.items) result cursor.new (arguments_behind (expression_at depth) cursor.old) }
     ensures shorter { OnOk result (length cursor.new < length cursor.old) }
 {
-    cursor.sign(Sign::LeftParenthesis)?;
     if cursor.eat(Sign::RightParenthesis) {
         return Ok(Vec::new(alloc));
     }
     let arguments = listed(alloc, depth, cursor)?;
-    cursor.sign(Sign::RightParenthesis)?;
-    Ok(arguments)
+    if cursor.eat(Sign::RightParenthesis) {
+        Ok(arguments)
+    } else {
+        Err(cursor.unexpected())
+    }
 }
 
 /// Reads expressions with commas between them, of which there is one at least.
@@ -360,9 +384,8 @@ fn suffix(alloc: Global, depth: u32, cursor: &mut Cursor<'_, '_>) -> Parsed<Suff
     ensures shorter { OnOk result (length cursor.new < length cursor.old) }
 {
     if cursor.eat(Sign::LeftBracket) {
-        let index = expression(alloc, depth, cursor)?;
-        cursor.sign(Sign::RightBracket)?;
-        Ok(Suffix::Index(Box::new(alloc, index)?))
+        let index = closed(alloc, depth, Sign::RightBracket, cursor)?;
+        Ok(Suffix::Index(index))
     } else if cursor.eat(Sign::Dot) {
         Ok(Suffix::Dot(cursor.name(alloc)?))
     } else {

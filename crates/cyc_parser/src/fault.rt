@@ -7,7 +7,7 @@ use std::alloc::{AllocError, AllocFailed};
 use thiserror::Error;
 
 /// Why `parse` refuses tokens. Places are offsets in the text; the end of the text is 4,294,967,295.
-#[derive(Clone, Copy, PartialEq, Eq, Debug, Error)]
+#[derive(Clone, Copy, Debug, Error)]
 pub enum ParseFault {
     /// The first token with which the tokens so far begin no program, or the end of the text.
     #[error("Parse")]

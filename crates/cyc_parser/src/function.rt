@@ -1,10 +1,12 @@
 // Functions.
 
 ghost use Rattle.std.specs.Prelude.{◌<◌, ◌≤◌, OnOk, length, map, option_map};
-ghost use Rattle.cyc_tree.specs.View.{name_tree, region_tree, type_tree, member_tree, bound_tree, function_tree};
+ghost use Rattle.cyc_tree.specs.Tree.{Name as TheName, TypeName as TheType};
+ghost use Rattle.cyc_tree.specs.View.{region_tree, member_tree, bound_tree};
 ghost use Rattle.cyc_tree.specs.Depths.{nesting_limit};
+ghost use Rattle.cyc_parser.specs.FunctionParts.{function_with};
 ghost use Rattle.cyc_parser.specs.Reader.{Gives, listed};
-ghost use Rattle.cyc_parser.specs.ReadPrograms.{void_parameter as void_parameter_at, first_parameter as first_parameter_at, parameters as parameters_at, effect as effect_at, bound as bound_at, bounds as bounds_at, function_of};
+ghost use Rattle.cyc_parser.specs.ReadPrograms.{void_behind, first_parameter as first_parameter_at, parameters as parameters_at, effect as effect_at, bound as bound_at, bounds as bounds_at, function_behind};
 
 use crate::cursor::Cursor;
 use crate::fault::Parsed;
@@ -12,34 +14,36 @@ use crate::first::{begins_declarator, begins_type};
 use crate::statement::block_items;
 use crate::type_name::{pointers, regions, typed_name};
 use cyc_lexer::{Keyword, Sign};
-use cyc_tree::{Base, Bound, Bounds, Function, Member, Name, RegionNames, TypeName};
+use cyc_tree::{Base, BlockItem, Bound, Bounds, Member, RegionNames, TypeName};
 use std::alloc::Global;
 
 /// The most statements, expressions and unary expressions that may contain a token.
 pub const NESTING_LIMIT: u32 = 256;
 
-/// Reads a function from its parameters on, given its result's type and its name.
-#[tactic(auto, unfolding(crate::specs::ReadPrograms::function_of))]
-pub fn function(
-    alloc: Global,
-    result_type: TypeName,
-    name: Name,
-    cursor: &mut Cursor<'_, '_>,
-) -> Parsed<Function>
-    ensures reads { Gives function_tree result cursor.new (function_of nesting_limit (type_tree result_type) (name_tree name) cursor.old) }
+/// What stands behind the name of a function and its parenthesis.
+#[derive(Drop)]
+pub struct Rest {
+    pub parameters: Vec<Member>,
+    pub effect: Option<RegionNames>,
+    pub bounds: Bounds,
+    pub body: Vec<BlockItem>,
+    pub end: u32,
+}
+
+/// Reads a function from behind its parenthesis.
+pub fn function_rest(alloc: Global, cursor: &mut Cursor<'_, '_>) -> Parsed<Rest>
+    ensures reads { (t : TheType) (n : TheName) → Gives (λ rest. function_with t n rest) result cursor.new (function_behind nesting_limit t n cursor.old) }
     ensures shorter { OnOk result (length cursor.new < length cursor.old) }
 {
-    cursor.sign(Sign::LeftParenthesis)?;
     let parameters = parameters(alloc, cursor)?;
     let effect = effect(alloc, cursor)?;
     let bounds = bounds(alloc, cursor)?;
-    cursor.sign(Sign::RightParenthesis)?;
-    cursor.sign(Sign::LeftBrace)?;
+    if !(cursor.eat(Sign::RightParenthesis) && cursor.eat(Sign::LeftBrace)) {
+        return Err(cursor.unexpected());
+    }
     let body = block_items(alloc, NESTING_LIMIT, cursor)?;
     let end = cursor.sign(Sign::RightBrace)?;
-    Ok(Function {
-        result: result_type,
-        name,
+    Ok(Rest {
         parameters,
         effect,
         bounds,
@@ -67,7 +71,7 @@ fn parameters(alloc: Global, cursor: &mut Cursor<'_, '_>) -> Parsed<Vec<Member>>
 
 /// Reads the first parameter, where there is one. After `void`, only what follows tells whether it is the
 /// beginning of a parameter.
-#[tactic(auto, unfolding(crate::specs::ReadPrograms::first_parameter))]
+#[tactic(auto, unfolding(crate::specs::ReadPrograms::first_parameter, crate::specs::ReadPrograms::void_parameter))]
 fn first_parameter(alloc: Global, cursor: &mut Cursor<'_, '_>) -> Parsed<Option<Member>>
     ensures reads { Gives (λ first. option_map member_tree first) result cursor.new (first_parameter_at cursor.old) }
     ensures shorter { OnOk result (length cursor.new ≤ length cursor.old) }
@@ -75,19 +79,19 @@ fn first_parameter(alloc: Global, cursor: &mut Cursor<'_, '_>) -> Parsed<Option<
     if !begins_type(cursor.kind()) {
         return Ok(None);
     }
-    if !cursor.is_keyword(Keyword::Void) {
-        return Ok(Some(typed_name(alloc, cursor)?));
+    let at = cursor.place();
+    if cursor.eat_keyword(Keyword::Void) {
+        void_parameter(alloc, at, cursor)
+    } else {
+        Ok(Some(typed_name(alloc, cursor)?))
     }
-    void_parameter(alloc, cursor)
 }
 
-/// Reads a parameter whose type begins with `void`, or `void` alone.
-#[tactic(auto, unfolding(crate::specs::ReadPrograms::void_parameter))]
-fn void_parameter(alloc: Global, cursor: &mut Cursor<'_, '_>) -> Parsed<Option<Member>>
-    ensures reads { Gives (λ first. option_map member_tree first) result cursor.new (void_parameter_at cursor.old) }
-    ensures shorter { OnOk result (length cursor.new < length cursor.old) }
+/// Reads a parameter from behind the `void` with which its type begins, or nothing behind `void` alone. The place is that of the `void`.
+fn void_parameter(alloc: Global, at: u32, cursor: &mut Cursor<'_, '_>) -> Parsed<Option<Member>>
+    ensures reads { Gives (λ first. option_map member_tree first) result cursor.new (void_behind at cursor.old) }
+    ensures shorter { OnOk result (length cursor.new ≤ length cursor.old) }
 {
-    let at = cursor.keyword(Keyword::Void)?;
     if !begins_declarator(cursor.kind()) {
         return Ok(None);
     }

@@ -10,42 +10,41 @@ ghost use Rattle.cyc_parser.specs.Refusals.{IsUnexpectedAt, IsUnexpectedFirst, I
 ghost use Rattle.cyc_tree.specs.View.{type_tree, member_tree, structure_tree, initial_tree, program_item_tree};
 ghost use Rattle.cyc_parser.specs.Reader.{Gives, some};
 ghost use Rattle.cyc_parser.specs.Tests.{begins_type as type_test};
-ghost use Rattle.cyc_parser.specs.ReadPrograms.{member as member_at, members as members_at, tagged_union as tagged_union_at, initial as initial_at, typed as typed_at, struct_or_typed as struct_or_typed_at, item as item_at, program as program_at};
+ghost use Rattle.cyc_parser.specs.ReadPrograms.{member as member_at, members as members_at, union_behind, initial as initial_at, typed as typed_at, struct_behind, item as item_at, program as program_at};
 
 use crate::cursor::Cursor;
 use crate::fault::{ParseFault, Parsed};
 use crate::first::begins_type;
-use crate::function::function;
+use crate::function::function_rest;
 use crate::literal::{constant, element_count};
 use crate::type_name::{pointers, region_list, type_name, typed_name};
 use cyc_lexer::{Keyword, Sign, Token};
-use cyc_tree::{Base, Initial, Item, Member, Program, Structure, TypeName};
+use cyc_tree::{Base, Function, Initial, Item, Member, Program, Structure, TypeName};
 use std::alloc::Global;
 
 /// Reads an item.
-#[tactic(auto, unfolding(crate::specs::ReadPrograms::item))]
+#[tactic(auto, unfolding(crate::specs::ReadPrograms::item, crate::specs::ReadPrograms::tagged_union, crate::specs::ReadPrograms::struct_or_typed))]
 fn item(alloc: Global, cursor: &mut Cursor<'_, '_>) -> Parsed<Item>
     ensures reads { Gives program_item_tree result cursor.new (item_at nesting_limit cursor.old) }
     ensures shorter { OnOk result (length cursor.new < length cursor.old) }
 {
-    if cursor.is_sign(Sign::Tagged) {
-        Ok(Item::Union(tagged_union(alloc, cursor)?))
-    } else if cursor.is_keyword(Keyword::Struct) {
-        struct_or_typed(alloc, cursor)
+    let at = cursor.place();
+    if cursor.eat(Sign::Tagged) {
+        Ok(Item::Union(tagged_union(alloc, at, cursor)?))
+    } else if cursor.eat_keyword(Keyword::Struct) {
+        struct_or_typed(alloc, at, cursor)
     } else {
         let of = type_name(alloc, cursor)?;
         typed(alloc, of, cursor)
     }
 }
 
-/// Reads a struct, or a global or a function whose type begins with one. What follows the tag and its
-/// regions tells which it is.
-#[tactic(auto, unfolding(crate::specs::ReadPrograms::struct_or_typed))]
-fn struct_or_typed(alloc: Global, cursor: &mut Cursor<'_, '_>) -> Parsed<Item>
-    ensures reads { Gives program_item_tree result cursor.new (struct_or_typed_at nesting_limit cursor.old) }
+/// Reads a struct, or a global or a function whose type begins with one, from behind its word, which stands at this place. What follows
+/// the tag and its regions tells which it is.
+fn struct_or_typed(alloc: Global, at: u32, cursor: &mut Cursor<'_, '_>) -> Parsed<Item>
+    ensures reads { Gives program_item_tree result cursor.new (struct_behind nesting_limit at cursor.old) }
     ensures shorter { OnOk result (length cursor.new < length cursor.old) }
 {
-    let at = cursor.keyword(Keyword::Struct)?;
     let tag = cursor.name(alloc)?;
     let regions = region_list(alloc, cursor)?;
     if cursor.is_sign(Sign::LeftBrace) {
@@ -64,13 +63,11 @@ fn struct_or_typed(alloc: Global, cursor: &mut Cursor<'_, '_>) -> Parsed<Item>
     }
 }
 
-/// Reads a tagged union.
-#[tactic(auto, unfolding(crate::specs::ReadPrograms::tagged_union))]
-fn tagged_union(alloc: Global, cursor: &mut Cursor<'_, '_>) -> Parsed<Structure>
-    ensures reads { Gives structure_tree result cursor.new (tagged_union_at cursor.old) }
+/// Reads a tagged union from behind its word, which stands at this place.
+fn tagged_union(alloc: Global, at: u32, cursor: &mut Cursor<'_, '_>) -> Parsed<Structure>
+    ensures reads { Gives structure_tree result cursor.new (union_behind at cursor.old) }
     ensures shorter { OnOk result (length cursor.new < length cursor.old) }
 {
-    let at = cursor.sign(Sign::Tagged)?;
     cursor.keyword(Keyword::Union)?;
     let tag = cursor.name(alloc)?;
     let regions = region_list(alloc, cursor)?;
@@ -123,18 +120,30 @@ fn member(alloc: Global, cursor: &mut Cursor<'_, '_>) -> Parsed<Member>
 }
 
 /// Reads a global or a function from its name on, given its type.
-#[tactic(auto, unfolding(crate::specs::ReadPrograms::typed))]
+#[tactic(auto, unfolding(crate::specs::ReadPrograms::typed, crate::specs::ReadPrograms::function_of))]
 fn typed(alloc: Global, of: TypeName, cursor: &mut Cursor<'_, '_>) -> Parsed<Item>
     ensures reads { Gives program_item_tree result cursor.new (typed_at nesting_limit (type_tree of) cursor.old) }
     ensures shorter { OnOk result (length cursor.new < length cursor.old) }
 {
     let name = cursor.name(alloc)?;
-    if cursor.is_sign(Sign::LeftParenthesis) {
-        Ok(Item::Function(function(alloc, of, name, cursor)?))
+    if cursor.eat(Sign::LeftParenthesis) {
+        let rest = function_rest(alloc, cursor)?;
+        Ok(Item::Function(Function {
+            result: of,
+            name,
+            parameters: rest.parameters,
+            effect: rest.effect,
+            bounds: rest.bounds,
+            body: rest.body,
+            end: rest.end,
+        }))
     } else {
         let initial = initial(alloc, cursor)?;
-        cursor.sign(Sign::Semicolon)?;
-        Ok(Item::Global(cyc_tree::Global { of, name, initial }))
+        if cursor.eat(Sign::Semicolon) {
+            Ok(Item::Global(cyc_tree::Global { of, name, initial }))
+        } else {
+            Err(cursor.unexpected())
+        }
     }
 }
 

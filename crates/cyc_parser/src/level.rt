@@ -26,6 +26,14 @@ pub fn is_unary(expression: &Expression) -> bool
     )
 }
 
+/// An expression in a box.
+pub fn boxed(alloc: Global, expression: Expression) -> Parsed<Box<Expression>>
+    ensures ok { IfOk result (λ box. box.value ≡ expression) }
+    ensures memory { IfErr result (λ fault. fault ≡ Memory) }
+{
+    Ok(Box::new(alloc, expression)?)
+}
+
 /// An operand with the operators and operands after it, where there are such.
 pub fn linked(alloc: Global, first: Expression, links: Vec<Link>) -> Parsed<Expression>
     ensures tree { IfOk result (λ e. expression_tree e ≡ chained (expression_tree first) (links_of (map link_tree links.items))) }

@@ -1,10 +1,11 @@
 // Statements and blocks.
 
 ghost use Rattle.std.specs.Prelude.{◌≡◌, ◌<◌, ◌≤◌, OnOk, map, length};
-ghost use Rattle.cyc_tree.specs.View.{name_tree, statement_tree, item_tree, clause_tree, pattern_tree};
-ghost use Rattle.cyc_parser.specs.Reader.{Gives};
+ghost use Rattle.cyc_tree.specs.View.{statement_tree, item_tree, clause_tree, pattern_tree};
+ghost use Rattle.cyc_parser.specs.Reader.{Gives, done, read, sign as sign_at};
 ghost use Rattle.cyc_parser.specs.ReadExpressions.{expression_at};
-ghost use Rattle.cyc_parser.specs.ReadStatements.{word_read, freed as freed_at, returned_by, run_by, simple_by, item_by, items_by, block_by, conditional_by, repeated_by, pattern as pattern_at, clause_by, clauses_by, switch_by, compound_by, statement_at};
+ghost use Rattle.cyc_parser.specs.ReadStatements.{returned_behind, run_by, simple_by, item_by, items_by, block_behind, conditional_behind, repeated_behind};
+ghost use Rattle.cyc_parser.specs.ReadStatements.{pattern as pattern_at, clause_by, clauses_by, switch_behind, compound_by, statement_at};
 
 use crate::cursor::Cursor;
 use crate::declaration::{declaration, parenthesized_name};
@@ -12,7 +13,7 @@ use crate::expression::{expression, parenthesized};
 use crate::fault::Parsed;
 use crate::first::{begins_clause, begins_declaration, begins_item, begins_statement};
 use cyc_lexer::{Keyword, Sign};
-use cyc_tree::{BlockItem, Clause, Name, Pattern, Statement};
+use cyc_tree::{BlockItem, Clause, Pattern, Statement};
 use std::alloc::Global;
 
 /// Reads a statement, with at most `depth` phrases in one another.
@@ -30,19 +31,20 @@ fn statement(alloc: Global, depth: u32, cursor: &mut Cursor<'_, '_>) -> Parsed<S
 
 /// Reads a statement. Those in it have at most `depth` phrases in one another.
 #[cycle(statement)]
-#[tactic(auto, unfolding(crate::specs::ReadStatements::compound_by))]
+#[tactic(auto, unfolding(crate::specs::ReadStatements::compound_by, crate::specs::ReadStatements::block_by, crate::specs::ReadStatements::conditional_by, crate::specs::ReadStatements::repeated_by, crate::specs::ReadStatements::switch_by))]
 fn compound(alloc: Global, depth: u32, cursor: &mut Cursor<'_, '_>) -> Parsed<Statement>
     ensures reads { Gives statement_tree result cursor.new (compound_by (expression_at depth) (statement_at depth) cursor.old) }
     ensures shorter { OnOk result (length cursor.new < length cursor.old) }
 {
-    if cursor.is_sign(Sign::LeftBrace) {
-        block(alloc, depth, cursor)
-    } else if cursor.is_keyword(Keyword::If) {
-        conditional(alloc, depth, cursor)
-    } else if cursor.is_keyword(Keyword::While) {
-        repeated(alloc, depth, cursor)
-    } else if cursor.is_keyword(Keyword::Switch) {
-        switch(alloc, depth, cursor)
+    let at = cursor.place();
+    if cursor.eat(Sign::LeftBrace) {
+        block(alloc, depth, at, cursor)
+    } else if cursor.eat_keyword(Keyword::If) {
+        conditional(alloc, depth, at, cursor)
+    } else if cursor.eat_keyword(Keyword::While) {
+        repeated(alloc, depth, at, cursor)
+    } else if cursor.eat_keyword(Keyword::Switch) {
+        switch(alloc, depth, at, cursor)
     } else {
         simple(alloc, depth, cursor)
     }
@@ -58,17 +60,14 @@ fn boxed(alloc: Global, depth: u32, cursor: &mut Cursor<'_, '_>) -> Parsed<Box<S
     Ok(Box::new(alloc, statement)?)
 }
 
-/// Reads a block.
+/// Reads a block from behind its brace, which stands at this place.
 #[cycle(statement)]
-#[tactic(auto, unfolding(crate::specs::ReadStatements::block_by))]
-fn block(alloc: Global, depth: u32, cursor: &mut Cursor<'_, '_>) -> Parsed<Statement>
-    ensures reads { Gives statement_tree result cursor.new (block_by (expression_at depth) (statement_at depth) cursor.old) }
+fn block(alloc: Global, depth: u32, at: u32, cursor: &mut Cursor<'_, '_>) -> Parsed<Statement>
+    ensures reads { Gives statement_tree result cursor.new (block_behind (expression_at depth) (statement_at depth) at cursor.old) }
     ensures shorter { OnOk result (length cursor.new < length cursor.old) }
 {
-    let at = cursor.sign(Sign::LeftBrace)?;
     let items = block_items(alloc, depth, cursor)?;
-    cursor.sign(Sign::RightBrace)?;
-    Ok(Statement::Block(at, items))
+    ended(Statement::Block(at, items), Sign::RightBrace, cursor)
 }
 
 /// Reads declarations and statements, as far as they go.
@@ -98,18 +97,16 @@ fn block_item(alloc: Global, depth: u32, cursor: &mut Cursor<'_, '_>) -> Parsed<
     }
 }
 
-/// Reads an `if`, and the `else` that may stand after its statement.
+/// Reads an `if` from behind its word, which stands at this place, and the `else` that may stand after its statement.
 #[cycle(statement)]
-#[tactic(auto, unfolding(crate::specs::ReadStatements::conditional_by, crate::specs::ReadStatements::otherwise_by))]
-fn conditional(alloc: Global, depth: u32, cursor: &mut Cursor<'_, '_>) -> Parsed<Statement>
-    ensures reads { Gives statement_tree result cursor.new (conditional_by (expression_at depth) (statement_at depth) cursor.old) }
+#[tactic(auto, unfolding(crate::specs::ReadStatements::otherwise_by))]
+fn conditional(alloc: Global, depth: u32, at: u32, cursor: &mut Cursor<'_, '_>) -> Parsed<Statement>
+    ensures reads { Gives statement_tree result cursor.new (conditional_behind (expression_at depth) (statement_at depth) at cursor.old) }
     ensures shorter { OnOk result (length cursor.new < length cursor.old) }
 {
-    let at = cursor.keyword(Keyword::If)?;
     let condition = parenthesized(alloc, depth, cursor)?;
     let body = boxed(alloc, depth, cursor)?;
-    if cursor.is_keyword(Keyword::Else) {
-        cursor.keyword(Keyword::Else)?;
+    if cursor.eat_keyword(Keyword::Else) {
         let otherwise = boxed(alloc, depth, cursor)?;
         Ok(Statement::IfElse(at, condition, body, otherwise))
     } else {
@@ -117,32 +114,31 @@ fn conditional(alloc: Global, depth: u32, cursor: &mut Cursor<'_, '_>) -> Parsed
     }
 }
 
-/// Reads a `while`.
+/// Reads a `while` from behind its word, which stands at this place.
 #[cycle(statement)]
-#[tactic(auto, unfolding(crate::specs::ReadStatements::repeated_by))]
-fn repeated(alloc: Global, depth: u32, cursor: &mut Cursor<'_, '_>) -> Parsed<Statement>
-    ensures reads { Gives statement_tree result cursor.new (repeated_by (expression_at depth) (statement_at depth) cursor.old) }
+fn repeated(alloc: Global, depth: u32, at: u32, cursor: &mut Cursor<'_, '_>) -> Parsed<Statement>
+    ensures reads { Gives statement_tree result cursor.new (repeated_behind (expression_at depth) (statement_at depth) at cursor.old) }
     ensures shorter { OnOk result (length cursor.new < length cursor.old) }
 {
-    let at = cursor.keyword(Keyword::While)?;
     let condition = parenthesized(alloc, depth, cursor)?;
     let body = boxed(alloc, depth, cursor)?;
     Ok(Statement::While(at, condition, body))
 }
 
-/// Reads a `switch`.
+/// Reads a `switch` from behind its word, which stands at this place.
 #[cycle(statement)]
-#[tactic(auto, unfolding(crate::specs::ReadStatements::switch_by))]
-fn switch(alloc: Global, depth: u32, cursor: &mut Cursor<'_, '_>) -> Parsed<Statement>
-    ensures reads { Gives statement_tree result cursor.new (switch_by (expression_at depth) (statement_at depth) cursor.old) }
+fn switch(alloc: Global, depth: u32, at: u32, cursor: &mut Cursor<'_, '_>) -> Parsed<Statement>
+    ensures reads { Gives statement_tree result cursor.new (switch_behind (expression_at depth) (statement_at depth) at cursor.old) }
     ensures shorter { OnOk result (length cursor.new < length cursor.old) }
 {
-    let at = cursor.keyword(Keyword::Switch)?;
     let place = parenthesized(alloc, depth, cursor)?;
     cursor.sign(Sign::LeftBrace)?;
     let clauses = clauses(alloc, depth, cursor)?;
-    cursor.sign(Sign::RightBrace)?;
-    Ok(Statement::Switch(at, place, clauses))
+    ended(
+        Statement::Switch(at, place, clauses),
+        Sign::RightBrace,
+        cursor,
+    )
 }
 
 /// Reads the clauses of a `switch`, of which there is one at least.
@@ -181,13 +177,15 @@ fn pattern(alloc: Global, cursor: &mut Cursor<'_, '_>) -> Parsed<Pattern>
     ensures reads { Gives pattern_tree result cursor.new (pattern_at cursor.old) }
     ensures shorter { OnOk result (length cursor.new < length cursor.old) }
 {
-    if cursor.is_keyword(Keyword::Default) {
-        cursor.keyword(Keyword::Default)?;
+    if cursor.eat_keyword(Keyword::Default) {
         return Ok(Pattern::Default);
     }
-    cursor.keyword(Keyword::Case)?;
-    cursor.sign(Sign::LeftBrace)?;
-    cursor.sign(Sign::Dot)?;
+    let begins = cursor.eat_keyword(Keyword::Case)
+        && cursor.eat(Sign::LeftBrace)
+        && cursor.eat(Sign::Dot);
+    if !begins {
+        return Err(cursor.unexpected());
+    }
     let member = cursor.name(alloc)?;
     cursor.sign(Sign::Assign)?;
     let name = cursor.name(alloc)?;
@@ -196,67 +194,53 @@ fn pattern(alloc: Global, cursor: &mut Cursor<'_, '_>) -> Parsed<Pattern>
 }
 
 /// Reads a statement that holds no other.
-#[tactic(auto, unfolding(crate::specs::ReadStatements::simple_by))]
+#[tactic(auto, unfolding(crate::specs::ReadStatements::simple_by, crate::specs::ReadStatements::word_read, crate::specs::ReadStatements::freed, crate::specs::ReadStatements::returned_by), using(crate::proofs::Regrouped::made_of))]
 fn simple(alloc: Global, depth: u32, cursor: &mut Cursor<'_, '_>) -> Parsed<Statement>
     ensures reads { Gives statement_tree result cursor.new (simple_by (expression_at depth) cursor.old) }
     ensures shorter { OnOk result (length cursor.new < length cursor.old) }
 {
-    if cursor.is_sign(Sign::Semicolon) {
-        Ok(Statement::Empty(cursor.sign(Sign::Semicolon)?))
-    } else if cursor.is_keyword(Keyword::Break) {
-        Ok(Statement::Break(word(Keyword::Break, cursor)?))
-    } else if cursor.is_keyword(Keyword::Continue) {
-        Ok(Statement::Continue(word(Keyword::Continue, cursor)?))
-    } else if cursor.is_keyword(Keyword::Return) {
-        returned(alloc, depth, cursor)
-    } else if cursor.is_keyword(Keyword::Ufree) {
-        let (at, pointer) = freed(alloc, Keyword::Ufree, cursor)?;
-        Ok(Statement::FreeUnique(at, pointer))
-    } else if cursor.is_keyword(Keyword::FreeUkey) {
-        let (at, key) = freed(alloc, Keyword::FreeUkey, cursor)?;
-        Ok(Statement::FreeKey(at, key))
+    let at = cursor.place();
+    if cursor.eat(Sign::Semicolon) {
+        Ok(Statement::Empty(at))
+    } else if cursor.eat_keyword(Keyword::Break) {
+        ended(Statement::Break(at), Sign::Semicolon, cursor)
+    } else if cursor.eat_keyword(Keyword::Continue) {
+        ended(Statement::Continue(at), Sign::Semicolon, cursor)
+    } else if cursor.eat_keyword(Keyword::Return) {
+        returned(alloc, depth, at, cursor)
+    } else if cursor.eat_keyword(Keyword::Ufree) {
+        let pointer = parenthesized_name(alloc, cursor)?;
+        ended(Statement::FreeUnique(at, pointer), Sign::Semicolon, cursor)
+    } else if cursor.eat_keyword(Keyword::FreeUkey) {
+        let key = parenthesized_name(alloc, cursor)?;
+        ended(Statement::FreeKey(at, key), Sign::Semicolon, cursor)
     } else {
         run(alloc, depth, cursor)
     }
 }
 
-/// Reads a statement of one word, and answers its place.
-#[tactic(auto, unfolding(crate::specs::ReadStatements::word_read))]
-fn word(keyword: Keyword, cursor: &mut Cursor<'_, '_>) -> Parsed<u32>
-    ensures reads { Gives (λ at. at) result cursor.new (word_read keyword cursor.old) }
+/// Reads the sign that ends a statement.
+fn ended(statement: Statement, sign: Sign, cursor: &mut Cursor<'_, '_>) -> Parsed<Statement>
+    ensures reads { Gives statement_tree result cursor.new (read (sign_at sign) (λ _. done (statement_tree statement)) cursor.old) }
     ensures shorter { OnOk result (length cursor.new < length cursor.old) }
 {
-    let at = cursor.keyword(keyword)?;
-    cursor.sign(Sign::Semicolon)?;
-    Ok(at)
-}
-
-/// Reads a statement of one word and a name in parentheses, and answers its place and the name.
-#[tactic(auto, unfolding(crate::specs::ReadStatements::freed))]
-fn freed(alloc: Global, keyword: Keyword, cursor: &mut Cursor<'_, '_>) -> Parsed<(u32, Name)>
-    ensures reads { Gives (λ freed. (freed.0, name_tree freed.1)) result cursor.new (freed_at keyword cursor.old) }
-    ensures shorter { OnOk result (length cursor.new < length cursor.old) }
-{
-    let at = cursor.keyword(keyword)?;
-    let name = parenthesized_name(alloc, cursor)?;
-    cursor.sign(Sign::Semicolon)?;
-    Ok((at, name))
-}
-
-/// Reads a `return`, with its result where it has one.
-#[tactic(auto, unfolding(crate::specs::ReadStatements::returned_by))]
-fn returned(alloc: Global, depth: u32, cursor: &mut Cursor<'_, '_>) -> Parsed<Statement>
-    ensures reads { Gives statement_tree result cursor.new (returned_by (expression_at depth) cursor.old) }
-    ensures shorter { OnOk result (length cursor.new < length cursor.old) }
-{
-    let at = cursor.keyword(Keyword::Return)?;
-    let value = if cursor.is_sign(Sign::Semicolon) {
-        None
+    if cursor.eat(sign) {
+        Ok(statement)
     } else {
-        Some(expression(alloc, depth, cursor)?)
-    };
-    cursor.sign(Sign::Semicolon)?;
-    Ok(Statement::Return(at, value))
+        Err(cursor.unexpected())
+    }
+}
+
+/// Reads a `return` from behind its word, which stands at this place, with its result where it has one.
+fn returned(alloc: Global, depth: u32, at: u32, cursor: &mut Cursor<'_, '_>) -> Parsed<Statement>
+    ensures reads { Gives statement_tree result cursor.new (returned_behind (expression_at depth) at cursor.old) }
+    ensures shorter { OnOk result (length cursor.new < length cursor.old) }
+{
+    if cursor.eat(Sign::Semicolon) {
+        return Ok(Statement::Return(at, None));
+    }
+    let value = expression(alloc, depth, cursor)?;
+    ended(Statement::Return(at, Some(value)), Sign::Semicolon, cursor)
 }
 
 /// Reads an expression that is evaluated, or two between which values are exchanged.
@@ -268,10 +252,8 @@ fn run(alloc: Global, depth: u32, cursor: &mut Cursor<'_, '_>) -> Parsed<Stateme
     let first = expression(alloc, depth, cursor)?;
     if cursor.eat(Sign::Exchange) {
         let second = expression(alloc, depth, cursor)?;
-        cursor.sign(Sign::Semicolon)?;
-        Ok(Statement::Exchange(first, second))
+        ended(Statement::Exchange(first, second), Sign::Semicolon, cursor)
     } else {
-        cursor.sign(Sign::Semicolon)?;
-        Ok(Statement::Run(first))
+        ended(Statement::Run(first), Sign::Semicolon, cursor)
     }
 }

@@ -1,6 +1,6 @@
 // Types, and the regions that they name.
 
-ghost use Rattle.std.specs.Prelude.{◌<◌, ◌≤◌, OnOk, length, map};
+ghost use Rattle.std.specs.Prelude.{◌≡◌, ◌<◌, ◌≤◌, Ok, OnOk, length, map};
 ghost use Rattle.cyc_tree.specs.View.{region_tree, base_tree, pointer_tree, type_tree, member_tree};
 ghost use Rattle.cyc_parser.specs.Reader.{Gives};
 ghost use Rattle.cyc_parser.specs.ReadTypes.{base as base_at, qualified as qualified_at, pointer_sign_read, pointer as pointer_at, pointers as pointers_at, type_name as type_name_at, typed_name as typed_name_at};
@@ -46,9 +46,7 @@ fn base(alloc: Global, cursor: &mut Cursor<'_, '_>) -> Parsed<Base>
     match token.kind {
         TokenKind::Keyword(Keyword::Int) => Ok(Base::Int),
         TokenKind::Keyword(Keyword::Unsigned) => {
-            if cursor.is_keyword(Keyword::Int) {
-                cursor.read()?;
-            }
+            cursor.eat_keyword(Keyword::Int);
             Ok(Base::Unsigned)
         }
         TokenKind::Keyword(Keyword::Char) => Ok(Base::Char),
@@ -102,7 +100,7 @@ fn pointer_sign(cursor: &mut Cursor<'_, '_>) -> Parsed<cyc_tree::Sign>
 {
     let token = cursor.read()?;
     match token.kind {
-        TokenKind::Sign(Sign::Star) => qualified(cursor),
+        TokenKind::Sign(Sign::Star) => Ok(qualified(cursor)),
         TokenKind::Sign(Sign::At) => Ok(cyc_tree::Sign::NotNull),
         TokenKind::Sign(Sign::Question) => Ok(cyc_tree::Sign::Fat),
         _ => Err(ParseFault::Parse(token.at)),
@@ -111,18 +109,18 @@ fn pointer_sign(cursor: &mut Cursor<'_, '_>) -> Parsed<cyc_tree::Sign>
 
 /// Reads the word that may stand after `*`, and answers the sign that the two make.
 #[tactic(auto, unfolding(crate::specs::ReadTypes::qualified))]
-fn qualified(cursor: &mut Cursor<'_, '_>) -> Parsed<cyc_tree::Sign>
-    ensures reads { Gives (λ sign. sign) result cursor.new (qualified_at cursor.old) }
-    ensures shorter { OnOk result (length cursor.new ≤ length cursor.old) }
+fn qualified(cursor: &mut Cursor<'_, '_>) -> cyc_tree::Sign
+    ensures reads { qualified_at cursor.old ≡ Ok (result, cursor.new) }
+    ensures shorter { length cursor.new ≤ length cursor.old }
 {
-    let sign = match cursor.kind() {
-        Some(TokenKind::Sign(Sign::NotNull)) => cyc_tree::Sign::NotNull,
-        Some(TokenKind::Sign(Sign::FatSign)) => cyc_tree::Sign::Fat,
-        Some(TokenKind::Sign(Sign::Thin)) => cyc_tree::Sign::Nullable,
-        _ => return Ok(cyc_tree::Sign::Nullable),
-    };
-    cursor.read()?;
-    Ok(sign)
+    if cursor.eat(Sign::NotNull) {
+        cyc_tree::Sign::NotNull
+    } else if cursor.eat(Sign::FatSign) {
+        cyc_tree::Sign::Fat
+    } else {
+        cursor.eat(Sign::Thin);
+        cyc_tree::Sign::Nullable
+    }
 }
 
 /// Reads a region name in angle brackets.

@@ -68,16 +68,16 @@ any_of-others-preserved t c = record {
 pub any_of-returns-then-is_empty-clause-reads : goal.any_of-returns-then-is_empty-clause-reads
 unfolding any_of_by
 any_of-returns-then-is_empty-clause-reads t c =
-    rw c.others-test.ensures.reads (others_done sign.OrOr (all_of_by (unary_at c.args.depth)) any_of c.args.cursor.now c.all_of.new.cursor c.others.cursor _
+    rw c.others-test.ensures.shorter (others_done sign.OrOr (all_of_by (unary_at c.args.depth)) any_of c.args.cursor.now c.all_of.new.cursor c.others.cursor _
     (map expression_tree c.others.others.items) _ c.others.invariant.first (sym c.others-test.ensures.next) c.others.invariant.read
     (is_one_of_any c.others.others _ c.if-is_empty.ensures))
 
-pub any_of-returns-in_ok-new-clause-reads : goal.any_of-returns-in_ok-new-clause-reads
+pub any_of-returns-in_ok-boxed-clause-reads : goal.any_of-returns-in_ok-boxed-clause-reads
 unfolding any_of_by
-any_of-returns-in_ok-new-clause-reads t c =
-    rw c.others-test.ensures.reads (others_done sign.OrOr (all_of_by (unary_at c.args.depth)) any_of c.args.cursor.now c.all_of.new.cursor c.others.cursor _
+any_of-returns-in_ok-boxed-clause-reads t c =
+    rw c.others-test.ensures.shorter (others_done sign.OrOr (all_of_by (unary_at c.args.depth)) any_of c.args.cursor.now c.all_of.new.cursor c.others.cursor _
     (map expression_tree c.others.others.items) _ c.others.invariant.first (sym c.others-test.ensures.next) c.others.invariant.read
-    (is_any_of c.in_ok-new.field-0 c.others.others _ c.in_ok-new.ensures.ok c.if-is_empty.ensures))
+    (is_any_of c.in_ok-boxed.field-0 c.others.others _ c.in_ok-boxed.ensures.ok c.if-is_empty.ensures))
 
 pub all_of-returns-in_err-chain-clause-reads : goal.all_of-returns-in_err-chain-clause-reads
 unfolding all_of_by
@@ -100,16 +100,16 @@ all_of-others-preserved t c = record {
 pub all_of-returns-then-is_empty-clause-reads : goal.all_of-returns-then-is_empty-clause-reads
 unfolding all_of_by
 all_of-returns-then-is_empty-clause-reads t c =
-    rw c.others-test.ensures.reads (others_done sign.AndAnd (chain_by (unary_at c.args.depth) 8) all_of c.args.cursor.now c.chain.new.cursor c.others.cursor _
+    rw c.others-test.ensures.shorter (others_done sign.AndAnd (chain_by (unary_at c.args.depth) 8) all_of c.args.cursor.now c.chain.new.cursor c.others.cursor _
     (map expression_tree c.others.others.items) _ c.others.invariant.first (sym c.others-test.ensures.next) c.others.invariant.read
     (is_one_of_all c.others.others _ c.if-is_empty.ensures))
 
-pub all_of-returns-in_ok-new-clause-reads : goal.all_of-returns-in_ok-new-clause-reads
+pub all_of-returns-in_ok-boxed-clause-reads : goal.all_of-returns-in_ok-boxed-clause-reads
 unfolding all_of_by
-all_of-returns-in_ok-new-clause-reads t c =
-    rw c.others-test.ensures.reads (others_done sign.AndAnd (chain_by (unary_at c.args.depth) 8) all_of c.args.cursor.now c.chain.new.cursor c.others.cursor _
+all_of-returns-in_ok-boxed-clause-reads t c =
+    rw c.others-test.ensures.shorter (others_done sign.AndAnd (chain_by (unary_at c.args.depth) 8) all_of c.args.cursor.now c.chain.new.cursor c.others.cursor _
     (map expression_tree c.others.others.items) _ c.others.invariant.first (sym c.others-test.ensures.next) c.others.invariant.read
-    (is_all_of c.in_ok-new.field-0 c.others.others _ c.in_ok-new.ensures.ok c.if-is_empty.ensures))
+    (is_all_of c.in_ok-boxed.field-0 c.others.others _ c.in_ok-boxed.ensures.ok c.if-is_empty.ensures))
 
 -- ---- chains
 
@@ -200,7 +200,7 @@ listed-returns-in_err-expression-clause-reads t c =
 pub listed-returns-then-not-eat-clause-reads : goal.listed-returns-then-not-eat-clause-reads
 listed-returns-then-not-eat-clause-reads t c =
     let one = expression_at c.args.depth in
-    rw c.if-not-eat.ensures.reads (last_pushed expression_tree one (is_sign sign.Comma) (behind sign.Comma one) c.args.cursor.now
+    rw c.if-not-eat.ensures.shorter (last_pushed expression_tree one (is_sign sign.Comma) (behind sign.Comma one) c.args.cursor.now
     c.more.expressions.items c.push.new.self.items c.in_ok-expression.field-0 c.more.cursor c.expression.new.cursor c.more.invariant.read
     c.in_ok-push.ensures.items c.in_ok-expression.ensures.reads c.in_ok-expression.ensures.shorter (sym c.if-not-eat.ensures.next))
 

@@ -84,8 +84,11 @@ decreases-postfix l = 64 * l.depth + 30
 abbrev pub decreases-primary : goal.decreases-primary
 decreases-primary l = 64 * l.depth + 20
 
-abbrev pub decreases-parenthesized : goal.decreases-parenthesized
-decreases-parenthesized l = 64 * l.depth + 10
+abbrev pub decreases-enclosed : goal.decreases-enclosed
+decreases-enclosed l = 64 * l.depth + 10
+
+abbrev pub decreases-closed : goal.decreases-closed
+decreases-closed l = 64 * l.depth + 9
 
 abbrev pub decreases-named : goal.decreases-named
 decreases-named l = 64 * l.depth + 20

@@ -17,7 +17,7 @@ returns-in_err-bound-clause-reads c =
 
 pub returns-then-not-eat-clause-reads : goal.returns-then-not-eat-clause-reads
 returns-then-not-eat-clause-reads c =
-    rw c.if-not-eat.ensures.reads (last_pushed bound_tree bound (is_sign sign.Comma) (behind sign.Comma bound) c.args.cursor.now c.more.bounds.items
+    rw c.if-not-eat.ensures.shorter (last_pushed bound_tree bound (is_sign sign.Comma) (behind sign.Comma bound) c.args.cursor.now c.more.bounds.items
     c.push.new.self.items c.in_ok-bound.field-0 c.more.cursor c.bound.new.cursor c.more.invariant.0 c.in_ok-push.ensures.ok c.in_ok-bound.ensures.reads
     c.in_ok-bound.ensures.shorter (sym c.if-not-eat.ensures.next))
 

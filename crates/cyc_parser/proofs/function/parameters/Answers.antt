@@ -28,5 +28,5 @@ more-preserved c =
 
 pub returns-clause-reads : goal.returns-clause-reads
 returns-clause-reads c =
-    rw c.more-test.ensures.reads (is_done (is_sign sign.Comma) (behind sign.Comma typed_name) (map member_tree c.more.parameters.items) c.more.cursor
+    rw c.more-test.ensures.shorter (is_done (is_sign sign.Comma) (behind sign.Comma typed_name) (map member_tree c.more.parameters.items) c.more.cursor
     (parameters c.args.cursor.now) (sym c.more-test.ensures.next) c.more.invariant.0)

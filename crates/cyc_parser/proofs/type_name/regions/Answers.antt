@@ -19,7 +19,7 @@ returns-in_err-region-clause-reads c =
 pub returns-then-not-eat-clause-reads : goal.returns-then-not-eat-clause-reads
 unfolding regions
 returns-then-not-eat-clause-reads c =
-    rw c.if-not-eat.ensures.reads (last_pushed region_tree region (is_sign sign.Comma) (behind sign.Comma region) c.args.cursor.now c.more.regions.items
+    rw c.if-not-eat.ensures.shorter (last_pushed region_tree region (is_sign sign.Comma) (behind sign.Comma region) c.args.cursor.now c.more.regions.items
     c.push.new.self.items c.in_ok-region.field-0 c.more.cursor c.region.new.self c.more.invariant.0 c.in_ok-push.ensures.ok c.in_ok-region.ensures.reads
     c.in_ok-region.ensures.shorter (sym c.if-not-eat.ensures.next))
 

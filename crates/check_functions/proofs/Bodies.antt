@@ -6,7 +6,7 @@ use Rattle.cyc_types.specs.Sameness.{HasTags}
 use Rattle.cyc_types.specs.Types.{static_type}
 use Rattle.cyc_types.specs.declared.region.RegionId.TheVariants as code_region
 use Rattle.source_typing.specs.Faults.{Fault, earliest, own_after, sooner_of}
-use Rattle.source_typing.specs.Functions.{body_scope, function_scope, with_parameters}
+use Rattle.source_typing.specs.Functions.{function_scope}
 use Rattle.source_typing.specs.Functions as rules
 use Rattle.source_typing.specs.Regions.{Level, Region, entry_regions, with_scope}
 use Rattle.source_typing.specs.Tables.{Tables, find}
@@ -26,7 +26,7 @@ use Rattle.check_faults.specs.Faults.{faults_of, first_of, sooner_found}
 use Rattle.check_faults.specs.declared.fault.Fault as found
 use Rattle.check_statements.specs.Contexts.{StandsIn}
 use Rattle.check_statements.specs.declared.context.Context.{Context}
-use Rattle.check_functions.specs.Bodies.{KnowsGlobals, own_found, types_of}
+use Rattle.check_functions.specs.Bodies.{KnowsGlobals, own_found}
 use Rattle.check_functions.specs.Heads.{IsHead, known_static}
 use Rattle.check_functions.specs.declared.head.Head as code
 use Rattle.cyc_tree.specs.Tree as tree
@@ -87,12 +87,6 @@ module _ (c : code.Head) (f : tree.Function) (h : rules.Head) (is : IsHead c f h
       };
       block = no_locals;
     }
-
-    -- with the parameters it is the body's scope
-    pub at_body : (d : Context) (ns : List RegionNamed) (t : Scope)
-        → StandsIn d ns 0 t (with_parameters f.parameters (types_of c.parameters.items) (function_scope lenient g i h))
-        → StandsIn d ns 0 t (body_scope lenient g i f h)
-    at_body d ns t q = subst (λ ts. StandsIn d ns 0 t (with_parameters f.parameters ts (function_scope lenient g i h))) is.types q
 
 -- ---- the fault that is answered
 

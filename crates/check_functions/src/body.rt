@@ -1,8 +1,8 @@
 // The faults of functions.
 
-ghost use Rattle.std.specs.Prelude.{◌≡◌, IfOk, List, OnOk, [], not, true, ℕ};
+ghost use Rattle.std.specs.Prelude.{◌≡◌, IfOk, List, OnOk, [], map, not, true, ℕ};
 ghost use Rattle.cyc_tree.specs.Tree as tree;
-ghost use Rattle.cyc_tree.specs.View.{function_tree};
+ghost use Rattle.cyc_tree.specs.View.{function_tree, item_tree, items_of};
 ghost use Rattle.cyc_types.specs.Regions.{region_of};
 ghost use Rattle.source_typing.specs.Faults.{earliest, test, type_rule};
 ghost use Rattle.source_typing.specs.Functions.{body_scope, end_reached, function_faults, function_scope, needs_return, what_of_known, with_parameters};
@@ -22,11 +22,11 @@ ghost use Rattle.check_functions.specs.Heads.{IsHead, known_static};
 use crate::head::{Head, Parameter, is_main, read_head};
 use crate::meaning::known_type;
 use check_faults::{Fault, FaultKind, Verdict, sooner};
-use check_regions::RegionScope;
+use check_regions::{RegionNames, RegionScope};
 use check_scopes::{Globals, Locals, Scope, What};
 use check_statements::{Context, items_fall, items_fault};
 use check_types::TagNames;
-use cyc_tree::Function;
+use cyc_tree::{BlockItem, Function};
 use cyc_types::{CType, RegionId, Tables};
 use std::alloc::{AllocError, Global};
 
@@ -111,6 +111,23 @@ pub fn entered<'g, 'p>(
     })
 }
 
+/// The earliest fault of a body's items, whose block's locals are the parameters. Fails only where no host memory is left.
+fn inside_fault<'p>(
+    scope: &mut Scope<'_, 'p>,
+    known: &mut RegionNames<'p>,
+    alloc: Global,
+    context: Context<'_, 'p>,
+    parameters: &[Parameter<'p>],
+    items: &'p [BlockItem],
+) -> Result<Option<Fault>, AllocError>
+    ensures { (g : Env) (ms : List tree.Member) → code_names parameters.now ≡ names_of ms → StandsIn context.entry known.old 0 scope.old g
+        → IfOk result (λ found. faults_of found
+        ≡ earliest (items_faults (with_parameters ms (types_of parameters.now) g) true (items_of (map item_tree items.entry.now)))) }
+{
+    declare_parameters(scope, context, parameters)?;
+    items_fault(scope, known, alloc, context, 0, true, items)
+}
+
 /// The earliest fault of a function's body. Fails only where no host memory is left.
 fn body_fault<'p>(
     alloc: Global,
@@ -134,14 +151,13 @@ fn body_fault<'p>(
         in_loop: false,
         in_switch: false,
     };
-    declare_parameters(&mut scope, context, head.parameters.as_slice())?;
-    items_fault(
+    let parameters = head.parameters.as_slice();
+    inside_fault(
         &mut scope,
         &mut known,
         alloc,
         context,
-        0,
-        true,
+        parameters,
         &function.body,
     )
 }

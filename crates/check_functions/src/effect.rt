@@ -177,8 +177,7 @@ pub(crate) fn effect_of(
     match effect {
         Some(regions) => {
             let written = regions.as_slice();
-            let used = effect_regions(alloc, lenient, variables.names(), keys, written)?;
-            Ok(used)
+            effect_regions(alloc, lenient, variables.names(), keys, written)
         }
         None => {
             let known = levels_but(alloc, keys, variables.count())?;

@@ -1,19 +1,22 @@
 // The heads of functions.
 
 ghost use Rattle.std.specs.Prelude.{◌≡◌, IfOk, bytes_eq, codes};
-ghost use Rattle.cyc_tree.specs.View.{function_tree};
-ghost use Rattle.source_typing.specs.Functions.{head_of};
+ghost use Rattle.cyc_tree.specs.View.{effect_tree, function_tree};
+ghost use Rattle.cyc_types.specs.Regions.{region_of};
+ghost use Rattle.source_typing.specs.Functions.{effect_of, head_of};
 ghost use Rattle.source_typing.specs.Tables.{Tables};
 ghost use Rattle.check_types.specs.Naming.{AreTagNames};
+ghost use Rattle.check_functions.specs.Bodies.{types_of};
 ghost use Rattle.check_functions.specs.Heads.{IsHead};
+ghost use Rattle.check_functions.specs.Used.{IsUsed, keys_of};
 
-use crate::effect::{bounds_of, effect_of};
+use crate::effect::{Used, bounds_of, effect_of};
 use crate::found::head_fault;
 use crate::keys::key_regions;
 use crate::reading::Parameters;
 use check_faults::{Fault, Verdict, sooner};
 use check_types::{RegionVariables, TagNames, result_type_in, tag_of_type};
-use cyc_tree::Function;
+use cyc_tree::{Function, RegionNames};
 use cyc_types::{CType, RegionId};
 use std::alloc::{AllocError, Global};
 
@@ -48,6 +51,25 @@ pub fn is_main(name: &[u8]) -> bool
     name == b"main".as_slice()
 }
 
+/// The effect of a head with these parameters. Fails only where no host memory is left.
+fn effect_in(
+    alloc: Global,
+    lenient: bool,
+    parameters: &Parameters<'_>,
+    effect: &Option<RegionNames>,
+) -> Result<Used<RegionId>, AllocError>
+    ensures { IfOk result (IsUsed region_of (effect_of lenient parameters.now.variables (keys_of (types_of parameters.now.items.items)) (effect_tree effect.now))) }
+{
+    let keys = key_regions(alloc, parameters.items.as_slice())?;
+    effect_of(
+        alloc,
+        lenient,
+        &parameters.variables,
+        keys.as_slice(),
+        effect,
+    )
+}
+
 /// What a function's head says, with its earliest fault, where names mean this in place of tags; with or without the rules on live
 /// regions and effects. Fails only where no host memory is left.
 pub fn read_head<'p>(
@@ -63,14 +85,7 @@ pub fn read_head<'p>(
     let tag = tag_of_type(tags, &function.result);
     let names = parameters.variables.names();
     let result = result_type_in(alloc, tag, names, &function.result)?;
-    let keys = key_regions(alloc, parameters.items.as_slice())?;
-    let effect = effect_of(
-        alloc,
-        lenient,
-        &parameters.variables,
-        keys.as_slice(),
-        &function.effect,
-    )?;
+    let effect = effect_in(alloc, lenient, &parameters, &function.effect)?;
     let bounds = bounds_of(alloc, names, &function.bounds)?;
     let used = sooner(effect.fault, bounds.fault);
     let fault = head_fault(alloc, &function.name, &parameters.items, &result, used)?;

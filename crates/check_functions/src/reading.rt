@@ -1,6 +1,6 @@
 // The parameters of heads.
 
-ghost use Rattle.std.specs.Prelude.{◌≡◌, IfOk, List, OnOk, [], ◌++◌, ◌∷◌, map};
+ghost use Rattle.std.specs.Prelude.{IfOk, List, OnOk, [], ◌++◌, ◌∷◌, map};
 ghost use Rattle.cyc_tree.specs.Tree as tree;
 ghost use Rattle.cyc_tree.specs.View.{function_tree, member_tree};
 ghost use Rattle.source_typing.specs.Tables.{Tables};

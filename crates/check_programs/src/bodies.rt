@@ -1,6 +1,6 @@
 // The strings of functions' bodies, counted in the order of the text.
 
-ghost use Rattle.std.specs.Prelude.{◌≡◌, map, option_map};
+ghost use Rattle.std.specs.Prelude.{map, option_map};
 ghost use Rattle.cyc_tree.specs.View.{clause_tree, clauses_of, declaration_tree, expression_tree, initializer_tree, item_tree, items_of, statement_tree};
 ghost use Rattle.source_meaning.specs.Strings.{clauses_strings, declaration_strings, initializer_strings, items_strings, returned_strings, statement_strings};
 ghost use Rattle.check_programs.specs.Strings.{clause_strings, one_item_strings};
@@ -49,22 +49,18 @@ fn with_statement(total: Total, statement: &Statement) -> Total
     ensures { Counts total result (statement_strings (statement_tree statement.now)) }
 {
     match statement {
-        Statement::Empty(_) => total,
-        Statement::Break(_) => total,
-        Statement::Continue(_) => total,
-        Statement::FreeUnique(_, _) => total,
-        Statement::FreeKey(_, _) => total,
+        Statement::Empty(_)
+        | Statement::Break(_)
+        | Statement::Continue(_)
+        | Statement::FreeUnique(_, _)
+        | Statement::FreeKey(_, _) => total,
         Statement::Block(_, items) => with_items(total, items),
         Statement::Run(value) => with_expression(total, value),
         Statement::Exchange(left, right) => {
             let before = with_expression(total, left);
             with_expression(before, right)
         }
-        Statement::If(_, condition, body) => {
-            let before = with_expression(total, condition);
-            with_statement(before, body)
-        }
-        Statement::While(_, condition, body) => {
+        Statement::If(_, condition, body) | Statement::While(_, condition, body) => {
             let before = with_expression(total, condition);
             with_statement(before, body)
         }

@@ -1,6 +1,6 @@
 // The strings of a program, counted in the order of the text.
 
-ghost use Rattle.std.specs.Prelude.{◌≡◌, map};
+ghost use Rattle.std.specs.Prelude.{map};
 ghost use Rattle.cyc_tree.specs.View.{expression_tree, expressions_of, link_tree, links_of, made_tree, suffix_tree, suffixes_of};
 ghost use Rattle.source_meaning.specs.Strings.{expression_strings, expressions_strings, links_strings, made_strings, suffixes_strings};
 ghost use Rattle.check_programs.specs.Strings.{link_strings, suffix_strings};
@@ -15,18 +15,18 @@ pub(crate) fn with_expression(total: Total, expression: &Expression) -> Total
     ensures { Counts total result (expression_strings (expression_tree expression.now)) }
 {
     match expression {
-        Expression::Number(_, _, _) => total,
-        Expression::Character(_, _) => total,
-        Expression::Null(_) => total,
-        Expression::HeapRegion(_) => total,
-        Expression::UniqueRegion(_) => total,
-        Expression::Variable(_) => total,
+        Expression::Number(_, _, _)
+        | Expression::Character(_, _)
+        | Expression::Null(_)
+        | Expression::HeapRegion(_)
+        | Expression::UniqueRegion(_)
+        | Expression::Variable(_) => total,
         Expression::Text(at, bytes) => total.with(*at, string_bytes(bytes)),
         Expression::Call(_, arguments) => with_expressions(total, arguments),
-        Expression::MakeUnion(_, _, value) => with_expression(total, value),
-        Expression::NumElts(_, operand) => with_expression(total, operand),
-        Expression::Grouped(_, inner) => with_expression(total, inner),
-        Expression::Prefixed(_, _, operand) => with_expression(total, operand),
+        Expression::MakeUnion(_, _, inner)
+        | Expression::NumElts(_, inner)
+        | Expression::Grouped(_, inner)
+        | Expression::Prefixed(_, _, inner) => with_expression(total, inner),
         Expression::Suffixed(primary, suffixes) => {
             let before = with_expression(total, primary);
             with_suffixes(before, suffixes)
@@ -40,11 +40,7 @@ pub(crate) fn with_expression(total: Total, expression: &Expression) -> Total
             let before = with_expression(total, first);
             with_links(before, links)
         }
-        Expression::AllOf(first, others) => {
-            let before = with_expression(total, first);
-            with_expressions(before, others)
-        }
-        Expression::AnyOf(first, others) => {
+        Expression::AllOf(first, others) | Expression::AnyOf(first, others) => {
             let before = with_expression(total, first);
             with_expressions(before, others)
         }
@@ -94,8 +90,7 @@ fn with_suffix(total: Total, suffix: &Suffix) -> Total
 {
     match suffix {
         Suffix::Index(index) => with_expression(total, index),
-        Suffix::Dot(_) => total,
-        Suffix::Arrow(_) => total,
+        Suffix::Dot(_) | Suffix::Arrow(_) => total,
     }
 }
 

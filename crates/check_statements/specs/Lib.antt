@@ -4,3 +4,4 @@ pub mod Declaring
 pub mod Leaving
 pub mod Operands
 pub mod Switching
+pub mod Plain

@@ -1,15 +1,17 @@
 // Statements and blocks.
 
-ghost use Rattle.std.specs.Prelude.{◌≡◌, ◌≤◌, IfOk, OnOk, length, map, option_map, ℕ};
+ghost use Rattle.std.specs.Prelude.{◌≡◌, ◌≤◌, Bool, IfOk, List, OnOk, length, map, option_map, true, ℕ};
 ghost use Rattle.cyc_tree.specs.View.{clause_tree, clauses_of, item_tree, items_of, statement_tree};
 ghost use Rattle.source_typing.specs.Faults.{earliest};
 ghost use Rattle.source_typing.specs.Scope.{Env, block_entered};
 ghost use Rattle.source_typing.specs.Statements.{clauses_faults, items_faults, statement_faults};
+ghost use Rattle.source_typing.specs.Written.{RegionNamed};
 ghost use Rattle.check_faults.specs.Faults.{faults_of};
 ghost use Rattle.check_scopes.specs.Changes.{AllAround, left};
 ghost use Rattle.check_scopes.specs.Knows.{Knows};
 ghost use Rattle.check_regions.specs.declared.scope.RegionMark.{RegionMark};
 ghost use Rattle.check_statements.specs.Contexts.{StandsIn, Suits, kept_to};
+ghost use Rattle.check_statements.specs.Plain.{is_plain};
 ghost use Rattle.check_statements.specs.Switching.{chosen_in, clause_faults};
 
 use crate::context::Context;
@@ -26,6 +28,34 @@ use check_regions::RegionNames;
 use check_scopes::Scope;
 use cyc_tree::{BlockItem, Clause, Statement};
 use std::alloc::{AllocError, Global};
+
+/// The earliest fault of a statement without others in it. Fails only where no host memory is left.
+fn plain_fault<'p>(
+    scope: &Scope<'_, 'p>,
+    alloc: Global,
+    context: Context<'_, 'p>,
+    statement: &Statement,
+) -> Result<Option<Fault>, AllocError>
+    ensures { (g : Env) (ns : List RegionNamed) (reached : Bool) → Knows scope.now g → Suits context.entry ns g
+        → is_plain (statement_tree statement.now) ≡ true
+        → IfOk result (λ f. faults_of f ≡ earliest (statement_faults g reached (statement_tree statement.now))) }
+{
+    match statement {
+        Statement::Empty(_) => Ok(None),
+        Statement::Run(value) => expression_fault(scope, alloc, value),
+        Statement::Exchange(left, right) => exchange_fault(scope, alloc, left, right),
+        Statement::Break(at) => Ok(unless(context.can_break(), *at)),
+        Statement::Continue(at) => Ok(unless(context.in_loop, *at)),
+        Statement::Return(at, value) => return_fault(scope, alloc, *at, context.result, value),
+        Statement::FreeUnique(_, pointer) => operand_fault(scope, alloc, Kind::Unique, pointer),
+        Statement::FreeKey(_, key) => operand_fault(scope, alloc, Kind::Key, key),
+        Statement::Block(_, _)
+        | Statement::If(_, _, _)
+        | Statement::IfElse(_, _, _, _)
+        | Statement::While(_, _, _)
+        | Statement::Switch(_, _, _) => Ok(None),
+    }
+}
 
 /// The earliest fault of a statement, by whether its start is reached. What is in scope is the same before and after it. Fails only
 /// where no host memory is left.
@@ -45,10 +75,7 @@ fn statement_fault<'p>(
     ensures kept { OnOk result (names.new ≡ names.old) }
 {
     match statement {
-        Statement::Empty(_) => Ok(None),
         Statement::Block(_, items) => block_fault(scope, names, alloc, context, reached, items),
-        Statement::Run(value) => expression_fault(scope, alloc, value),
-        Statement::Exchange(left, right) => exchange_fault(scope, alloc, left, right),
         Statement::If(_, condition, body) => {
             let first = condition_fault(scope, alloc, condition)?;
             let second = statement_fault(scope, names, alloc, context, reached, body)?;
@@ -78,11 +105,14 @@ fn statement_fault<'p>(
             )?;
             Ok(switch_fault(scope.tables, *at, &place, clauses, inside))
         }
-        Statement::Break(at) => Ok(unless(context.can_break(), *at)),
-        Statement::Continue(at) => Ok(unless(context.in_loop, *at)),
-        Statement::Return(at, value) => return_fault(scope, alloc, *at, context.result, value),
-        Statement::FreeUnique(_, pointer) => operand_fault(scope, alloc, Kind::Unique, pointer),
-        Statement::FreeKey(_, key) => operand_fault(scope, alloc, Kind::Key, key),
+        Statement::Empty(_)
+        | Statement::Run(_)
+        | Statement::Exchange(_, _)
+        | Statement::Break(_)
+        | Statement::Continue(_)
+        | Statement::Return(_, _)
+        | Statement::FreeUnique(_, _)
+        | Statement::FreeKey(_, _) => plain_fault(scope, alloc, context, statement),
     }
 }
 

@@ -1,6 +1,5 @@
-use Rattle.std.proofs.Common.{◌≡◌, ap, map, refl, subst, sym, ◌∙◌}
+use Rattle.std.proofs.Common.{ap, map, refl, subst, sym, ◌∙◌}
 use Rattle.cyc_tree.specs.View.{bound_tree, function_tree}
-use Rattle.cyc_types.specs.Regions.{regions_of}
 use Rattle.check_regions.specs.Fields.{pair_of}
 use Rattle.source_typing.specs.Functions.{bounds_of, result_type}
 use Rattle.check_faults.specs.Faults.{faults_of}
@@ -19,10 +18,7 @@ returns c g tags =
     (subst (λ bs. IsUsed pair_of (bounds_of c.names-names.result.now (map bound_tree bs)) c.in_ok-bounds.bounds) c.deref.ensures
     c.in_ok-bounds.ensures) in
     let ps = c.in_ok-parameters.parameters.items.items in
-    let ks = regions_of c.as_slice-2.result.now in
-    let keys : ks ≡ keys_of (types_of ps) =
-    ap (λ rs. regions_of rs) c.as_slice-2.ensures.value ∙ c.in_ok-keys.ensures ∙ ap (λ qs. keys_of (types_of qs)) c.as_slice.ensures.value in
-    head_is lenient g f _ c.in_ok-effect.effect c.in_ok-bounds.bounds ks keys (c.in_ok-parameters.ensures g tags)
+    head_is lenient g f _ c.in_ok-effect.effect c.in_ok-bounds.bounds (keys_of (types_of ps)) refl (c.in_ok-parameters.ensures g tags)
     (c.in_ok-result.ensures g (c.tag_of_type-tag.ensures g tags) ∙ ap (λ ns. shortened (result_type g ns f.result)) c.names-names.ensures)
     c.in_ok-effect.ensures refl bounds refl
     (λ v ms vs us e h used. c.in_ok-fault.ensures v ms vs us e (subst (λ ps. AreParameters ps ms vs) (sym c.deref-2.ensures.value) h)

@@ -1,18 +1,18 @@
-use Rattle.std.proofs.Common.{◌≡◌, ◌≤◌, ◌+◌, IfOk, List, ap, arith, drop, length, map, subst, sym, ◌∙◌, ◌++◌, ℕ}
-use Rattle.std.specs.Prelude.{option_map, ◌&&◌, ◌||◌}
+use Rattle.std.proofs.Common.{◌≡◌, ◌≤◌, ◌+◌, ⊎_elim, IfOk, List, ap, arith, drop, length, map, subst, sym, ◌∙◌, ◌++◌, ℕ}
+use Rattle.std.specs.Prelude.{option_map, ◌&&◌}
 use Rattle.cyc_tree.specs.View.{OneClause, clause_tree, clauses_of, expression_tree, item_tree, items_of, pattern_tree, statement_tree}
 use Rattle.cyc_tree.specs.declared.statement.BlockItem.{BlockItem}
 use Rattle.cyc_tree.specs.declared.statement.Clause.{Clause}
 use Rattle.cyc_tree.proofs.PartForms.{clause_parts}
-use Rattle.cyc_tree.proofs.StatementForms.{block_tree, break_tree, declare_tree, exchange_tree, execute_tree, free_key_tree, free_unique_tree}
-use Rattle.cyc_tree.proofs.StatementForms.{if_else_tree, if_tree, return_tree, switch_tree, while_tree}
+use Rattle.cyc_tree.proofs.StatementForms.{block_tree, break_tree, continue_tree, declare_tree, empty_tree, exchange_tree, execute_tree}
+use Rattle.cyc_tree.proofs.StatementForms.{free_key_tree, free_unique_tree, if_else_tree, if_tree, return_tree, run_tree, switch_tree, while_tree}
 use Rattle.cyc_types.specs.Sameness.{HasTags}
 use Rattle.source_typing.specs.Expressions.{judge}
-use Rattle.source_typing.specs.Faults.{earliest, own_after, test, type_rule}
+use Rattle.source_typing.specs.Faults.{earliest, own_after}
 use Rattle.source_typing.specs.Regions.{Level}
 use Rattle.source_typing.specs.Scope.{block_entered}
 use Rattle.source_typing.specs.Statements.{chosen, clause_scope, clauses_faults, condition_faults, in_a_loop}
-use Rattle.source_typing.specs.Statements.{in_a_switch, items_faults, returned, statement_faults, switched}
+use Rattle.source_typing.specs.Statements.{in_a_switch, items_faults, statement_faults, switched}
 use Rattle.source_typing.specs.Verdicts as verdict
 use Rattle.check_faults.specs.Faults as found
 use Rattle.check_faults.specs.Faults.{faults_of}
@@ -25,6 +25,7 @@ use Rattle.check_regions.specs.Scopes.{Scoped, first_of}
 use Rattle.check_regions.specs.declared.scope.RegionMark.{RegionMark}
 use Rattle.check_statements.specs.Contexts.{StandsIn, Suits, kept_to}
 use Rattle.check_statements.specs.Leaving.{item_falls}
+use Rattle.check_statements.specs.Plain.{is_plain}
 use Rattle.check_statements.specs.Switching.{chosen_in, clause_faults}
 use Rattle.check_statements.proofs.Blocks.{
   Going,
@@ -42,7 +43,6 @@ use Rattle.check_statements.proofs.Blocks.{
   no_fewer_opened,
   no_fewer_regions,
   opened_same,
-  return_faults,
   scope_behind,
   switch_known,
   switch_suits,
@@ -279,32 +279,6 @@ statement_fault-returns-in_ok-second-in-While-clause-fault t c = λ g h suits ar
     ∙ ap (λ s. earliest (statement_faults g reached s))
     (sym (ap statement_tree c.in-While.is ∙ while_tree c.in-While.field-0 c.in-While.condition c.in-While.body))
 
-pub statement_fault-returns-in-Exchange-clause-fault : goal.statement_fault-returns-in-Exchange-clause-fault
-statement_fault-returns-in-Exchange-clause-fault t c = λ g h suits around.
-    let x = c.in-Exchange in
-    subst (λ s. IfOk c.exchange_fault.result (λ f. faults_of f ≡ earliest (statement_faults g c.args.reached s)))
-    (sym (ap statement_tree x.is ∙ exchange_tree x.left x.right)) (c.exchange_fault.ensures g h)
-
-pub statement_fault-returns-in-Break-clause-fault : goal.statement_fault-returns-in-Break-clause-fault
-statement_fault-returns-in-Break-clause-fault t c = λ g h suits around.
-    let x = c.in-Break in
-    c.unless.ensures
-    ∙ ap (λ b. earliest (test b type_rule x.at))
-    (c.can_break.ensures ∙ ap (λ b. b || c.args.context.in_switch) suits.in_loop ∙ ap (λ b. g.in_loop || b) suits.in_switch)
-    ∙ ap (λ s. earliest (statement_faults g c.args.reached s)) (sym (ap statement_tree x.is ∙ break_tree x.at))
-
-pub statement_fault-returns-in-FreeUnique-clause-fault : goal.statement_fault-returns-in-FreeUnique-clause-fault
-statement_fault-returns-in-FreeUnique-clause-fault t c = λ g h suits around.
-    let x = c.in-FreeUnique in
-    subst (λ s. IfOk c.operand_fault.result (λ f. faults_of f ≡ earliest (statement_faults g c.args.reached s)))
-    (sym (ap statement_tree x.is ∙ free_unique_tree x.field-0 x.pointer)) (c.operand_fault.ensures g h)
-
-pub statement_fault-returns-in-FreeKey-clause-fault : goal.statement_fault-returns-in-FreeKey-clause-fault
-statement_fault-returns-in-FreeKey-clause-fault t c = λ g h suits around.
-    let x = c.in-FreeKey in
-    subst (λ s. IfOk c.operand_fault-in-FreeKey.result (λ f. faults_of f ≡ earliest (statement_faults g c.args.reached s)))
-    (sym (ap statement_tree x.is ∙ free_key_tree x.field-0 x.key)) (c.operand_fault-in-FreeKey.ensures g h)
-
 pub statement_fault-returns-in_ok-inside-in-Switch-clause-fault : goal.statement_fault-returns-in_ok-inside-in-Switch-clause-fault
 statement_fault-returns-in_ok-inside-in-Switch-clause-fault t c = λ g h suits around.
     let s = c.args.scope.now in
@@ -327,12 +301,28 @@ statement_fault-returns-in_ok-inside-in-Switch-clause-fault t c = λ g h suits a
     (verdict.faults_of v ++ parts))) c.deref-in-Switch-2.ensures.value
     ∙ ap (λ s. earliest (statement_faults g reached s)) (sym (ap statement_tree x.is ∙ switch_tree x.at x.place x.clauses))
 
-pub statement_fault-returns-in-Return-clause-fault : goal.statement_fault-returns-in-Return-clause-fault
-statement_fault-returns-in-Return-clause-fault t c = λ g h suits around.
-    let reached = c.args.reached in
-    let r = c.in-Return in
-    subst (λ fs. IfOk c.return_fault.result (λ f. faults_of f ≡ earliest fs))
-    (ap (λ o. returned g r.at o (option_map (λ e. judge g (expression_tree e)) r.value)) suits.result
-    ∙ sym (return_faults g reached r.at r.value)
-    ∙ ap (λ s. statement_faults g reached s) (sym (ap statement_tree r.is ∙ return_tree r.at r.value)))
-    (c.return_fault.ensures g h)
+pub statement_fault-returns-in-Empty-clause-fault : goal.statement_fault-returns-in-Empty-clause-fault
+statement_fault-returns-in-Empty-clause-fault t c = λ g h suits around.
+    c.plain_fault.ensures g c.args.names.now c.args.reached h suits
+    (⊎_elim
+    (λ w. ap is_plain (ap statement_tree w.1 ∙ empty_tree w.0))
+    (λ r1. ⊎_elim
+    (λ w. ap is_plain (ap statement_tree w.1 ∙ run_tree w.0))
+    (λ r2. ⊎_elim
+    (λ w. ap is_plain (ap statement_tree w.2 ∙ exchange_tree w.0 w.1))
+    (λ r3. ⊎_elim
+    (λ w. ap is_plain (ap statement_tree w.1 ∙ break_tree w.0))
+    (λ r4. ⊎_elim
+    (λ w. ap is_plain (ap statement_tree w.1 ∙ continue_tree w.0))
+    (λ r5. ⊎_elim
+    (λ w. ap is_plain (ap statement_tree w.2 ∙ return_tree w.0 w.1))
+    (λ r6. ⊎_elim
+    (λ w. ap is_plain (ap statement_tree w.2 ∙ free_unique_tree w.0 w.1))
+    (λ w. ap is_plain (ap statement_tree w.2 ∙ free_key_tree w.0 w.1))
+    r6)
+    r5)
+    r4)
+    r3)
+    r2)
+    r1)
+    c.in-Empty.is)

@@ -50,11 +50,12 @@ use Rattle.core_eval.specs.declared.ending.EvalEnding.TheVariants as ending
 use Rattle.core_eval.specs.Pendings.{Wait, Next, Go, GetcharDue, PutcharDue, TurnDue, CallDue, Over, Raised, Wrong, rest_of, coming}
 use Rattle.core_eval.specs.Standing.{Known}
 use Rattle.core_eval.specs.Resting.{EndsNow, IsPayable}
-use Rattle.core_eval.specs.Evaluated.{seen, Wrote, EndsAs, IsReadNext, IsEvaluated, IsNeverStuck, reads_failed, writes_failed}
-use Rattle.core_eval.proofs.Progress.{Progress, wrote, prepended, reads_append, bytes_append, seen_append}
+use Rattle.core_eval.specs.Evaluated.{seen, Wrote, EndsAs, IsReadNext, IsEvaluated, IsNeverStuck, writes_failed}
+use Rattle.core_eval.specs.Stages.{Progress, Stage, prepended}
+use Rattle.core_eval.proofs.Progress.{wrote, reads_append, bytes_append, seen_append}
 use Rattle.cyc_host.specs.Transfers.{Answers}
 use Rattle.core_eval.specs.Fetched.{FetchFault}
-use Rattle.core_eval.proofs.Stages.{Stage, settle, got, put, stage_kept}
+use Rattle.core_eval.proofs.Stages.{settle, got, put, stage_kept}
 
 -- ---- what reaches the writer
 

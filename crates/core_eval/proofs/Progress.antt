@@ -1,4 +1,4 @@
--- How far an evaluation has come: what it took, what it wrote and what it has gathered.
+-- How far an evaluation comes by what it takes, writes and gathers.
 use Rattle.std.proofs.Common.{
   ◌≡◌,
   ℕ,
@@ -29,11 +29,11 @@ use Rattle.std.proofs.Common.{
   arith,
 }
 use Rattle.std.specs.List.{Contains}
-use Rattle.std.specs.Io.KnownBytes.{Appends, Consumes, Keeps, IsAtEnd}
+use Rattle.std.specs.Io.KnownBytes.{Consumes, Keeps, IsAtEnd}
 use Rattle.std.proofs.KnownBytes.{Appends-trans, Consumes-trans, Consumes-kept}
 use Rattle.core_meaning.specs.Core.{Program}
 use Rattle.cyc_words.specs.Events as events
-use Rattle.cyc_words.specs.Events.{AreBytes, ByteRead, ByteWritten, output, bytes_read}
+use Rattle.cyc_words.specs.Events.{ByteRead, ByteWritten, output, bytes_read}
 use Rattle.core_meaning.specs.Memory.{Memory}
 use Rattle.core_meaning.specs.Steps.{Config, Event, Visible, Called, Returned, Exit, Invocation, LoopTurn, Step}
 use Rattle.core_meaning.specs.Meaning.{bodies, called, turned, core}
@@ -41,31 +41,10 @@ use Rattle.core_meaning.specs.Memory.{Content}
 use Rattle.step_trees.specs.Trees.{Says, Reads, Pays, Calls, Turns, Outcome, after, run}
 use Rattle.core_eval.specs.Standing.{saying, AreAllSilent}
 use Rattle.core_eval.specs.Evaluated.{seen}
+use Rattle.core_eval.specs.Stages.{Progress, prepended}
 use Rattle.core_eval.proofs.Quiet.{told_first, said_silent}
 use Rattle.cyc_words.proofs.Events.{bytes_push, output_append, read_append, told_before}
 use Rattle.cyc_host.specs.Transfers.{WritesBut, Answers}
-
--- these events, and then what a run comes to
-abbrev pub prepended : List Event → Outcome Event → Outcome Event
-prepended es o = record { events = es ++ o.events; ending = o.ending }
-
--- A run has taken these bytes and shown these events with so many units, whatever else follows them; after the end nothing follows. It goes on with a step and
--- what is left of its fuel.
-pub record Progress (p : Program) (fuel left : ℕ) (is_over : Bool) (s : Step) (reader_old reader_new writer_old writer_new : Option (List ℕ))
-    (gathered : List ℕ) : Type 0 where
-  pub input : List ℕ
-  pub bytes : AreBytes input
-  pub units : ℕ
-  pub spent : units + left ≡ fuel
-  pub events : List Event
-  pub written : List ℕ
-  pub consumed : Consumes reader_old reader_new input
-  pub taken : bytes_read (seen events) ≡ input
-  pub appended : Appends writer_old writer_new written
-  pub shows : output (seen events) ≡ written ++ gathered
-  pub told : Contains (seen events) (ByteRead None) → is_over ≡ true
-  pub at_end : is_over ≡ true → IsAtEnd reader_new
-  pub ran : (n : ℕ) (more : List ℕ) → (is_over ≡ true → more ≡ []) → core p (input ++ more) (units + n) ≡ prepended events (run (bodies p) n s more)
 
 -- ---- events
 

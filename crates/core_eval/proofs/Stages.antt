@@ -1,35 +1,20 @@
--- A run between a reader and a writer: where it stands, and how far it has come.
-use Rattle.std.proofs.Common.{◌≡◌, ℕ, ◌+◌, ◌-◌, ◌<◌, Bool, false, List, [], ◌∷◌, ◌++◌, map, Option, IfSome, refl, sym, ap, subst, arith}
+-- What a run between a reader and a writer comes to by each unit, and where it begins.
+use Rattle.std.proofs.Common.{◌≡◌, ℕ, ◌+◌, ◌-◌, ◌<◌, Bool, false, List, [], ◌∷◌, ◌++◌, Option, IfSome, refl, sym, ap, subst, arith}
 use Rattle.std.specs.Io.KnownBytes.{Keeps}
 use Rattle.std.proofs.KnownBytes.{Appends-nil, Consumes-nil}
 use Rattle.core_meaning.specs.Memory.{Content, Word}
 use Rattle.core_meaning.specs.Core.{Program, Statements}
 use Rattle.core_meaning.specs.Steps as steps
-use Rattle.core_meaning.specs.Steps.{Config, with_temp, Step}
+use Rattle.core_meaning.specs.Steps.{Config, with_temp}
 use Rattle.core_meaning.specs.Operations.{byte_word}
 use Rattle.core_meaning.specs.Meaning.{start, core}
 use Rattle.cyc_host.specs.Transfers.{WritesBut, Answers}
-use Rattle.cyc_core.specs.declared.program.Datum.{Datum}
-use Rattle.cyc_core.specs.declared.layout.Local.{Local}
-use Rattle.core_eval.specs.declared.frame.Frame as frame_code
-use Rattle.core_eval.specs.declared.memory.Memory as memory_code
 use Rattle.core_eval.specs.declared.value.Value.{Value}
-use Rattle.core_eval.specs.Values.{cells_of}
-use Rattle.core_eval.specs.Elements.{blank_object, first_object}
-use Rattle.core_eval.specs.Regions.{held_region}
-use Rattle.core_eval.specs.Blocks.{activation_of}
 use Rattle.core_eval.specs.Pendings.{Follow, Leave, Wait, Body, Next, Go, GetcharDue, PutcharDue, TurnDue, CallDue, Mark, rest_of, returned_to, coming}
-use Rattle.core_eval.specs.Standing.{Known, Agrees, Stands, StandsStill, Gives, IsCall, first_known, known_of}
-use Rattle.core_eval.proofs.Known.{known_same}
+use Rattle.core_eval.specs.Standing.{Known, Agrees, Stands, StandsStill, Gives, IsCall}
+use Rattle.core_eval.specs.Stages.{Progress, Stage}
 use Rattle.core_eval.proofs.OperationMoves.{given, agrees_given}
-use Rattle.core_eval.proofs.Progress.{Progress, settled, put_one, turned_once, called_once, wrote, kept, answered}
-
--- where a run stands, with what is left of its fuel
-pub record Stage (p : Program) (fuel left : ℕ) (is_over : Bool) (next : Next) (ws : List Wait) (known : Known) (reader_old reader writer_old writer : Option
-    (List ℕ)) (gathered : List ℕ) : Type 0 where
-  pub s : Step
-  pub stands : Stands p.main s next ws known
-  pub progress : Progress p fuel left is_over s reader_old reader writer_old writer gathered
+use Rattle.core_eval.proofs.Progress.{settled, put_one, turned_once, called_once, wrote, kept, answered}
 
 -- nothing was done as yet
 pub begun : (p : Program) (fuel : ℕ) (next : Next) (known : Known) (reader writer : Option (List ℕ)) → Stands p.main (start p) next [] known
@@ -160,10 +145,3 @@ module _ {p : Program} {fuel left : ℕ} {is_over : Bool} {ws : List Wait} {know
       (subst (λ (l : List Wait). Stage p fuel left is_over next l known' reader_old reader writer_old writer gathered') (sym w)
       (subst (λ (l : Known). Stage p fuel left is_over next ws l reader_old reader writer_old writer gathered') (sym k)
       (subst (λ (l : List ℕ). Stage p fuel left is_over next ws known reader_old reader writer_old writer l) (sym g) x)))
-
--- what is known at first
-pub first_is : (f : frame_code.Frame) (m : memory_code.Memory) (ds : List Datum) (locals : List Local) → f.temps.items ≡ [] → f.base ≡ 0 → m.blocks.items ≡ []
-    → m.entered ≡ 0 → map activation_of m.owns.items ≡ record { number = 0; objects = map blank_object locals } ∷ [] → m.called ≡ 1
-    → map cells_of m.globals.items ≡ map first_object ds → m.regions.items ≡ [] → known_of f m ≡ first_known ds locals
-first_is f m ds locals temps base blocks entered owns called globals regions =
-    known_same (known_of f m) (first_known ds locals) temps base (ap (map activation_of) blocks) entered owns called globals (ap (map held_region) regions)

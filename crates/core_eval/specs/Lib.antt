@@ -10,3 +10,4 @@ pub mod Costs
 pub mod Resting
 pub mod Evaluated
 pub mod Fetched
+pub mod Stages

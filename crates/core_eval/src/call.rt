@@ -46,14 +46,14 @@ pub fn enter_call<'p>(
     if callee.parameters as usize != arguments.len() {
         return Ok(Due::Wrong);
     }
-    let own = blank_objects(alloc, &callee.own)?;
-    memory.enter_call(own)?;
     let begun = Frame {
         temps: arguments,
         base: memory.blocks.len(),
     };
     let saved = mem::replace(frame, begun);
     wait(stack, Pending::Caller(to, function, saved))?;
+    let own = blank_objects(alloc, &callee.own)?;
+    memory.enter_call(own)?;
     Ok(Due::Go(Now::Follow(&callee.body)))
 }
 

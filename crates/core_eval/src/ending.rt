@@ -3,7 +3,7 @@
 use cyc_words::Kind;
 
 /// How a run of a program of Core ends.
-#[derive(Clone, Copy, PartialEq, Eq, Debug)]
+#[derive(Clone, Copy, Debug)]
 pub enum EvalEnding {
     /// The program ended with this status.
     Ended(i32),

@@ -30,6 +30,19 @@ pub fn wait<'p>(stack: &mut Vec<Pending<'p>>, pending: Pending<'p>) -> Result<()
     Ok(())
 }
 
+/// Puts what waits on top of the stack, and these statements are next.
+pub fn follow<'p>(
+    stack: &mut Vec<Pending<'p>>,
+    pending: Pending<'p>,
+    statements: &'p [Statement],
+) -> Result<Due<'p>, AllocError>
+    ensures next { IfOk result (λ due. next_of due ≡ Go (Follow (body_tree statements.entry.now))) }
+    ensures waits { OnOk result (waits_of stack.new.items ≡ wait_of pending.entry ∷ waits_of stack.old.items) }
+{
+    stack.push(pending)?;
+    Ok(Due::Go(Now::Follow(statements)))
+}
+
 /// Whether a value is true, if it is a word or a pointer.
 pub fn truth(value: Value) -> Option<bool>
     ensures { result ≡ truth_of value }
@@ -94,8 +107,7 @@ pub fn enter_loop<'p>(
     ensures next { IfOk result (λ due. next_of due ≡ Go (Follow (body_tree test.entry.now))) }
     ensures waits { OnOk result (waits_of stack.new.items ≡ Test (body_tree test.entry.now) flag.0 (body_tree body.entry.now) ∷ waits_of stack.old.items) }
 {
-    wait(stack, Pending::Test(test, flag, body))?;
-    Ok(Due::Go(Now::Follow(test)))
+    follow(stack, Pending::Test(test, flag, body), test)
 }
 
 /// The first move of a block: its locals hold nothing, and its statements are next.
@@ -118,8 +130,7 @@ fn enter_block<'p>(
 {
     let objects = blank_objects(alloc, locals)?;
     memory.enter_block(objects)?;
-    wait(stack, Pending::Block)?;
-    Ok(Due::Go(Now::Follow(body)))
+    follow(stack, Pending::Block, body)
 }
 
 /// The first move of a statement that a `Break` in its body ends: that body is next.
@@ -130,8 +141,7 @@ fn enter_breakable<'p>(
     ensures next { IfOk result (λ due. next_of due ≡ Go (Follow (body_tree body.entry.now))) }
     ensures waits { OnOk result (waits_of stack.new.items ≡ Breakable ∷ waits_of stack.old.items) }
 {
-    wait(stack, Pending::Breakable)?;
-    Ok(Due::Go(Now::Follow(body)))
+    follow(stack, Pending::Breakable, body)
 }
 
 /// The first move of a statement. Fails only where an operation does, no host memory is left, 2^64 - 1 blocks were entered, there would be a

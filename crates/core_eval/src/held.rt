@@ -125,11 +125,8 @@ impl Held {
         ensures { result ≡ first_of self }
     {
         match self {
-            Held::Byte(value) => value,
-            Held::Word(value) => value,
-            Held::Fat(first, _, _) => first,
-            Held::Tagged(tag, _) => tag.value(),
-            Held::TaggedFat(tag, _, _, _) => tag.value(),
+            Held::Byte(value) | Held::Word(value) | Held::Fat(value, _, _) => value,
+            Held::Tagged(tag, _) | Held::TaggedFat(tag, _, _, _) => tag.value(),
         }
     }
 
@@ -165,6 +162,7 @@ impl Held {
     pub fn with_part(self, part: u32, value: Value) -> Option<Self>
         ensures { result ≡ put_part self part value }
     {
+        let kept = Bound::kept(value);
         match self {
             Held::Byte(_) => {
                 if part == 0 {
@@ -182,20 +180,20 @@ impl Held {
             }
             Held::Fat(first, count, index) => match part {
                 0 => Some(Held::Fat(value, count, index)),
-                1 => Some(Held::Fat(first, Bound::kept(value)?, index)),
-                2 => Some(Held::Fat(first, count, Bound::kept(value)?)),
+                1 => Some(Held::Fat(first, kept?, index)),
+                2 => Some(Held::Fat(first, count, kept?)),
                 _ => None,
             },
             Held::Tagged(tag, member) => match part {
-                0 => Some(Held::Tagged(Bound::kept(value)?, member)),
+                0 => Some(Held::Tagged(kept?, member)),
                 1 => Some(Held::Tagged(tag, value)),
                 _ => None,
             },
             Held::TaggedFat(tag, first, count, index) => match part {
-                0 => Some(Held::TaggedFat(Bound::kept(value)?, first, count, index)),
+                0 => Some(Held::TaggedFat(kept?, first, count, index)),
                 1 => Some(Held::TaggedFat(tag, value, count, index)),
-                2 => Some(Held::TaggedFat(tag, first, Bound::kept(value)?, index)),
-                3 => Some(Held::TaggedFat(tag, first, count, Bound::kept(value)?)),
+                2 => Some(Held::TaggedFat(tag, first, kept?, index)),
+                3 => Some(Held::TaggedFat(tag, first, count, kept?)),
                 _ => None,
             },
         }
@@ -208,10 +206,10 @@ impl Held {
         match (self, held) {
             (Held::Byte(_), _) => Held::Byte(held.value()),
             (Held::Word(_), _) => Held::Word(held.value()),
-            (Held::Fat(_, _, _), Held::Fat(_, _, _)) => held,
+            (Held::Fat(_, _, _), Held::Fat(_, _, _))
+            | (Held::Tagged(_, _), Held::Tagged(_, _))
+            | (Held::TaggedFat(_, _, _, _), Held::TaggedFat(_, _, _, _)) => held,
             (Held::Fat(_, count, index), _) => Held::Fat(held.value(), count, index),
-            (Held::Tagged(_, _), Held::Tagged(_, _)) => held,
-            (Held::TaggedFat(_, _, _, _), Held::TaggedFat(_, _, _, _)) => held,
             (Held::TaggedFat(_, _, count, index), Held::Tagged(tag, member)) => {
                 Held::TaggedFat(tag, member, count, index)
             }

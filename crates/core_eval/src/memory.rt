@@ -3,6 +3,8 @@
 
 ghost use Rattle.std.specs.Prelude.{◌≡◌, ◌∷◌, ◌+◌, [], Some, None, false, if◌then◌else◌, drop, map, IfOk, OnOk};
 ghost use Rattle.core_eval.specs.Values.{cells_of, value_of};
+ghost use Rattle.core_eval.specs.declared.frame.Frame.{Frame as TheFrame};
+ghost use Rattle.core_eval.specs.Standing.{first_known, known_of};
 ghost use Rattle.core_eval.specs.Whole.{fill_to, is_held};
 ghost use Rattle.core_eval.specs.Blocks.{
   AreOrdered,
@@ -20,9 +22,10 @@ ghost use Rattle.core_eval.specs.Blocks.{
 
 use crate::blocks::{Block, fill_by, position_of, set_at, set_by, slot_at, slot_by};
 use crate::held::Held;
+use crate::object::{blank_objects, first_objects};
 use crate::region::{self, Region};
 use crate::value::{Area, Object, Place, Slot, Value, fill_in, put_in, slot_in, value_of};
-use cyc_core::{Variable, Width};
+use cyc_core::{Datum, Local, Variable, Width};
 use std::alloc::{AllocError, Global};
 use std::collections::VecDeque;
 
@@ -44,20 +47,15 @@ pub struct Memory {
 }
 
 impl Memory {
-    /// With these globals, the unnamed values of `main`, and no block.
-    pub fn new(alloc: Global, globals: Vec<Object>, own: Vec<Object>) -> Result<Self, AllocError>
-        ensures blocks { IfOk result (λ memory. memory.blocks.items ≡ []) }
-        ensures entered { IfOk result (λ memory. memory.entered ≡ 0) }
-        ensures owns { IfOk result (λ memory. map activation_of memory.owns.items ≡ record { number = 0; objects = map cells_of own.items } ∷ []) }
-        ensures called { IfOk result (λ memory. memory.called ≡ 1) }
-        ensures globals { IfOk result (λ memory. memory.globals ≡ globals) }
-        ensures regions { IfOk result (λ memory. memory.regions.items ≡ []) }
+    /// With these globals, the unnamed values of `main`, and no block, at the beginning of a program.
+    pub fn first(alloc: Global, globals: &[Datum], own: &[Local]) -> Result<Self, AllocError>
+        ensures { IfOk result (λ memory. (frame : TheFrame) → frame.temps.items ≡ [] → frame.base ≡ 0
+            → known_of frame memory ≡ first_known globals.now own.now) }
     {
+        let globals = first_objects(alloc, globals)?;
+        let objects = blank_objects(alloc, own)?;
         let mut owns = VecDeque::new(alloc);
-        owns.push_front(Block {
-            number: 0,
-            objects: own,
-        })?;
+        owns.push_front(Block { number: 0, objects })?;
         Ok(Memory {
             blocks: VecDeque::new(alloc),
             entered: 0,

@@ -1,9 +1,10 @@
 // Moves, up to the next unit of fuel.
 
-ghost use Rattle.std.specs.Prelude.{◌≡◌, ◌≢◌, ◌⊎◌, ◌∷◌, ◌<◌, [], IfOk, OnOk, IfErr, IfSome, IfNone};
+ghost use Rattle.std.specs.Prelude.{◌≡◌, ◌≢◌, ◌⊎◌, ◌∷◌, ◌<◌, ◌-◌, ℕ, List, [], Option, IfOk, OnOk, IfErr, IfSome, IfNone, map};
 ghost use Rattle.std.specs.Io.KnownBytes.{Appends};
+ghost use Rattle.core_meaning.specs.Core.{Program as CoreProgram};
 ghost use Rattle.core_meaning.specs.Operations.{byte_word};
-ghost use Rattle.cyc_core.specs.Trees.{body_tree, program_tree};
+ghost use Rattle.cyc_core.specs.Trees.{body_tree, function_tree, program_tree};
 ghost use Rattle.cyc_host.specs.Transfers.{Answers};
 ghost use Rattle.core_eval.specs.Pendings.{Body, Follow, Go, next_of, task_of, waits_of};
 ghost use Rattle.core_eval.specs.Standing.{StandsStill, known_of};
@@ -11,13 +12,13 @@ ghost use Rattle.core_eval.specs.Costs.{IsMove};
 ghost use Rattle.core_eval.specs.Resting.{EndsNow, IsAtRest, IsPayable};
 ghost use Rattle.core_eval.specs.Evaluated.{IsEvaluated, IsNeverStuck, Wrote, reads_failed, writes_failed};
 ghost use Rattle.core_eval.specs.Fetched.{FetchFault, fetch_reads_failed, fetch_writes_failed};
+ghost use Rattle.core_eval.specs.Stages.{Stage};
 
 use crate::call::{enter_call, start};
 use crate::ending::EvalEnding;
-use crate::enter::{enter_statement, enter_statements, wait};
+use crate::enter::{enter_statement, enter_statements, follow};
 use crate::frame::Frame;
 use crate::memory::Memory;
-use crate::object::{blank_objects, first_objects};
 use crate::operation::give;
 use crate::pending::{Due, Now, Pending};
 use crate::take::take_flow;
@@ -97,8 +98,7 @@ fn enter_turn<'p>(
     ensures next { IfOk result (λ due. next_of due ≡ Go (Follow (body_tree body.entry.now))) }
     ensures waits { OnOk result (waits_of stack.new.items ≡ Body (body_tree test.entry.now) flag.0 (body_tree body.entry.now) ∷ waits_of stack.old.items) }
 {
-    wait(stack, Pending::Body(test, flag, body))?;
-    Ok(Due::Go(Now::Follow(body)))
+    follow(stack, Pending::Body(test, flag, body), body)
 }
 
 /// The byte that was read, or -1 at the input's end.
@@ -148,6 +148,64 @@ fn finish<W: Output>(gathered: &mut Gathered, writer: &mut W, ending: EvalEnding
     }
 }
 
+/// Moves until a unit is due, and pays it: what is due then. The `Err` is the ending of the run, and all that it writes is written.
+fn pay_unit<'p, R: Input, W: Output>(
+    alloc: Global,
+    functions: &'p [Function],
+    start: Due<'p>,
+    stack: &mut Vec<Pending<'p>>,
+    frame: &mut Frame,
+    memory: &mut Memory,
+    gathered: &mut Gathered,
+    reader: &mut R,
+    writer: &mut W,
+    is_over: &mut bool,
+    left: u64,
+) -> Result<Due<'p>, EvalEnding>
+    ensures some { IfOk result (λ due. 0 < left) }
+    ensures goes_on { IfOk result (λ due. (p : CoreProgram) (fuel : ℕ) (read written : Option (List ℕ)) → map function_tree functions.entry.now ≡ p.functions
+        → Stage p fuel left is_over.old (next_of start.entry) (waits_of stack.old.items) (known_of frame.old memory.old)
+        read (R.remaining reader.old) written (W.contents writer.old) gathered.old
+        → Stage p fuel (left - 1) is_over.new (next_of due) (waits_of stack.new.items) (known_of frame.new memory.new)
+        read (R.remaining reader.new) written (W.contents writer.new) gathered.new) }
+    ensures ends { IfErr result (λ ending. (p : CoreProgram) (fuel : ℕ) (read written : Option (List ℕ))
+        → Stage p fuel left is_over.old (next_of start.entry) (waits_of stack.old.items) (known_of frame.old memory.old)
+        read (R.remaining reader.old) written (W.contents writer.old) gathered.old
+        → IsEvaluated ending p fuel read (R.remaining reader.new) written (W.contents writer.new)) }
+    ensures reads { R.fault_count reader.new ≡ fetch_reads_failed result (R.fault_count reader.old) }
+    ensures writes { W.fault_count writer.new ≡ fetch_writes_failed result (W.fault_count writer.old) }
+{
+    let Ok(rest) = advance(alloc, start, stack, frame, memory) else {
+        return Err(finish(gathered, writer, EvalEnding::HostMemory));
+    };
+    if let Some(ending) = ending_of(&rest, left) {
+        return Err(finish(gathered, writer, ending));
+    }
+    let paid = match rest {
+        Due::Getchar(to) => match fetch(gathered, reader, writer, is_over) {
+            Ok(answer) => give(frame, to, Value::Word(byte_word(answer))),
+            Err(ending) => return Err(ending),
+        },
+        Due::Putchar(to, byte) => {
+            if gathered.put(writer, byte).is_err() {
+                return Err(EvalEnding::WriteFault);
+            }
+            give(frame, to, Value::Word(byte as u32))
+        }
+        Due::Turn(test, flag, body) => enter_turn(test, flag, body, stack),
+        Due::Call(to, function, arguments) => {
+            enter_call(
+                alloc, functions, to, function, arguments, stack, frame, memory,
+            )
+        }
+        Due::Go(_) | Due::Over(_) | Due::Raised(_) | Due::Wrong => unreachable!(),
+    };
+    match paid {
+        Ok(next) => Ok(next),
+        Err(_) => Err(finish(gathered, writer, EvalEnding::HostMemory)),
+    }
+}
+
 /// Runs a program of Core by its meaning, with so many units of fuel.
 ///
 /// Ends as the definition does: with the program's status, with `Running` where a unit is due and none is left, or
@@ -175,60 +233,34 @@ pub fn evaluate_core<R: Input, W: Output>(
     ensures reads { R.fault_count reader.new ≡ reads_failed result (R.fault_count reader.old) }
     ensures writes { W.fault_count writer.new ≡ writes_failed result (W.fault_count writer.old) }
 {
+    let begin = start(program);
+    let Ok(mut memory) = Memory::first(alloc, &program.globals, begin.own) else {
+        return EvalEnding::HostMemory;
+    };
     let mut gathered = Gathered::new();
     let mut is_over = false;
     let mut stack = Vec::new(alloc);
     let mut frame = Frame::new(alloc);
-    let begin = start(program);
-    let Ok(own) = blank_objects(alloc, begin.own) else {
-        return EvalEnding::HostMemory;
-    };
-    let Ok(globals) = first_objects(alloc, &program.globals) else {
-        return EvalEnding::HostMemory;
-    };
-    let Ok(mut memory) = Memory::new(alloc, globals, own) else {
-        return EvalEnding::HostMemory;
-    };
     let mut due = begin.due;
     let mut left = fuel;
     'units: loop {
-        let Ok(rest) = advance(alloc, due, &mut stack, &mut frame, &mut memory) else {
-            return finish(&mut gathered, writer, EvalEnding::HostMemory);
-        };
-        if let Some(ending) = ending_of(&rest, left) {
-            return finish(&mut gathered, writer, ending);
+        let functions: &[Function] = &program.functions;
+        match pay_unit(
+            alloc,
+            functions,
+            due,
+            &mut stack,
+            &mut frame,
+            &mut memory,
+            &mut gathered,
+            reader,
+            writer,
+            &mut is_over,
+            left,
+        ) {
+            Ok(next) => due = next,
+            Err(ending) => return ending,
         }
         left -= 1;
-        let paid = match rest {
-            Due::Getchar(to) => match fetch(&mut gathered, reader, writer, &mut is_over) {
-                Ok(answer) => give(&mut frame, to, Value::Word(byte_word(answer))),
-                Err(ending) => return ending,
-            },
-            Due::Putchar(to, byte) => {
-                if gathered.put(writer, byte).is_err() {
-                    return EvalEnding::WriteFault;
-                }
-                give(&mut frame, to, Value::Word(byte as u32))
-            }
-            Due::Turn(test, flag, body) => enter_turn(test, flag, body, &mut stack),
-            Due::Call(to, function, arguments) => {
-                let functions: &[Function] = &program.functions;
-                enter_call(
-                    alloc,
-                    functions,
-                    to,
-                    function,
-                    arguments,
-                    &mut stack,
-                    &mut frame,
-                    &mut memory,
-                )
-            }
-            Due::Go(_) | Due::Over(_) | Due::Raised(_) | Due::Wrong => unreachable!(),
-        };
-        let Ok(next) = paid else {
-            return finish(&mut gathered, writer, EvalEnding::HostMemory);
-        };
-        due = next;
     }
 }

@@ -40,17 +40,17 @@ fn has_parts(own: Held, padding: u32, held: Held, behind: u32) -> bool
     ensures { result ≡ has_parts own padding held behind }
 {
     match (own, held) {
-        (Held::Byte(_), Held::Byte(_)) => behind <= padding,
-        (Held::Word(_), Held::Word(_)) => behind <= padding,
-        (Held::Fat(_, _, _), Held::Fat(_, _, _)) => behind <= padding,
-        (Held::Tagged(_, _), Held::Tagged(_, _)) => behind <= padding,
-        (Held::TaggedFat(_, _, _, _), Held::TaggedFat(_, _, _, _)) => behind <= padding,
-        (Held::Fat(_, _, _), Held::Word(_)) => behind == 0,
-        (Held::Fat(_, _, _), Held::Tagged(_, _)) => behind == 0,
-        (Held::Tagged(_, _), Held::Word(_)) => behind == 0,
-        (Held::TaggedFat(_, _, _, _), Held::Word(_)) => behind == 0,
-        (Held::TaggedFat(_, _, _, _), Held::Tagged(_, _)) => behind == 0,
-        (Held::TaggedFat(_, _, _, _), Held::Fat(_, _, _)) => behind == 0,
+        (Held::Byte(_), Held::Byte(_))
+        | (Held::Word(_), Held::Word(_))
+        | (Held::Fat(_, _, _), Held::Fat(_, _, _))
+        | (Held::Tagged(_, _), Held::Tagged(_, _))
+        | (Held::TaggedFat(_, _, _, _), Held::TaggedFat(_, _, _, _)) => behind <= padding,
+        (Held::Fat(_, _, _), Held::Word(_))
+        | (Held::Fat(_, _, _), Held::Tagged(_, _))
+        | (Held::Tagged(_, _), Held::Word(_))
+        | (Held::TaggedFat(_, _, _, _), Held::Word(_))
+        | (Held::TaggedFat(_, _, _, _), Held::Tagged(_, _))
+        | (Held::TaggedFat(_, _, _, _), Held::Fat(_, _, _)) => behind == 0,
         _ => false,
     }
 }
@@ -172,12 +172,11 @@ fn held_as(form: Held, held: Held) -> Held
     match form {
         Held::Byte(_) => Held::Byte(held.value()),
         Held::Word(_) => Held::Word(held.value()),
-        Held::Fat(_, _, _) => held,
         Held::Tagged(_, _) => match held {
             Held::TaggedFat(tag, member, _, _) => Held::Tagged(tag, member),
             _ => held,
         },
-        Held::TaggedFat(_, _, _, _) => held,
+        Held::Fat(_, _, _) | Held::TaggedFat(_, _, _, _) => held,
     }
 }
 

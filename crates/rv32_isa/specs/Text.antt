@@ -1,8 +1,9 @@
 -- The assembler's text of the instructions, with numbers decimal and no pseudoinstructions.
-use Rattle.std.specs.Prelude.{ℕ, ℤ, List, ◌++◌, codes}
+use Rattle.std.specs.Prelude.{ℕ, ℤ, ◌%◌, List, ◌++◌, codes, nat_eq, if◌then◌else◌}
 use Rattle.std.specs.Fmt.{decimal, signed_decimal}
 use Rattle.rv32_isa.specs.declared.instruction.Instr.{Instr}
 use Rattle.rv32_isa.specs.declared.instruction.Instr.TheVariants.{Lui, Auipc, Jal, Jalr, Beq, Bne, Blt, Bge, Bltu, Bgeu, Lb, Lh, Lw, Lbu, Lhu, Sb, Sh, Sw, Addi, Slti, Sltiu, Xori, Ori, Andi, Slli, Srli, Srai, Add, Sub, Sll, Slt, Sltu, Xor, Srl, Sra, Or, And, Fence, Ecall, Ebreak, Mul, Mulh, Mulhsu, Mulhu, Div, Divu, Rem, Remu}
+use Rattle.rv32_isa.specs.Words.{Layout, RType, IType, SType, BType, UType, JType, FenceType, Alone}
 use Rattle.rv32_isa.specs.declared.text.Operands.{Operands}
 use Rattle.rv32_isa.specs.declared.text.Operands.TheVariants.{Upper, Jump, Address, Branch, Immediate, Shift, Bits, Registers, Nothing}
 
@@ -45,6 +46,17 @@ parts_text name (Shift rd rs1 n) = number_text name rd rs1 n
 parts_text name (Bits rd rs1 n) = number_text name rd rs1 n
 parts_text name (Registers rd rs1 rs2) = registers_text name rd rs1 rs2
 parts_text name Nothing = name
+
+-- what stands behind the name, by the layout of the word: a computation with a constant shows it, and a load an address
+abbrev pub operands_in : Layout → Operands
+operands_in (RType value rd rs1 rs2) = (if nat_eq (value % 128) 0x13 then Shift rd rs1 rs2 else Registers rd rs1 rs2)
+operands_in (IType value rd rs1 imm) = (if nat_eq (value % 128) 0x13 then Immediate rd rs1 imm else Address rd imm rs1)
+operands_in (SType value rs1 rs2 imm) = Address rs2 imm rs1
+operands_in (BType value rs1 rs2 offset) = Branch rs1 rs2 offset
+operands_in (UType value rd imm) = Upper rd imm
+operands_in (JType value rd offset) = Jump rd offset
+operands_in (FenceType value rd rs1 upper) = Bits rd rs1 upper
+operands_in (Alone value) = Nothing
 
 -- the text of an instruction, in the table's order; a store's data register stands before its base
 abbrev pub instr_text : Instr → List ℕ

@@ -1,7 +1,8 @@
 //! The text of instructions, as an assembler reads them.
 ghost use Rattle.std.specs.Prelude.{◌≡◌, Some};
 ghost use Rattle.std.specs.Fmt.{DisplaysOnOk};
-ghost use Rattle.rv32_isa.specs.Text.{register_text, registers_text, number_text, signed_text, memory_text, upper_text, jump_text, parts_text, instr_text};
+ghost use Rattle.rv32_isa.specs.Text.{register_text, registers_text, number_text, signed_text, memory_text, upper_text, jump_text, parts_text, operands_in, instr_text};
+ghost use Rattle.rv32_isa.specs.Words.{layout};
 
 use crate::immediates::{BranchOffset, JumpOffset, Signed12};
 use crate::instruction::Instr;
@@ -100,59 +101,115 @@ enum Operands {
     Nothing,
 }
 
-// The name of an instruction, and what stands behind it.
-fn parts(instr: Instr) -> (&'static str, Operands)
-    ensures { parts_text result.0.now result.1 ≡ instr_text instr }
+// The name of an instruction.
+fn name_of(instr: Instr) -> &'static str
+    ensures { parts_text result.now (operands_in (layout instr)) ≡ instr_text instr }
 {
     match instr {
-        Instr::Lui(rd, imm) => ("lui", Operands::Upper(rd, imm)),
-        Instr::Auipc(rd, imm) => ("auipc", Operands::Upper(rd, imm)),
-        Instr::Jal(rd, offset) => ("jal", Operands::Jump(rd, offset)),
-        Instr::Jalr(rd, rs1, imm) => ("jalr", Operands::Address(rd, imm, rs1)),
-        Instr::Beq(rs1, rs2, offset) => ("beq", Operands::Branch(rs1, rs2, offset)),
-        Instr::Bne(rs1, rs2, offset) => ("bne", Operands::Branch(rs1, rs2, offset)),
-        Instr::Blt(rs1, rs2, offset) => ("blt", Operands::Branch(rs1, rs2, offset)),
-        Instr::Bge(rs1, rs2, offset) => ("bge", Operands::Branch(rs1, rs2, offset)),
-        Instr::Bltu(rs1, rs2, offset) => ("bltu", Operands::Branch(rs1, rs2, offset)),
-        Instr::Bgeu(rs1, rs2, offset) => ("bgeu", Operands::Branch(rs1, rs2, offset)),
-        Instr::Lb(rd, rs1, imm) => ("lb", Operands::Address(rd, imm, rs1)),
-        Instr::Lh(rd, rs1, imm) => ("lh", Operands::Address(rd, imm, rs1)),
-        Instr::Lw(rd, rs1, imm) => ("lw", Operands::Address(rd, imm, rs1)),
-        Instr::Lbu(rd, rs1, imm) => ("lbu", Operands::Address(rd, imm, rs1)),
-        Instr::Lhu(rd, rs1, imm) => ("lhu", Operands::Address(rd, imm, rs1)),
-        Instr::Sb(rs1, rs2, imm) => ("sb", Operands::Address(rs2, imm, rs1)),
-        Instr::Sh(rs1, rs2, imm) => ("sh", Operands::Address(rs2, imm, rs1)),
-        Instr::Sw(rs1, rs2, imm) => ("sw", Operands::Address(rs2, imm, rs1)),
-        Instr::Addi(rd, rs1, imm) => ("addi", Operands::Immediate(rd, rs1, imm)),
-        Instr::Slti(rd, rs1, imm) => ("slti", Operands::Immediate(rd, rs1, imm)),
-        Instr::Sltiu(rd, rs1, imm) => ("sltiu", Operands::Immediate(rd, rs1, imm)),
-        Instr::Xori(rd, rs1, imm) => ("xori", Operands::Immediate(rd, rs1, imm)),
-        Instr::Ori(rd, rs1, imm) => ("ori", Operands::Immediate(rd, rs1, imm)),
-        Instr::Andi(rd, rs1, imm) => ("andi", Operands::Immediate(rd, rs1, imm)),
-        Instr::Slli(rd, rs1, count) => ("slli", Operands::Shift(rd, rs1, count)),
-        Instr::Srli(rd, rs1, count) => ("srli", Operands::Shift(rd, rs1, count)),
-        Instr::Srai(rd, rs1, count) => ("srai", Operands::Shift(rd, rs1, count)),
-        Instr::Add(rd, rs1, rs2) => ("add", Operands::Registers(rd, rs1, rs2)),
-        Instr::Sub(rd, rs1, rs2) => ("sub", Operands::Registers(rd, rs1, rs2)),
-        Instr::Sll(rd, rs1, rs2) => ("sll", Operands::Registers(rd, rs1, rs2)),
-        Instr::Slt(rd, rs1, rs2) => ("slt", Operands::Registers(rd, rs1, rs2)),
-        Instr::Sltu(rd, rs1, rs2) => ("sltu", Operands::Registers(rd, rs1, rs2)),
-        Instr::Xor(rd, rs1, rs2) => ("xor", Operands::Registers(rd, rs1, rs2)),
-        Instr::Srl(rd, rs1, rs2) => ("srl", Operands::Registers(rd, rs1, rs2)),
-        Instr::Sra(rd, rs1, rs2) => ("sra", Operands::Registers(rd, rs1, rs2)),
-        Instr::Or(rd, rs1, rs2) => ("or", Operands::Registers(rd, rs1, rs2)),
-        Instr::And(rd, rs1, rs2) => ("and", Operands::Registers(rd, rs1, rs2)),
-        Instr::Fence(rd, rs1, bits) => ("fence", Operands::Bits(rd, rs1, bits)),
-        Instr::Ecall => ("ecall", Operands::Nothing),
-        Instr::Ebreak => ("ebreak", Operands::Nothing),
-        Instr::Mul(rd, rs1, rs2) => ("mul", Operands::Registers(rd, rs1, rs2)),
-        Instr::Mulh(rd, rs1, rs2) => ("mulh", Operands::Registers(rd, rs1, rs2)),
-        Instr::Mulhsu(rd, rs1, rs2) => ("mulhsu", Operands::Registers(rd, rs1, rs2)),
-        Instr::Mulhu(rd, rs1, rs2) => ("mulhu", Operands::Registers(rd, rs1, rs2)),
-        Instr::Div(rd, rs1, rs2) => ("div", Operands::Registers(rd, rs1, rs2)),
-        Instr::Divu(rd, rs1, rs2) => ("divu", Operands::Registers(rd, rs1, rs2)),
-        Instr::Rem(rd, rs1, rs2) => ("rem", Operands::Registers(rd, rs1, rs2)),
-        Instr::Remu(rd, rs1, rs2) => ("remu", Operands::Registers(rd, rs1, rs2)),
+        Instr::Lui(..) => "lui",
+        Instr::Auipc(..) => "auipc",
+        Instr::Jal(..) => "jal",
+        Instr::Jalr(..) => "jalr",
+        Instr::Beq(..) => "beq",
+        Instr::Bne(..) => "bne",
+        Instr::Blt(..) => "blt",
+        Instr::Bge(..) => "bge",
+        Instr::Bltu(..) => "bltu",
+        Instr::Bgeu(..) => "bgeu",
+        Instr::Lb(..) => "lb",
+        Instr::Lh(..) => "lh",
+        Instr::Lw(..) => "lw",
+        Instr::Lbu(..) => "lbu",
+        Instr::Lhu(..) => "lhu",
+        Instr::Sb(..) => "sb",
+        Instr::Sh(..) => "sh",
+        Instr::Sw(..) => "sw",
+        Instr::Addi(..) => "addi",
+        Instr::Slti(..) => "slti",
+        Instr::Sltiu(..) => "sltiu",
+        Instr::Xori(..) => "xori",
+        Instr::Ori(..) => "ori",
+        Instr::Andi(..) => "andi",
+        Instr::Slli(..) => "slli",
+        Instr::Srli(..) => "srli",
+        Instr::Srai(..) => "srai",
+        Instr::Add(..) => "add",
+        Instr::Sub(..) => "sub",
+        Instr::Sll(..) => "sll",
+        Instr::Slt(..) => "slt",
+        Instr::Sltu(..) => "sltu",
+        Instr::Xor(..) => "xor",
+        Instr::Srl(..) => "srl",
+        Instr::Sra(..) => "sra",
+        Instr::Or(..) => "or",
+        Instr::And(..) => "and",
+        Instr::Fence(..) => "fence",
+        Instr::Ecall => "ecall",
+        Instr::Ebreak => "ebreak",
+        Instr::Mul(..) => "mul",
+        Instr::Mulh(..) => "mulh",
+        Instr::Mulhsu(..) => "mulhsu",
+        Instr::Mulhu(..) => "mulhu",
+        Instr::Div(..) => "div",
+        Instr::Divu(..) => "divu",
+        Instr::Rem(..) => "rem",
+        Instr::Remu(..) => "remu",
+    }
+}
+
+// What stands behind the name of an instruction.
+fn operands_of(instr: Instr) -> Operands
+    ensures { result ≡ operands_in (layout instr) }
+{
+    match instr {
+        Instr::Lui(rd, imm) => Operands::Upper(rd, imm),
+        Instr::Auipc(rd, imm) => Operands::Upper(rd, imm),
+        Instr::Jal(rd, offset) => Operands::Jump(rd, offset),
+        Instr::Jalr(rd, rs1, imm) => Operands::Address(rd, imm, rs1),
+        Instr::Beq(rs1, rs2, offset) => Operands::Branch(rs1, rs2, offset),
+        Instr::Bne(rs1, rs2, offset) => Operands::Branch(rs1, rs2, offset),
+        Instr::Blt(rs1, rs2, offset) => Operands::Branch(rs1, rs2, offset),
+        Instr::Bge(rs1, rs2, offset) => Operands::Branch(rs1, rs2, offset),
+        Instr::Bltu(rs1, rs2, offset) => Operands::Branch(rs1, rs2, offset),
+        Instr::Bgeu(rs1, rs2, offset) => Operands::Branch(rs1, rs2, offset),
+        Instr::Lb(rd, rs1, imm) => Operands::Address(rd, imm, rs1),
+        Instr::Lh(rd, rs1, imm) => Operands::Address(rd, imm, rs1),
+        Instr::Lw(rd, rs1, imm) => Operands::Address(rd, imm, rs1),
+        Instr::Lbu(rd, rs1, imm) => Operands::Address(rd, imm, rs1),
+        Instr::Lhu(rd, rs1, imm) => Operands::Address(rd, imm, rs1),
+        Instr::Sb(rs1, rs2, imm) => Operands::Address(rs2, imm, rs1),
+        Instr::Sh(rs1, rs2, imm) => Operands::Address(rs2, imm, rs1),
+        Instr::Sw(rs1, rs2, imm) => Operands::Address(rs2, imm, rs1),
+        Instr::Addi(rd, rs1, imm) => Operands::Immediate(rd, rs1, imm),
+        Instr::Slti(rd, rs1, imm) => Operands::Immediate(rd, rs1, imm),
+        Instr::Sltiu(rd, rs1, imm) => Operands::Immediate(rd, rs1, imm),
+        Instr::Xori(rd, rs1, imm) => Operands::Immediate(rd, rs1, imm),
+        Instr::Ori(rd, rs1, imm) => Operands::Immediate(rd, rs1, imm),
+        Instr::Andi(rd, rs1, imm) => Operands::Immediate(rd, rs1, imm),
+        Instr::Slli(rd, rs1, count) => Operands::Shift(rd, rs1, count),
+        Instr::Srli(rd, rs1, count) => Operands::Shift(rd, rs1, count),
+        Instr::Srai(rd, rs1, count) => Operands::Shift(rd, rs1, count),
+        Instr::Add(rd, rs1, rs2) => Operands::Registers(rd, rs1, rs2),
+        Instr::Sub(rd, rs1, rs2) => Operands::Registers(rd, rs1, rs2),
+        Instr::Sll(rd, rs1, rs2) => Operands::Registers(rd, rs1, rs2),
+        Instr::Slt(rd, rs1, rs2) => Operands::Registers(rd, rs1, rs2),
+        Instr::Sltu(rd, rs1, rs2) => Operands::Registers(rd, rs1, rs2),
+        Instr::Xor(rd, rs1, rs2) => Operands::Registers(rd, rs1, rs2),
+        Instr::Srl(rd, rs1, rs2) => Operands::Registers(rd, rs1, rs2),
+        Instr::Sra(rd, rs1, rs2) => Operands::Registers(rd, rs1, rs2),
+        Instr::Or(rd, rs1, rs2) => Operands::Registers(rd, rs1, rs2),
+        Instr::And(rd, rs1, rs2) => Operands::Registers(rd, rs1, rs2),
+        Instr::Fence(rd, rs1, bits) => Operands::Bits(rd, rs1, bits),
+        Instr::Ecall => Operands::Nothing,
+        Instr::Ebreak => Operands::Nothing,
+        Instr::Mul(rd, rs1, rs2) => Operands::Registers(rd, rs1, rs2),
+        Instr::Mulh(rd, rs1, rs2) => Operands::Registers(rd, rs1, rs2),
+        Instr::Mulhsu(rd, rs1, rs2) => Operands::Registers(rd, rs1, rs2),
+        Instr::Mulhu(rd, rs1, rs2) => Operands::Registers(rd, rs1, rs2),
+        Instr::Div(rd, rs1, rs2) => Operands::Registers(rd, rs1, rs2),
+        Instr::Divu(rd, rs1, rs2) => Operands::Registers(rd, rs1, rs2),
+        Instr::Rem(rd, rs1, rs2) => Operands::Registers(rd, rs1, rs2),
+        Instr::Remu(rd, rs1, rs2) => Operands::Registers(rd, rs1, rs2),
     }
 }
 
@@ -160,8 +217,7 @@ impl fmt::Display for Instr {
     ghost output = { λ i. Some (instr_text i) };
 
     fn fmt<W: fmt::Write>(&self, f: &mut fmt::Formatter<W>) -> fmt::Result {
-        let (name, operands) = parts(*self);
-        write_parts(f, name, operands)
+        write_parts(f, name_of(*self), operands_of(*self))
     }
 }
 

@@ -32,9 +32,8 @@ returns c =
     let f = c.args.frame.now in
     let m = c.args.memory.now in
     let m' = c.enter_call.new.self in
-    let counted : c.len-2.result ≡ length m'.blocks.items = search rules in
-    let outside : c.len-2.result ≡ length (map activation_of m.blocks.items) =
-    counted ∙ ap (λ bs. length bs.items) c.in_ok-enter_call.ensures.blocks ∙ sym (length-map m.blocks.items activation_of) in
+    let counted : c.len-2.result ≡ length m.blocks.items = search rules in
+    let outside : c.len-2.result ≡ length (map activation_of m.blocks.items) = counted ∙ sym (length-map m.blocks.items activation_of) in
     call_as (map function_tree c.args.functions.now) (optional_tree c.args.to) c.args.function (map content_of c.args.arguments.items) ws
     (known_of f m) _ _ _ _ _ _
     (ap (λ b. Go (Follow (body_tree b))) c.deref-2.ensures.value)

@@ -2,7 +2,7 @@ use Rattle.std.proofs.Common.{◌≡◌}
 use Rattle.core_eval.specs.Pendings.{next_of, waits_of}
 use Rattle.cyc_core.specs.Trees.{program_tree}
 use Rattle.core_eval.specs.Standing.{known_of}
-use Rattle.core_eval.proofs.Stages.{Stage}
+use Rattle.core_eval.specs.Stages.{Stage}
 use Rattle.core_eval.proofs.running.evaluate_core.Given as goal
 
 abbrev pub invariant-units : goal.invariant-units

@@ -29,9 +29,6 @@ pub none_set : (bs : List Bool) → no_flags (length bs) ≡ cleared bs
 none_set [] = refl
 none_set (b ∷ bs) = ap (λ flags. false ∷ flags) (none_set bs)
 
-pub none_behind : (bs : List Bool) (n : ℕ) → length bs < n → [] ≡ drop n bs
-none_behind bs n less = sym (drop_all n bs (omega (arith, less)))
-
 -- ---- those that are true in one list or the other
 
 or_none : (b : Bool) → (b || false) ≡ b

@@ -22,10 +22,11 @@ bytes_with (suc h) l some = omega arith
 
 -- the lines of a load or a store of a local, where it lies in the frame and where it has a home
 module _ (keeps : Bool) (u : Surroundings) (t width offset : ℕ) where
-  pub got_without : (before after : List Line) (h : ℕ) → h ≡ 0
-      → after ≡ before ++ read_code (result_register t) width 2 offset ++ keep_result keeps u t → after ≡ before ++ get_code keeps u h t width offset
-  got_without before after zero none a = a ∙ append_assoc before (read_code (result_register t) width 2 offset) (keep_result keeps u t)
-  got_without before after (suc h) none a = absurd (omega (arith, none))
+  pub got_without : (before loaded after : List Line) (h : ℕ) → h ≡ 0 → loaded ≡ before ++ read_code (result_register t) width 2 offset
+      → after ≡ loaded ++ keep_result keeps u t → after ≡ before ++ get_code keeps u h t width offset
+  got_without before loaded after zero none l a =
+      a ∙ ap (λ lines. lines ++ keep_result keeps u t) l ∙ append_assoc before (read_code (result_register t) width 2 offset) (keep_result keeps u t)
+  got_without before loaded after (suc h) none l a = absurd (omega (arith, none))
 
   pub got_with : (before after : List Line) (home h : ℕ) → home ≡ h → 0 < home → after ≡ before ++ keep_code keeps u.passed home t
       → after ≡ before ++ get_code keeps u h t width offset
@@ -33,10 +34,11 @@ module _ (keeps : Bool) (u : Surroundings) (t width offset : ℕ) where
   got_with before after home (suc h) is some a = a ∙ ap (λ r. before ++ keep_code keeps u.passed r t) is
 
 module _ (u : Surroundings) (width offset t : ℕ) where
-  pub stored_without : (before after : List Line) (h : ℕ) → h ≡ 0 → after ≡ before ++ operand u 6 t ++ write_code (has_operand u 6 t) width 2 offset
-      → after ≡ before ++ put_code u h width offset t
-  stored_without before after zero none a = a ∙ append_assoc before (operand u 6 t) (write_code (has_operand u 6 t) width 2 offset)
-  stored_without before after (suc h) none a = absurd (omega (arith, none))
+  pub stored_without : (before loaded after : List Line) (value h : ℕ) → h ≡ 0 → loaded ≡ before ++ operand u 6 t → value ≡ has_operand u 6 t
+      → after ≡ loaded ++ write_code value width 2 offset → after ≡ before ++ put_code u h width offset t
+  stored_without before loaded after value zero none l v a =
+      a ∙ (λ i. l i ++ write_code (v i) width 2 offset) ∙ append_assoc before (operand u 6 t) (write_code (has_operand u 6 t) width 2 offset)
+  stored_without before loaded after value (suc h) none l v a = absurd (omega (arith, none))
 
   pub stored_with : (before after : List Line) (home h : ℕ) → home ≡ h → 0 < home
       → after ≡ before ++ (if nat_eq width 1 then byte_code u home t else into_code u.passed u.held home t) → after ≡ before ++ put_code u h width offset t
@@ -94,9 +96,6 @@ offsets_more at next i l rest here hs is e =
     ap (λ ls. offsets_from at (shrunk ls (drop i hs))) (sym is)
 
 -- ---- the first homes of a list
-
-pub all_before : (hs : List ℕ) (n : ℕ) → length hs < n → [] ≡ drop n hs
-all_before hs n less = sym (drop_all n hs (omega (arith, less)))
 
 pub first_are : (ls : List Local) (hs : List ℕ) → first_homes (length ls) hs ≡ homes_here ls hs
 first_are [] hs = refl

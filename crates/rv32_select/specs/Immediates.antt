@@ -1,4 +1,4 @@
--- Instructions with a number in them that do an operation on a register.
+-- One instruction or two that do an operation on a register and a number, or on two registers.
 use Rattle.std.specs.Prelude.{ℕ, List, [], ◌∷◌, ◌++◌, Option, Some, None, Bool, true, false}
 use Rattle.core_meaning.specs.Core as core
 use Rattle.core_lines.specs.Held.{source_of}
@@ -7,12 +7,12 @@ use Rattle.core_lines.specs.declared.line.Line.{Line}
 use Rattle.core_lines.specs.declared.line.Line.TheVariants.{Plain}
 use Rattle.cyc_core.specs.declared.operation.Binary.{Binary}
 use Rattle.cyc_core.specs.declared.operation.Binary.TheVariants as binary
-use Rattle.rv32_select.specs.declared.immediates.Immediate.{Immediate}
-use Rattle.rv32_select.specs.declared.immediates.Immediate.TheVariants.{One, Two}
+use Rattle.rv32_select.specs.declared.immediates.Instructions.{Instructions}
+use Rattle.rv32_select.specs.declared.immediates.Instructions.TheVariants.{One, Two}
 
-abbrev pub immediate_lines : Immediate → List Line
-immediate_lines (One first) = Plain first ∷ []
-immediate_lines (Two first second) = Plain first ∷ Plain second ∷ []
+abbrev pub instruction_lines : Instructions → List Line
+instruction_lines (One first) = Plain first ∷ []
+instruction_lines (Two first second) = Plain first ∷ Plain second ∷ []
 
 -- shifts, and the tests of whether two words are equal
 abbrev pub is_shift : Binary → Bool

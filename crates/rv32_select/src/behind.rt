@@ -6,6 +6,7 @@ ghost use Rattle.core_lines.specs.Selected.{holding};
 ghost use Rattle.cyc_core.specs.Trees.{operation_tree};
 ghost use Rattle.rv32_select.specs.Places.{surroundings};
 
+use crate::held::Source;
 use crate::place::{HEAP, Place};
 use cyc_core::Operation;
 use std::alloc::AllocError;
@@ -18,19 +19,21 @@ pub fn hold_behind(place: &mut Place, operation: Operation) -> Result<(), AllocE
     ensures homes { place.new.homes.items ≡ place.old.homes.items }
 {
     match operation {
-        Operation::Constant(to, word) => place.held.hold_number(to, u64::from(word)),
-        Operation::NullPointer(to) | Operation::HeapHandle(to) => place.held.hold_number(to, HEAP),
+        Operation::Constant(to, word) => place.held.hold(to, Source::Number(u64::from(word))),
+        Operation::NullPointer(to) | Operation::HeapHandle(to) => {
+            place.held.hold(to, Source::Number(HEAP))
+        }
         Operation::DataAddress(to, object) => {
             let address = place.data_address(object)?;
-            place.held.hold_number(to, address)
+            place.held.hold(to, Source::Number(address))
         }
         Operation::Move(to, from) => place.held.hold_moved(to, from),
         Operation::Get(to, variable, _) => {
-            let home = place.home(variable);
+            let (_, home) = place.local(variable);
             place.held.hold_local(to, home)
         }
         Operation::Put(variable, _, _) => {
-            let home = place.home(variable);
+            let (_, home) = place.local(variable);
             place.held.forget_local(home);
             Ok(())
         }

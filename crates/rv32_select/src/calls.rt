@@ -1,6 +1,6 @@
 // Instructions for calls and returns.
 
-ghost use Rattle.std.specs.Prelude.{◌≡◌, ◌+◌, ◌<◌, ◌++◌, [], ◌∷◌, OnOk, IfOk, map, drop, length};
+ghost use Rattle.std.specs.Prelude.{◌≡◌, ◌+◌, ◌<◌, ◌++◌, [], OnOk, IfOk, map, drop, length};
 ghost use Rattle.core_lines.specs.Held.{with_results};
 ghost use Rattle.core_lines.specs.Homes.{flag_at};
 ghost use Rattle.core_lines.specs.Operands.{keep_code, pass_code, result_code, call_code, values_code, return_code};
@@ -65,24 +65,6 @@ fn put_next(
     Ok(())
 }
 
-/// Appends the saves of a call's three results.
-fn put_three_results(
-    lines: &mut Vec<Line>,
-    place: &mut Place,
-    first: Temporary,
-    count: Temporary,
-    index: Temporary,
-) -> Result<(), AllocError>
-    ensures code { OnOk result (lines.new.items ≡ lines.old.items
-        ++ result_code (saves_left place.old) place.old.passed 9 (first.0 ∷ count.0 ∷ index.0 ∷ [])) }
-    ensures saves { OnOk result (saves_left place.new ≡ drop 3 (saves_left place.old)) }
-    ensures same { surroundings place.new ≡ surroundings place.old }
-{
-    put_next(lines, place, Register::ARGUMENT_0, first)?;
-    put_next(lines, place, Register::ARGUMENT_1, count)?;
-    put_next(lines, place, Register::ARGUMENT_2, index)
-}
-
 /// Appends the saves of a call's result, which comes in the registers of arguments.
 fn put_results(
     lines: &mut Vec<Line>,
@@ -96,7 +78,9 @@ fn put_results(
     match to {
         Some(Words::One(to)) => put_next(lines, place, Register::ARGUMENT_0, to),
         Some(Words::Three(first, count, index)) => {
-            put_three_results(lines, place, first, count, index)
+            put_next(lines, place, Register::ARGUMENT_0, first)?;
+            put_next(lines, place, Register::ARGUMENT_1, count)?;
+            put_next(lines, place, Register::ARGUMENT_2, index)
         }
         None => Ok(()),
     }
@@ -130,26 +114,6 @@ pub fn hold_called(place: &mut Place, to: Option<Words>) -> Result<(), AllocErro
     place.held.hold_results(to)
 }
 
-/// Appends what puts the three words of a function's result into the registers in which it comes.
-fn put_three(
-    lines: &mut Vec<Line>,
-    place: &mut Place,
-    first: Temporary,
-    count: Temporary,
-    index: Temporary,
-) -> Result<(), AllocError>
-    ensures code { OnOk result (lines.new.items ≡ lines.old.items
-        ++ values_code place.old.passed place.old.held 9 (first.0 ∷ count.0 ∷ index.0 ∷ [])) }
-    ensures same { surroundings place.new ≡ holding place.new.held (surroundings place.old) }
-    ensures saves { place.new.saves.items ≡ place.old.saves.items }
-{
-    put_into(lines, place, Register::ARGUMENT_0, first)?;
-    place.held.forget_register(Register::ARGUMENT_0);
-    put_into(lines, place, Register::ARGUMENT_1, count)?;
-    place.held.forget_register(Register::ARGUMENT_1);
-    put_into(lines, place, Register::ARGUMENT_2, index)
-}
-
 /// Appends what puts a function's result into the registers in which it comes.
 fn put_values(
     lines: &mut Vec<Line>,
@@ -162,7 +126,13 @@ fn put_values(
 {
     match value {
         Some(Words::One(from)) => put_into(lines, place, Register::ARGUMENT_0, from),
-        Some(Words::Three(first, count, index)) => put_three(lines, place, first, count, index),
+        Some(Words::Three(first, count, index)) => {
+            put_into(lines, place, Register::ARGUMENT_0, first)?;
+            place.held.forget_register(Register::ARGUMENT_0);
+            put_into(lines, place, Register::ARGUMENT_1, count)?;
+            place.held.forget_register(Register::ARGUMENT_1);
+            put_into(lines, place, Register::ARGUMENT_2, index)
+        }
         None => Ok(()),
     }
 }

@@ -1,11 +1,12 @@
 // Instructions for single steps.
 
-ghost use Rattle.std.specs.Prelude.{◌≡◌, ◌+◌, ◌*◌, ◌<◌, ◌^◌, [], ◌∷◌, ◌++◌, length, vec_len, IfOk, OnOk};
+ghost use Rattle.std.specs.Prelude.{◌≡◌, ◌*◌, ◌<◌, [], ◌∷◌, ◌++◌, IfOk, OnOk};
 ghost use Rattle.core_lines.specs.declared.line.Line.TheVariants.{Plain};
 ghost use Rattle.core_lines.specs.Frames.{upper_of, lower_of, is_short, word_code, load_code, save_code, environment_code};
 ghost use Rattle.core_lines.specs.Operands.{number_code, copied_code};
 ghost use Rattle.core_lines.specs.Selected.{address_code, further_code, far_code, read_line, read_code, write_line, write_code};
 ghost use Rattle.cyc_core.specs.Trees.{bytes_of};
+ghost use Rattle.rv32_isa.specs.declared.instruction.Instr.TheVariants.{Lui, Addi};
 
 use core_lines::Line;
 use cyc_core::Width;
@@ -28,10 +29,28 @@ pub fn put(lines: &mut Vec<Line>, instruction: Instr) -> Result<(), AllocError>
     Ok(())
 }
 
+/// Appends two instructions.
+pub fn put_two(lines: &mut Vec<Line>, first: Instr, second: Instr) -> Result<(), AllocError>
+    ensures { OnOk result (lines.new.items ≡ lines.old.items ++ Plain first ∷ Plain second ∷ []) }
+{
+    lines.extend_from_slice(&[Line::Plain(first), Line::Plain(second)])
+}
+
+/// Appends three instructions.
+pub fn put_three(
+    lines: &mut Vec<Line>,
+    first: Instr,
+    second: Instr,
+    third: Instr,
+) -> Result<(), AllocError>
+    ensures { OnOk result (lines.new.items ≡ lines.old.items ++ Plain first ∷ Plain second ∷ Plain third ∷ []) }
+{
+    lines.extend_from_slice(&[Line::Plain(first), Line::Plain(second), Line::Plain(third)])
+}
+
 /// Appends lines.
 pub fn put_lines(lines: &mut Vec<Line>, more: &[Line]) -> Result<(), AllocError>
-    ensures code { OnOk result (lines.new.items ≡ lines.old.items ++ more.now) }
-    ensures grows { OnOk result (vec_len lines.new ≡ vec_len lines.old + length more.now) }
+    ensures { OnOk result (lines.new.items ≡ lines.old.items ++ more.now) }
 {
     lines.extend_from_slice(more)
 }
@@ -59,12 +78,21 @@ pub fn is_short(word: u64) -> bool
     word < 2048 || word >= 0xffff_f800
 }
 
+/// The two instructions that put a word into a register.
+pub fn word_instructions(to: Register, word: u64) -> (Instr, Instr)
+    ensures upper { result.0 ≡ Lui to (upper_of word) }
+    ensures lower { result.1 ≡ Addi to to (lower_of word) }
+{
+    let (high, low) = (upper(word), lower(word));
+    (Instr::Lui(to, high), Instr::Addi(to, to, low))
+}
+
 /// Appends what puts a word into a register, by two instructions.
 pub fn put_word(lines: &mut Vec<Line>, to: Register, word: u64) -> Result<(), AllocError>
     ensures { OnOk result (lines.new.items ≡ lines.old.items ++ word_code to word) }
 {
-    put(lines, Instr::Lui(to, upper(word)))?;
-    put(lines, Instr::Addi(to, to, lower(word)))
+    let (first, second) = word_instructions(to, word);
+    put_two(lines, first, second)
 }
 
 /// Appends what puts a word into a register, by one instruction where that is enough.
@@ -100,8 +128,8 @@ pub fn put_address(lines: &mut Vec<Line>, to: Register, distance: u64) -> Result
     if is_short(distance) {
         put(lines, Instr::Addi(to, pointer, lower(distance)))
     } else {
-        put_word(lines, to, distance)?;
-        put(lines, Instr::Add(to, to, pointer))
+        let (first, second) = word_instructions(to, distance);
+        put_three(lines, first, second, Instr::Add(to, to, pointer))
     }
 }
 
@@ -117,17 +145,22 @@ pub fn put_further(
     if is_short(bytes) {
         put(lines, Instr::Addi(to, from, lower(bytes)))
     } else {
-        put_word(lines, ADDRESS, bytes)?;
-        put(lines, Instr::Add(to, ADDRESS, from))
+        let (first, second) = word_instructions(ADDRESS, bytes);
+        put_three(lines, first, second, Instr::Add(to, ADDRESS, from))
     }
 }
 
-/// Appends what computes the base of what lies far from an address in a register.
-fn put_far(lines: &mut Vec<Line>, from: Register, distance: u64) -> Result<(), AllocError>
-    ensures { OnOk result (lines.new.items ≡ lines.old.items ++ far_code from distance) }
+/// Appends what computes the base of what lies far from an address in a register, and an instruction on that.
+fn put_far(
+    lines: &mut Vec<Line>,
+    from: Register,
+    distance: u64,
+    next: Instr,
+) -> Result<(), AllocError>
+    ensures { OnOk result (lines.new.items ≡ lines.old.items ++ far_code from distance ++ Plain next ∷ []) }
 {
-    put(lines, Instr::Lui(ADDRESS, upper(distance)))?;
-    put(lines, Instr::Add(ADDRESS, ADDRESS, from))
+    let high = Instr::Lui(ADDRESS, upper(distance));
+    put_three(lines, high, Instr::Add(ADDRESS, ADDRESS, from), next)
 }
 
 /// Where a slot of a frame begins. Fails where that is over the greatest u64: no memory has so many slots.
@@ -145,11 +178,11 @@ pub fn put_load(lines: &mut Vec<Line>, to: Register, slot: u64) -> Result<(), Al
     ensures { OnOk result (lines.new.items ≡ lines.old.items ++ load_code to slot) }
 {
     let offset = offset_of(slot)?;
+    let (pointer, low) = (Register::STACK_POINTER, lower(offset));
     if is_short(offset) {
-        put(lines, Instr::Lw(to, Register::STACK_POINTER, lower(offset)))
+        put(lines, Instr::Lw(to, pointer, low))
     } else {
-        put_far(lines, Register::STACK_POINTER, offset)?;
-        put(lines, Instr::Lw(to, ADDRESS, lower(offset)))
+        put_far(lines, pointer, offset, Instr::Lw(to, ADDRESS, low))
     }
 }
 
@@ -158,24 +191,21 @@ pub fn put_save(lines: &mut Vec<Line>, from: Register, slot: u64) -> Result<(), 
     ensures { OnOk result (lines.new.items ≡ lines.old.items ++ save_code from slot) }
 {
     let offset = offset_of(slot)?;
+    let (pointer, low) = (Register::STACK_POINTER, lower(offset));
     if is_short(offset) {
-        put(
-            lines,
-            Instr::Sw(Register::STACK_POINTER, from, lower(offset)),
-        )
+        put(lines, Instr::Sw(pointer, from, low))
     } else {
-        put_far(lines, Register::STACK_POINTER, offset)?;
-        put(lines, Instr::Sw(ADDRESS, from, lower(offset)))
+        put_far(lines, pointer, offset, Instr::Sw(ADDRESS, from, low))
     }
 }
 
 /// The load of a byte or a word into a register.
-fn read_line(to: Register, width: Width, from: Register, distance: u64) -> Line
-    ensures { result ≡ read_line to (bytes_of width) from distance }
+fn read(to: Register, width: Width, from: Register, distance: u64) -> Instr
+    ensures { Plain result ≡ read_line to (bytes_of width) from distance }
 {
     match width {
-        Width::Byte => Line::Plain(Instr::Lbu(to, from, lower(distance))),
-        Width::Word => Line::Plain(Instr::Lw(to, from, lower(distance))),
+        Width::Byte => Instr::Lbu(to, from, lower(distance)),
+        Width::Word => Instr::Lw(to, from, lower(distance)),
     }
 }
 
@@ -190,20 +220,19 @@ pub fn put_read(
     ensures { OnOk result (lines.new.items ≡ lines.old.items ++ read_code to (bytes_of width) from distance) }
 {
     if is_short(distance) {
-        put_lines(lines, &[read_line(to, width, from, distance)])
+        put(lines, read(to, width, from, distance))
     } else {
-        put_far(lines, from, distance)?;
-        put_lines(lines, &[read_line(to, width, ADDRESS, distance)])
+        put_far(lines, from, distance, read(to, width, ADDRESS, distance))
     }
 }
 
 /// The store of a byte or a word of a register.
-fn write_line(value: Register, width: Width, from: Register, distance: u64) -> Line
-    ensures { result ≡ write_line value (bytes_of width) from distance }
+fn write(value: Register, width: Width, from: Register, distance: u64) -> Instr
+    ensures { Plain result ≡ write_line value (bytes_of width) from distance }
 {
     match width {
-        Width::Byte => Line::Plain(Instr::Sb(from, value, lower(distance))),
-        Width::Word => Line::Plain(Instr::Sw(from, value, lower(distance))),
+        Width::Byte => Instr::Sb(from, value, lower(distance)),
+        Width::Word => Instr::Sw(from, value, lower(distance)),
     }
 }
 
@@ -218,10 +247,14 @@ pub fn put_write(
     ensures { OnOk result (lines.new.items ≡ lines.old.items ++ write_code value (bytes_of width) from distance) }
 {
     if is_short(distance) {
-        put_lines(lines, &[write_line(value, width, from, distance)])
+        put(lines, write(value, width, from, distance))
     } else {
-        put_far(lines, from, distance)?;
-        put_lines(lines, &[write_line(value, width, ADDRESS, distance)])
+        put_far(
+            lines,
+            from,
+            distance,
+            write(value, width, ADDRESS, distance),
+        )
     }
 }
 
@@ -230,13 +263,7 @@ pub fn put_environment(lines: &mut Vec<Line>, number: u32) -> Result<(), AllocEr
     requires { number < 2048 }
     ensures { OnOk result (lines.new.items ≡ lines.old.items ++ environment_code number) }
 {
-    put(
-        lines,
-        Instr::Addi(
-            Register::ARGUMENT_7,
-            Register::ZERO,
-            Signed12::new(number as i32),
-        ),
-    )?;
-    put(lines, Instr::Ecall)
+    let number = Signed12::new(number as i32);
+    let which = Instr::Addi(Register::ARGUMENT_7, Register::ZERO, number);
+    put_two(lines, which, Instr::Ecall)
 }

@@ -1,4 +1,4 @@
-// Flags of temporaries, one for each.
+// Flags of temporaries, one for each, and what is behind the first so many of a list.
 
 ghost use Rattle.std.specs.Prelude.{◌≡◌, ◌||◌, drop, IfOk, OnOk};
 ghost use Rattle.core_lines.specs.Homes.{flag_at};
@@ -48,7 +48,7 @@ pub fn copied(alloc: Global, flags: &[bool]) -> Result<Vec<bool>, AllocError>
 
 /// A flag by its number, which is false where there is none.
 #[tactic(auto, using(crate::proofs::Chosen::flag_some, crate::proofs::Chosen::flag_none))]
-fn is_set(flags: &[bool], number: usize) -> bool
+pub fn flag_at(flags: &[bool], number: usize) -> bool
     ensures { result ≡ flag_at flags.now number }
 {
     match flags.get(number) {
@@ -61,20 +61,16 @@ fn is_set(flags: &[bool], number: usize) -> bool
 fn is_either_set(first: &[bool], second: &[bool], number: usize) -> bool
     ensures { result ≡ (flag_at first.now number || flag_at second.now number) }
 {
-    is_set(first, number) || is_set(second, number)
+    flag_at(first, number) || flag_at(second, number)
 }
 
-/// The flags behind the first so many.
-#[tactic(auto, using(crate::proofs::Flagging::none_behind))]
-fn behind(flags: &[bool], count: usize) -> &[bool]
-    ensures { result.now ≡ drop count flags.now }
+/// What is behind the first so many of a list.
+#[tactic(auto, using(std::proofs::lemmas::List::drop_min))]
+pub fn behind<T>(items: &[T], count: usize) -> &[T]
+    ensures { result.now ≡ drop count items.now }
 {
-    if count <= flags.len() {
-        let (_, rest) = flags.split_at(count);
-        rest
-    } else {
-        &[]
-    }
+    let (_, rest) = items.split_at(count.min(items.len()));
+    rest
 }
 
 /// Of each temporary, whether one of its two flags is true.

@@ -2,7 +2,7 @@
 
 ghost use Rattle.std.specs.Prelude.{◌≡◌, ◌/◌, ◌+◌, ◌-◌, ◌%◌, ◌^◌, ◌*◌, ◌≤◌, ◌<◌, ◌++◌, IfOk, OnOk, map, ℕ, length};
 ghost use Rattle.cyc_core.specs.Trees.{body_tree, function_tree, program_tree};
-ghost use Rattle.core_lines.specs.Frames.{test_code, move_code, give_code, load_code, saves_code, restores_code, leave_code, epilogue_code};
+ghost use Rattle.core_lines.specs.Frames.{test_code, move_code, give_code, load_code, saves_code, restores_code, epilogue_code};
 ghost use Rattle.core_lines.specs.Operands.{keep_code, take_code, prologue_code};
 ghost use Rattle.core_lines.specs.Choosing.{far};
 ghost use Rattle.core_lines.specs.Promise.{AreLinesOf};
@@ -13,9 +13,13 @@ ghost use Rattle.core_lines.specs.Selected.{around, highest_of, shrunk_of, label
 ghost use Rattle.rv32_select.specs.Listing.{homes_listed};
 ghost use Rattle.rv32_select.specs.Places.{surroundings, saves_left, framed};
 
-use crate::emit::{ADDRESS, SECOND, put, put_environment, put_lines, put_load, put_save, put_word};
+use crate::emit::{
+    ADDRESS, SECOND, put, put_environment, put_lines, put_load, put_save, put_three, put_word,
+    word_instructions,
+};
+use crate::flags::flag_at;
 use crate::held::result_register;
-use crate::homes::{flag_at, homes_listed};
+use crate::homes::homes_listed;
 use crate::labelled::Labelled;
 use crate::layout::{highest_of, saved_slot, statics, sum};
 use crate::live::find_saves;
@@ -60,9 +64,10 @@ fn frame_bytes(place: &Place, body: &[Statement]) -> Result<u64, AllocError>
 fn put_stack_test(lines: &mut Vec<Line>, bytes: u64) -> Result<(), AllocError>
     ensures { OnOk result (lines.new.items ≡ lines.old.items ++ test_code bytes) }
 {
-    put_word(lines, SECOND, sum(STACK_BASE, bytes)?)?;
+    let (first, second) = word_instructions(SECOND, sum(STACK_BASE, bytes)?);
     let over = BranchOffset::new(20);
-    put(lines, Instr::Bgeu(Register::STACK_POINTER, SECOND, over))?;
+    let test = Instr::Bgeu(Register::STACK_POINTER, SECOND, over);
+    put_three(lines, first, second, test)?;
     put_word(lines, Register::ARGUMENT_0, bytes)?;
     put_environment(lines, STACK_REFUSED)
 }
@@ -76,8 +81,8 @@ fn put_stack_move(lines: &mut Vec<Line>, bytes: u64) -> Result<(), AllocError>
         let down = Signed12::new(-(bytes as i32));
         put(lines, Instr::Addi(pointer, pointer, down))
     } else {
-        put_word(lines, ADDRESS, bytes)?;
-        put(lines, Instr::Sub(pointer, pointer, ADDRESS))
+        let (first, second) = word_instructions(ADDRESS, bytes);
+        put_three(lines, first, second, Instr::Sub(pointer, pointer, ADDRESS))
     }
 }
 
@@ -90,8 +95,8 @@ fn put_stack_give(lines: &mut Vec<Line>, bytes: u64) -> Result<(), AllocError>
         let up = Signed12::new(bytes as i32);
         put(lines, Instr::Addi(pointer, pointer, up))
     } else {
-        put_word(lines, ADDRESS, bytes)?;
-        put(lines, Instr::Add(pointer, pointer, ADDRESS))
+        let (first, second) = word_instructions(ADDRESS, bytes);
+        put_three(lines, first, second, Instr::Add(pointer, pointer, ADDRESS))
     }
 }
 
@@ -111,7 +116,7 @@ fn put_parameter(
     put_kept(
         lines,
         place,
-        flag_at(live, parameter.0),
+        flag_at(live, parameter.0 as usize),
         register,
         parameter,
     )
@@ -176,18 +181,6 @@ fn put_prologue(
     put_parameters(lines, place, bytes, live, parameters)
 }
 
-/// Appends the end of an activation: the stack pointer goes back over its frame, and the return.
-fn put_leave(lines: &mut Vec<Line>, bytes: u64) -> Result<(), AllocError>
-    ensures { OnOk result (lines.new.items ≡ lines.old.items ++ leave_code bytes) }
-{
-    put_load(lines, Register::RETURN_ADDRESS, 0)?;
-    put_stack_give(lines, bytes)?;
-    put(
-        lines,
-        Instr::Jalr(Register::ZERO, Register::RETURN_ADDRESS, Signed12::new(0)),
-    )
-}
-
 /// Appends where a function ends: the registers that it saved come back, and its frame is given back.
 fn put_epilogue(
     lines: &mut Vec<Line>,
@@ -198,7 +191,10 @@ fn put_epilogue(
     ensures { OnOk result (lines.new.items ≡ lines.old.items ++ epilogue_code bytes first saved.now) }
 {
     put_restores(lines, first, saved)?;
-    put_leave(lines, bytes)
+    put_load(lines, Register::RETURN_ADDRESS, 0)?;
+    put_stack_give(lines, bytes)?;
+    let (none, back) = (Register::ZERO, Register::RETURN_ADDRESS);
+    put(lines, Instr::Jalr(none, back, Signed12::new(0)))
 }
 
 /// Appends a function at whose start the place is, where it is known which results are saved. It saves these registers, and loads these temporaries from
@@ -277,9 +273,9 @@ fn program_lines(alloc: Global, program: &Program) -> Result<Vec<Line>, AllocErr
     ensures { IfOk result (λ lines. lines.items ≡ program_code far (program_tree program.now)) }
 {
     let mut lines = Vec::new(alloc);
-    let mut place = Place::new(alloc, statics(alloc, &program.globals)?);
     put_lines(&mut lines, &[Line::CallTo(program.main as usize)])?;
     put_environment(&mut lines, EXIT)?;
+    let mut place = Place::new(alloc, statics(alloc, &program.globals)?);
     put_functions(&mut lines, &mut place, &program.functions)?;
     Ok(lines)
 }

@@ -2,7 +2,7 @@
 
 ghost use Rattle.std.specs.Prelude.{◌≡◌, [], map, IfOk, OnOk, option_map};
 ghost use Rattle.core_lines.specs.Held.{some_source, source_of, is_in, without_register, without_temporary, with_source};
-ghost use Rattle.core_lines.specs.Held.{Register as in_register, Number as of_number};
+ghost use Rattle.core_lines.specs.Held.{Register as in_register};
 ghost use Rattle.core_lines.specs.Held.{result_register, with_result, with_taken, with_moved, with_local, without_local, with_results};
 ghost use Rattle.core_lines.specs.Held.{is_zero, same_as, with_applied};
 ghost use Rattle.core_meaning.specs.Core.{Add};
@@ -154,19 +154,12 @@ impl Known {
     }
 
     /// A temporary gets a word that is there.
-    fn hold(&mut self, temporary: Temporary, source: Source) -> Result<(), AllocError>
+    pub fn hold(&mut self, temporary: Temporary, source: Source) -> Result<(), AllocError>
         ensures { OnOk result (self.new ≡ with_source temporary.0 (source_tree source) self.old) }
     {
         self.forget_temporary(temporary);
         self.holdings.insert(0, Holding { temporary, source })?;
         Ok(())
-    }
-
-    /// A temporary gets a number.
-    pub fn hold_number(&mut self, temporary: Temporary, word: u64) -> Result<(), AllocError>
-        ensures { OnOk result (self.new ≡ with_source temporary.0 (of_number word) self.old) }
-    {
-        self.hold(temporary, Source::Number(word))
     }
 
     /// A temporary gets what is in its register of results.

@@ -6,24 +6,24 @@ ghost use Rattle.core_lines.specs.Selected.{short_code, turned, difference_code,
 ghost use Rattle.core_meaning.specs.Core.{Equal, NotEqual};
 ghost use Rattle.cyc_core.specs.Trees.{binary_tree};
 ghost use Rattle.rv32_isa.specs.declared.instruction.Instr.TheVariants as instr;
-ghost use Rattle.rv32_select.specs.Immediates.{immediate_lines, is_shift};
+ghost use Rattle.rv32_select.specs.Immediates.{instruction_lines, is_shift};
 
 use crate::emit::{is_short, lower};
 use cyc_core::Binary;
 use rv32_isa::{Instr, Register, ShiftAmount, Signed12};
 
-/// One instruction or two that have a number in them.
+/// One instruction or two.
 #[derive(Clone, Copy)]
-pub enum Immediate {
+pub enum Instructions {
     /// One instruction.
     One(Instr),
-    /// Two, the first of which has the number.
+    /// Two, one after the other.
     Two(Instr, Instr),
 }
 
 /// Instructions, where a number is short.
-fn if_short(number: u64, instructions: Immediate) -> Option<Immediate>
-    ensures { option_map immediate_lines result ≡ short_code number (immediate_lines instructions) }
+fn if_short(number: u64, instructions: Instructions) -> Option<Instructions>
+    ensures { option_map instruction_lines result ≡ short_code number (instruction_lines instructions) }
 {
     if is_short(number) {
         Some(instructions)
@@ -40,32 +40,35 @@ fn turned(number: u64) -> u64
 }
 
 /// The difference of a register and a number, into another one.
-fn difference(to: Register, left: Register, number: u64) -> Option<Immediate>
-    ensures { option_map immediate_lines result ≡ difference_code to left number [] }
-{
-    let turned = turned(number);
-    if_short(turned, Immediate::One(Instr::Addi(to, left, lower(turned))))
-}
-
-/// The same, and an instruction on it.
-fn difference_then(to: Register, left: Register, number: u64, next: Instr) -> Option<Immediate>
-    ensures { option_map immediate_lines result ≡ difference_code to left number (Plain next ∷ []) }
+fn difference(to: Register, left: Register, number: u64) -> Option<Instructions>
+    ensures { option_map instruction_lines result ≡ difference_code to left number [] }
 {
     let turned = turned(number);
     if_short(
         turned,
-        Immediate::Two(Instr::Addi(to, left, lower(turned)), next),
+        Instructions::One(Instr::Addi(to, left, lower(turned))),
+    )
+}
+
+/// The same, and an instruction on it.
+fn difference_then(to: Register, left: Register, number: u64, next: Instr) -> Option<Instructions>
+    ensures { option_map instruction_lines result ≡ difference_code to left number (Plain next ∷ []) }
+{
+    let turned = turned(number);
+    if_short(
+        turned,
+        Instructions::Two(Instr::Addi(to, left, lower(turned)), next),
     )
 }
 
 /// 1 where a register has the number, else 0.
 #[tactic(auto, using(crate::proofs::Zeros::equal_zero, crate::proofs::Zeros::equal_more))]
-fn equal(to: Register, left: Register, number: u64) -> Option<Immediate>
-    ensures { option_map immediate_lines result ≡ immediate_code Equal to left number }
+fn equal(to: Register, left: Register, number: u64) -> Option<Instructions>
+    ensures { option_map instruction_lines result ≡ immediate_code Equal to left number }
 {
     let one = Signed12::new(1);
     if number == 0 {
-        Some(Immediate::One(Instr::Sltiu(to, left, one)))
+        Some(Instructions::One(Instr::Sltiu(to, left, one)))
     } else {
         difference_then(to, left, number, Instr::Sltiu(to, to, one))
     }
@@ -73,30 +76,30 @@ fn equal(to: Register, left: Register, number: u64) -> Option<Immediate>
 
 /// 0 where a register has the number, else 1.
 #[tactic(auto, using(crate::proofs::Zeros::different_zero, crate::proofs::Zeros::different_more))]
-fn different(to: Register, left: Register, number: u64) -> Option<Immediate>
-    ensures { option_map immediate_lines result ≡ immediate_code NotEqual to left number }
+fn different(to: Register, left: Register, number: u64) -> Option<Instructions>
+    ensures { option_map instruction_lines result ≡ immediate_code NotEqual to left number }
 {
     let none = Register::ZERO;
     if number == 0 {
-        Some(Immediate::One(Instr::Sltu(to, none, left)))
+        Some(Instructions::One(Instr::Sltu(to, none, left)))
     } else {
         difference_then(to, left, number, Instr::Sltu(to, none, to))
     }
 }
 
 /// A shift of a register by so many bits, if it has so many.
-fn shift(operation: Binary, to: Register, left: Register, number: u64) -> Option<Immediate>
+fn shift(operation: Binary, to: Register, left: Register, number: u64) -> Option<Instructions>
     requires { is_shift operation ≡ true }
-    ensures { option_map immediate_lines result ≡ immediate_code (binary_tree operation) to left number }
+    ensures { option_map instruction_lines result ≡ immediate_code (binary_tree operation) to left number }
 {
     if number >= 32 {
         return None;
     }
     let amount = ShiftAmount::new(number as u8);
     match operation {
-        Binary::ShiftLeft => Some(Immediate::One(Instr::Slli(to, left, amount))),
-        Binary::ShiftRight => Some(Immediate::One(Instr::Srai(to, left, amount))),
-        _ => Some(Immediate::One(Instr::Srli(to, left, amount))),
+        Binary::ShiftLeft => Some(Instructions::One(Instr::Slli(to, left, amount))),
+        Binary::ShiftRight => Some(Instructions::One(Instr::Srai(to, left, amount))),
+        _ => Some(Instructions::One(Instr::Srli(to, left, amount))),
     }
 }
 
@@ -106,20 +109,20 @@ pub fn immediate_of(
     to: Register,
     left: Register,
     number: u64,
-) -> Option<Immediate>
-    ensures { option_map immediate_lines result ≡ immediate_code (binary_tree operation) to left number }
+) -> Option<Instructions>
+    ensures { option_map instruction_lines result ≡ immediate_code (binary_tree operation) to left number }
 {
     let low = lower(number);
     match operation {
-        Binary::Add => if_short(number, Immediate::One(Instr::Addi(to, left, low))),
+        Binary::Add => if_short(number, Instructions::One(Instr::Addi(to, left, low))),
         Binary::Subtract => difference(to, left, number),
-        Binary::And => if_short(number, Immediate::One(Instr::Andi(to, left, low))),
-        Binary::Or => if_short(number, Immediate::One(Instr::Ori(to, left, low))),
-        Binary::Xor => if_short(number, Immediate::One(Instr::Xori(to, left, low))),
+        Binary::And => if_short(number, Instructions::One(Instr::Andi(to, left, low))),
+        Binary::Or => if_short(number, Instructions::One(Instr::Ori(to, left, low))),
+        Binary::Xor => if_short(number, Instructions::One(Instr::Xori(to, left, low))),
         Binary::Equal => equal(to, left, number),
         Binary::NotEqual => different(to, left, number),
-        Binary::Less => if_short(number, Immediate::One(Instr::Slti(to, left, low))),
-        Binary::LessUnsigned => if_short(number, Immediate::One(Instr::Sltiu(to, left, low))),
+        Binary::Less => if_short(number, Instructions::One(Instr::Slti(to, left, low))),
+        Binary::LessUnsigned => if_short(number, Instructions::One(Instr::Sltiu(to, left, low))),
         Binary::ShiftLeft | Binary::ShiftRight | Binary::ShiftRightUnsigned => {
             shift(operation, to, left, number)
         }

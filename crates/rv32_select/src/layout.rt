@@ -1,6 +1,6 @@
 // Where the unnamed values of functions, the locals of blocks and the globals lie.
 
-ghost use Rattle.std.specs.Prelude.{◌≡◌, ◌+◌, ◌*◌, ◌<◌, ◌^◌, ◌≤◌, IfOk, OnOk, drop, map, length, true};
+ghost use Rattle.std.specs.Prelude.{◌≡◌, ◌+◌, ◌*◌, ◌<◌, ◌^◌, [], ◌∷◌, ◌++◌, IfOk, OnOk, drop, map, length};
 ghost use Rattle.core_meaning.specs.Core as core;
 ghost use Rattle.core_lines.specs.Homes.{saved_slot};
 ghost use Rattle.core_lines.specs.Selected as selected;
@@ -8,7 +8,8 @@ ghost use Rattle.core_lines.specs.Selected.{rounded, offsets_from, end_from, gre
 ghost use Rattle.core_lines.specs.Selected.{shrink, shrunk, shrunk_in, shrunk_of, names_after, names_after_all};
 ghost use Rattle.cyc_core.specs.Trees.{local_tree, datum_tree, statement_tree, body_tree, function_tree};
 
-use crate::homes::{behind, home_at, named_behind};
+use crate::flags::behind;
+use crate::homes::{home_at, named_behind};
 use cyc_core::{Datum, Function, Layout, Local, Statement};
 use rv32_isa::Register;
 use std::alloc::{AllocError, Global};
@@ -83,6 +84,16 @@ pub fn end_from(low: u64, locals: &[Local], homes: &[Register]) -> Result<u64, A
     Ok(at)
 }
 
+/// Appends where what has so many bytes begins that lies behind an offset. Answers where it ends.
+fn lay(offsets: &mut Vec<u64>, at: u64, bytes: u64) -> Result<u64, AllocError>
+    ensures begin { OnOk result (offsets.new.items ≡ offsets.old.items ++ rounded at ∷ []) }
+    ensures end { IfOk result (λ n. n ≡ rounded at + bytes) }
+{
+    let offset = rounded(at)?;
+    offsets.push(offset)?;
+    sum(offset, bytes)
+}
+
 /// Where each of these locals with these homes begins.
 pub fn offsets_from(
     alloc: Global,
@@ -95,9 +106,11 @@ pub fn offsets_from(
     let mut offsets = Vec::new(alloc);
     let mut at = low;
     'each: for (index, local) in locals.iter().enumerate() {
-        let offset = rounded(at)?;
-        offsets.push(offset)?;
-        at = sum(offset, frame_bytes_of(home_at(homes, index), local))?;
+        at = lay(
+            &mut offsets,
+            at,
+            frame_bytes_of(home_at(homes, index), local),
+        )?;
     }
     Ok(offsets)
 }
@@ -109,9 +122,7 @@ pub fn statics(alloc: Global, globals: &[Datum]) -> Result<Vec<u64>, AllocError>
     let mut offsets = Vec::new(alloc);
     let mut at = 0;
     'each: for global in globals {
-        let offset = rounded(at)?;
-        offsets.push(offset)?;
-        at = sum(offset, datum_bytes(global))?;
+        at = lay(&mut offsets, at, datum_bytes(global))?;
     }
     Ok(offsets)
 }
@@ -136,14 +147,9 @@ fn highest(
     ensures names { OnOk result (drop named.new homes.now ≡ names_after (statement_tree statement.now) (drop named.old homes.now)) }
 {
     match statement {
-        Statement::If(_, these, those) => {
+        Statement::If(_, these, those) | Statement::While(these, _, those) => {
             let first = highest_of(low, homes, named, these)?;
             let second = highest_of(low, homes, named, those)?;
-            Ok(greater(first, second))
-        }
-        Statement::While(test, _, body) => {
-            let first = highest_of(low, homes, named, test)?;
-            let second = highest_of(low, homes, named, body)?;
             Ok(greater(first, second))
         }
         Statement::Block(locals, body) => highest_in(low, homes, named, locals, body),

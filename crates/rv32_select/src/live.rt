@@ -1,13 +1,13 @@
 // Which results of a function are saved, by one walk from its end backwards: what is loaded from slots behind each statement is known before the statement is
 // looked at.
 
-ghost use Rattle.std.specs.Prelude.{◌≡◌, true, false, [], ◌∷◌, ◌++◌, reverse, IfOk, OnOk, map};
+ghost use Rattle.std.specs.Prelude.{◌≡◌, true, false, [], ◌∷◌, ◌++◌, reverse, IfOk, OnOk, map, option_map, option_to_list};
 ghost use Rattle.core_meaning.specs.Core as core;
 ghost use Rattle.core_lines.specs.Choosing.{far};
 ghost use Rattle.core_lines.specs.Homes.{homes_in};
 ghost use Rattle.core_lines.specs.Loaded.{unknown_in, loads_of_operation, loads_of_values};
 ghost use Rattle.core_lines.specs.Saved.{cleared, all_flagged, flags_of, results_of, at_loop, live_in, live_of, behind_test, saves_in, saves_of};
-ghost use Rattle.core_lines.specs.Saved.{live_at_start, saves_at};
+ghost use Rattle.core_lines.specs.Saved.{either_flagged, live_at_start, saves_at};
 ghost use Rattle.core_lines.specs.Selected.{around, names_after_all, holding, naming};
 ghost use Rattle.cyc_core.specs.Trees.{operation_tree, optional_tree, temporary_tree, local_tree, statement_tree, body_tree, function_tree};
 ghost use Rattle.rv32_select.specs.Places.{surroundings, saves_left};
@@ -16,12 +16,13 @@ ghost use Rattle.rv32_select.specs.Starts.{point_start, starts_of};
 use crate::flags::{cleared, copied, either, no_flags, set_flag};
 use crate::held::Known;
 use crate::loads::{
-    flag_arguments, flag_operation, flag_return, flag_statement, flag_unknown, flag_while, pass,
+    flag_arguments, flag_operation, flag_return, flag_some, flag_statement, flag_while, if_unknown,
+    pass,
 };
 use crate::place::{Place, Point};
 use crate::settling::{settle, settle_operation, settle_results};
 use cyc_core::{Function, Local, Operation, Statement, Temporary, Words};
-use std::alloc::AllocError;
+use std::alloc::{AllocError, Global};
 
 /// Goes back over an operation.
 fn live_operation(
@@ -157,6 +158,56 @@ fn live_statement(
     }
 }
 
+/// Where the statements behind these begin, if what is known here is known there.
+fn point_behind(place: &mut Place, statements: &[Statement]) -> Result<Point, AllocError>
+    ensures point { let u = surroundings place.old in IfOk result (λ point. point_start place.old.homes.items point
+        ≡ record { names = names_after_all (body_tree statements.now) u.names; held = u.held }) }
+    ensures same { OnOk result (surroundings place.new ≡ holding place.new.held (naming (surroundings place.new).names (surroundings place.old))) }
+    ensures homes { OnOk result (place.new.homes.items ≡ place.old.homes.items) }
+{
+    let held = place.known()?;
+    pass(place, statements)?;
+    let named = place.named;
+    Ok(Point { named, held })
+}
+
+/// What is loaded where one way or another goes on, and a temporary, if there is one.
+fn joined(
+    alloc: Global,
+    first: &[bool],
+    second: Vec<bool>,
+    tested: Option<Temporary>,
+) -> Result<Vec<bool>, AllocError>
+    ensures { IfOk result (λ both. both.items
+        ≡ all_flagged true (option_to_list (option_map temporary_tree tested)) (either_flagged first.now second.items)) }
+{
+    let mut both = either(alloc, first, &second)?;
+    flag_some(&mut both, tested);
+    Ok(both)
+}
+
+/// Goes back over statements, behind which these are loaded. Answers what is loaded before them.
+#[cycle(live)]
+fn live_before(
+    saves: &mut Vec<bool>,
+    place: &mut Place,
+    after: &[bool],
+    out: &[bool],
+    again: &[bool],
+    statements: &[Statement],
+) -> Result<Vec<bool>, AllocError>
+    ensures saves { let u = surroundings place.old in OnOk result (saves.new.items ≡ saves.old.items
+        ++ reverse (saves_of u.homes u.statics u.names u.held after.now out.now again.now (body_tree statements.now))) }
+    ensures live { let u = surroundings place.old in IfOk result (λ live. live.items
+        ≡ live_of u.homes u.statics u.names u.held after.now out.now again.now (body_tree statements.now)) }
+    ensures same { OnOk result (surroundings place.new ≡ holding place.new.held (naming (surroundings place.new).names (surroundings place.old))) }
+    ensures homes { OnOk result (place.new.homes.items ≡ place.old.homes.items) }
+{
+    let mut live = copied(place.alloc, after)?;
+    live_statements(saves, place, &mut live, out, again, statements)?;
+    Ok(live)
+}
+
 /// The same of a choice.
 #[cycle(live)]
 fn live_if(
@@ -176,16 +227,14 @@ fn live_if(
     ensures same { OnOk result (surroundings place.new ≡ holding place.new.held (naming (surroundings place.new).names (surroundings place.old))) }
     ensures homes { OnOk result (place.new.homes.items ≡ place.old.homes.items) }
 {
-    let start = place.named;
-    let known = place.known()?;
-    let mut other = copied(place.alloc, live)?;
-    pass(place, these)?;
-    place.go_back(place.named, &known)?;
-    live_statements(saves, place, &mut other, out, again, those)?;
-    place.go_back(start, &known)?;
+    let tested = if_unknown(&place.held, test);
+    let first = place.point()?;
+    let second = point_behind(place, these)?;
+    place.go_to(second);
+    let other = live_before(saves, place, live, out, again, those)?;
+    place.go_to(first);
     live_statements(saves, place, live, out, again, these)?;
-    *live = either(place.alloc, live, &other)?;
-    flag_unknown(live, &known, test);
+    *live = joined(place.alloc, live, other, tested)?;
     Ok(())
 }
 
@@ -205,7 +254,7 @@ fn loop_head(
     ensures homes { OnOk result (place.new.homes.items ≡ place.old.homes.items) }
 {
     let ways = either(place.alloc, out, again)?;
-    let mut head = either(place.alloc, after, &ways)?;
+    let mut head = joined(place.alloc, after, ways, None)?;
     flag_while(&mut head, place, test, flag, body)?;
     Ok(head)
 }
@@ -230,13 +279,10 @@ fn live_body(
 {
     place.held.forget();
     pass(place, test)?;
-    let known = place.known()?;
+    let tested = if_unknown(&place.held, flag);
     place.held.forget();
-    let mut inside = copied(place.alloc, head)?;
-    live_statements(saves, place, &mut inside, after, head, body)?;
-    let mut behind = either(place.alloc, after, &inside)?;
-    flag_unknown(&mut behind, &known, flag);
-    Ok(behind)
+    let inside = live_before(saves, place, head, after, head, body)?;
+    joined(place.alloc, after, inside, tested)
 }
 
 /// Goes back over a loop.
@@ -259,11 +305,10 @@ fn live_while(
     ensures homes { OnOk result (place.new.homes.items ≡ place.old.homes.items) }
 {
     let start = place.named;
-    let nothing = Known::new(place.alloc);
     let head = loop_head(place, live, out, again, test, flag, body)?;
-    place.go_back(start, &nothing)?;
+    place.go_back(start);
     let mut behind = live_body(saves, place, live, &head, test, flag, body)?;
-    place.go_back(start, &nothing)?;
+    place.go_back(start);
     live_statements(saves, place, &mut behind, out, again, test)?;
     *live = head;
     Ok(())

@@ -1,6 +1,6 @@
 // Which temporaries code loads from their slots.
 
-ghost use Rattle.std.specs.Prelude.{◌≡◌, true, [], ◌∷◌, OnOk, map};
+ghost use Rattle.std.specs.Prelude.{◌≡◌, true, [], ◌∷◌, OnOk, map, option_map, option_to_list};
 ghost use Rattle.core_meaning.specs.Core as core;
 ghost use Rattle.core_lines.specs.Held.{held_behind, held_behind_all};
 ghost use Rattle.core_lines.specs.Loaded.{unknown_in, loads_of_operation, loads_of_values, loads_in, loads_of};
@@ -18,14 +18,31 @@ use cyc_core::{Local, Operation, Statement, Temporary, Words};
 use rv32_isa::Register;
 use std::alloc::AllocError;
 
-/// Flags a temporary whose word isn't known to be elsewhere than in its slot.
-pub fn flag_unknown(flags: &mut Vec<bool>, held: &Known, temporary: Temporary)
-    ensures { flags.new.items ≡ all_flagged true (unknown_in held.now (temporary.0 ∷ [])) flags.old.items }
+/// A temporary, if its word isn't known to be elsewhere than in its slot.
+pub fn if_unknown(held: &Known, temporary: Temporary) -> Option<Temporary>
+    ensures { option_to_list (option_map temporary_tree result) ≡ unknown_in held.now (temporary.0 ∷ []) }
 {
     match held.source(temporary) {
-        Some(_) => {}
-        None => set_flag(flags, temporary, true),
+        Some(_) => None,
+        None => Some(temporary),
     }
+}
+
+/// Flags a temporary, if there is one.
+pub fn flag_some(flags: &mut Vec<bool>, temporary: Option<Temporary>)
+    ensures { flags.new.items ≡ all_flagged true (option_to_list (option_map temporary_tree temporary)) flags.old.items }
+{
+    match temporary {
+        Some(temporary) => set_flag(flags, temporary, true),
+        None => {}
+    }
+}
+
+/// Flags a temporary whose word isn't known to be elsewhere than in its slot.
+fn flag_unknown(flags: &mut Vec<bool>, held: &Known, temporary: Temporary)
+    ensures { flags.new.items ≡ all_flagged true (unknown_in held.now (temporary.0 ∷ [])) flags.old.items }
+{
+    flag_some(flags, if_unknown(held, temporary));
 }
 
 /// Flags those of two temporaries.
@@ -143,13 +160,9 @@ pub fn flag_statement(
         Statement::Block(locals, body) => return flag_block(flags, place, locals, body),
         Statement::Leave(body) => flag_all(flags, place, body)?,
         Statement::Return(value) => flag_return(flags, place, *value),
-        Statement::Copy(to, from, _) => {
-            set_flag(flags, *to, true);
-            set_flag(flags, *from, true);
-        }
-        Statement::RegionAlloc(_, handle, count, _) => {
-            set_flag(flags, *handle, true);
-            set_flag(flags, *count, true);
+        Statement::Copy(first, second, _) | Statement::RegionAlloc(_, first, second, _) => {
+            set_flag(flags, *first, true);
+            set_flag(flags, *second, true);
         }
         Statement::Clear(pointer, _, _) => set_flag(flags, *pointer, true),
         Statement::UniqueAlloc(..) | Statement::Break | Statement::Continue | Statement::Raise(_) =>

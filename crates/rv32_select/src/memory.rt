@@ -1,34 +1,35 @@
 // Instructions for operations on pointers and on memory.
 
-ghost use Rattle.std.specs.Prelude.{◌≡◌, ◌+◌, ◌%◌, ◌^◌, true, ◌++◌, OnOk};
+ghost use Rattle.std.specs.Prelude.{◌≡◌, ◌+◌, true, ◌++◌, OnOk};
 ghost use Rattle.core_meaning.specs.Core as core;
 ghost use Rattle.core_lines.specs.Held.{result_register};
-ghost use Rattle.core_lines.specs.Selected.{element_code, operation_code};
-ghost use Rattle.cyc_core.specs.Trees.{operation_tree, distance_tree};
-ghost use Rattle.rv32_select.specs.Places.{surroundings, is_on_pointers, is_on_memory};
+ghost use Rattle.core_lines.specs.Operands.{number_kept};
+ghost use Rattle.core_lines.specs.Selected.{element_code, further_code, operation_code, operand, has_operand, keep_result, nth};
+ghost use Rattle.cyc_core.specs.Trees.{distance_tree};
+ghost use Rattle.rv32_machine.specs.State.{data_base};
+ghost use Rattle.rv32_select.specs.Places.{surroundings};
 
 use crate::emit::{FIRST, SECOND, put, put_further, put_number, put_read, put_write};
 use crate::held::result_register;
-use crate::operands::{put_kept, put_number_kept, put_operand, put_result};
+use crate::operands::{put_number_kept, put_operand, put_result};
 use crate::place::Place;
 use crate::words::put_binary;
 use core_lines::Line;
-use cyc_core::{Binary, Distance, Operation, Temporary};
+use cyc_core::{Binary, Distance, Temporary};
 use rv32_isa::{Instr, Register, Signed12};
 use std::alloc::AllocError;
 
 /// Appends what gives a temporary the address so many bytes behind that in another one.
-fn put_offset(
+pub fn put_offset(
     lines: &mut Vec<Line>,
     place: &Place,
     keeps: bool,
     to: Temporary,
     pointer: Temporary,
-    cells: u32,
     bytes: u32,
 ) -> Result<(), AllocError>
-    ensures { OnOk result (lines.new.items ≡ lines.old.items
-        ++ operation_code keeps (surroundings place.now) (core.Offset to.0 pointer.0 cells bytes)) }
+    ensures { let u = surroundings place.now in OnOk result (lines.new.items ≡ lines.old.items
+        ++ operand u 5 pointer.0 ++ further_code (result_register to.0) (has_operand u 5 pointer.0) bytes ++ keep_result keeps u to.0) }
 {
     let from = put_operand(lines, place, FIRST, pointer)?;
     put_further(lines, result_register(to), from, u64::from(bytes))?;
@@ -70,7 +71,7 @@ fn put_long_element(
 }
 
 /// Appends what puts the address of an element of so many bytes into a register.
-fn put_element(
+fn put_element_address(
     lines: &mut Vec<Line>,
     place: &Place,
     to: Register,
@@ -87,8 +88,25 @@ fn put_element(
     }
 }
 
+/// Appends what gives a temporary the address of an element of so many bytes.
+pub fn put_element(
+    lines: &mut Vec<Line>,
+    place: &Place,
+    keeps: bool,
+    to: Temporary,
+    pointer: Temporary,
+    index: Temporary,
+    bytes: u32,
+) -> Result<(), AllocError>
+    ensures { let u = surroundings place.now in OnOk result (lines.new.items ≡ lines.old.items
+        ++ element_code u (result_register to.0) pointer.0 index.0 bytes ++ keep_result keeps u to.0) }
+{
+    put_element_address(lines, place, result_register(to), pointer, index, bytes)?;
+    put_result(lines, place, keeps, to)
+}
+
 /// Appends what gives a temporary whether another one is NULL.
-fn put_is_null(
+pub fn put_is_null(
     lines: &mut Vec<Line>,
     place: &Place,
     keeps: bool,
@@ -105,7 +123,7 @@ fn put_is_null(
 }
 
 /// Appends what gives a temporary whether two others are the same pointer.
-fn put_same_place(
+pub fn put_same(
     lines: &mut Vec<Line>,
     place: &Place,
     keeps: bool,
@@ -122,35 +140,8 @@ fn put_same_place(
     put_result(lines, place, keeps, to)
 }
 
-/// Appends the instructions of an operation on pointers.
-pub fn put_pointer_operation(
-    lines: &mut Vec<Line>,
-    place: &Place,
-    keeps: bool,
-    operation: Operation,
-) -> Result<(), AllocError>
-    requires { is_on_pointers operation ≡ true }
-    ensures { OnOk result (lines.new.items ≡ lines.old.items ++ operation_code keeps (surroundings place.now) (operation_tree operation)) }
-{
-    match operation {
-        Operation::NullPointer(to) => put_kept(lines, place, keeps, Register::ZERO, to),
-        Operation::Offset(to, pointer, cells, bytes) => {
-            put_offset(lines, place, keeps, to, pointer, cells, bytes)
-        }
-        Operation::Element(to, pointer, index, _, bytes) => {
-            put_element(lines, place, result_register(to), pointer, index, bytes)?;
-            put_result(lines, place, keeps, to)
-        }
-        Operation::IsNull(to, pointer) => put_is_null(lines, place, keeps, to, pointer),
-        Operation::SamePlace(to, first, second) => put_same_place(
-            lines, place, keeps, to, first, second,
-        ),
-        _ => Ok(()),
-    }
-}
-
 /// Appends what gives a temporary the part that lies so far from where another one points.
-fn put_loaded_part(
+pub fn put_loaded_part(
     lines: &mut Vec<Line>,
     place: &Place,
     keeps: bool,
@@ -168,7 +159,7 @@ fn put_loaded_part(
 }
 
 /// Appends what gives the part that lies so far from where a temporary points the word of another one.
-fn put_stored_part(
+pub fn put_stored_part(
     lines: &mut Vec<Line>,
     place: &Place,
     pointer: Temporary,
@@ -183,26 +174,17 @@ fn put_stored_part(
     put_write(lines, value, distance.width, to, u64::from(distance.bytes))
 }
 
-/// Appends the instructions of an operation on memory.
-pub fn put_memory_operation(
+/// Appends what gives a temporary the address of a global.
+pub fn put_data_address(
     lines: &mut Vec<Line>,
     place: &Place,
     keeps: bool,
-    operation: Operation,
+    to: Temporary,
+    object: u32,
 ) -> Result<(), AllocError>
-    requires { is_on_memory operation ≡ true }
-    ensures { OnOk result (lines.new.items ≡ lines.old.items ++ operation_code keeps (surroundings place.now) (operation_tree operation)) }
+    ensures { let u = surroundings place.now in OnOk result (lines.new.items ≡ lines.old.items
+        ++ number_kept keeps u.passed to.0 (data_base + nth u.statics object)) }
 {
-    match operation {
-        Operation::DataAddress(to, object) => {
-            put_number_kept(lines, place, keeps, to, place.data_address(object)?)
-        }
-        Operation::Load(to, pointer, distance) => {
-            put_loaded_part(lines, place, keeps, to, pointer, distance)
-        }
-        Operation::Store(pointer, distance, from) => {
-            put_stored_part(lines, place, pointer, distance, from)
-        }
-        _ => Ok(()),
-    }
+    let address = place.data_address(object)?;
+    put_number_kept(lines, place, keeps, to, address)
 }

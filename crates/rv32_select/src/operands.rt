@@ -128,21 +128,6 @@ pub fn put_number_kept(
     }
 }
 
-/// Appends what loads a temporary into the register of another one's result, and the save of that.
-fn put_loaded(
-    lines: &mut Vec<Line>,
-    place: &Place,
-    keeps: bool,
-    to: Temporary,
-    from: Temporary,
-) -> Result<(), AllocError>
-    ensures { let u = surroundings place.now in OnOk result (lines.new.items ≡ lines.old.items
-        ++ from_temp u (result_register to.0) from.0 ++ keep_result keeps u to.0) }
-{
-    put_from(lines, place, result_register(to), from)?;
-    put_result(lines, place, keeps, to)
-}
-
 /// Appends what gives a temporary the word of another one.
 pub fn put_moved(
     lines: &mut Vec<Line>,
@@ -159,6 +144,9 @@ pub fn put_moved(
             Source::Register(register) => put_kept(lines, place, keeps, register, to),
             Source::Number(word) => put_number_kept(lines, place, keeps, to, word),
         },
-        None => put_loaded(lines, place, keeps, to, from),
+        None => {
+            put_from(lines, place, result_register(to), from)?;
+            put_result(lines, place, keeps, to)
+        }
     }
 }

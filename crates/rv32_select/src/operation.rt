@@ -1,17 +1,20 @@
 // Instructions for an operation.
 
-ghost use Rattle.std.specs.Prelude.{◌≡◌, ◌<◌, true, ◌++◌, OnOk};
+ghost use Rattle.std.specs.Prelude.{◌≡◌, ◌<◌, Bool, true, ◌++◌, OnOk};
 ghost use Rattle.core_lines.specs.Frames.{environment_code};
 ghost use Rattle.core_lines.specs.Selected.{operation_code, from_temp, to_temp};
 ghost use Rattle.cyc_core.specs.Trees.{operation_tree};
-ghost use Rattle.rv32_select.specs.Places.{surroundings, is_on_regions};
+ghost use Rattle.rv32_select.specs.Places.{surroundings, calls_environment};
 
 use crate::emit::put_environment;
-use crate::locals::put_local_operation;
-use crate::memory::{put_memory_operation, put_pointer_operation};
-use crate::operands::{put_from, put_number_kept, put_to};
+use crate::locals::{put_get, put_own_address, put_put};
+use crate::memory::{
+    put_data_address, put_element, put_is_null, put_loaded_part, put_offset, put_same,
+    put_stored_part,
+};
+use crate::operands::{put_from, put_kept, put_moved, put_number_kept, put_to};
 use crate::place::{HEAP, Place};
-use crate::words::put_word_operation;
+use crate::words::{put_apply, put_narrow};
 use core_lines::Line;
 use cyc_core::{Operation, Temporary};
 use rv32_isa::Register;
@@ -48,18 +51,21 @@ fn put_given(
     put_environment(lines, number)
 }
 
-/// Appends the instructions of an operation on regions, unique blocks and keys.
-fn put_region_operation(
+/// Appends the instructions of an operation that calls the environment.
+fn put_environment_operation(
     lines: &mut Vec<Line>,
     place: &Place,
-    keeps: bool,
     operation: Operation,
 ) -> Result<(), AllocError>
-    requires { is_on_regions operation ≡ true }
-    ensures { OnOk result (lines.new.items ≡ lines.old.items ++ operation_code keeps (surroundings place.now) (operation_tree operation)) }
+    requires { calls_environment operation ≡ true }
+    ensures { (keeps : Bool) → OnOk result (lines.new.items ≡ lines.old.items ++ operation_code keeps (surroundings place.now) (operation_tree operation)) }
 {
     match operation {
-        Operation::HeapHandle(to) => put_number_kept(lines, place, keeps, to, HEAP),
+        Operation::Getchar(to) => put_made(lines, place, GETCHAR, to),
+        Operation::Putchar(to, from) => {
+            put_given(lines, place, PUTCHAR, from)?;
+            put_to(lines, place, Register::ARGUMENT_0, to)
+        }
         Operation::RegionNew(to) => put_made(lines, place, REGION_NEW, to),
         Operation::RegionFree(handle) => put_given(lines, place, REGION_FREE, handle),
         Operation::UniqueFree(pointer) => put_given(lines, place, UNIQUE_FREE, pointer),
@@ -81,32 +87,34 @@ pub fn put_operation(
     ensures { OnOk result (lines.new.items ≡ lines.old.items ++ operation_code keeps (surroundings place.now) (operation_tree operation)) }
 {
     match operation {
-        Operation::Getchar(to) => put_made(lines, place, GETCHAR, to),
-        Operation::Putchar(to, from) => {
-            put_given(lines, place, PUTCHAR, from)?;
-            put_to(lines, place, Register::ARGUMENT_0, to)
+        Operation::Constant(to, word) => put_number_kept(lines, place, keeps, to, u64::from(word)),
+        Operation::NullPointer(to) => put_kept(lines, place, keeps, Register::ZERO, to),
+        Operation::HeapHandle(to) => put_number_kept(lines, place, keeps, to, HEAP),
+        Operation::DataAddress(to, object) => put_data_address(lines, place, keeps, to, object),
+        Operation::Move(to, from) => put_moved(lines, place, keeps, to, from),
+        Operation::Narrow(to, from) => put_narrow(lines, place, keeps, to, from),
+        Operation::Apply(binary, to, left, right) => {
+            put_apply(lines, place, keeps, binary, to, left, right)
         }
-        Operation::Constant(..)
-        | Operation::Move(..)
-        | Operation::Narrow(..)
-        | Operation::Apply(..) => { put_word_operation(lines, place, keeps, operation) }
-        Operation::NullPointer(..)
-        | Operation::Offset(..)
-        | Operation::Element(..)
-        | Operation::IsNull(..)
-        | Operation::SamePlace(..) => { put_pointer_operation(lines, place, keeps, operation) }
-        Operation::LocalAddress(..)
-        | Operation::OwnAddress(..)
-        | Operation::Get(..)
-        | Operation::Put(..) => { put_local_operation(lines, place, keeps, operation) }
-        Operation::HeapHandle(..)
-        | Operation::RegionNew(..)
-        | Operation::RegionFree(..)
-        | Operation::UniqueFree(..)
-        | Operation::KeyNew(..)
-        | Operation::KeyOpen(..)
-        | Operation::KeyClose(..)
-        | Operation::KeyFree(..) => put_region_operation(lines, place, keeps, operation),
-        _ => put_memory_operation(lines, place, keeps, operation),
+        Operation::LocalAddress(to, variable) => {
+            let (offset, _) = place.local(variable);
+            put_own_address(lines, place, keeps, to, offset)
+        }
+        Operation::OwnAddress(to, object) => {
+            put_own_address(lines, place, keeps, to, place.own_offset(object))
+        }
+        Operation::Get(to, variable, width) => put_get(lines, place, keeps, to, variable, width),
+        Operation::Put(variable, width, from) => put_put(lines, place, variable, width, from),
+        Operation::Offset(to, pointer, _, bytes) => {
+            put_offset(lines, place, keeps, to, pointer, bytes)
+        }
+        Operation::Element(to, pointer, index, _, bytes) => {
+            put_element(lines, place, keeps, to, pointer, index, bytes)
+        }
+        Operation::IsNull(to, pointer) => put_is_null(lines, place, keeps, to, pointer),
+        Operation::SamePlace(to, first, second) => put_same(lines, place, keeps, to, first, second),
+        Operation::Load(to, from, part) => put_loaded_part(lines, place, keeps, to, from, part),
+        Operation::Store(pointer, part, from) => put_stored_part(lines, place, pointer, part, from),
+        _ => put_environment_operation(lines, place, operation),
     }
 }

@@ -14,8 +14,9 @@ ghost use Rattle.rv32_select.specs.Places.{surroundings, saves_left};
 ghost use Rattle.rv32_select.specs.Starts.{start_at, starting, point_start};
 
 use crate::emit::offset_of;
+use crate::flags::behind;
 use crate::held::Known;
-use crate::homes::{behind, first_homes, home_at, homes_in, named_behind, some_of};
+use crate::homes::{first_homes, home_at, homes_in, named_behind, some_of};
 use crate::layout::{end_from, offsets_from, saved_slot, sum};
 use crate::raising::raises_only;
 use crate::results::result_of;
@@ -43,9 +44,9 @@ pub struct Scope {
 #[derive(Drop)]
 pub struct Point {
     /// How many locals are of blocks that begin before it.
-    named: usize,
+    pub named: usize,
     /// What is known of temporaries.
-    held: Known,
+    pub held: Known,
 }
 
 /// Where code stands.
@@ -103,8 +104,8 @@ impl Place {
         ensures homes { self.new.homes.items ≡ self.old.homes.items }
     {
         let first = offset_of(slots)?;
-        let own = offsets_from(self.alloc, first, &function.own, &[])?;
         let low = end_from(first, &function.own, &[])?;
+        let own = offsets_from(self.alloc, first, &function.own, &[])?;
         self.own = own;
         self.low = low;
         self.passed = function.passed;
@@ -160,16 +161,13 @@ impl Place {
         self.held = point.held;
     }
 
-    /// Goes back to where so many locals were named, and this was known of temporaries.
-    pub fn go_back(&mut self, named: usize, held: &Known) -> Result<(), AllocError>
-        ensures place { OnOk result (surroundings self.new
-            ≡ holding held.now (naming (drop named self.old.homes.items) (surroundings self.old))) }
+    /// Goes back to where so many locals were named. Nothing is known of temporaries there.
+    pub fn go_back(&mut self, named: usize)
+        ensures place { surroundings self.new ≡ holding [] (naming (drop named self.old.homes.items) (surroundings self.old)) }
         ensures homes { self.new.homes.items ≡ self.old.homes.items }
     {
-        let held = held.copied(self.alloc)?;
         self.named = named;
-        self.held = held;
-        Ok(())
+        self.held.forget();
     }
 
     /// What is known of temporaries.
@@ -240,25 +238,18 @@ impl Place {
         1 + u64::from(self.passed) + u64::from(temporary.0)
     }
 
-    /// The offset of a local in the frame.
+    /// The offset of a local in the frame, and its home, or x0 where it has none.
     #[tactic(auto, using(crate::proofs::Numbers::local_some, crate::proofs::Numbers::local_none))]
-    pub fn offset(&self, variable: Variable) -> u64
-        ensures { result ≡ local_offset (surroundings self.now) variable.out variable.index }
+    pub fn local(&self, variable: Variable) -> (u64, Register)
+        ensures offset { result.0 ≡ local_offset (surroundings self.now) variable.out variable.index }
+        ensures home { result.1 ≡ local_home (surroundings self.now) variable.out variable.index }
     {
         match self.blocks.get(variable.out as usize) {
-            Some(scope) => nth(&scope.offsets, variable.index),
-            None => 0,
-        }
-    }
-
-    /// The home of a local, or x0 where it has none.
-    #[tactic(auto, using(crate::proofs::Numbers::local_some, crate::proofs::Numbers::local_none))]
-    pub fn home(&self, variable: Variable) -> Register
-        ensures { result ≡ local_home (surroundings self.now) variable.out variable.index }
-    {
-        match self.blocks.get(variable.out as usize) {
-            Some(scope) => home_at(&scope.homes, variable.index as usize),
-            None => Register::ZERO,
+            Some(scope) => {
+                let offset = nth(&scope.offsets, variable.index);
+                (offset, home_at(&scope.homes, variable.index as usize))
+            }
+            None => (0, Register::ZERO),
         }
     }
 
@@ -269,18 +260,11 @@ impl Place {
         nth(&self.own, object)
     }
 
-    /// The offset of a global in the data.
-    pub fn data_offset(&self, object: u32) -> u64
-        ensures { result ≡ nth (surroundings self.now).statics object }
-    {
-        nth(&self.statics, object)
-    }
-
     /// The address of a global. Fails where that is over the greatest u64: no memory has so many globals.
     pub fn data_address(&self, object: u32) -> Result<u64, AllocError>
         ensures { IfOk result (λ n. n ≡ data_base + nth (surroundings self.now).statics object) }
     {
-        sum(DATA_BASE, self.data_offset(object))
+        sum(DATA_BASE, nth(&self.statics, object))
     }
 
     /// Enters a block with these locals. Answers where its locals begin.
@@ -290,10 +274,10 @@ impl Place {
         ensures homes { self.new.homes.items ≡ self.old.homes.items }
     {
         let low = self.low;
-        let homes = first_homes(self.alloc, behind(&self.homes, self.named), locals.len())?;
-        let offsets = offsets_from(self.alloc, low, locals, &homes)?;
-        let end = end_from(low, locals, &homes)?;
         let named = named_behind(self.named, locals)?;
+        let homes = first_homes(self.alloc, behind(&self.homes, self.named), locals.len())?;
+        let end = end_from(low, locals, &homes)?;
+        let offsets = offsets_from(self.alloc, low, locals, &homes)?;
         self.blocks.insert(0, Scope { offsets, homes })?;
         self.named = named;
         self.low = end;

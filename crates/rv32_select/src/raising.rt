@@ -1,6 +1,6 @@
 // Statements that do no more than raise an exception.
 
-ghost use Rattle.std.specs.Prelude.{◌≡◌, ◌&&◌};
+ghost use Rattle.std.specs.Prelude.{◌≡◌};
 ghost use Rattle.core_lines.specs.Held.{raises, raises_only};
 ghost use Rattle.cyc_core.specs.Trees.{statement_tree, body_tree};
 
@@ -13,17 +13,9 @@ fn raises(statement: &Statement) -> bool
 {
     match statement {
         Statement::Raise(_) => true,
-        Statement::If(_, these, those) => raise_only(these, those),
+        Statement::If(_, these, those) => raises_only(these) && raises_only(those),
         _ => false,
     }
-}
-
-/// Whether both statements of a choice do no more than that.
-#[cycle(raises)]
-fn raise_only(these: &[Statement], those: &[Statement]) -> bool
-    ensures { result ≡ (raises_only (body_tree these.now) && raises_only (body_tree those.now)) }
-{
-    raises_only(these) && raises_only(those)
 }
 
 /// Whether statements do no more than that.

@@ -5,8 +5,7 @@ ghost use Rattle.core_lines.specs.Homes.{flag_at};
 ghost use Rattle.core_lines.specs.Saved.{flagged, all_flagged, flags_of, results_of};
 ghost use Rattle.cyc_core.specs.Trees.{operation_tree, optional_tree};
 
-use crate::flags::set_flag;
-use crate::homes::flag_at;
+use crate::flags::{flag_at, set_flag};
 use crate::results::result_of;
 use cyc_core::{Operation, Temporary, Words};
 use std::alloc::AllocError;
@@ -16,7 +15,7 @@ pub fn settle(saves: &mut Vec<bool>, live: &mut Vec<bool>, to: Temporary) -> Res
     ensures saves { OnOk result (saves.new.items ≡ saves.old.items ++ flag_at live.old.items to.0 ∷ []) }
     ensures live { OnOk result (live.new.items ≡ flagged false to.0 live.old.items) }
 {
-    saves.push(flag_at(live, to.0))?;
+    saves.push(flag_at(live, to.0 as usize))?;
     set_flag(live, to, false);
     Ok(())
 }
@@ -36,23 +35,7 @@ pub fn settle_operation(
     }
 }
 
-/// Appends whether three results are saved, the last one's flag first.
-fn put_three(
-    saves: &mut Vec<bool>,
-    live: &[bool],
-    first: Temporary,
-    count: Temporary,
-    index: Temporary,
-) -> Result<(), AllocError>
-    ensures { OnOk result (saves.new.items ≡ saves.old.items ++ reverse (flags_of live.now (first.0 ∷ count.0 ∷ index.0 ∷ []))) }
-{
-    saves.push(flag_at(live, index.0))?;
-    saves.push(flag_at(live, count.0))?;
-    saves.push(flag_at(live, first.0))?;
-    Ok(())
-}
-
-/// The same, and before them their temporaries' slots aren't loaded.
+/// The same of three results, the last one's flag first.
 fn settle_three(
     saves: &mut Vec<bool>,
     live: &mut Vec<bool>,
@@ -61,13 +44,15 @@ fn settle_three(
     index: Temporary,
 ) -> Result<(), AllocError>
     ensures saves { OnOk result (saves.new.items ≡ saves.old.items ++ reverse (flags_of live.old.items (first.0 ∷ count.0 ∷ index.0 ∷ []))) }
-    ensures live { OnOk result (live.new.items ≡ all_flagged false (first.0 ∷ count.0 ∷ index.0 ∷ []) live.old.items) }
+    ensures live { live.new.items ≡ all_flagged false (first.0 ∷ count.0 ∷ index.0 ∷ []) live.old.items }
 {
-    put_three(saves, live, first, count, index)?;
+    let loaded_first = flag_at(live, first.0 as usize);
+    let loaded_count = flag_at(live, count.0 as usize);
+    let loaded_index = flag_at(live, index.0 as usize);
     set_flag(live, first, false);
     set_flag(live, count, false);
     set_flag(live, index, false);
-    Ok(())
+    saves.extend_from_slice(&[loaded_index, loaded_count, loaded_first])
 }
 
 /// The same of a call's results.

@@ -1,7 +1,8 @@
 // Instructions for statements.
 
-ghost use Rattle.std.specs.Prelude.{◌≡◌, ◌+◌, ◌<◌, ◌≤◌, ◌++◌, [], IfOk, OnOk, map, drop, length, pos};
+ghost use Rattle.std.specs.Prelude.{◌≡◌, ◌+◌, ◌<◌, ◌≤◌, ◌++◌, [], ◌∷◌, IfOk, OnOk, map, drop, length, pos};
 ghost use Rattle.core_meaning.specs.Core as core;
+ghost use Rattle.core_lines.specs.declared.line.Line.TheVariants.{Jump, Label};
 ghost use Rattle.cyc_core.specs.Trees.{operation_tree, optional_tree, temporary_tree, statement_tree, body_tree, local_tree};
 ghost use Rattle.core_lines.specs.Frames.{kind_number, raise_code};
 ghost use Rattle.core_lines.specs.Choosing.{far, choice_code};
@@ -46,17 +47,37 @@ pub fn following(label: usize) -> Result<usize, AllocError>
     }
 }
 
-/// Appends what goes on where a temporary isn't 0, and at a label where it is.
+/// Appends a label. Answers the next one.
+fn put_label(lines: &mut Vec<Line>, label: usize) -> Result<usize, AllocError>
+    ensures code { OnOk result (lines.new.items ≡ lines.old.items ++ Label label ∷ []) }
+    ensures next { IfOk result (λ n. n ≡ label + 1) }
+{
+    put_lines(lines, &[Line::Label(label)])?;
+    following(label)
+}
+
+/// Appends a jump over what is behind another label, and that label. Answers the label after the one that the jump goes to.
+fn put_turn(lines: &mut Vec<Line>, behind: usize, other: usize) -> Result<usize, AllocError>
+    ensures code { OnOk result (lines.new.items ≡ lines.old.items ++ Jump behind ∷ Label other ∷ []) }
+    ensures next { IfOk result (λ n. n ≡ behind + 1) }
+{
+    put_lines(lines, &[Line::Jump(behind), Line::Label(other)])?;
+    following(behind)
+}
+
+/// Appends what goes on where a temporary isn't 0, and at a label where it is. Answers the next label.
 fn put_choice(
     lines: &mut Vec<Line>,
     place: &Place,
     temporary: Temporary,
     label: usize,
-) -> Result<(), AllocError>
-    ensures { OnOk result (lines.new.items ≡ lines.old.items ++ choice_code far place.now.passed place.now.held temporary.0 label) }
+) -> Result<usize, AllocError>
+    ensures code { OnOk result (lines.new.items ≡ lines.old.items ++ choice_code far place.now.passed place.now.held temporary.0 label) }
+    ensures next { IfOk result (λ n. n ≡ label + 1) }
 {
     let register = put_operand(lines, place, FIRST, temporary)?;
-    put_lines(lines, &[Line::JumpIfZero(register, label)])
+    put_lines(lines, &[Line::JumpIfZero(register, label)])?;
+    following(label)
 }
 
 /// The number of an exception's kind.
@@ -217,12 +238,12 @@ fn put_if(
         OnOk result (surroundings place.new ≡ holding (held_behind u.homes u.statics u.held s) (naming (names_after s u.names) u)) }
     ensures saves { OnOk result (saves_left place.new ≡ drop (results_in (core.If test.0 (body_tree these.now) (body_tree those.now))) (saves_left place.old)) }
 {
-    put_choice(lines, place, test, next)?;
+    let inside = put_choice(lines, place, test, next)?;
     let known = place.known()?;
-    let behind = put_statements(lines, place, following(next)?, ways, these)?;
-    put_lines(lines, &[Line::Jump(behind), Line::Label(next)])?;
+    let behind = put_statements(lines, place, inside, ways, these)?;
+    let other = put_turn(lines, behind, next)?;
     let first = place.exchange(known);
-    let free = put_statements(lines, place, following(behind)?, ways, those)?;
+    let free = put_statements(lines, place, other, ways, those)?;
     put_lines(lines, &[Line::Label(behind)])?;
     place.join(first, those);
     Ok(free)
@@ -249,16 +270,16 @@ fn put_while(
     ensures saves { OnOk result (saves_left place.new
         ≡ drop (results_in (core.While (body_tree test.now) flag.0 (body_tree body.now))) (saves_left place.old)) }
 {
-    put_lines(lines, &[Line::Label(next)])?;
+    let first = put_label(lines, next)?;
     place.held.forget();
-    let behind = put_statements(lines, place, following(next)?, ways, test)?;
-    put_choice(lines, place, flag, behind)?;
+    let behind = put_statements(lines, place, first, ways, test)?;
+    let within = put_choice(lines, place, flag, behind)?;
     place.held.forget();
     let inside = Ways {
         out: behind,
         again: next,
     };
-    let free = put_statements(lines, place, following(behind)?, inside, body)?;
+    let free = put_statements(lines, place, within, inside, body)?;
     put_lines(lines, &[Line::Jump(next), Line::Label(behind)])?;
     place.held.forget();
     Ok(free)

@@ -14,13 +14,16 @@ abbrev pub decreases-live_statements : goal.decreases-live_statements
 decreases-live_statements l = 2 * statements_size (body_tree l.statements.now)
 
 abbrev pub decreases-live_if : goal.decreases-live_if
-decreases-live_if l = 2 * (statements_size (body_tree l.these.now) + statements_size (body_tree l.those.now)) + 1
+decreases-live_if l = 2 * (statements_size (body_tree l.these.now) + statements_size (body_tree l.those.now)) + 2
 
 abbrev pub decreases-live_while : goal.decreases-live_while
-decreases-live_while l = 2 * (statements_size (body_tree l.test.now) + statements_size (body_tree l.body.now)) + 2
+decreases-live_while l = 2 * (statements_size (body_tree l.test.now) + statements_size (body_tree l.body.now)) + 3
 
 abbrev pub decreases-live_body : goal.decreases-live_body
-decreases-live_body l = 2 * (statements_size (body_tree l.test.now) + statements_size (body_tree l.body.now)) + 1
+decreases-live_body l = 2 * (statements_size (body_tree l.test.now) + statements_size (body_tree l.body.now)) + 2
+
+abbrev pub decreases-live_before : goal.decreases-live_before
+decreases-live_before l = 2 * statements_size (body_tree l.statements.now) + 1
 
 abbrev pub decreases-live_block : goal.decreases-live_block
 decreases-live_block l = 2 * statements_size (body_tree l.body.now) + 1

@@ -9,8 +9,8 @@ returns c =
     let f = function_tree c.args.function.now in
     let first = c.in_ok-first.first in
     let begins = c.in_ok-first.ensures ∙ ap (λ n. 4 * n) c.requires.slots in
-    let own = c.in_ok-own.ensures ∙ ap (λ ls. offsets_from first (shrunk (map local_tree ls) [])) c.deref.ensures.value in
-    let low = c.in_ok-low.ensures ∙ ap (λ ls. end_from first (shrunk (map local_tree ls) [])) c.deref-2.ensures.value in
+    let own = c.in_ok-own.ensures ∙ ap (λ ls. offsets_from first (shrunk (map local_tree ls) [])) c.deref-2.ensures.value in
+    let low = c.in_ok-low.ensures ∙ ap (λ ls. end_from first (shrunk (map local_tree ls) [])) c.deref.ensures.value in
     let blocks = ap (map (λ scope. scope.offsets.items)) c.new.ensures.items in
     let homes = ap (map (λ scope. scope.homes.items)) c.new.ensures.items in
     record {

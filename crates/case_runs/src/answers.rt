@@ -1,21 +1,24 @@
 // What the commands of cases answer.
 
+use crate::devices::{Calls, Given, Script, Tape};
 use crate::homes::homes_found;
 use crate::plain::run_over_plain;
 use crate::rules;
-use command_line::command_of;
-use command_line::status::{MEMORY, USAGE, usage_status};
-use cycc_answer::{Counted, answer};
+use command_line::status::{MEMORY, usage_status};
+use command_line::{Command, command_of};
+use cycc_answer::{Counted, answer, ended, refused};
+use cycc_driver::{CompileFault, Ending};
 use std::alloc::{AllocError, Global};
 use std::io;
 
-/// What a command answers: its status, what it writes on standard output and says on standard error, and the pages of an image.
+/// What a command answers: its status, what it writes on standard output and says on standard error, the pages of an image, and its reads and writes.
 #[derive(Drop)]
 pub struct Found {
     pub status: u8,
     pub written: Vec<u8>,
     pub said: Vec<u8>,
     pub pages: Option<u32>,
+    pub calls: Calls,
 }
 
 impl Found {
@@ -26,16 +29,29 @@ impl Found {
             written: Vec::new(alloc),
             said: Vec::new(alloc),
             pages: None,
+            calls: Calls::none(),
         }
     }
 }
 
-/// What is found, with this status. No case is done where memory is wanting.
-pub fn with_status(found: Found, status: u8) -> Result<Found, AllocError> {
+/// What is found of a command with this status and an image of so many pages, which said this between devices. No case is done where memory is wanting.
+pub fn found_between(
+    status: u8,
+    pages: Option<u32>,
+    reader: Counted<Script<'_>>,
+    writer: Counted<Tape>,
+    said: Vec<u8>,
+) -> Result<Found, AllocError> {
     if status == MEMORY {
         return Err(AllocError);
     }
-    Ok(Found { status, ..found })
+    Ok(Found {
+        status,
+        calls: Calls::of(&reader, &writer),
+        written: writer.into_inner().bytes,
+        said,
+        pages,
+    })
 }
 
 /// The pages of an image, as its header has them.
@@ -45,52 +61,78 @@ fn pages_of(image: &[u8]) -> Option<u32> {
     Some(u32::from_le_bytes(*bytes))
 }
 
-/// What `cycc` answers to the words of its command line.
-fn cycc(alloc: Global, words: &[&str], source: &[u8], input: &[u8]) -> Result<Found, AllocError> {
-    let mut found = Found::nothing(alloc, USAGE);
-    let command = match command_of(alloc, words) {
-        Ok(command) => command,
-        Err(error) => return with_status(found, usage_status(&error)),
+/// What `cycc` answers to a command.
+fn answered(
+    alloc: Global,
+    command: &Command<'_>,
+    source: &[u8],
+    given: Given<'_>,
+) -> Result<Found, AllocError> {
+    let mut reader = given.reader();
+    let mut writer = given.writer(alloc);
+    let mut said = Vec::new(alloc);
+    let answer = answer(alloc, command, source, &mut reader, &mut writer, &mut said)?;
+    let pages = match &answer.image {
+        Some(image) => pages_of(image),
+        None => None,
     };
-    let mut reader = Counted::new(input);
-    let mut writer = Counted::new(Vec::new(alloc));
-    let answer = answer(
-        alloc,
-        &command,
-        source,
-        &mut reader,
-        &mut writer,
-        &mut found.said,
-    )?;
-    found.pages = answer.image.as_ref().and_then(|image| pages_of(image));
-    found.written = writer.into_inner();
-    with_status(found, answer.status)
+    found_between(answer.status, pages, reader, writer, said)
 }
 
-/// What a command answers on a source and an input: the words of `cycc`, or one of the commands that run nothing.
-pub fn answer_to(alloc: Global, command: &str, source: &[u8], input: &[u8]) -> io::Result<Found> {
+/// What `cycc` answers to the words of its command line.
+fn cycc(
+    alloc: Global,
+    words: &[&str],
+    source: &[u8],
+    given: Given<'_>,
+) -> Result<Found, AllocError> {
+    match command_of(alloc, words) {
+        Ok(command) => answered(alloc, &command, source, given),
+        Err(error) => Ok(Found::nothing(alloc, usage_status(&error))),
+    }
+}
+
+/// What is said where memory lacks, first for a run and then for a source: both lines, and the status, or 0 where they have two.
+fn lacking_found(alloc: Global) -> Result<Found, AllocError> {
+    let mut found = Found::nothing(alloc, 0);
+    let of_run = ended(alloc, Ending::HostMemory, None, false, &mut found.said)?;
+    let of_source = refused(alloc, "IN", CompileFault::Memory, &mut found.said)?;
+    if of_run == of_source {
+        found.status = of_run;
+    }
+    Ok(found)
+}
+
+/// What a command answers on a source between what is read and what is written: the words of `cycc`, or one of the commands that run nothing.
+pub fn answer_to(
+    alloc: Global,
+    command: &str,
+    source: &[u8],
+    given: Given<'_>,
+) -> io::Result<Found> {
     match command {
         "tokens" => Ok(rules::tokens_found(alloc, source)?),
         "parse" => Ok(rules::program_found(alloc, source)?),
         "judge" => Ok(rules::faults_found(alloc, source)?),
         "homes" => Ok(homes_found(alloc, source)?),
+        "lacking" => Ok(lacking_found(alloc)?),
         _ => {
             let words: Vec<&str> = command.split(' ').collect(alloc)?;
-            Ok(cycc(alloc, &words, source, input)?)
+            Ok(cycc(alloc, &words, source, given)?)
         }
     }
 }
 
-/// What a command answers on a source and an input where it runs over a plain store; none where it runs nothing.
+/// The same where it runs over a plain store; none where it runs nothing.
 pub fn plain_answer_to(
     alloc: Global,
     command: &str,
     source: &[u8],
-    input: &[u8],
+    given: Given<'_>,
 ) -> Result<Option<Found>, AllocError> {
     let words: Vec<&str> = command.split(' ').collect(alloc)?;
     match command_of(alloc, &words) {
-        Ok(command) => run_over_plain(alloc, &command, source, input),
+        Ok(command) => run_over_plain(alloc, &command, source, given),
         Err(_) => Ok(None),
     }
 }

@@ -10,13 +10,17 @@ pub struct Part<'a> {
 }
 
 /// The keys that mean something.
-const KEYS: [&str; 12] = [
+const KEYS: [&str; 16] = [
     "command",
     "source",
     "pieces",
     "file",
     "bytes",
     "input",
+    "read_fails",
+    "write_fails",
+    "write_takes_nothing",
+    "calls",
     "writes",
     "writes_pieces",
     "says",
@@ -84,8 +88,7 @@ impl<'a> Case<'a> {
     /// Whether each of its parts means something.
     pub fn is_known(self) -> bool {
         for text in self.parts.split("\n-- ") {
-            let key = Part::of(text).key;
-            if !KEYS.iter().any(|known| *known == key) {
+            if !KEYS.contains(&Part::of(text).key) {
                 return false;
             }
         }

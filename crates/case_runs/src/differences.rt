@@ -1,7 +1,8 @@
 // What a case expects, and how an answer differs.
 
 use crate::answers::Found;
-use crate::cases::Case;
+use crate::cases::{Case, Part};
+use crate::devices::Calls;
 use crate::texts::{Shown, bytes_of, pieced_bytes};
 use std::alloc::{AllocError, Global};
 use std::fmt;
@@ -10,7 +11,14 @@ use std::fmt;
 fn are_meant(alloc: Global, case: Case<'_>, key: &str, bytes: &[u8]) -> Result<bool, AllocError> {
     let part = case.part(key);
     let wanted = bytes_of(alloc, part)?;
-    if key == "says" && !wanted.is_empty() && !part.is_some_and(|part| part.has_lines) {
+    let has_lines = matches!(
+        part,
+        Some(Part {
+            has_lines: true,
+            ..
+        })
+    );
+    if key == "says" && !wanted.is_empty() && !has_lines {
         return Ok(bytes.strip_suffix(b"\n") == Some(wanted.as_slice()));
     }
     Ok(bytes == wanted.as_slice())
@@ -39,6 +47,14 @@ fn are_pages(pages: Option<u32>, case: Case<'_>) -> bool {
     }
 }
 
+/// Whether reads and writes are as many as the case has, where it counts them.
+fn are_calls(alloc: Global, calls: Calls, case: Case<'_>) -> Result<bool, AllocError> {
+    match case.word("calls") {
+        Some(wanted) => Ok(format!(in alloc; "{calls}")?.as_str() == wanted),
+        None => Ok(true),
+    }
+}
+
 /// Whether what is answered to a case is what it expects.
 pub fn is_as_wanted(
     alloc: Global,
@@ -49,6 +65,7 @@ pub fn is_as_wanted(
     Ok(
         is_status(found.status, head, case)
             && are_pages(found.pages, case)
+            && are_calls(alloc, found.calls, case)?
             && are_written(alloc, case, &found.written)?
             && are_meant(alloc, case, "says", &found.said)?,
     )
@@ -67,9 +84,13 @@ impl<'a> fmt::Display for Difference<'a> {
         let name = self.case.name;
         let command = self.command;
         let status = self.found.status;
+        let calls = self.found.calls;
         let written = Shown(&self.found.written);
         let said = Shown(&self.found.said);
-        writeln!(f, "== {name}\n-- command: {command}\n-- status: {status}")?;
+        writeln!(
+            f,
+            "== {name}\n-- command: {command}\n-- status: {status}\n-- calls: {calls}"
+        )?;
         if let Some(pages) = self.found.pages {
             writeln!(f, "-- pages: {pages}")?;
         }

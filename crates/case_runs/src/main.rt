@@ -8,6 +8,7 @@
 
 mod answers;
 mod cases;
+mod devices;
 mod differences;
 mod homes;
 mod plain;
@@ -17,6 +18,7 @@ mod texts;
 
 use crate::answers::{Found, answer_to, plain_answer_to};
 use crate::cases::{Case, Part};
+use crate::devices::Given;
 use crate::differences::{Difference, is_as_wanted};
 use crate::stores::{is_image_run, makes_calls};
 use crate::texts::{bytes_of, pieced_bytes, plain_bytes};
@@ -62,30 +64,42 @@ fn is_expected(
     command: &str,
     head: Case<'_>,
     case: Case<'_>,
-    found: &Found,
+    found: Found,
 ) -> io::Result<bool> {
-    let holds = is_as_wanted(rt.alloc(), found, head, case)?;
+    let holds = is_as_wanted(rt.alloc(), &found, head, case)?;
     if !holds {
         let difference = Difference {
             case,
             command,
-            found,
+            found: &found,
         };
         println!(rt; "{difference}")?;
     }
     Ok(holds)
 }
 
-/// Whether a command answers to a case what it expects, over a plain store too where it runs an image.
+/// Whether a command answers to a case and its source what it expects, over a plain store too where it runs an image.
+fn is_answered(
+    rt: &HostRuntime,
+    command: &str,
+    (head, case): (Case<'_>, Case<'_>),
+    source: &[u8],
+    given: Given<'_>,
+) -> io::Result<bool> {
+    let found = answer_to(rt.alloc(), command, source, given)?;
+    let is_right = is_expected(rt, command, head, case, found)?;
+    match plain_answer_to(rt.alloc(), command, source, given)? {
+        Some(plain) => Ok(is_expected(rt, command, head, case, plain)? && is_right),
+        None => Ok(is_right),
+    }
+}
+
+/// Whether a command answers to a case what it expects.
 fn holds(rt: &HostRuntime, command: &str, head: Case<'_>, case: Case<'_>) -> io::Result<bool> {
     let source = source_of(rt, case)?;
     let input = bytes_of(rt.alloc(), case.part("input"))?;
-    let found = answer_to(rt.alloc(), command, &source, &input)?;
-    let holds = is_expected(rt, command, head, case, &found)?;
-    match plain_answer_to(rt.alloc(), command, &source, &input)? {
-        Some(plain) => Ok(is_expected(rt, command, head, case, &plain)? && holds),
-        None => Ok(holds),
-    }
+    let given = Given::of(case, &input);
+    is_answered(rt, command, (head, case), &source, given)
 }
 
 /// Whether each command of a case answers what it expects, and there is one, and no part that means nothing.

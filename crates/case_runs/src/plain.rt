@@ -1,9 +1,9 @@
 // Runs over a plain store, which are those of `cycc` over a paged one.
 
-use crate::answers::{Found, with_status};
+use crate::answers::{Found, found_between};
+use crate::devices::Given;
 use command_line::Command;
-use command_line::status::SUCCESS;
-use cycc_answer::{Counted, ended};
+use cycc_answer::ended;
 use cycc_driver::{Image, Machine, PlainStore, compile, load, run};
 use std::alloc::{AllocError, Global};
 
@@ -36,32 +36,36 @@ impl Told {
 }
 
 /// How the run of an image ends, and what it writes.
-fn image_run(alloc: Global, image: &Image, input: &[u8], told: Told) -> Result<Found, AllocError> {
-    let mut found = Found::nothing(alloc, SUCCESS);
+fn image_run(
+    alloc: Global,
+    image: &Image,
+    given: Given<'_>,
+    told: Told,
+) -> Result<Found, AllocError> {
     let Ok(store) = PlainStore::new(alloc, image.pages()) else {
         return Err(AllocError);
     };
     let Ok(mut machine) = Machine::new(alloc, image, store) else {
         return Err(AllocError);
     };
-    let mut reader = Counted::new(input);
-    let mut writer = Counted::new(Vec::new(alloc));
+    let mut reader = given.reader();
+    let mut writer = given.writer(alloc);
+    let mut said = Vec::new(alloc);
     let ending = run(&mut machine, &mut reader, &mut writer, told.steps);
     let place = told.shows_place.then_some(machine.pc());
-    let status = ended(alloc, ending, place, told.shows_ending, &mut found.said)?;
-    found.written = writer.into_inner();
-    with_status(found, status)
+    let status = ended(alloc, ending, place, told.shows_ending, &mut said)?;
+    found_between(status, None, reader, writer, said)
 }
 
 /// The same of the image that bytes are, or none where they are no image.
 fn bytes_run(
     alloc: Global,
     bytes: &[u8],
-    input: &[u8],
+    given: Given<'_>,
     told: Told,
 ) -> Result<Option<Found>, AllocError> {
     match load(alloc, bytes) {
-        Ok(image) => Ok(Some(image_run(alloc, &image, input, told)?)),
+        Ok(image) => Ok(Some(image_run(alloc, &image, given, told)?)),
         Err(_) => Ok(None),
     }
 }
@@ -71,7 +75,7 @@ pub fn run_over_plain(
     alloc: Global,
     command: &Command<'_>,
     source: &[u8],
-    input: &[u8],
+    given: Given<'_>,
 ) -> Result<Option<Found>, AllocError> {
     match *command {
         Command::Run {
@@ -80,14 +84,14 @@ pub fn run_over_plain(
             shows_ending,
             ..
         } => match compile(alloc, source, pages.number()) {
-            Ok(bytes) => bytes_run(alloc, &bytes, input, Told::of_run(steps, shows_ending)),
+            Ok(bytes) => bytes_run(alloc, &bytes, given, Told::of_run(steps, shows_ending)),
             Err(_) => Ok(None),
         },
         Command::Exec {
             steps,
             shows_ending,
             ..
-        } => bytes_run(alloc, source, input, Told::of_exec(steps, shows_ending)),
+        } => bytes_run(alloc, source, given, Told::of_exec(steps, shows_ending)),
         _ => Ok(None),
     }
 }

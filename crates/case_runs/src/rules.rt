@@ -43,11 +43,11 @@ fn accepted(alloc: Global) -> Result<Found, AllocError> {
     Ok(found)
 }
 
-/// That a source is refused, with this line.
-fn refused_with(alloc: Global, line: &str) -> Result<Found, AllocError> {
+/// That a source is refused, with these lines.
+fn refused_with(alloc: Global, lines: String) -> Found {
     let mut found = Found::nothing(alloc, REFUSED);
-    found.said.extend_from_slice(line.as_bytes())?;
-    Ok(found)
+    found.said = lines.into_bytes();
+    found
 }
 
 /// That a source is refused.
@@ -57,7 +57,7 @@ fn refused(alloc: Global, source: &[u8], refusal: Refusal) -> Result<Found, Allo
     };
     let (line, column) = place_of(source, at);
     let line = format!(in alloc; "IN:{line}:{column}: {name}\n")?;
-    refused_with(alloc, line.as_str())
+    Ok(refused_with(alloc, line))
 }
 
 /// The kinds of tokens, in one line, with spaces between them: nothing where there are none.
@@ -96,13 +96,36 @@ pub fn program_found(alloc: Global, source: &[u8]) -> Result<Found, AllocError> 
     }
 }
 
-/// The text of a program's first fault, or of there being none.
-fn verdict(alloc: Global, source: &[u8], fault: Option<Fault>) -> Result<String, AllocError> {
-    let Some(Fault { kind, at }) = fault else {
-        return String::from_str(alloc, "accepted");
-    };
-    let (line, column) = place_of(source, at);
-    format!(in alloc; "IN:{line}:{column}: {kind}")
+/// Writes the line of a program's first fault, or of there being none.
+fn write_verdict(
+    lines: &mut String,
+    source: &[u8],
+    fault: Option<Fault>,
+) -> Result<(), AllocError> {
+    match fault {
+        Some(Fault { kind, at }) => {
+            let (line, column) = place_of(source, at);
+            write!(lines, "IN:{line}:{column}: {kind}\n")
+        }
+        None => write!(lines, "accepted\n"),
+    }
+}
+
+/// Writes what all rules say of a program, and what they say without those on live regions and effects, where that is something else.
+fn write_verdicts(
+    lines: &mut String,
+    source: &[u8],
+    first: Option<Fault>,
+    lenient: Option<Option<Fault>>,
+) -> Result<(), AllocError> {
+    write_verdict(lines, source, first)?;
+    match lenient {
+        Some(fault) => {
+            write!(lines, "without the rules on live regions and effects: ")?;
+            write_verdict(lines, source, fault)
+        }
+        None => Ok(()),
+    }
 }
 
 /// What all rules say of a program; and besides, where that is something else, what they say without those on live regions and effects.
@@ -116,16 +139,14 @@ fn judged(alloc: Global, source: &[u8], program: &Program) -> Result<Found, Allo
     if first.is_none() && lenient.is_none() {
         return accepted(alloc);
     }
-    let line = verdict(alloc, source, first)?;
-    if lenient == whole {
-        let line = format!(in alloc; "{line}\n")?;
-        return refused_with(alloc, line.as_str());
-    }
-    let other = verdict(alloc, source, lenient)?;
-    let lines = format!(in alloc;
-        "{line}\nwithout the rules on live regions and effects: {other}\n"
-    )?;
-    refused_with(alloc, lines.as_str())
+    let other = if lenient == whole {
+        None
+    } else {
+        Some(lenient)
+    };
+    let mut lines = String::new(alloc);
+    write_verdicts(&mut lines, source, first, other)?;
+    Ok(refused_with(alloc, lines))
 }
 
 /// What the rules of the language say of a source.

@@ -1,0 +1,182 @@
+// Programs of Core, read from texts.
+//
+// `function PARAMETERS`, `block`, `leave`, `if TEMPORARY` and `while TEMPORARY` go on up to their `end`. The statements of `if` before its `else` are done
+// where the temporary is not 0, and those of `while` before its `do` are its test. `with_word`, `with_fat`, `with_words COUNT`, `with_pairs COUNT`,
+// `with_union`, `with_fat_union` and `with_unions COUNT` are locals of a block, or right within a function its unnamed values. `pass` has the temporaries
+// that the next `call FUNCTION RESULTS` passes.
+
+use crate::evaluator::parts::{datum_of, local_of, statement_of, words_of};
+use crate::evaluator::rows::{Row, row_of};
+use cyc_core::{Function, Local, Program, Statement, Temporary};
+use std::alloc::Global;
+use std::mem;
+use std::test::Fail;
+
+// what goes on up to an `end`
+#[derive(Clone, Copy)]
+enum Sort {
+    Function(u32),
+    Block,
+    Leave,
+    If(Temporary),
+    While(Temporary),
+}
+
+// what goes on up to an `end`, as far as it is read: its locals, the statements before its `else` or `do`, and those that are read now
+#[derive(Drop)]
+struct Level {
+    sort: Sort,
+    locals: Vec<Local>,
+    first: Vec<Statement>,
+    body: Vec<Statement>,
+}
+
+// a program as far as it is read
+#[derive(Drop)]
+struct Reader {
+    alloc: Global,
+    program: Program,
+    levels: Vec<Level>,
+    passed: Vec<Temporary>,
+}
+
+// the statement of a level that is no function
+fn whole_statement(level: Level) -> Statement {
+    match level.sort {
+        Sort::Function(_) | Sort::Block => Statement::Block(level.locals, level.body),
+        Sort::Leave => Statement::Leave(level.body),
+        Sort::If(of) => Statement::If(of, level.first, level.body),
+        Sort::While(of) => Statement::While(level.first, of, level.body),
+    }
+}
+
+impl Reader {
+    fn new(alloc: Global) -> Self {
+        Reader {
+            alloc,
+            program: Program {
+                functions: Vec::new(alloc),
+                main: 0,
+                globals: Vec::new(alloc),
+            },
+            levels: Vec::new(alloc),
+            passed: Vec::new(alloc),
+        }
+    }
+
+    fn open(&mut self, sort: Sort) -> Option<()> {
+        let level = Level {
+            sort,
+            locals: Vec::new(self.alloc),
+            first: Vec::new(self.alloc),
+            body: Vec::new(self.alloc),
+        };
+        self.levels.push(level).ok()
+    }
+
+    fn turn(&mut self) -> Option<()> {
+        let level = self.levels.last_mut()?;
+        mem::swap(&mut level.first, &mut level.body);
+        Some(())
+    }
+
+    fn add(&mut self, statement: Statement) -> Option<()> {
+        self.levels.last_mut()?.body.push(statement).ok()
+    }
+
+    fn add_function(&mut self, parameters: u32, level: Level) -> Option<()> {
+        let function = Function {
+            parameters,
+            temporaries: 4,
+            passed: 1,
+            order: Vec::new(self.alloc),
+            own: level.locals,
+            body: level.body,
+        };
+        self.program.functions.push(function).ok()
+    }
+
+    fn close(&mut self) -> Option<()> {
+        let level = self.levels.pop()?;
+        match level.sort {
+            Sort::Function(parameters) => self.add_function(parameters, level),
+            _ => self.add(whole_statement(level)),
+        }
+    }
+
+    fn pass(&mut self, row: Row<'_>) -> Option<()> {
+        for number in row.numbers.iter().take(row.count) {
+            self.passed.push(Temporary(*number)).ok()?;
+        }
+        Some(())
+    }
+
+    fn call(&mut self, row: Row<'_>) -> Option<()> {
+        let [function, first, second, third, _] = row.numbers;
+        let results = words_of([first, second, third], row.count.saturating_sub(1));
+        let passed = mem::replace(&mut self.passed, Vec::new(self.alloc));
+        self.add(Statement::Call(results, function, passed))
+    }
+
+    fn part(&mut self, row: Row<'_>) -> Option<()> {
+        if let Some(datum) = datum_of(self.alloc, row) {
+            return self.program.globals.push(datum).ok();
+        }
+        if let Some(local) = local_of(self.alloc, row) {
+            return self.levels.last_mut()?.locals.push(local).ok();
+        }
+        let statement = statement_of(self.alloc, row)?;
+        self.add(statement)
+    }
+
+    fn read(&mut self, text: &str) -> Option<()> {
+        let row = row_of(text)?;
+        let [number, _, _, _, _] = row.numbers;
+        match row.name {
+            "function" => self.open(Sort::Function(number)),
+            "block" => self.open(Sort::Block),
+            "leave" => self.open(Sort::Leave),
+            "if" => self.open(Sort::If(Temporary(number))),
+            "while" => self.open(Sort::While(Temporary(number))),
+            "else" | "do" => self.turn(),
+            "end" => self.close(),
+            "pass" => self.pass(row),
+            "call" => self.call(row),
+            _ => self.part(row),
+        }
+    }
+
+    fn read_line(&mut self, line: &str) -> Result<(), Fail> {
+        for text in line.split("; ") {
+            if self.read(text).is_none() {
+                return Err(Fail::new(format_args!("no row, or no memory for it: {text}")));
+            }
+        }
+        Ok(())
+    }
+
+    // reads the lines of a text, where the given ones stand for its lines `?`
+    fn read_text(&mut self, text: &str, given: &str) -> Result<(), Fail> {
+        let mut lines = given.split(" | ");
+        for line in text.lines() {
+            let rows = if line == "?" {
+                lines.next().unwrap_or(line)
+            } else {
+                line
+            };
+            self.read_line(rows)?;
+        }
+        if self.levels.is_empty() && lines.next().unwrap_or("").is_empty() {
+            Ok(())
+        } else {
+            Err("an end is missing, or a line was not asked for")?
+        }
+    }
+}
+
+/// The program of a text, where the lines `?` stand for the given ones, which have ` | ` between them.
+pub fn program_of(alloc: Global, text: &str, given: &str) -> Result<Program, Fail> {
+    let mut reader = Reader::new(alloc);
+    reader.read_text(text, given)?;
+    Ok(reader.program)
+}

@@ -1,0 +1,174 @@
+// The words of the command line.
+
+use crate::texts::{parted, refuse};
+use command_line::status::usage_status;
+use command_line::{Command, Error, command_of, shown, shown_error, words_of};
+use std::alloc::{AllocError, Global};
+use std::env::{Env, FillError};
+use std::test::Fail;
+
+// a row's words, and what stands behind them
+fn words_and_rest(row: &str) -> (&str, &str) {
+    row.split_once(" -> ").unwrap_or((row, ""))
+}
+
+// whether a command is shown so
+fn is_shown(alloc: Global, command: &Command<'_>, wanted: &str) -> Result<bool, AllocError> {
+    Ok(format!(in alloc; "{command:?}")?.as_str() == wanted)
+}
+
+// whether the words of a row are its command
+fn is_read(alloc: Global, row: &str) -> Result<bool, Fail> {
+    let (words, wanted) = words_and_rest(row);
+    let words: Vec<&str> = words.split(' ').collect(alloc)?;
+    let command = command_of(alloc, words.as_slice())?;
+    Ok(is_shown(alloc, &command, wanted)?)
+}
+
+// why words are no command
+fn refusal(alloc: Global, words: &str) -> Result<Error, Fail> {
+    let words: Vec<&str> = words.split(' ').collect(alloc)?;
+    Ok(command_of(alloc, words.as_slice()).err().ok_or("taken")?)
+}
+
+// whether what is shown of words has this
+fn has_text(alloc: Global, error: &Error, wanted: &str) -> Result<bool, AllocError> {
+    Ok(format!(in alloc; "{error}")?.as_str().contains(wanted))
+}
+
+// whether the words of a row ask for help, which has what stands behind them
+fn is_help(alloc: Global, row: &str) -> Result<bool, Fail> {
+    let (words, wanted) = words_and_rest(row);
+    let error = refusal(alloc, words)?;
+    Ok(usage_status(&error) == 0 && has_text(alloc, &error, wanted)?)
+}
+
+// the words that a system gives, a space apart, with `?` for the byte 255
+#[derive(Clone, Copy)]
+struct Given<'a> {
+    line: &'a str,
+}
+
+// writes a word's bytes into as much room
+fn fill(room: &mut [u8], word: &str) {
+    for (place, byte) in room.iter_mut().zip(word.bytes()) {
+        *place = if byte == b'?' { 0xff } else { byte };
+    }
+}
+
+impl Env for Given<'_> {
+    fn arg(&self, i: usize, buf: &mut [u8]) -> Result<usize, FillError> {
+        let Some(word) = self.line.split(' ').nth(i) else {
+            return Err(FillError::NotPresent);
+        };
+        match buf.get_mut(..word.len()) {
+            Some(room) => {
+                fill(room, word);
+                Ok(word.len())
+            }
+            None => Err(FillError::TooLong),
+        }
+    }
+
+    fn var(&self, _name: &str, _buf: &mut [u8]) -> Result<usize, FillError> {
+        Err(FillError::NotPresent)
+    }
+
+    fn var_at(&self, _i: usize, _buf: &mut [u8]) -> Result<usize, FillError> {
+        Err(FillError::NotPresent)
+    }
+}
+
+// whether words that a system gives are a command with this input, which is shown so
+fn has_input(alloc: Global, line: &str, input: &str, as_shown: &str) -> Result<bool, Fail> {
+    let words = words_of(&(Given { line }, alloc))?;
+    let command = command_of(alloc, words.as_slice())?;
+    Ok(command.input() == input && shown(command.input()) == as_shown)
+}
+
+#[test]
+fn a_path_that_is_no_text_is_shown_and_marked(rt: HostRuntime) -> Result<(), Fail> {
+    let is_right = has_input(
+        rt.alloc(),
+        "cycc check f?.cyc",
+        "f\u{FFFD}.cyc\0",
+        "f\u{FFFD}.cyc",
+    )?;
+    assert!(rt; is_right);
+    Ok(())
+}
+
+// whether the text of words that are no command has the sign of bytes that are no text, and not the mark of these
+fn is_marked(alloc: Global, error: &Error) -> Result<bool, AllocError> {
+    let text = shown_error(alloc, error)?;
+    Ok(text.as_str().contains('\u{FFFD}') && !text.as_str().contains('\0'))
+}
+
+// whether the words of a row, which are no text, are no command
+fn is_no_text(alloc: Global, row: &str) -> Result<bool, Fail> {
+    let words = words_of(&(Given { line: row }, alloc))?;
+    match command_of(alloc, words.as_slice()) {
+        Ok(_) => Ok(false),
+        Err(error) => Ok(usage_status(&error) == 9 && is_marked(alloc, &error)?),
+    }
+}
+
+// whether it is so what a row says: words are a command, their help has a text, or they are no text and no command
+fn is_so(alloc: Global, row: &str) -> Result<bool, Fail> {
+    let (sort, row) = parted(row);
+    match sort {
+        "command" => is_read(alloc, row),
+        "help" => is_help(alloc, row),
+        _ => is_no_text(alloc, row),
+    }
+}
+
+// Words, and the command that they are; what the help of words has to say; and words that are no text.
+const WORDS: &str = r#"command cycc check a.cyc -> Check { input: "a.cyc" }
+command cycc compile a b --pages 7 -> Compile { input: "a", output: "b", pages: Pages { number: 7 } }
+command cycc compile a b -> Compile { input: "a", output: "b", pages: Pages { number: 1024 } }
+command cycc run a -> Run { input: "a", pages: Pages { number: 1024 }, steps: 4294967295, shows_ending: false }
+command cycc run --ending --pages=4096 a --steps 18446744073709551615 -> Run { input: "a", pages: Pages { number: 4096 }, steps: 18446744073709551615, shows_ending: true }
+command cycc run a --pages 1 -> Run { input: "a", pages: Pages { number: 1 }, steps: 4294967295, shows_ending: false }
+command cycc eval i -> Eval { input: "i", fuel: 4294967295, shows_ending: false }
+command cycc eval i --steps 7 --ending -> Eval { input: "i", fuel: 7, shows_ending: true }
+command cycc exec i --steps 2 -> Exec { input: "i", steps: 2, shows_ending: false }
+command cycc dump i -> Dump { input: "i" }
+help cycc --help -> 9  the words of the command line are out of order
+help cycc check --help -> Outlives
+help cycc compile --help -> TooLarge
+help cycc run --help -> TooDeep
+help cycc eval --help -> Consumed
+help cycc exec --help -> Trailing
+help cycc dump --help -> Magic
+no_text cycc run a --pages=1?
+no_text cycc run a --ending?
+no_text cycc check? a b"#;
+
+#[test]
+fn words_are_read(rt: HostRuntime) -> Result<(), Fail> {
+    for row in WORDS.lines() {
+        if !is_so(rt.alloc(), row)? {
+            return refuse(Some(row));
+        }
+    }
+    Ok(())
+}
+
+// a path of a thousand letters, behind the words before it
+fn long_line(alloc: Global) -> Result<String, AllocError> {
+    let mut line = String::from_str(alloc, "cycc check ")?;
+    for _ in 0..1000 {
+        line.push('a')?;
+    }
+    Ok(line)
+}
+
+#[test]
+fn long_words_are_whole(rt: HostRuntime) -> Result<(), Fail> {
+    let line = long_line(rt.alloc())?;
+    let path = line.as_str().strip_prefix("cycc check ").unwrap_or("");
+    let is_right = has_input(rt.alloc(), line.as_str(), path, path)?;
+    assert!(rt; is_right && path.len() == 1000);
+    Ok(())
+}

@@ -8,7 +8,7 @@ use Rattle.region_runtime.proofs.Blank.{link_is}
 use Rattle.region_runtime.proofs.Words.{free_seen, live_page}
 use Rattle.region_runtime.proofs.Serves.{serves_live}
 use Rattle.region_runtime.proofs.Along.{apart, bytes_along, next_within, pages_few}
-use Rattle.region_runtime.proofs.Told.{cut_touched, grow_touched, last_in, last_fits, last_some, cut_says, grow_says, hand_other, count_small}
+use Rattle.region_runtime.proofs.Told.{cut_touched, grow_touched, last_in, last_fits, last_some, PlaceSays, cut_says, grow_says, hand_other, count_small}
 use Rattle.region_runtime.proofs.pool.Pool.region_alloc.Goals as goal
 
 pub returns-then-not-serves-clause-bytes : goal.returns-then-not-serves-clause-bytes
@@ -78,16 +78,16 @@ cut-requires-clause-within c =
     c.last-last.result c.left.result last_is left_is c.if-room-left.true in
     subst (λ k. used_of k.word (c.last-last.result - 1) + c.room_for-room.result ≤ 4096) (sym shapes) f
 
-pub invariant_of-self-then-room-left : goal.invariant_of-self-then-room-left
-invariant_of-self-then-room-left c =
-    let t = seen c.self.inside.book in
+-- what is said of the block then
+cut_said : (c : goal.After-cut) → PlaceSays c.args.self.now (pool_of c.cut.new.self) c.args.handle.0 c.args.bytes c.cut.result
+cut_said c =
     let h = c.args.handle.0 in
     let raws = c.left.ensures.raw ∙ c.last-last.ensures.raw ∙ c.serves.ensures.raw ∙ c.begin.ensures.raw in
     let shapes = c.left.ensures.shape ∙ c.last-last.ensures.shape ∙ c.serves.ensures.shape ∙ c.begin.ensures.shape in
     let last_is = c.last-last.ensures.value ∙ ap (λ k. last_of k h) (c.serves.ensures.shape ∙ c.begin.ensures.shape) in
     let left_is = c.left.ensures.value ∙ ap (λ k. left_of (used_of k.word) c.last-last.result) (c.last-last.ensures.shape ∙ c.serves.ensures.shape
     ∙ c.begin.ensures.shape) in
-    (cut_says (pool_of c.self.inside.book) c.args.self.now (pool_of c.cut.new.self) c.self.view_is c.self.invariant (c.cut.ensures.long
+    cut_says (pool_of c.self.inside.book) c.args.self.now (pool_of c.cut.new.self) c.self.view_is c.self.invariant (c.cut.ensures.long
     ∙ ap (λ r. length r.words) raws)
     (c.cut.ensures.bytes ∙ ap (λ r. r.bytes) raws) h c.args.bytes
     (ap (λ t. takes_blocks c.args.handle.0 (standing_by (owner_of t.word) c.args.handle.0)) (sym c.begin.ensures.shape) ∙ sym c.serves.ensures.value
@@ -95,121 +95,28 @@ invariant_of-self-then-room-left c =
     c.room_for-room.result c.if-bytes-gt-PAGE.false (c.room_for-room.ensures.room c.if-bytes-gt-PAGE.false) c.last-last.result c.left.result last_is left_is
     c.if-room-left.true c.cut.result (c.cut.ensures.value
     ∙ ap (λ k. 268435456 + 4096 * (c.last-last.result - 1) + used_of k.word (c.last-last.result - 1)) shapes)
-    (c.cut.ensures.shape ∙ ap (λ k. with_word (c.last-last.result - 1) 2 (used_of k.word (c.last-last.result - 1) + c.room_for-room.result) k) shapes)).sound
+    (c.cut.ensures.shape ∙ ap (λ k. with_word (c.last-last.result - 1) 2 (used_of k.word (c.last-last.result - 1) + c.room_for-room.result) k) shapes)
+
+pub invariant_of-self-then-room-left : goal.invariant_of-self-then-room-left
+invariant_of-self-then-room-left c = (cut_said c).sound
 
 pub returns-then-room-left-clause-does : goal.returns-then-room-left-clause-does
-returns-then-room-left-clause-does c =
-    let t = seen c.self.inside.book in
-    let h = c.args.handle.0 in
-    let raws = c.left.ensures.raw ∙ c.last-last.ensures.raw ∙ c.serves.ensures.raw ∙ c.begin.ensures.raw in
-    let shapes = c.left.ensures.shape ∙ c.last-last.ensures.shape ∙ c.serves.ensures.shape ∙ c.begin.ensures.shape in
-    let last_is = c.last-last.ensures.value ∙ ap (λ k. last_of k h) (c.serves.ensures.shape ∙ c.begin.ensures.shape) in
-    let left_is = c.left.ensures.value ∙ ap (λ k. left_of (used_of k.word) c.last-last.result) (c.last-last.ensures.shape ∙ c.serves.ensures.shape
-    ∙ c.begin.ensures.shape) in
-    (cut_says (pool_of c.self.inside.book) c.args.self.now (pool_of c.cut.new.self) c.self.view_is c.self.invariant (c.cut.ensures.long
-    ∙ ap (λ r. length r.words) raws)
-    (c.cut.ensures.bytes ∙ ap (λ r. r.bytes) raws) h c.args.bytes
-    (ap (λ t. takes_blocks c.args.handle.0 (standing_by (owner_of t.word) c.args.handle.0)) (sym c.begin.ensures.shape) ∙ sym c.serves.ensures.value
-    ∙ c.if-not-serves.false)
-    c.room_for-room.result c.if-bytes-gt-PAGE.false (c.room_for-room.ensures.room c.if-bytes-gt-PAGE.false) c.last-last.result c.left.result last_is left_is
-    c.if-room-left.true c.cut.result (c.cut.ensures.value
-    ∙ ap (λ k. 268435456 + 4096 * (c.last-last.result - 1) + used_of k.word (c.last-last.result - 1)) shapes)
-    (c.cut.ensures.shape ∙ ap (λ k. with_word (c.last-last.result - 1) 2 (used_of k.word (c.last-last.result - 1) + c.room_for-room.result) k) shapes)).does
+returns-then-room-left-clause-does c = (cut_said c).does
 
 pub returns-then-room-left-clause-full : goal.returns-then-room-left-clause-full
-returns-then-room-left-clause-full c =
-    let t = seen c.self.inside.book in
-    let h = c.args.handle.0 in
-    let raws = c.left.ensures.raw ∙ c.last-last.ensures.raw ∙ c.serves.ensures.raw ∙ c.begin.ensures.raw in
-    let shapes = c.left.ensures.shape ∙ c.last-last.ensures.shape ∙ c.serves.ensures.shape ∙ c.begin.ensures.shape in
-    let last_is = c.last-last.ensures.value ∙ ap (λ k. last_of k h) (c.serves.ensures.shape ∙ c.begin.ensures.shape) in
-    let left_is = c.left.ensures.value ∙ ap (λ k. left_of (used_of k.word) c.last-last.result) (c.last-last.ensures.shape ∙ c.serves.ensures.shape
-    ∙ c.begin.ensures.shape) in
-    (cut_says (pool_of c.self.inside.book) c.args.self.now (pool_of c.cut.new.self) c.self.view_is c.self.invariant (c.cut.ensures.long
-    ∙ ap (λ r. length r.words) raws)
-    (c.cut.ensures.bytes ∙ ap (λ r. r.bytes) raws) h c.args.bytes
-    (ap (λ t. takes_blocks c.args.handle.0 (standing_by (owner_of t.word) c.args.handle.0)) (sym c.begin.ensures.shape) ∙ sym c.serves.ensures.value
-    ∙ c.if-not-serves.false)
-    c.room_for-room.result c.if-bytes-gt-PAGE.false (c.room_for-room.ensures.room c.if-bytes-gt-PAGE.false) c.last-last.result c.left.result last_is left_is
-    c.if-room-left.true c.cut.result (c.cut.ensures.value
-    ∙ ap (λ k. 268435456 + 4096 * (c.last-last.result - 1) + used_of k.word (c.last-last.result - 1)) shapes)
-    (c.cut.ensures.shape ∙ ap (λ k. with_word (c.last-last.result - 1) 2 (used_of k.word (c.last-last.result - 1) + c.room_for-room.result) k) shapes)).full
+returns-then-room-left-clause-full c = (cut_said c).full
 
 pub returns-then-room-left-clause-tags : goal.returns-then-room-left-clause-tags
-returns-then-room-left-clause-tags c =
-    let t = seen c.self.inside.book in
-    let h = c.args.handle.0 in
-    let raws = c.left.ensures.raw ∙ c.last-last.ensures.raw ∙ c.serves.ensures.raw ∙ c.begin.ensures.raw in
-    let shapes = c.left.ensures.shape ∙ c.last-last.ensures.shape ∙ c.serves.ensures.shape ∙ c.begin.ensures.shape in
-    let last_is = c.last-last.ensures.value ∙ ap (λ k. last_of k h) (c.serves.ensures.shape ∙ c.begin.ensures.shape) in
-    let left_is = c.left.ensures.value ∙ ap (λ k. left_of (used_of k.word) c.last-last.result) (c.last-last.ensures.shape ∙ c.serves.ensures.shape
-    ∙ c.begin.ensures.shape) in
-    (cut_says (pool_of c.self.inside.book) c.args.self.now (pool_of c.cut.new.self) c.self.view_is c.self.invariant (c.cut.ensures.long
-    ∙ ap (λ r. length r.words) raws)
-    (c.cut.ensures.bytes ∙ ap (λ r. r.bytes) raws) h c.args.bytes
-    (ap (λ t. takes_blocks c.args.handle.0 (standing_by (owner_of t.word) c.args.handle.0)) (sym c.begin.ensures.shape) ∙ sym c.serves.ensures.value
-    ∙ c.if-not-serves.false)
-    c.room_for-room.result c.if-bytes-gt-PAGE.false (c.room_for-room.ensures.room c.if-bytes-gt-PAGE.false) c.last-last.result c.left.result last_is left_is
-    c.if-room-left.true c.cut.result (c.cut.ensures.value
-    ∙ ap (λ k. 268435456 + 4096 * (c.last-last.result - 1) + used_of k.word (c.last-last.result - 1)) shapes)
-    (c.cut.ensures.shape ∙ ap (λ k. with_word (c.last-last.result - 1) 2 (used_of k.word (c.last-last.result - 1) + c.room_for-room.result) k) shapes)).tags
+returns-then-room-left-clause-tags c = (cut_said c).tags
 
 pub returns-then-room-left-clause-taken : goal.returns-then-room-left-clause-taken
-returns-then-room-left-clause-taken c =
-    let t = seen c.self.inside.book in
-    let h = c.args.handle.0 in
-    let raws = c.left.ensures.raw ∙ c.last-last.ensures.raw ∙ c.serves.ensures.raw ∙ c.begin.ensures.raw in
-    let shapes = c.left.ensures.shape ∙ c.last-last.ensures.shape ∙ c.serves.ensures.shape ∙ c.begin.ensures.shape in
-    let last_is = c.last-last.ensures.value ∙ ap (λ k. last_of k h) (c.serves.ensures.shape ∙ c.begin.ensures.shape) in
-    let left_is = c.left.ensures.value ∙ ap (λ k. left_of (used_of k.word) c.last-last.result) (c.last-last.ensures.shape ∙ c.serves.ensures.shape
-    ∙ c.begin.ensures.shape) in
-    (cut_says (pool_of c.self.inside.book) c.args.self.now (pool_of c.cut.new.self) c.self.view_is c.self.invariant (c.cut.ensures.long
-    ∙ ap (λ r. length r.words) raws)
-    (c.cut.ensures.bytes ∙ ap (λ r. r.bytes) raws) h c.args.bytes
-    (ap (λ t. takes_blocks c.args.handle.0 (standing_by (owner_of t.word) c.args.handle.0)) (sym c.begin.ensures.shape) ∙ sym c.serves.ensures.value
-    ∙ c.if-not-serves.false)
-    c.room_for-room.result c.if-bytes-gt-PAGE.false (c.room_for-room.ensures.room c.if-bytes-gt-PAGE.false) c.last-last.result c.left.result last_is left_is
-    c.if-room-left.true c.cut.result (c.cut.ensures.value
-    ∙ ap (λ k. 268435456 + 4096 * (c.last-last.result - 1) + used_of k.word (c.last-last.result - 1)) shapes)
-    (c.cut.ensures.shape ∙ ap (λ k. with_word (c.last-last.result - 1) 2 (used_of k.word (c.last-last.result - 1) + c.room_for-room.result) k) shapes)).taken
+returns-then-room-left-clause-taken c = (cut_said c).taken
 
 pub returns-then-room-left-clause-words : goal.returns-then-room-left-clause-words
-returns-then-room-left-clause-words c =
-    let t = seen c.self.inside.book in
-    let h = c.args.handle.0 in
-    let raws = c.left.ensures.raw ∙ c.last-last.ensures.raw ∙ c.serves.ensures.raw ∙ c.begin.ensures.raw in
-    let shapes = c.left.ensures.shape ∙ c.last-last.ensures.shape ∙ c.serves.ensures.shape ∙ c.begin.ensures.shape in
-    let last_is = c.last-last.ensures.value ∙ ap (λ k. last_of k h) (c.serves.ensures.shape ∙ c.begin.ensures.shape) in
-    let left_is = c.left.ensures.value ∙ ap (λ k. left_of (used_of k.word) c.last-last.result) (c.last-last.ensures.shape ∙ c.serves.ensures.shape
-    ∙ c.begin.ensures.shape) in
-    (cut_says (pool_of c.self.inside.book) c.args.self.now (pool_of c.cut.new.self) c.self.view_is c.self.invariant (c.cut.ensures.long
-    ∙ ap (λ r. length r.words) raws)
-    (c.cut.ensures.bytes ∙ ap (λ r. r.bytes) raws) h c.args.bytes
-    (ap (λ t. takes_blocks c.args.handle.0 (standing_by (owner_of t.word) c.args.handle.0)) (sym c.begin.ensures.shape) ∙ sym c.serves.ensures.value
-    ∙ c.if-not-serves.false)
-    c.room_for-room.result c.if-bytes-gt-PAGE.false (c.room_for-room.ensures.room c.if-bytes-gt-PAGE.false) c.last-last.result c.left.result last_is left_is
-    c.if-room-left.true c.cut.result (c.cut.ensures.value
-    ∙ ap (λ k. 268435456 + 4096 * (c.last-last.result - 1) + used_of k.word (c.last-last.result - 1)) shapes)
-    (c.cut.ensures.shape ∙ ap (λ k. with_word (c.last-last.result - 1) 2 (used_of k.word (c.last-last.result - 1) + c.room_for-room.result) k) shapes)).words
+returns-then-room-left-clause-words c = (cut_said c).words
 
 pub returns-then-room-left-clause-bytes : goal.returns-then-room-left-clause-bytes
-returns-then-room-left-clause-bytes c =
-    let t = seen c.self.inside.book in
-    let h = c.args.handle.0 in
-    let raws = c.left.ensures.raw ∙ c.last-last.ensures.raw ∙ c.serves.ensures.raw ∙ c.begin.ensures.raw in
-    let shapes = c.left.ensures.shape ∙ c.last-last.ensures.shape ∙ c.serves.ensures.shape ∙ c.begin.ensures.shape in
-    let last_is = c.last-last.ensures.value ∙ ap (λ k. last_of k h) (c.serves.ensures.shape ∙ c.begin.ensures.shape) in
-    let left_is = c.left.ensures.value ∙ ap (λ k. left_of (used_of k.word) c.last-last.result) (c.last-last.ensures.shape ∙ c.serves.ensures.shape
-    ∙ c.begin.ensures.shape) in
-    (cut_says (pool_of c.self.inside.book) c.args.self.now (pool_of c.cut.new.self) c.self.view_is c.self.invariant (c.cut.ensures.long
-    ∙ ap (λ r. length r.words) raws)
-    (c.cut.ensures.bytes ∙ ap (λ r. r.bytes) raws) h c.args.bytes
-    (ap (λ t. takes_blocks c.args.handle.0 (standing_by (owner_of t.word) c.args.handle.0)) (sym c.begin.ensures.shape) ∙ sym c.serves.ensures.value
-    ∙ c.if-not-serves.false)
-    c.room_for-room.result c.if-bytes-gt-PAGE.false (c.room_for-room.ensures.room c.if-bytes-gt-PAGE.false) c.last-last.result c.left.result last_is left_is
-    c.if-room-left.true c.cut.result (c.cut.ensures.value
-    ∙ ap (λ k. 268435456 + 4096 * (c.last-last.result - 1) + used_of k.word (c.last-last.result - 1)) shapes)
-    (c.cut.ensures.shape ∙ ap (λ k. with_word (c.last-last.result - 1) 2 (used_of k.word (c.last-last.result - 1) + c.room_for-room.result) k) shapes)).bytes
+returns-then-room-left-clause-bytes c = (cut_said c).bytes
 
 pub returns-then-room-left-clause-apart : goal.returns-then-room-left-clause-apart
 returns-then-room-left-clause-apart c = apart (pool_of c.cut.new.self)
@@ -317,8 +224,9 @@ overflow_add-result c =
     let e = c.take-page.ensures.page ∙ ap next_page shapes in
     let f = pages_few (pool_of c.self.inside.book) c.self.invariant in omega (arith, n, f, e)
 
-pub invariant_of-self-2 : goal.invariant_of-self-2
-invariant_of-self-2 c =
+-- and of one in a page that is taken
+grow_said : (c : goal.After-grow) → PlaceSays c.args.self.now (pool_of c.grow.new.self) c.args.handle.0 c.args.bytes (268435456 + 4096 * c.take-page.result)
+grow_said c =
     let t = seen c.self.inside.book in
     let h = c.args.handle.0 in
     let raws = c.left.ensures.raw ∙ c.last-last.ensures.raw ∙ c.serves.ensures.raw ∙ c.begin.ensures.raw in
@@ -326,140 +234,38 @@ invariant_of-self-2 c =
     let last_is = c.last-last.ensures.value ∙ ap (λ k. last_of k h) (c.serves.ensures.shape ∙ c.begin.ensures.shape) in
     let left_is = c.left.ensures.value ∙ ap (λ k. left_of (used_of k.word) c.last-last.result) (c.last-last.ensures.shape ∙ c.serves.ensures.shape
     ∙ c.begin.ensures.shape) in
-    (grow_says (pool_of c.self.inside.book) c.args.self.now (pool_of c.grow.new.self) c.self.view_is c.self.invariant (c.grow.ensures.long
+    grow_says (pool_of c.self.inside.book) c.args.self.now (pool_of c.grow.new.self) c.self.view_is c.self.invariant (c.grow.ensures.long
     ∙ ap (λ r. length r.words) (c.take-page.ensures.raw ∙ raws))
     (c.grow.ensures.bytes ∙ ap (λ r. r.bytes) (c.take-page.ensures.raw ∙ raws)) h c.args.bytes
     (ap (λ t. takes_blocks c.args.handle.0 (standing_by (owner_of t.word) c.args.handle.0)) (sym c.begin.ensures.shape) ∙ sym c.serves.ensures.value
     ∙ c.if-not-serves.false)
     c.room_for-room.result c.if-bytes-gt-PAGE.false (c.room_for-room.ensures.room c.if-bytes-gt-PAGE.false) c.last-last.result c.left.result last_is left_is
     c.if-room-left.false c.take-page.result (free_seen t _ _ shapes c.is_full.ensures c.if-is_full.false) (c.take-page.ensures.page ∙ ap next_page shapes)
-    (c.grow.ensures.shape ∙ ap (with_page h c.take-page.result c.room_for-room.result) (c.take-page.ensures.shape ∙ ap without_page shapes))).sound
+    (c.grow.ensures.shape ∙ ap (with_page h c.take-page.result c.room_for-room.result) (c.take-page.ensures.shape ∙ ap without_page shapes))
+
+pub invariant_of-self-2 : goal.invariant_of-self-2
+invariant_of-self-2 c = (grow_said c).sound
 
 pub returns-clause-does : goal.returns-clause-does
-returns-clause-does c =
-    let t = seen c.self.inside.book in
-    let h = c.args.handle.0 in
-    let raws = c.left.ensures.raw ∙ c.last-last.ensures.raw ∙ c.serves.ensures.raw ∙ c.begin.ensures.raw in
-    let shapes = c.left.ensures.shape ∙ c.last-last.ensures.shape ∙ c.serves.ensures.shape ∙ c.begin.ensures.shape in
-    let last_is = c.last-last.ensures.value ∙ ap (λ k. last_of k h) (c.serves.ensures.shape ∙ c.begin.ensures.shape) in
-    let left_is = c.left.ensures.value ∙ ap (λ k. left_of (used_of k.word) c.last-last.result) (c.last-last.ensures.shape ∙ c.serves.ensures.shape
-    ∙ c.begin.ensures.shape) in
-    (grow_says (pool_of c.self.inside.book) c.args.self.now (pool_of c.grow.new.self) c.self.view_is c.self.invariant (c.grow.ensures.long
-    ∙ ap (λ r. length r.words) (c.take-page.ensures.raw ∙ raws))
-    (c.grow.ensures.bytes ∙ ap (λ r. r.bytes) (c.take-page.ensures.raw ∙ raws)) h c.args.bytes
-    (ap (λ t. takes_blocks c.args.handle.0 (standing_by (owner_of t.word) c.args.handle.0)) (sym c.begin.ensures.shape) ∙ sym c.serves.ensures.value
-    ∙ c.if-not-serves.false)
-    c.room_for-room.result c.if-bytes-gt-PAGE.false (c.room_for-room.ensures.room c.if-bytes-gt-PAGE.false) c.last-last.result c.left.result last_is left_is
-    c.if-room-left.false c.take-page.result (free_seen t _ _ shapes c.is_full.ensures c.if-is_full.false) (c.take-page.ensures.page ∙ ap next_page shapes)
-    (c.grow.ensures.shape ∙ ap (with_page h c.take-page.result c.room_for-room.result) (c.take-page.ensures.shape ∙ ap without_page shapes))).does
+returns-clause-does c = (grow_said c).does
 
 pub returns-clause-full : goal.returns-clause-full
-returns-clause-full c =
-    let t = seen c.self.inside.book in
-    let h = c.args.handle.0 in
-    let raws = c.left.ensures.raw ∙ c.last-last.ensures.raw ∙ c.serves.ensures.raw ∙ c.begin.ensures.raw in
-    let shapes = c.left.ensures.shape ∙ c.last-last.ensures.shape ∙ c.serves.ensures.shape ∙ c.begin.ensures.shape in
-    let last_is = c.last-last.ensures.value ∙ ap (λ k. last_of k h) (c.serves.ensures.shape ∙ c.begin.ensures.shape) in
-    let left_is = c.left.ensures.value ∙ ap (λ k. left_of (used_of k.word) c.last-last.result) (c.last-last.ensures.shape ∙ c.serves.ensures.shape
-    ∙ c.begin.ensures.shape) in
-    (grow_says (pool_of c.self.inside.book) c.args.self.now (pool_of c.grow.new.self) c.self.view_is c.self.invariant (c.grow.ensures.long
-    ∙ ap (λ r. length r.words) (c.take-page.ensures.raw ∙ raws))
-    (c.grow.ensures.bytes ∙ ap (λ r. r.bytes) (c.take-page.ensures.raw ∙ raws)) h c.args.bytes
-    (ap (λ t. takes_blocks c.args.handle.0 (standing_by (owner_of t.word) c.args.handle.0)) (sym c.begin.ensures.shape) ∙ sym c.serves.ensures.value
-    ∙ c.if-not-serves.false)
-    c.room_for-room.result c.if-bytes-gt-PAGE.false (c.room_for-room.ensures.room c.if-bytes-gt-PAGE.false) c.last-last.result c.left.result last_is left_is
-    c.if-room-left.false c.take-page.result (free_seen t _ _ shapes c.is_full.ensures c.if-is_full.false) (c.take-page.ensures.page ∙ ap next_page shapes)
-    (c.grow.ensures.shape ∙ ap (with_page h c.take-page.result c.room_for-room.result) (c.take-page.ensures.shape ∙ ap without_page shapes))).full
+returns-clause-full c = (grow_said c).full
 
 pub returns-clause-tags : goal.returns-clause-tags
-returns-clause-tags c =
-    let t = seen c.self.inside.book in
-    let h = c.args.handle.0 in
-    let raws = c.left.ensures.raw ∙ c.last-last.ensures.raw ∙ c.serves.ensures.raw ∙ c.begin.ensures.raw in
-    let shapes = c.left.ensures.shape ∙ c.last-last.ensures.shape ∙ c.serves.ensures.shape ∙ c.begin.ensures.shape in
-    let last_is = c.last-last.ensures.value ∙ ap (λ k. last_of k h) (c.serves.ensures.shape ∙ c.begin.ensures.shape) in
-    let left_is = c.left.ensures.value ∙ ap (λ k. left_of (used_of k.word) c.last-last.result) (c.last-last.ensures.shape ∙ c.serves.ensures.shape
-    ∙ c.begin.ensures.shape) in
-    (grow_says (pool_of c.self.inside.book) c.args.self.now (pool_of c.grow.new.self) c.self.view_is c.self.invariant (c.grow.ensures.long
-    ∙ ap (λ r. length r.words) (c.take-page.ensures.raw ∙ raws))
-    (c.grow.ensures.bytes ∙ ap (λ r. r.bytes) (c.take-page.ensures.raw ∙ raws)) h c.args.bytes
-    (ap (λ t. takes_blocks c.args.handle.0 (standing_by (owner_of t.word) c.args.handle.0)) (sym c.begin.ensures.shape) ∙ sym c.serves.ensures.value
-    ∙ c.if-not-serves.false)
-    c.room_for-room.result c.if-bytes-gt-PAGE.false (c.room_for-room.ensures.room c.if-bytes-gt-PAGE.false) c.last-last.result c.left.result last_is left_is
-    c.if-room-left.false c.take-page.result (free_seen t _ _ shapes c.is_full.ensures c.if-is_full.false) (c.take-page.ensures.page ∙ ap next_page shapes)
-    (c.grow.ensures.shape ∙ ap (with_page h c.take-page.result c.room_for-room.result) (c.take-page.ensures.shape ∙ ap without_page shapes))).tags
+returns-clause-tags c = (grow_said c).tags
 
 pub returns-clause-taken : goal.returns-clause-taken
-returns-clause-taken c =
-    let t = seen c.self.inside.book in
-    let h = c.args.handle.0 in
-    let raws = c.left.ensures.raw ∙ c.last-last.ensures.raw ∙ c.serves.ensures.raw ∙ c.begin.ensures.raw in
-    let shapes = c.left.ensures.shape ∙ c.last-last.ensures.shape ∙ c.serves.ensures.shape ∙ c.begin.ensures.shape in
-    let last_is = c.last-last.ensures.value ∙ ap (λ k. last_of k h) (c.serves.ensures.shape ∙ c.begin.ensures.shape) in
-    let left_is = c.left.ensures.value ∙ ap (λ k. left_of (used_of k.word) c.last-last.result) (c.last-last.ensures.shape ∙ c.serves.ensures.shape
-    ∙ c.begin.ensures.shape) in
-    (grow_says (pool_of c.self.inside.book) c.args.self.now (pool_of c.grow.new.self) c.self.view_is c.self.invariant (c.grow.ensures.long
-    ∙ ap (λ r. length r.words) (c.take-page.ensures.raw ∙ raws))
-    (c.grow.ensures.bytes ∙ ap (λ r. r.bytes) (c.take-page.ensures.raw ∙ raws)) h c.args.bytes
-    (ap (λ t. takes_blocks c.args.handle.0 (standing_by (owner_of t.word) c.args.handle.0)) (sym c.begin.ensures.shape) ∙ sym c.serves.ensures.value
-    ∙ c.if-not-serves.false)
-    c.room_for-room.result c.if-bytes-gt-PAGE.false (c.room_for-room.ensures.room c.if-bytes-gt-PAGE.false) c.last-last.result c.left.result last_is left_is
-    c.if-room-left.false c.take-page.result (free_seen t _ _ shapes c.is_full.ensures c.if-is_full.false) (c.take-page.ensures.page ∙ ap next_page shapes)
-    (c.grow.ensures.shape ∙ ap (with_page h c.take-page.result c.room_for-room.result) (c.take-page.ensures.shape ∙ ap without_page shapes))).taken
+returns-clause-taken c = (grow_said c).taken
 
 pub returns-clause-words : goal.returns-clause-words
-returns-clause-words c =
-    let t = seen c.self.inside.book in
-    let h = c.args.handle.0 in
-    let raws = c.left.ensures.raw ∙ c.last-last.ensures.raw ∙ c.serves.ensures.raw ∙ c.begin.ensures.raw in
-    let shapes = c.left.ensures.shape ∙ c.last-last.ensures.shape ∙ c.serves.ensures.shape ∙ c.begin.ensures.shape in
-    let last_is = c.last-last.ensures.value ∙ ap (λ k. last_of k h) (c.serves.ensures.shape ∙ c.begin.ensures.shape) in
-    let left_is = c.left.ensures.value ∙ ap (λ k. left_of (used_of k.word) c.last-last.result) (c.last-last.ensures.shape ∙ c.serves.ensures.shape
-    ∙ c.begin.ensures.shape) in
-    (grow_says (pool_of c.self.inside.book) c.args.self.now (pool_of c.grow.new.self) c.self.view_is c.self.invariant (c.grow.ensures.long
-    ∙ ap (λ r. length r.words) (c.take-page.ensures.raw ∙ raws))
-    (c.grow.ensures.bytes ∙ ap (λ r. r.bytes) (c.take-page.ensures.raw ∙ raws)) h c.args.bytes
-    (ap (λ t. takes_blocks c.args.handle.0 (standing_by (owner_of t.word) c.args.handle.0)) (sym c.begin.ensures.shape) ∙ sym c.serves.ensures.value
-    ∙ c.if-not-serves.false)
-    c.room_for-room.result c.if-bytes-gt-PAGE.false (c.room_for-room.ensures.room c.if-bytes-gt-PAGE.false) c.last-last.result c.left.result last_is left_is
-    c.if-room-left.false c.take-page.result (free_seen t _ _ shapes c.is_full.ensures c.if-is_full.false) (c.take-page.ensures.page ∙ ap next_page shapes)
-    (c.grow.ensures.shape ∙ ap (with_page h c.take-page.result c.room_for-room.result) (c.take-page.ensures.shape ∙ ap without_page shapes))).words
+returns-clause-words c = (grow_said c).words
 
 pub returns-clause-bytes : goal.returns-clause-bytes
-returns-clause-bytes c =
-    let t = seen c.self.inside.book in
-    let h = c.args.handle.0 in
-    let raws = c.left.ensures.raw ∙ c.last-last.ensures.raw ∙ c.serves.ensures.raw ∙ c.begin.ensures.raw in
-    let shapes = c.left.ensures.shape ∙ c.last-last.ensures.shape ∙ c.serves.ensures.shape ∙ c.begin.ensures.shape in
-    let last_is = c.last-last.ensures.value ∙ ap (λ k. last_of k h) (c.serves.ensures.shape ∙ c.begin.ensures.shape) in
-    let left_is = c.left.ensures.value ∙ ap (λ k. left_of (used_of k.word) c.last-last.result) (c.last-last.ensures.shape ∙ c.serves.ensures.shape
-    ∙ c.begin.ensures.shape) in
-    (grow_says (pool_of c.self.inside.book) c.args.self.now (pool_of c.grow.new.self) c.self.view_is c.self.invariant (c.grow.ensures.long
-    ∙ ap (λ r. length r.words) (c.take-page.ensures.raw ∙ raws))
-    (c.grow.ensures.bytes ∙ ap (λ r. r.bytes) (c.take-page.ensures.raw ∙ raws)) h c.args.bytes
-    (ap (λ t. takes_blocks c.args.handle.0 (standing_by (owner_of t.word) c.args.handle.0)) (sym c.begin.ensures.shape) ∙ sym c.serves.ensures.value
-    ∙ c.if-not-serves.false)
-    c.room_for-room.result c.if-bytes-gt-PAGE.false (c.room_for-room.ensures.room c.if-bytes-gt-PAGE.false) c.last-last.result c.left.result last_is left_is
-    c.if-room-left.false c.take-page.result (free_seen t _ _ shapes c.is_full.ensures c.if-is_full.false) (c.take-page.ensures.page ∙ ap next_page shapes)
-    (c.grow.ensures.shape ∙ ap (with_page h c.take-page.result c.room_for-room.result) (c.take-page.ensures.shape ∙ ap without_page shapes))).bytes
+returns-clause-bytes c = (grow_said c).bytes
 
 pub returns-clause-fresh : goal.returns-clause-fresh
-returns-clause-fresh c =
-    let t = seen c.self.inside.book in
-    let h = c.args.handle.0 in
-    let raws = c.left.ensures.raw ∙ c.last-last.ensures.raw ∙ c.serves.ensures.raw ∙ c.begin.ensures.raw in
-    let shapes = c.left.ensures.shape ∙ c.last-last.ensures.shape ∙ c.serves.ensures.shape ∙ c.begin.ensures.shape in
-    let last_is = c.last-last.ensures.value ∙ ap (λ k. last_of k h) (c.serves.ensures.shape ∙ c.begin.ensures.shape) in
-    let left_is = c.left.ensures.value ∙ ap (λ k. left_of (used_of k.word) c.last-last.result) (c.last-last.ensures.shape ∙ c.serves.ensures.shape
-    ∙ c.begin.ensures.shape) in
-    (grow_says (pool_of c.self.inside.book) c.args.self.now (pool_of c.grow.new.self) c.self.view_is c.self.invariant (c.grow.ensures.long
-    ∙ ap (λ r. length r.words) (c.take-page.ensures.raw ∙ raws))
-    (c.grow.ensures.bytes ∙ ap (λ r. r.bytes) (c.take-page.ensures.raw ∙ raws)) h c.args.bytes
-    (ap (λ t. takes_blocks c.args.handle.0 (standing_by (owner_of t.word) c.args.handle.0)) (sym c.begin.ensures.shape) ∙ sym c.serves.ensures.value
-    ∙ c.if-not-serves.false)
-    c.room_for-room.result c.if-bytes-gt-PAGE.false (c.room_for-room.ensures.room c.if-bytes-gt-PAGE.false) c.last-last.result c.left.result last_is left_is
-    c.if-room-left.false c.take-page.result (free_seen t _ _ shapes c.is_full.ensures c.if-is_full.false) (c.take-page.ensures.page ∙ ap next_page shapes)
-    (c.grow.ensures.shape ∙ ap (with_page h c.take-page.result c.room_for-room.result) (c.take-page.ensures.shape ∙ ap without_page shapes))).fresh
+returns-clause-fresh c = (grow_said c).fresh
 
 pub returns-clause-apart : goal.returns-clause-apart
 returns-clause-apart c = apart (pool_of c.grow.new.self)

@@ -5,7 +5,7 @@ use Rattle.region_runtime.specs.Touches.{reads_number}
 use Rattle.region_runtime.proofs.Words.{live_some, live_page, live_seen, dead_seen, no_change}
 use Rattle.region_runtime.proofs.Ordered.{count_least}
 use Rattle.region_runtime.proofs.Released.{freed}
-use Rattle.region_runtime.proofs.Along.{apart, bytes_along, sound_after, free_says}
+use Rattle.region_runtime.proofs.Along.{apart, bytes_along, sound_after, FreeSays, free_says}
 use Rattle.region_runtime.proofs.Sets.{live_touches, dead_touches}
 use Rattle.region_runtime.proofs.pool.Pool.region_free.Goals as goal
 
@@ -51,45 +51,29 @@ invariant_of-self-2 c =
     (freed (seen c.self.inside.book) c.self.invariant.ordered h
     (live_seen (seen c.self.inside.book) _ h _ c.begin.ensures.shape c.knows.ensures.value c.if-not-knows.false)).ordered
 
-pub returns-clause-does : goal.returns-clause-does
-returns-clause-does c =
+-- what is said of a region that was freed
+freed_says : (c : goal.After-splice) → FreeSays c.args.self.now (pool_of c.splice.new.self) c.args.handle.0
+freed_says c =
     let h = c.args.handle.0 in
-    (free_says (pool_of c.self.inside.book) c.args.self.now (pool_of c.splice.new.self) h c.self.view_is c.self.invariant
+    free_says (pool_of c.self.inside.book) c.args.self.now (pool_of c.splice.new.self) h c.self.view_is c.self.invariant
     (live_seen (seen c.self.inside.book) _ h _ c.begin.ensures.shape c.knows.ensures.value c.if-not-knows.false)
     (c.splice.ensures.shape ∙ ap (with_freed h) (c.knows.ensures.shape ∙ c.begin.ensures.shape))
-    (c.splice.ensures.bytes ∙ ap (λ r. r.bytes) (c.knows.ensures.raw ∙ c.begin.ensures.raw))).does
+    (c.splice.ensures.bytes ∙ ap (λ r. r.bytes) (c.knows.ensures.raw ∙ c.begin.ensures.raw))
+
+pub returns-clause-does : goal.returns-clause-does
+returns-clause-does c = (freed_says c).does
 
 pub returns-clause-tags : goal.returns-clause-tags
-returns-clause-tags c =
-    let h = c.args.handle.0 in
-    (free_says (pool_of c.self.inside.book) c.args.self.now (pool_of c.splice.new.self) h c.self.view_is c.self.invariant
-    (live_seen (seen c.self.inside.book) _ h _ c.begin.ensures.shape c.knows.ensures.value c.if-not-knows.false)
-    (c.splice.ensures.shape ∙ ap (with_freed h) (c.knows.ensures.shape ∙ c.begin.ensures.shape))
-    (c.splice.ensures.bytes ∙ ap (λ r. r.bytes) (c.knows.ensures.raw ∙ c.begin.ensures.raw))).tags
+returns-clause-tags c = (freed_says c).tags
 
 pub returns-clause-taken : goal.returns-clause-taken
-returns-clause-taken c =
-    let h = c.args.handle.0 in
-    (free_says (pool_of c.self.inside.book) c.args.self.now (pool_of c.splice.new.self) h c.self.view_is c.self.invariant
-    (live_seen (seen c.self.inside.book) _ h _ c.begin.ensures.shape c.knows.ensures.value c.if-not-knows.false)
-    (c.splice.ensures.shape ∙ ap (with_freed h) (c.knows.ensures.shape ∙ c.begin.ensures.shape))
-    (c.splice.ensures.bytes ∙ ap (λ r. r.bytes) (c.knows.ensures.raw ∙ c.begin.ensures.raw))).taken
+returns-clause-taken c = (freed_says c).taken
 
 pub returns-clause-words : goal.returns-clause-words
-returns-clause-words c =
-    let h = c.args.handle.0 in
-    (free_says (pool_of c.self.inside.book) c.args.self.now (pool_of c.splice.new.self) h c.self.view_is c.self.invariant
-    (live_seen (seen c.self.inside.book) _ h _ c.begin.ensures.shape c.knows.ensures.value c.if-not-knows.false)
-    (c.splice.ensures.shape ∙ ap (with_freed h) (c.knows.ensures.shape ∙ c.begin.ensures.shape))
-    (c.splice.ensures.bytes ∙ ap (λ r. r.bytes) (c.knows.ensures.raw ∙ c.begin.ensures.raw))).words
+returns-clause-words c = (freed_says c).words
 
 pub returns-clause-bytes : goal.returns-clause-bytes
-returns-clause-bytes c =
-    let h = c.args.handle.0 in
-    (free_says (pool_of c.self.inside.book) c.args.self.now (pool_of c.splice.new.self) h c.self.view_is c.self.invariant
-    (live_seen (seen c.self.inside.book) _ h _ c.begin.ensures.shape c.knows.ensures.value c.if-not-knows.false)
-    (c.splice.ensures.shape ∙ ap (with_freed h) (c.knows.ensures.shape ∙ c.begin.ensures.shape))
-    (c.splice.ensures.bytes ∙ ap (λ r. r.bytes) (c.knows.ensures.raw ∙ c.begin.ensures.raw))).bytes
+returns-clause-bytes c = (freed_says c).bytes
 
 pub returns-clause-apart : goal.returns-clause-apart
 returns-clause-apart c = apart (pool_of c.splice.new.self)

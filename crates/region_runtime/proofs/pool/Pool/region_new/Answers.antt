@@ -3,7 +3,7 @@ use Rattle.region_runtime.specs.Steps.{pool_of, seen, next_page, with_first, wit
 use Rattle.region_runtime.proofs.Blank.{link_is}
 use Rattle.region_runtime.proofs.Words.{free_seen}
 use Rattle.region_runtime.proofs.Granted.{granted}
-use Rattle.region_runtime.proofs.Along.{apart, bytes_along, sound_after, next_within, pages_few, grant_says}
+use Rattle.region_runtime.proofs.Along.{apart, bytes_along, sound_after, next_within, pages_few, GrantSays, grant_says}
 use Rattle.region_runtime.proofs.pool.Pool.region_new.Goals as goal
 
 pub returns-then-is_full-clause-bytes : goal.returns-then-is_full-clause-bytes
@@ -49,53 +49,32 @@ invariant_of-self-2 c =
     ∙ ap (λ k. with_first k (without_page t)) (c.take-page.ensures.page ∙ ap next_page c.begin.ensures.shape))
     (granted t c.self.invariant.ordered (free_seen t _ _ c.begin.ensures.shape c.is_full.ensures c.if-is_full.false)).ordered
 
-pub returns-clause-does : goal.returns-clause-does
-returns-clause-does c =
+-- what is said of a new region
+granted_says : (c : goal.After-start) → GrantSays c.args.self.now (pool_of c.start.new.self) c.take-page.result
+granted_says c =
     let t = seen c.self.inside.book in
-    (grant_says (pool_of c.self.inside.book) c.args.self.now (pool_of c.start.new.self) c.take-page.result c.self.view_is c.self.invariant
+    grant_says (pool_of c.self.inside.book) c.args.self.now (pool_of c.start.new.self) c.take-page.result c.self.view_is c.self.invariant
     (free_seen t _ _ c.begin.ensures.shape c.is_full.ensures c.if-is_full.false) (c.take-page.ensures.page ∙ ap next_page c.begin.ensures.shape)
     (c.start.ensures.shape ∙ ap (with_first c.take-page.result) (c.take-page.ensures.shape ∙ ap without_page c.begin.ensures.shape))
-    (c.start.ensures.bytes ∙ ap (λ r. r.bytes) (c.take-page.ensures.raw ∙ c.begin.ensures.raw))).does
+    (c.start.ensures.bytes ∙ ap (λ r. r.bytes) (c.take-page.ensures.raw ∙ c.begin.ensures.raw))
+
+pub returns-clause-does : goal.returns-clause-does
+returns-clause-does c = (granted_says c).does
 
 pub returns-clause-tags : goal.returns-clause-tags
-returns-clause-tags c =
-    let t = seen c.self.inside.book in
-    (grant_says (pool_of c.self.inside.book) c.args.self.now (pool_of c.start.new.self) c.take-page.result c.self.view_is c.self.invariant
-    (free_seen t _ _ c.begin.ensures.shape c.is_full.ensures c.if-is_full.false) (c.take-page.ensures.page ∙ ap next_page c.begin.ensures.shape)
-    (c.start.ensures.shape ∙ ap (with_first c.take-page.result) (c.take-page.ensures.shape ∙ ap without_page c.begin.ensures.shape))
-    (c.start.ensures.bytes ∙ ap (λ r. r.bytes) (c.take-page.ensures.raw ∙ c.begin.ensures.raw))).tags
+returns-clause-tags c = (granted_says c).tags
 
 pub returns-clause-taken : goal.returns-clause-taken
-returns-clause-taken c =
-    let t = seen c.self.inside.book in
-    (grant_says (pool_of c.self.inside.book) c.args.self.now (pool_of c.start.new.self) c.take-page.result c.self.view_is c.self.invariant
-    (free_seen t _ _ c.begin.ensures.shape c.is_full.ensures c.if-is_full.false) (c.take-page.ensures.page ∙ ap next_page c.begin.ensures.shape)
-    (c.start.ensures.shape ∙ ap (with_first c.take-page.result) (c.take-page.ensures.shape ∙ ap without_page c.begin.ensures.shape))
-    (c.start.ensures.bytes ∙ ap (λ r. r.bytes) (c.take-page.ensures.raw ∙ c.begin.ensures.raw))).taken
+returns-clause-taken c = (granted_says c).taken
 
 pub returns-clause-words : goal.returns-clause-words
-returns-clause-words c =
-    let t = seen c.self.inside.book in
-    (grant_says (pool_of c.self.inside.book) c.args.self.now (pool_of c.start.new.self) c.take-page.result c.self.view_is c.self.invariant
-    (free_seen t _ _ c.begin.ensures.shape c.is_full.ensures c.if-is_full.false) (c.take-page.ensures.page ∙ ap next_page c.begin.ensures.shape)
-    (c.start.ensures.shape ∙ ap (with_first c.take-page.result) (c.take-page.ensures.shape ∙ ap without_page c.begin.ensures.shape))
-    (c.start.ensures.bytes ∙ ap (λ r. r.bytes) (c.take-page.ensures.raw ∙ c.begin.ensures.raw))).words
+returns-clause-words c = (granted_says c).words
 
 pub returns-clause-bytes : goal.returns-clause-bytes
-returns-clause-bytes c =
-    let t = seen c.self.inside.book in
-    (grant_says (pool_of c.self.inside.book) c.args.self.now (pool_of c.start.new.self) c.take-page.result c.self.view_is c.self.invariant
-    (free_seen t _ _ c.begin.ensures.shape c.is_full.ensures c.if-is_full.false) (c.take-page.ensures.page ∙ ap next_page c.begin.ensures.shape)
-    (c.start.ensures.shape ∙ ap (with_first c.take-page.result) (c.take-page.ensures.shape ∙ ap without_page c.begin.ensures.shape))
-    (c.start.ensures.bytes ∙ ap (λ r. r.bytes) (c.take-page.ensures.raw ∙ c.begin.ensures.raw))).bytes
+returns-clause-bytes c = (granted_says c).bytes
 
 pub returns-clause-fresh : goal.returns-clause-fresh
-returns-clause-fresh c =
-    let t = seen c.self.inside.book in
-    (grant_says (pool_of c.self.inside.book) c.args.self.now (pool_of c.start.new.self) c.take-page.result c.self.view_is c.self.invariant
-    (free_seen t _ _ c.begin.ensures.shape c.is_full.ensures c.if-is_full.false) (c.take-page.ensures.page ∙ ap next_page c.begin.ensures.shape)
-    (c.start.ensures.shape ∙ ap (with_first c.take-page.result) (c.take-page.ensures.shape ∙ ap without_page c.begin.ensures.shape))
-    (c.start.ensures.bytes ∙ ap (λ r. r.bytes) (c.take-page.ensures.raw ∙ c.begin.ensures.raw))).fresh
+returns-clause-fresh c = (granted_says c).fresh
 
 pub returns-clause-apart : goal.returns-clause-apart
 returns-clause-apart c = apart (pool_of c.start.new.self)

@@ -3,7 +3,7 @@ use Rattle.region_runtime.specs.Steps.{pool_of, seen, next_page, with_taken, wit
 use Rattle.region_runtime.proofs.Blank.{link_is}
 use Rattle.region_runtime.proofs.Words.{free_seen}
 use Rattle.region_runtime.proofs.Kept.{taken}
-use Rattle.region_runtime.proofs.Along.{apart, bytes_along, sound_after, next_within, got_says}
+use Rattle.region_runtime.proofs.Along.{apart, bytes_along, sound_after, next_within, GotSays, got_says}
 use Rattle.region_runtime.proofs.pool.Pool.take_page.Goals as goal
 
 pub returns-then-is_full-clause-bytes : goal.returns-then-is_full-clause-bytes
@@ -35,37 +35,26 @@ invariant_of-self-2 c =
     ∙ ap (λ k. with_taken k (without_page t)) (c.take-page.ensures.page ∙ ap next_page c.begin.ensures.shape))
     (taken t c.self.invariant.ordered (free_seen t _ _ c.begin.ensures.shape c.is_full.ensures c.if-is_full.false)).ordered
 
-pub returns-clause-gets : goal.returns-clause-gets
-returns-clause-gets c =
+-- what is said of a page that is taken
+page_says : (c : goal.After-mark_taken) → GotSays c.args.self.now (pool_of c.mark_taken.new.self) c.take-page.result
+page_says c =
     let t = seen c.self.inside.book in
-    (got_says (pool_of c.self.inside.book) c.args.self.now (pool_of c.mark_taken.new.self) c.take-page.result c.self.view_is c.self.invariant
+    got_says (pool_of c.self.inside.book) c.args.self.now (pool_of c.mark_taken.new.self) c.take-page.result c.self.view_is c.self.invariant
     (free_seen t _ _ c.begin.ensures.shape c.is_full.ensures c.if-is_full.false) (c.take-page.ensures.page ∙ ap next_page c.begin.ensures.shape)
     (c.mark_taken.ensures.shape ∙ ap (with_taken c.take-page.result) (c.take-page.ensures.shape ∙ ap without_page c.begin.ensures.shape))
-    (c.mark_taken.ensures.bytes ∙ ap (λ r. r.bytes) (c.take-page.ensures.raw ∙ c.begin.ensures.raw))).got
+    (c.mark_taken.ensures.bytes ∙ ap (λ r. r.bytes) (c.take-page.ensures.raw ∙ c.begin.ensures.raw))
+
+pub returns-clause-gets : goal.returns-clause-gets
+returns-clause-gets c = (page_says c).got
 
 pub returns-clause-tags : goal.returns-clause-tags
-returns-clause-tags c =
-    let t = seen c.self.inside.book in
-    (got_says (pool_of c.self.inside.book) c.args.self.now (pool_of c.mark_taken.new.self) c.take-page.result c.self.view_is c.self.invariant
-    (free_seen t _ _ c.begin.ensures.shape c.is_full.ensures c.if-is_full.false) (c.take-page.ensures.page ∙ ap next_page c.begin.ensures.shape)
-    (c.mark_taken.ensures.shape ∙ ap (with_taken c.take-page.result) (c.take-page.ensures.shape ∙ ap without_page c.begin.ensures.shape))
-    (c.mark_taken.ensures.bytes ∙ ap (λ r. r.bytes) (c.take-page.ensures.raw ∙ c.begin.ensures.raw))).tags
+returns-clause-tags c = (page_says c).tags
 
 pub returns-clause-bytes : goal.returns-clause-bytes
-returns-clause-bytes c =
-    let t = seen c.self.inside.book in
-    (got_says (pool_of c.self.inside.book) c.args.self.now (pool_of c.mark_taken.new.self) c.take-page.result c.self.view_is c.self.invariant
-    (free_seen t _ _ c.begin.ensures.shape c.is_full.ensures c.if-is_full.false) (c.take-page.ensures.page ∙ ap next_page c.begin.ensures.shape)
-    (c.mark_taken.ensures.shape ∙ ap (with_taken c.take-page.result) (c.take-page.ensures.shape ∙ ap without_page c.begin.ensures.shape))
-    (c.mark_taken.ensures.bytes ∙ ap (λ r. r.bytes) (c.take-page.ensures.raw ∙ c.begin.ensures.raw))).bytes
+returns-clause-bytes c = (page_says c).bytes
 
 pub returns-clause-fresh : goal.returns-clause-fresh
-returns-clause-fresh c =
-    let t = seen c.self.inside.book in
-    (got_says (pool_of c.self.inside.book) c.args.self.now (pool_of c.mark_taken.new.self) c.take-page.result c.self.view_is c.self.invariant
-    (free_seen t _ _ c.begin.ensures.shape c.is_full.ensures c.if-is_full.false) (c.take-page.ensures.page ∙ ap next_page c.begin.ensures.shape)
-    (c.mark_taken.ensures.shape ∙ ap (with_taken c.take-page.result) (c.take-page.ensures.shape ∙ ap without_page c.begin.ensures.shape))
-    (c.mark_taken.ensures.bytes ∙ ap (λ r. r.bytes) (c.take-page.ensures.raw ∙ c.begin.ensures.raw))).fresh
+returns-clause-fresh c = (page_says c).fresh
 
 pub returns-clause-apart : goal.returns-clause-apart
 returns-clause-apart c = apart (pool_of c.mark_taken.new.self)

@@ -1,6 +1,7 @@
 pub mod State
 pub mod Step
 pub mod Ledger
+pub mod Making
 pub mod Run
 pub mod Arrays
 pub mod Shortage

@@ -10,6 +10,7 @@ mod access;
 mod areas;
 mod arena;
 mod calls;
+mod computing;
 mod decoded;
 mod event;
 mod execute;

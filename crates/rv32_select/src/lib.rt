@@ -24,6 +24,7 @@ mod immediates;
 mod labelled;
 mod layout;
 mod live;
+mod live_leaves;
 mod loads;
 mod locals;
 mod marks;

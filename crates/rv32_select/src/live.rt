@@ -1,111 +1,25 @@
 // Which results of a function are saved, by one walk from its end backwards: what is loaded from slots behind each statement is known before the statement is
 // looked at.
 
-ghost use Rattle.std.specs.Prelude.{◌≡◌, true, false, [], ◌∷◌, ◌++◌, reverse, IfOk, OnOk, map, option_map, option_to_list};
+ghost use Rattle.std.specs.Prelude.{◌≡◌, true, [], ◌++◌, reverse, IfOk, OnOk, map, option_map, option_to_list};
 ghost use Rattle.core_meaning.specs.Core as core;
 ghost use Rattle.core_lines.specs.Choosing.{far};
 ghost use Rattle.core_lines.specs.Homes.{homes_in};
-ghost use Rattle.core_lines.specs.Loaded.{unknown_in, loads_of_operation, loads_of_values};
-ghost use Rattle.core_lines.specs.Saved.{cleared, all_flagged, flags_of, results_of, at_loop, live_in, live_of, behind_test, saves_in, saves_of};
-ghost use Rattle.core_lines.specs.Saved.{either_flagged, live_at_start, saves_at};
+ghost use Rattle.core_lines.specs.Saved.{all_flagged, at_loop, live_in, live_of, behind_test, saves_in, saves_of, either_flagged, live_at_start, saves_at};
 ghost use Rattle.core_lines.specs.Selected.{around, names_after_all, holding, naming};
-ghost use Rattle.cyc_core.specs.Trees.{operation_tree, optional_tree, temporary_tree, local_tree, statement_tree, body_tree, function_tree};
+ghost use Rattle.cyc_core.specs.Trees.{temporary_tree, local_tree, statement_tree, body_tree, function_tree};
 ghost use Rattle.rv32_select.specs.Places.{surroundings, saves_left};
 ghost use Rattle.rv32_select.specs.Starts.{point_start, starts_of};
 
-use crate::flags::{cleared, copied, either, no_flags, set_flag};
-use crate::held::Known;
-use crate::loads::{
-    flag_arguments, flag_operation, flag_return, flag_some, flag_statement, flag_while, if_unknown,
-    pass,
+use crate::flags::{copied, either, no_flags, set_flag};
+use crate::live_leaves::{
+    live_call, live_end, live_jump, live_operation, live_request, live_return,
 };
+use crate::loads::{flag_some, flag_statement, flag_while, if_unknown, pass};
 use crate::place::{Place, Point};
-use crate::settling::{settle, settle_operation, settle_results};
-use cyc_core::{Function, Local, Operation, Statement, Temporary, Words};
+use crate::settling::settle;
+use cyc_core::{Function, Local, Statement, Temporary};
 use std::alloc::{AllocError, Global};
-
-/// Goes back over an operation.
-fn live_operation(
-    saves: &mut Vec<bool>,
-    held: &Known,
-    live: &mut Vec<bool>,
-    operation: Operation,
-) -> Result<(), AllocError>
-    ensures saves { OnOk result (saves.new.items ≡ saves.old.items ++ reverse (flags_of live.old.items (results_of (operation_tree operation)))) }
-    ensures live { OnOk result (live.new.items ≡ all_flagged true (loads_of_operation held.now (operation_tree operation))
-        (all_flagged false (results_of (operation_tree operation)) live.old.items)) }
-{
-    settle_operation(saves, live, operation)?;
-    flag_operation(live, held, operation);
-    Ok(())
-}
-
-/// Goes back over a request for so many elements of a region.
-fn live_request(
-    saves: &mut Vec<bool>,
-    live: &mut Vec<bool>,
-    to: Temporary,
-    handle: Temporary,
-    count: Temporary,
-) -> Result<(), AllocError>
-    ensures saves { OnOk result (saves.new.items ≡ saves.old.items ++ reverse (flags_of live.old.items (to.0 ∷ []))) }
-    ensures live { OnOk result (live.new.items ≡ all_flagged true (handle.0 ∷ count.0 ∷ []) (all_flagged false (to.0 ∷ []) live.old.items)) }
-{
-    settle(saves, live, to)?;
-    set_flag(live, handle, true);
-    set_flag(live, count, true);
-    Ok(())
-}
-
-/// Goes back over a call.
-fn live_call(
-    saves: &mut Vec<bool>,
-    held: &Known,
-    live: &mut Vec<bool>,
-    results: Option<Words>,
-    arguments: &[Temporary],
-) -> Result<(), AllocError>
-    ensures saves { OnOk result (saves.new.items ≡ saves.old.items ++ reverse (flags_of live.old.items (optional_tree results))) }
-    ensures live { OnOk result (live.new.items ≡ all_flagged true (unknown_in held.now (map temporary_tree arguments.now))
-        (all_flagged false (optional_tree results) live.old.items)) }
-{
-    settle_results(saves, live, results)?;
-    flag_arguments(live, held, arguments);
-    Ok(())
-}
-
-/// Goes back over what ends a function or the program: nothing is loaded behind it.
-fn live_end(place: &Place, live: &mut Vec<bool>) -> Result<(), AllocError>
-    ensures { OnOk result (live.new.items ≡ cleared live.old.items) }
-{
-    let none = cleared(place.alloc, live)?;
-    *live = none;
-    Ok(())
-}
-
-/// Goes back over a return.
-fn live_return(
-    place: &mut Place,
-    live: &mut Vec<bool>,
-    value: Option<Words>,
-) -> Result<(), AllocError>
-    ensures live { OnOk result (live.new.items ≡ all_flagged true (loads_of_values place.old.held 9 (optional_tree value)) (cleared live.old.items)) }
-    ensures same { OnOk result (surroundings place.new ≡ holding place.new.held (naming (surroundings place.new).names (surroundings place.old))) }
-    ensures homes { OnOk result (place.new.homes.items ≡ place.old.homes.items) }
-{
-    live_end(place, live)?;
-    flag_return(live, place, value);
-    Ok(())
-}
-
-/// Goes back over a jump to where these are loaded.
-fn live_jump(live: &mut Vec<bool>, there: &[bool]) -> Result<(), AllocError>
-    ensures { OnOk result (live.new.items ≡ there.now) }
-{
-    live.clear();
-    live.extend_from_slice(there)?;
-    Ok(())
-}
 
 /// Goes back over a statement, before which the place is, behind which `live` are loaded, and where a `Break` and a `Continue` go `out` and `again`.
 /// Appends which of its results are saved, the last one first. The place is somewhere in the same block then.

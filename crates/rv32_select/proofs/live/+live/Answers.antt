@@ -1,13 +1,53 @@
-use Rattle.std.proofs.Common.{◌≡◌, ◌+◌, ◌<◌, ◌++◌, [], ◌∷◌, ap, arith, get_or, length, map, reverse, take, sym, ◌∙◌}
-use Rattle.std.proofs.lemmas.List.{length-map, map-append, length_push, take_all, take_more}
-use Rattle.cyc_core.specs.Trees.{local_tree, body_tree}
-use Rattle.core_lines.specs.Saved.{live_of, saves_of}
-use Rattle.core_lines.specs.Selected.{Surroundings, holding, naming}
+use Rattle.std.proofs.Common.{
+  ◌≡◌,
+  ◌∙◌,
+  ◌+◌,
+  ◌<◌,
+  ◌++◌,
+  ℕ,
+  Bool,
+  List,
+  [],
+  ◌∷◌,
+  true,
+  ap,
+  ap₂,
+  arith,
+  rules,
+  get_or,
+  length,
+  map,
+  reverse,
+  take,
+  subst,
+  sym,
+}
+use Rattle.std.specs.Prelude.{OnOk, Result}
+use Rattle.std.proofs.lemmas.List.{append_assoc, reverse-append, length-map, map-append, length_push, take_all, take_more}
+use Rattle.core_meaning.specs.Core.{Statement, Statements, If, While, Block, Leave}
+use Rattle.cyc_core.specs.Trees.{local_tree, body_tree, statement_tree}
+use Rattle.core_lines.specs.Loaded.{unknown_in}
+use Rattle.core_lines.specs.Saved.{all_flagged, either_flagged, live_in, live_of, saves_in, saves_of}
+use Rattle.core_lines.specs.Selected.{Surroundings, holding, names_after_all, naming}
 use Rattle.rv32_select.specs.Places.{surroundings}
-use Rattle.rv32_select.specs.Starts.{point_start, starts_of}
-use Rattle.rv32_select.proofs.Sizes.{statements_size}
-use Rattle.rv32_select.proofs.Backwards.{ends_alike, size_last, last_start, starts_last, starts_many, as_same, same_back, live_back, saves_back}
+use Rattle.rv32_select.specs.Starts.{Start, point_start, starting, starts_of}
+use Rattle.rv32_select.proofs.Forms.{block_tree, if_tree, leave_tree, while_tree}
+use Rattle.rv32_select.proofs.Sizes.{statement_size, statements_size}
+use Rattle.rv32_select.proofs.Backwards.{ends_alike, size_last, last_start, starts_last, starts_many, as_same, same_back, same_there, live_back, saves_back}
 use Rattle.rv32_select.proofs.live.+live.Goals as goal
+
+-- what is loaded before a statement, and which of its results are saved; the place is somewhere in the same block
+module _ {T E : Type 0} (result : Result T E) (old new kept left out loop : List Bool) (before after : List ℕ) (u v : Surroundings) where
+  abbrev Judged : Statement → Type 0
+  Judged s = record {
+    saves : OnOk result (new ≡ old ++ reverse (saves_in u.homes u.statics u.names u.held kept out loop s));
+    live : OnOk result (left ≡ live_in u.homes u.statics u.names u.held kept out loop s);
+    same : OnOk result (v ≡ holding v.held (naming v.names u));
+    homes : OnOk result (after ≡ before);
+  }
+
+  judged_as : (s t : Statement) → t ≡ s → Judged s → Judged t
+  judged_as s t is judged = subst Judged (sym is) judged
 
 pub live_statements-each-init : goal.live_statements-each-init
 live_statements-each-init n c =
@@ -96,4 +136,147 @@ live_statements-each-preserved n c =
       homes = done.homes ∙ c.go_to.ensures.homes ∙ c.each.invariant.homes;
       few = omega (arith, many, few);
       size = omega (arith, size, fewer);
+    }
+
+pub live_statement-live_if-requires : goal.live_statement-live_if-requires
+live_statement-live_if-requires t c =
+    let x = c.in-If in
+    let is : statement_size (statement_tree c.args.statement.now)
+    ≡ statements_size (body_tree c.deref.result.now) + statements_size (body_tree c.deref-in-If.result.now) + 2 =
+    ap statement_size (ap statement_tree x.is ∙ if_tree x.test x.these x.those)
+    ∙ ap₂ (λ ss ts. statements_size (body_tree ss) + statements_size (body_tree ts) + 2) (sym c.deref.ensures.value) (sym c.deref-in-If.ensures.value) in
+    search rules
+
+pub live_statement-returns-in-If : goal.live_statement-returns-in-If
+live_statement-returns-in-If t c =
+    let a = c.args in
+    let x = c.in-If in
+    judged_as c.live_if.result a.saves.now.items c.live_if.new.saves.items a.live.now.items c.live_if.new.live.items a.out.now a.again.now
+    a.place.now.homes.items c.live_if.new.place.homes.items (surroundings a.place.now) (surroundings c.live_if.new.place)
+    (If x.test.0 (body_tree c.deref.result.now) (body_tree c.deref-in-If.result.now)) (statement_tree a.statement.now)
+    (ap statement_tree x.is ∙ if_tree x.test x.these x.those
+    ∙ ap₂ (λ ss ts. If x.test.0 (body_tree ss) (body_tree ts)) (sym c.deref.ensures.value) (sym c.deref-in-If.ensures.value))
+    c.live_if.ensures
+
+pub live_statement-live_while-requires : goal.live_statement-live_while-requires
+live_statement-live_while-requires t c =
+    let x = c.in-While in
+    let is : statement_size (statement_tree c.args.statement.now)
+    ≡ statements_size (body_tree c.deref-in-While.result.now) + statements_size (body_tree c.deref-in-While-2.result.now) + 2 =
+    ap statement_size (ap statement_tree x.is ∙ while_tree x.test x.flag x.body)
+    ∙ ap₂ (λ ss ts. statements_size (body_tree ss) + statements_size (body_tree ts) + 2) (sym c.deref-in-While.ensures.value)
+    (sym c.deref-in-While-2.ensures.value) in
+    search rules
+
+pub live_statement-returns-in-While : goal.live_statement-returns-in-While
+live_statement-returns-in-While t c =
+    let a = c.args in
+    let x = c.in-While in
+    judged_as c.live_while.result a.saves.now.items c.live_while.new.saves.items a.live.now.items c.live_while.new.live.items a.out.now a.again.now
+    a.place.now.homes.items c.live_while.new.place.homes.items (surroundings a.place.now) (surroundings c.live_while.new.place)
+    (While (body_tree c.deref-in-While.result.now) x.flag.0 (body_tree c.deref-in-While-2.result.now)) (statement_tree a.statement.now)
+    (ap statement_tree x.is ∙ while_tree x.test x.flag x.body
+    ∙ ap₂ (λ ss ts. While (body_tree ss) x.flag.0 (body_tree ts)) (sym c.deref-in-While.ensures.value) (sym c.deref-in-While-2.ensures.value))
+    c.live_while.ensures
+
+pub live_statement-live_block-requires : goal.live_statement-live_block-requires
+live_statement-live_block-requires t c =
+    let x = c.in-Block in
+    let is : statement_size (statement_tree c.args.statement.now) ≡ statements_size (body_tree c.deref-in-Block-2.result.now) + 2 =
+    ap statement_size (ap statement_tree x.is ∙ block_tree x.locals x.body)
+    ∙ ap (λ ss. statements_size (body_tree ss) + 2) (sym c.deref-in-Block-2.ensures.value) in
+    search rules
+
+pub live_statement-returns-in-Block : goal.live_statement-returns-in-Block
+live_statement-returns-in-Block t c =
+    let a = c.args in
+    let x = c.in-Block in
+    judged_as c.live_block.result a.saves.now.items c.live_block.new.saves.items a.live.now.items c.live_block.new.live.items a.out.now a.again.now
+    a.place.now.homes.items c.live_block.new.place.homes.items (surroundings a.place.now) (surroundings c.live_block.new.place)
+    (Block (map local_tree c.deref-in-Block.result.now) (body_tree c.deref-in-Block-2.result.now)) (statement_tree a.statement.now)
+    (ap statement_tree x.is ∙ block_tree x.locals x.body
+    ∙ ap₂ (λ ls ss. Block (map local_tree ls) (body_tree ss)) (sym c.deref-in-Block.ensures.value) (sym c.deref-in-Block-2.ensures.value))
+    c.live_block.ensures
+
+pub live_statement-live_leavable-requires : goal.live_statement-live_leavable-requires
+live_statement-live_leavable-requires t c =
+    let x = c.in-Leave in
+    let is : statement_size (statement_tree c.args.statement.now) ≡ statements_size (body_tree c.deref-in-Leave.result.now) + 2 =
+    ap statement_size (ap statement_tree x.is ∙ leave_tree x.body)
+    ∙ ap (λ ss. statements_size (body_tree ss) + 2) (sym c.deref-in-Leave.ensures.value) in
+    search rules
+
+pub live_statement-returns-in-Leave : goal.live_statement-returns-in-Leave
+live_statement-returns-in-Leave t c =
+    let a = c.args in
+    let x = c.in-Leave in
+    judged_as c.live_leavable.result a.saves.now.items c.live_leavable.new.saves.items a.live.now.items c.live_leavable.new.live.items a.out.now a.again.now
+    a.place.now.homes.items c.live_leavable.new.place.homes.items (surroundings a.place.now) (surroundings c.live_leavable.new.place)
+    (Leave (body_tree c.deref-in-Leave.result.now)) (statement_tree a.statement.now)
+    (ap statement_tree x.is ∙ leave_tree x.body
+    ∙ ap (λ ss. Leave (body_tree ss)) (sym c.deref-in-Leave.ensures.value))
+    c.live_leavable.ensures
+
+-- a choice, from behind it: its second statements, which begin behind the first, and then the first
+module _ (u first second : Surroundings) (t : ℕ) (these those : Statements) (kept out loop : List Bool)
+    (at_first : first ≡ u) (at_second : second ≡ holding u.held (naming (names_after_all these u.names) u)) where
+  choice_saves : (old middle new after : List Bool) → after ≡ kept
+      → middle ≡ old ++ reverse (saves_of second.homes second.statics second.names second.held after out loop those)
+      → new ≡ middle ++ reverse (saves_of first.homes first.statics first.names first.held kept out loop these)
+      → new ≡ old ++ reverse (saves_in u.homes u.statics u.names u.held kept out loop (If t these those))
+  choice_saves old middle new after after_is middle_is new_is =
+      let one = saves_of u.homes u.statics u.names u.held kept out loop these in
+      let other = saves_of u.homes u.statics (names_after_all these u.names) u.held kept out loop those in
+      let other_is : middle ≡ old ++ reverse other = middle_is
+      ∙ (λ i. old ++ reverse (saves_of ((at_second i).homes) ((at_second i).statics) ((at_second i).names) ((at_second i).held) (after_is i)
+      out loop those)) in
+      new_is
+      ∙ (λ i. middle ++ reverse (saves_of ((at_first i).homes) ((at_first i).statics) ((at_first i).names) ((at_first i).held) kept out loop these))
+      ∙ ap (λ bs. bs ++ reverse one) other_is ∙ append_assoc old (reverse other) (reverse one)
+      ∙ ap (λ bs. old ++ bs) (sym (reverse-append one other))
+
+  choice_live : (tested : List ℕ) (after left one other new : List Bool) → after ≡ kept
+      → other ≡ live_of second.homes second.statics second.names second.held after out loop those
+      → left ≡ live_of first.homes first.statics first.names first.held kept out loop these → one ≡ left → tested ≡ unknown_in u.held (t ∷ [])
+      → new ≡ all_flagged true tested (either_flagged one other) → new ≡ live_in u.homes u.statics u.names u.held kept out loop (If t these those)
+  choice_live tested after left one other new after_is other_is left_is one_is tested_is new_is =
+      let other_at = other_is ∙ (λ i. live_of ((at_second i).homes) ((at_second i).statics) ((at_second i).names) ((at_second i).held) (after_is i)
+      out loop those) in
+      let one_at = one_is ∙ left_is
+      ∙ (λ i. live_of ((at_first i).homes) ((at_first i).statics) ((at_first i).names) ((at_first i).held) kept out loop these) in
+      new_is ∙ (λ i. all_flagged true (tested_is i) (either_flagged (one_at i) (other_at i)))
+
+pub live_if-returns : goal.live_if-returns
+live_if-returns t c =
+    let a = c.args in
+    let u = surroundings a.place.now in
+    let these = body_tree a.these.now in
+    let those = body_tree a.those.now in
+    let kept = a.live.now.items in
+    let behind = c.in_ok-second.ensures in
+    let other = c.in_ok-other.ensures in
+    let done = c.in_ok-live_statements.ensures in
+    let second = surroundings c.go_to.new.self in
+    let before = surroundings c.live_before.new.place in
+    let first = surroundings c.go_to-2.new.self in
+    let last = surroundings c.live_statements.new.place in
+    let start : Start = record { names = names_after_all these u.names; held = u.held } in
+    let second_start = point_start c.point_behind.new.place.homes.items c.in_ok-second.second in
+    let first_start = point_start c.live_before.new.place.homes.items c.in_ok-first.first in
+    let at_second = same_there u (surroundings c.point_behind.new.place) second second_start.held second_start.names behind.same c.go_to.ensures.place
+    ∙ ap (λ (s : Start). starting s u) (ap (λ hs. point_start hs c.in_ok-second.second) behind.homes ∙ behind.point) in
+    let before_is = other.same ∙ ap (λ (v : Surroundings). holding before.held (naming before.names v)) at_second in
+    let homes = other.homes ∙ c.go_to.ensures.homes ∙ behind.homes in
+    let at_first = same_there u before first first_start.held first_start.names before_is c.go_to-2.ensures.place
+    ∙ ap (λ (s : Start). starting s u) (ap (λ hs. point_start hs c.in_ok-first.first) homes ∙ c.in_ok-first.ensures) in
+    record {
+      saves =
+          choice_saves u first second a.test.0 these those kept a.out.now a.again.now at_first at_second a.saves.now.items c.live_before.new.saves.items
+          c.live_statements.new.saves.items c.deref.result.now c.deref.ensures.value other.saves done.saves;
+      live =
+          choice_live u first second a.test.0 these those kept a.out.now a.again.now at_first at_second _ c.deref.result.now
+          c.live_statements.new.live.items c.deref-2.result.now c.in_ok-other.other.items c.in_ok-live.field-0.items c.deref.ensures.value other.live
+          done.live c.deref-2.ensures.value c.if_unknown-tested.ensures c.in_ok-live.ensures;
+      same = done.same ∙ ap (λ (v : Surroundings). holding last.held (naming last.names v)) at_first;
+      homes = done.homes ∙ c.go_to-2.ensures.homes ∙ homes;
     }

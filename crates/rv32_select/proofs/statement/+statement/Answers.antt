@@ -1,12 +1,59 @@
-use Rattle.std.proofs.Common.{◌≡◌, ◌+◌, ◌∷◌, ap, arith, drop, map, sym, ◌∙◌}
-use Rattle.std.proofs.lemmas.List.{drop_more}
-use Rattle.cyc_core.specs.Trees.{local_tree, statement_tree, body_tree}
-use Rattle.core_lines.specs.Held.{held_behind_all}
-use Rattle.core_lines.specs.Selected.{Surroundings, labels_of, homes_after, holding, naming, names_after_all}
+use Rattle.std.proofs.Common.{◌≡◌, ◌∙◌, ◌+◌, ◌++◌, ℕ, Bool, List, [], ◌∷◌, arith, rules, sym, ap, ap₂, subst, drop, map, reverse}
+use Rattle.std.specs.Prelude.{IfOk, OnOk, Result}
+use Rattle.std.specs.declared.alloc.AllocError.{AllocError}
+use Rattle.std.specs.declared.alloc.Global.{Global}
+use Rattle.std.specs.declared.vec.Vec.{Vec}
+use Rattle.std.proofs.lemmas.List.{append-nil, drop-drop, drop_all, drop_more}
+use Rattle.core_meaning.specs.Core.{Statement, Do, If, While, Block, Leave, Call, Return, Break, Continue, Raise}
+use Rattle.core_meaning.specs.Core as core
+use Rattle.cyc_core.specs.Trees.{body_tree, layout_tree, local_tree, operation_tree, optional_tree, statement_step, statement_tree, temporary_tree}
+use Rattle.cyc_core.specs.declared.statement.Statement.TheOpen.{Statement-F}
+use Rattle.cyc_core.specs.declared.statement.Statement.TheFolds.{fold-roll-Statement}
+use Rattle.cyc_core.specs.declared.statement.Statement.TheVariants as form
+use Rattle.core_lines.specs.declared.line.Line.{Line}
+use Rattle.core_lines.specs.Held.{Holding, held_behind, held_behind_all}
+use Rattle.core_lines.specs.Saved.{results_in, results_all}
+use Rattle.core_lines.specs.Selected.{Surroundings, statement_code, statements_code, labels_in, labels_of, homes_after, holding, naming, names_after}
+use Rattle.core_lines.specs.Selected.{names_after_all}
 use Rattle.rv32_select.specs.Places.{surroundings, saves_left}
-use Rattle.rv32_select.proofs.Sizes.{statements_size}
+use Rattle.rv32_select.proofs.Coding.{choice_lines, leave_lines, loop_lines}
+use Rattle.rv32_select.proofs.Forms.{block_tree, call_tree, do_tree, if_tree, leave_tree, return_tree, while_tree}
+use Rattle.rv32_select.proofs.Sizes.{statement_size, statements_size}
 use Rattle.rv32_select.proofs.Stepping.{same_behind, names_behind, held_there, flags_left, code_behind}
 use Rattle.rv32_select.proofs.statement.+statement.Goals as goal
+use Rattle.rv32_select.proofs.statement.+statement.Goals.{put_statement-in-Break+in_ok-put_lines-in-Break, put_statement-in-Clear+in_ok-put_clear-in-Clear}
+use Rattle.rv32_select.proofs.statement.+statement.Goals.{put_statement-in-Continue+in_ok-put_lines-in-Continue, put_statement-in-Copy+in_ok-put_copy-in-Copy}
+use Rattle.rv32_select.proofs.statement.+statement.Goals.{put_statement-in-Raise+in_ok-put_raise-in-Raise}
+use Rattle.rv32_select.proofs.statement.+statement.Goals.{put_statement-in-RegionAlloc+in_ok-put_region_alloc-in-RegionAlloc}
+use Rattle.rv32_select.proofs.statement.+statement.Goals.{put_statement-in-UniqueAlloc+in_ok-put_unique_alloc-in-UniqueAlloc}
+
+-- what is put for a statement, and what is put where that ends without failing
+module _ (result : Result ℕ AllocError) (old new : List Line) (kept left : List Bool) (u v : Surroundings) (next out loop : ℕ) where
+  abbrev Put : Statement → Type 0
+  Put s = record {
+    code : OnOk result (new ≡ old ++ statement_code kept u next out loop s);
+    free : IfOk result (λ n. n ≡ next + labels_in s);
+    same : OnOk result (v ≡ holding (held_behind u.homes u.statics u.held s) (naming (names_after s u.names) u));
+    saves : OnOk result (left ≡ drop (results_in s) kept);
+  }
+
+  put_as : (s t : Statement) → t ≡ s → Put s → Put t
+  put_as s t is put = subst Put (sym is) put
+
+module _ (old new : List Line) (kept left : List Bool) (u v : Surroundings) (next out loop : ℕ) where
+  abbrev Done : Statement → Type 0
+  Done s = record {
+    code : new ≡ old ++ statement_code kept u next out loop s;
+    free : next ≡ next + labels_in s;
+    same : v ≡ holding (held_behind u.homes u.statics u.held s) (naming (names_after s u.names) u);
+    saves : left ≡ drop (results_in s) kept;
+  }
+
+  done_as : (s t : Statement) → t ≡ s → Done s → Done t
+  done_as s t is done = subst Done (sym is) done
+
+none_more : (n : ℕ) → n ≡ n + 0
+none_more n = omega arith
 
 pub put_block-returns-clause-same : goal.put_block-returns-clause-same
 put_block-returns-clause-same n c =
@@ -45,3 +92,282 @@ put_statements-each-preserved n c =
       saves = flags_left start before behind (statement_tree x) rest here same put.same is (saves_left c.each.place) _ put.saves ∙ c.each.invariant.saves;
       size = omega (arith, size, fewer);
     }
+
+-- ---- a statement
+
+pub put_statement-returns-in-Do : goal.put_statement-returns-in-Do
+put_statement-returns-in-Do t c =
+    let a = c.args in
+    let put = c.in_ok-put_done-in-Do.ensures in
+    done_as a.lines.now.items c.put_done.new.lines.items (saves_left a.place.now) (saves_left c.put_done.new.place) (surroundings a.place.now)
+    (surroundings c.put_done.new.place) a.next a.ways.out a.ways.again (Do (operation_tree c.in-Do.operation)) (statement_tree a.statement.now)
+    (ap statement_tree c.in-Do.is ∙ do_tree c.in-Do.operation)
+    record {
+      code = put.code;
+      free = none_more a.next;
+      same = put.same;
+      saves = put.saves;
+    }
+
+pub put_statement-returns-in-Call : goal.put_statement-returns-in-Call
+put_statement-returns-in-Call t c =
+    let a = c.args in
+    let x = c.in-Call in
+    let arguments = c.deref-in-Call.result.now in
+    let put = c.in_ok-put_called-in-Call.ensures in
+    done_as a.lines.now.items c.put_called.new.lines.items (saves_left a.place.now) (saves_left c.put_called.new.place) (surroundings a.place.now)
+    (surroundings c.put_called.new.place) a.next a.ways.out a.ways.again (Call (optional_tree x.result) x.function (map temporary_tree arguments))
+    (statement_tree a.statement.now)
+    (ap statement_tree x.is ∙ call_tree x.result x.function x.arguments
+    ∙ ap (λ ts. Call (optional_tree x.result) x.function (map temporary_tree ts)) (sym c.deref-in-Call.ensures.value))
+    record {
+      code = put.code;
+      free = none_more a.next;
+      same = put.same;
+      saves = put.saves;
+    }
+
+pub put_statement-returns-in-Return : goal.put_statement-returns-in-Return
+put_statement-returns-in-Return t c =
+    let a = c.args in
+    let put = c.in_ok-put_return-in-Return.ensures in
+    done_as a.lines.now.items c.put_return.new.lines.items (saves_left a.place.now) (saves_left c.put_return.new.place) (surroundings a.place.now)
+    (surroundings c.put_return.new.place) a.next a.ways.out a.ways.again (Return (optional_tree c.in-Return.value)) (statement_tree a.statement.now)
+    (ap statement_tree c.in-Return.is ∙ return_tree c.in-Return.value)
+    record {
+      code = put.code;
+      free = none_more a.next;
+      same = put.same;
+      saves = ap reverse put.saves;
+    }
+
+pub put_statement-put_if-requires : goal.put_statement-put_if-requires
+put_statement-put_if-requires t c =
+    let x = c.in-If in
+    let is : statement_size (statement_tree c.args.statement.now)
+    ≡ statements_size (body_tree c.deref.result.now) + statements_size (body_tree c.deref-in-If.result.now) + 2 =
+    ap statement_size (ap statement_tree x.is ∙ if_tree x.test x.these x.those)
+    ∙ ap₂ (λ ss ts. statements_size (body_tree ss) + statements_size (body_tree ts) + 2) (sym c.deref.ensures.value) (sym c.deref-in-If.ensures.value) in
+    search rules
+
+pub put_statement-returns-in-If : goal.put_statement-returns-in-If
+put_statement-returns-in-If t c =
+    let a = c.args in
+    let x = c.in-If in
+    let these = c.deref.result.now in
+    let those = c.deref-in-If.result.now in
+    put_as c.put_if.result a.lines.now.items c.put_if.new.lines.items (saves_left a.place.now) (saves_left c.put_if.new.place) (surroundings a.place.now)
+    (surroundings c.put_if.new.place) a.next a.ways.out a.ways.again (If x.test.0 (body_tree these) (body_tree those)) (statement_tree a.statement.now)
+    (ap statement_tree x.is ∙ if_tree x.test x.these x.those
+    ∙ ap₂ (λ ss ts. If x.test.0 (body_tree ss) (body_tree ts)) (sym c.deref.ensures.value) (sym c.deref-in-If.ensures.value))
+    c.put_if.ensures
+
+pub put_statement-put_while-requires : goal.put_statement-put_while-requires
+put_statement-put_while-requires t c =
+    let x = c.in-While in
+    let is : statement_size (statement_tree c.args.statement.now)
+    ≡ statements_size (body_tree c.deref-in-While.result.now) + statements_size (body_tree c.deref-in-While-2.result.now) + 2 =
+    ap statement_size (ap statement_tree x.is ∙ while_tree x.test x.flag x.body)
+    ∙ ap₂ (λ ss ts. statements_size (body_tree ss) + statements_size (body_tree ts) + 2) (sym c.deref-in-While.ensures.value)
+    (sym c.deref-in-While-2.ensures.value) in
+    search rules
+
+pub put_statement-returns-in-While : goal.put_statement-returns-in-While
+put_statement-returns-in-While t c =
+    let a = c.args in
+    let x = c.in-While in
+    let test = c.deref-in-While.result.now in
+    let body = c.deref-in-While-2.result.now in
+    put_as c.put_while.result a.lines.now.items c.put_while.new.lines.items (saves_left a.place.now) (saves_left c.put_while.new.place)
+    (surroundings a.place.now) (surroundings c.put_while.new.place) a.next a.ways.out a.ways.again (While (body_tree test) x.flag.0 (body_tree body))
+    (statement_tree a.statement.now)
+    (ap statement_tree x.is ∙ while_tree x.test x.flag x.body
+    ∙ ap₂ (λ ss ts. While (body_tree ss) x.flag.0 (body_tree ts)) (sym c.deref-in-While.ensures.value) (sym c.deref-in-While-2.ensures.value))
+    c.put_while.ensures
+
+pub put_statement-put_block-requires : goal.put_statement-put_block-requires
+put_statement-put_block-requires t c =
+    let x = c.in-Block in
+    let is : statement_size (statement_tree c.args.statement.now) ≡ statements_size (body_tree c.deref-in-Block-2.result.now) + 2 =
+    ap statement_size (ap statement_tree x.is ∙ block_tree x.locals x.body)
+    ∙ ap (λ ss. statements_size (body_tree ss) + 2) (sym c.deref-in-Block-2.ensures.value) in
+    search rules
+
+pub put_statement-returns-in-Block : goal.put_statement-returns-in-Block
+put_statement-returns-in-Block t c =
+    let a = c.args in
+    let x = c.in-Block in
+    let locals = c.deref-in-Block.result.now in
+    let body = c.deref-in-Block-2.result.now in
+    put_as c.put_block.result a.lines.now.items c.put_block.new.lines.items (saves_left a.place.now) (saves_left c.put_block.new.place)
+    (surroundings a.place.now) (surroundings c.put_block.new.place) a.next a.ways.out a.ways.again (Block (map local_tree locals) (body_tree body))
+    (statement_tree a.statement.now)
+    (ap statement_tree x.is ∙ block_tree x.locals x.body
+    ∙ ap₂ (λ ls ss. Block (map local_tree ls) (body_tree ss)) (sym c.deref-in-Block.ensures.value) (sym c.deref-in-Block-2.ensures.value))
+    c.put_block.ensures
+
+pub put_statement-put_leavable-requires : goal.put_statement-put_leavable-requires
+put_statement-put_leavable-requires t c =
+    let x = c.in-Leave in
+    let is : statement_size (statement_tree c.args.statement.now) ≡ statements_size (body_tree c.deref-in-Leave.result.now) + 2 =
+    ap statement_size (ap statement_tree x.is ∙ leave_tree x.body)
+    ∙ ap (λ ss. statements_size (body_tree ss) + 2) (sym c.deref-in-Leave.ensures.value) in
+    search rules
+
+pub put_statement-returns-in-Leave : goal.put_statement-returns-in-Leave
+put_statement-returns-in-Leave t c =
+    let a = c.args in
+    let x = c.in-Leave in
+    let body = c.deref-in-Leave.result.now in
+    put_as c.put_leavable.result a.lines.now.items c.put_leavable.new.lines.items (saves_left a.place.now) (saves_left c.put_leavable.new.place)
+    (surroundings a.place.now) (surroundings c.put_leavable.new.place) a.next a.ways.out a.ways.again (Leave (body_tree body))
+    (statement_tree a.statement.now)
+    (ap statement_tree x.is ∙ leave_tree x.body ∙ ap (λ ss. Leave (body_tree ss)) (sym c.deref-in-Leave.ensures.value)) c.put_leavable.ensures
+
+-- ---- behind what is no choice, loop or block, nothing is known
+
+ending : (u w : Surroundings) (held : List Holding) → w ≡ u → held ≡ [] → holding held w ≡ holding [] u
+ending u w held is none = (λ i. holding (none i) (is i))
+
+pub put_statement-returns : goal.put_statement-returns
+put_statement-returns t c =
+    let a = c.args in
+    let u = surroundings a.place.now in
+    let m = c.match-statement in
+    let s = statement_tree a.statement.now in
+    let done = λ (form : Statement) (is : s ≡ form) (code : m.lines.items ≡ a.lines.now.items
+    ++ statement_code (saves_left a.place.now) u a.next a.ways.out a.ways.again form) (free : a.next ≡ a.next + labels_in form)
+    (same : holding c.forget.new.self (surroundings m.place) ≡ holding (held_behind u.homes u.statics u.held form) (naming (names_after form u.names) u))
+    (saves : saves_left m.place ≡ drop (results_in form) (saves_left a.place.now)).
+    done_as a.lines.now.items m.lines.items (saves_left a.place.now) (saves_left m.place) u (holding c.forget.new.self (surroundings m.place)) a.next
+    a.ways.out a.ways.again form s is
+    record {
+      code = code;
+      free = free;
+      same = same;
+      saves = saves;
+    } in
+    let same = λ (is : surroundings m.place ≡ u). ending u (surroundings m.place) c.forget.new.self is c.forget.ensures in
+    let free = none_more a.next in
+    let items = λ (ls : Vec Line Global). ls.items in
+    elim m.branch [
+      | put_statement-in-Copy+in_ok-put_copy-in-Copy w ↦
+          let x = w.in-Copy in
+          done (Do (core.Copy x.to.0 x.from.0 (layout_tree w.as_ref.result.now)))
+          (ap statement_tree (x.is ∙ sym (form.rolls-Copy x.to x.from x.layout))
+          ∙ fold-roll-Statement Statement statement_step (Statement-F.Copy x.to x.from x.layout)
+          ∙ ap (λ l. Do (core.Copy x.to.0 x.from.0 (layout_tree l))) (sym w.as_ref.ensures))
+          (ap items w.lines-is ∙ w.in_ok-put_copy-in-Copy.ensures) free (same (ap surroundings w.place-is)) (ap saves_left w.place-is)
+      | put_statement-in-Clear+in_ok-put_clear-in-Clear w ↦
+          let x = w.in-Clear in
+          done (Do (core.Clear x.pointer.0 (layout_tree w.as_ref-in-Clear.result.now) x.count))
+          (ap statement_tree (x.is ∙ sym (form.rolls-Clear x.pointer x.layout x.count))
+          ∙ fold-roll-Statement Statement statement_step (Statement-F.Clear x.pointer x.layout x.count)
+          ∙ ap (λ l. Do (core.Clear x.pointer.0 (layout_tree l) x.count)) (sym w.as_ref-in-Clear.ensures))
+          (ap items w.lines-is ∙ w.in_ok-put_clear-in-Clear.ensures) free (same (ap surroundings w.place-is)) (ap saves_left w.place-is)
+      | put_statement-in-RegionAlloc+in_ok-put_region_alloc-in-RegionAlloc w ↦
+          let x = w.in-RegionAlloc in
+          done (Do (core.RegionAlloc x.to.0 x.handle.0 x.count.0 (layout_tree w.as_ref-in-RegionAlloc.result.now)))
+          (ap statement_tree (x.is ∙ sym (form.rolls-RegionAlloc x.to x.handle x.count x.layout))
+          ∙ fold-roll-Statement Statement statement_step (Statement-F.RegionAlloc x.to x.handle x.count x.layout)
+          ∙ ap (λ l. Do (core.RegionAlloc x.to.0 x.handle.0 x.count.0 (layout_tree l))) (sym w.as_ref-in-RegionAlloc.ensures))
+          (ap items w.lines-is ∙ w.in_ok-put_region_alloc-in-RegionAlloc.ensures) free
+          (same (ap surroundings w.place-is ∙ w.pass_result.ensures.same)) (ap saves_left w.place-is ∙ w.pass_result.ensures.saves)
+      | put_statement-in-UniqueAlloc+in_ok-put_unique_alloc-in-UniqueAlloc w ↦
+          let x = w.in-UniqueAlloc in
+          done (Do (core.UniqueAlloc x.to.0 (layout_tree w.as_ref-in-UniqueAlloc.result.now)))
+          (ap statement_tree (x.is ∙ sym (form.rolls-UniqueAlloc x.to x.layout))
+          ∙ fold-roll-Statement Statement statement_step (Statement-F.UniqueAlloc x.to x.layout)
+          ∙ ap (λ l. Do (core.UniqueAlloc x.to.0 (layout_tree l))) (sym w.as_ref-in-UniqueAlloc.ensures))
+          (ap items w.lines-is ∙ w.in_ok-put_unique_alloc-in-UniqueAlloc.ensures) free
+          (same (ap surroundings w.place-is ∙ w.pass_result-in-UniqueAlloc.ensures.same))
+          (ap saves_left w.place-is ∙ w.pass_result-in-UniqueAlloc.ensures.saves)
+      | put_statement-in-Break+in_ok-put_lines-in-Break w ↦
+          done Break (ap statement_tree (w.in-Break.is ∙ sym form.rolls-Break) ∙ fold-roll-Statement Statement statement_step Statement-F.Break)
+          (ap items w.lines-is ∙ w.in_ok-put_lines-in-Break.ensures) free (same (ap surroundings w.place-is)) (ap saves_left w.place-is)
+      | put_statement-in-Continue+in_ok-put_lines-in-Continue w ↦
+          done Continue
+          (ap statement_tree (w.in-Continue.is ∙ sym form.rolls-Continue) ∙ fold-roll-Statement Statement statement_step Statement-F.Continue)
+          (ap items w.lines-is ∙ w.in_ok-put_lines-in-Continue.ensures) free (same (ap surroundings w.place-is)) (ap saves_left w.place-is)
+      | put_statement-in-Raise+in_ok-put_raise-in-Raise w ↦
+          let x = w.in-Raise in
+          done (Raise x.kind)
+          (ap statement_tree (x.is ∙ sym (form.rolls-Raise x.kind)) ∙ fold-roll-Statement Statement statement_step (Statement-F.Raise x.kind))
+          (ap items w.lines-is ∙ w.in_ok-put_raise-in-Raise.ensures) free (same (ap surroundings w.place-is)) (ap saves_left w.place-is)
+    ]
+
+-- ---- statements
+
+pub put_statements-put_statement-requires : goal.put_statements-put_statement-requires
+put_statements-put_statement-requires t c =
+    let xs = c.args.statements.now in
+    let i = c.each.statement-index in
+    let x = c.statement-item.result in
+    let size : statements_size (body_tree (drop i xs)) ≡ statement_size (statement_tree x) + statements_size (body_tree (drop (i + 1) xs)) + 1 =
+    ap (λ ss. statements_size (body_tree ss)) (drop_more xs i x c.each-test.true ∙ ap (λ y. y ∷ drop (i + 1) xs) (sym c.statement-item.is)) in
+    search rules
+
+pub put_statements-returns : goal.put_statements-returns
+put_statements-returns t c =
+    let none = drop_all c.each.statement-index c.args.statements.now c.each-test.false in
+    let start = surroundings c.args.place.now in
+    let place = surroundings c.each.place in
+    let lines = c.each.lines.items in
+    let left = saves_left c.each.place in
+    let ways = c.args.ways in
+    let before = c.each.invariant in
+    let held = ap (λ xs. held_behind_all start.homes start.statics place.held (body_tree xs)) (sym none) ∙ before.held in
+    let names = ap (λ xs. names_after_all (body_tree xs) place.names) (sym none) ∙ before.names in
+    record {
+      code =
+          sym (append-nil lines) ∙ ap (λ xs. lines ++ statements_code left place c.each.free ways.out ways.again (body_tree xs)) (sym none) ∙ before.code;
+      free = none_more c.each.free ∙ ap (λ xs. c.each.free + labels_of (body_tree xs)) (sym none) ∙ before.free;
+      same = before.same ∙ (λ i. holding (held i) (naming (names i) start));
+      saves = ap (λ xs. drop (results_all (body_tree xs)) left) (sym none) ∙ before.saves;
+    }
+
+-- ---- a choice, a loop, and what is left
+
+pub put_if-returns-clause-code : goal.put_if-returns-clause-code
+put_if-returns-clause-code t c =
+    let a = c.args in
+    let first = surroundings c.put_statements.new.place in
+    choice_lines (surroundings a.place.now) first (surroundings c.exchange-first.new.self) a.test.0 (body_tree a.these.now) (body_tree a.those.now)
+    c.in_ok-behind.ensures.same (c.exchange-first.ensures.place ∙ ap (λ hs. holding hs first) c.in_ok-known.ensures) a.lines.now.items
+    c.put_choice.new.lines.items c.put_statements.new.lines.items c.put_turn.new.lines.items c.put_statements-2.new.lines.items
+    c.put_lines.new.lines.items (saves_left a.place.now) (saves_left c.exchange-first.new.self) a.next c.in_ok-inside.inside c.in_ok-behind.behind
+    c.in_ok-other.other a.ways.out a.ways.again c.in_ok-inside.ensures.code c.in_ok-inside.ensures.next c.in_ok-behind.ensures.code
+    c.in_ok-behind.ensures.free c.in_ok-other.ensures.code c.in_ok-other.ensures.next
+    (ap reverse c.exchange-first.ensures.saves ∙ c.in_ok-behind.ensures.saves) c.in_ok-free.ensures.code c.in_ok-put_lines.ensures
+
+pub put_if-returns-clause-saves : goal.put_if-returns-clause-saves
+put_if-returns-clause-saves t c =
+    let one = results_all (body_tree c.args.these.now) in
+    let other = results_all (body_tree c.args.those.now) in
+    ap reverse c.join.ensures.saves ∙ c.in_ok-free.ensures.saves
+    ∙ ap (drop other) (ap reverse c.exchange-first.ensures.saves ∙ c.in_ok-behind.ensures.saves) ∙ drop-drop other one (saves_left c.args.place.now)
+
+pub put_while-returns-clause-code : goal.put_while-returns-clause-code
+put_while-returns-clause-code t c =
+    let a = c.args in
+    let u = surroundings a.place.now in
+    let first = surroundings c.put_statements.new.place in
+    loop_lines u (holding c.forget.new.self u) first (holding c.forget-2.new.self first) a.flag.0 (body_tree a.test.now) (body_tree a.body.now)
+    (ap (λ hs. holding hs u) c.forget.ensures) c.in_ok-behind.ensures.same (ap (λ hs. holding hs first) c.forget-2.ensures) a.lines.now.items
+    c.put_label.new.lines.items c.put_statements.new.lines.items c.put_choice.new.lines.items c.put_statements-2.new.lines.items
+    c.put_lines.new.lines.items (saves_left a.place.now) (saves_left c.put_statements.new.place) a.next c.in_ok-first.first c.in_ok-behind.behind
+    c.in_ok-within.within a.ways.out a.ways.again c.in_ok-first.ensures.code c.in_ok-first.ensures.next c.in_ok-behind.ensures.code
+    c.in_ok-behind.ensures.free c.in_ok-within.ensures.code c.in_ok-within.ensures.next c.in_ok-behind.ensures.saves c.in_ok-free.ensures.code
+    c.in_ok-put_lines.ensures
+
+pub put_while-returns-clause-saves : goal.put_while-returns-clause-saves
+put_while-returns-clause-saves t c =
+    let one = results_all (body_tree c.args.test.now) in
+    let other = results_all (body_tree c.args.body.now) in
+    c.in_ok-free.ensures.saves ∙ ap (drop other) c.in_ok-behind.ensures.saves ∙ drop-drop other one (saves_left c.args.place.now)
+
+pub put_leavable-returns-clause-code : goal.put_leavable-returns-clause-code
+put_leavable-returns-clause-code t c =
+    let a = c.args in
+    leave_lines (surroundings a.place.now) (body_tree a.body.now) a.lines.now.items c.put_statements.new.lines.items c.put_lines.new.lines.items
+    (saves_left a.place.now) a.next _ a.ways.out a.ways.again c.in_ok-following.ensures c.in_ok-free.ensures.code c.in_ok-put_lines.ensures

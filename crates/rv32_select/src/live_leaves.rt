@@ -1,0 +1,99 @@
+// Going back over statements that have no others in them, where it is found out which results of a function are saved.
+
+ghost use Rattle.std.specs.Prelude.{◌≡◌, true, false, [], ◌∷◌, ◌++◌, reverse, OnOk, map};
+ghost use Rattle.core_lines.specs.Loaded.{unknown_in, loads_of_operation, loads_of_values};
+ghost use Rattle.core_lines.specs.Saved.{cleared, all_flagged, flags_of, results_of};
+ghost use Rattle.core_lines.specs.Selected.{holding, naming};
+ghost use Rattle.cyc_core.specs.Trees.{operation_tree, optional_tree, temporary_tree};
+ghost use Rattle.rv32_select.specs.Places.{surroundings};
+
+use crate::flags::{cleared, set_flag};
+use crate::held::Known;
+use crate::loads::{flag_arguments, flag_operation, flag_return};
+use crate::place::Place;
+use crate::settling::{settle, settle_operation, settle_results};
+use cyc_core::{Operation, Temporary, Words};
+use std::alloc::AllocError;
+
+/// Goes back over an operation.
+pub fn live_operation(
+    saves: &mut Vec<bool>,
+    held: &Known,
+    live: &mut Vec<bool>,
+    operation: Operation,
+) -> Result<(), AllocError>
+    ensures saves { OnOk result (saves.new.items ≡ saves.old.items ++ reverse (flags_of live.old.items (results_of (operation_tree operation)))) }
+    ensures live { OnOk result (live.new.items ≡ all_flagged true (loads_of_operation held.now (operation_tree operation))
+        (all_flagged false (results_of (operation_tree operation)) live.old.items)) }
+{
+    settle_operation(saves, live, operation)?;
+    flag_operation(live, held, operation);
+    Ok(())
+}
+
+/// Goes back over a request for so many elements of a region.
+pub fn live_request(
+    saves: &mut Vec<bool>,
+    live: &mut Vec<bool>,
+    to: Temporary,
+    handle: Temporary,
+    count: Temporary,
+) -> Result<(), AllocError>
+    ensures saves { OnOk result (saves.new.items ≡ saves.old.items ++ reverse (flags_of live.old.items (to.0 ∷ []))) }
+    ensures live { OnOk result (live.new.items ≡ all_flagged true (handle.0 ∷ count.0 ∷ []) (all_flagged false (to.0 ∷ []) live.old.items)) }
+{
+    settle(saves, live, to)?;
+    set_flag(live, handle, true);
+    set_flag(live, count, true);
+    Ok(())
+}
+
+/// Goes back over a call.
+pub fn live_call(
+    saves: &mut Vec<bool>,
+    held: &Known,
+    live: &mut Vec<bool>,
+    results: Option<Words>,
+    arguments: &[Temporary],
+) -> Result<(), AllocError>
+    ensures saves { OnOk result (saves.new.items ≡ saves.old.items ++ reverse (flags_of live.old.items (optional_tree results))) }
+    ensures live { OnOk result (live.new.items ≡ all_flagged true (unknown_in held.now (map temporary_tree arguments.now))
+        (all_flagged false (optional_tree results) live.old.items)) }
+{
+    settle_results(saves, live, results)?;
+    flag_arguments(live, held, arguments);
+    Ok(())
+}
+
+/// Goes back over what ends a function or the program: nothing is loaded behind it.
+pub fn live_end(place: &Place, live: &mut Vec<bool>) -> Result<(), AllocError>
+    ensures { OnOk result (live.new.items ≡ cleared live.old.items) }
+{
+    let none = cleared(place.alloc, live)?;
+    *live = none;
+    Ok(())
+}
+
+/// Goes back over a return.
+pub fn live_return(
+    place: &mut Place,
+    live: &mut Vec<bool>,
+    value: Option<Words>,
+) -> Result<(), AllocError>
+    ensures live { OnOk result (live.new.items ≡ all_flagged true (loads_of_values place.old.held 9 (optional_tree value)) (cleared live.old.items)) }
+    ensures same { OnOk result (surroundings place.new ≡ holding place.new.held (naming (surroundings place.new).names (surroundings place.old))) }
+    ensures homes { OnOk result (place.new.homes.items ≡ place.old.homes.items) }
+{
+    live_end(place, live)?;
+    flag_return(live, place, value);
+    Ok(())
+}
+
+/// Goes back over a jump to where these are loaded.
+pub fn live_jump(live: &mut Vec<bool>, there: &[bool]) -> Result<(), AllocError>
+    ensures { OnOk result (live.new.items ≡ there.now) }
+{
+    live.clear();
+    live.extend_from_slice(there)?;
+    Ok(())
+}

@@ -60,18 +60,9 @@ pub(crate) fn uses<'p>(
         Expression::HeapRegion(_) => Ok(idle()),
         Expression::UniqueRegion(_) => Ok(idle()),
         Expression::Variable(name) => uses_of_name(scope, alloc, around, how, name),
-        Expression::Call(_, arguments) => {
-            let passed = passed_all(scope, alloc, around, arguments)?;
-            Ok(Used::value(passed))
-        }
-        Expression::MakeUnion(_, _, value) => {
-            let value = uses(scope, alloc, around, Usage::Value, value)?;
-            Ok(Used::value(value.passed))
-        }
-        Expression::NumElts(_, operand) => {
-            let operand = uses(scope, alloc, around, Usage::Look, operand)?;
-            Ok(Used::value(operand.passed))
-        }
+        Expression::Call(_, arguments) => called(scope, alloc, around, arguments),
+        Expression::MakeUnion(_, _, value) => given(scope, alloc, around, value),
+        Expression::NumElts(_, operand) => looked(scope, alloc, around, operand),
         Expression::Grouped(_, inner) => uses(scope, alloc, around, how, inner),
         Expression::Suffixed(primary, suffixes) => {
             if suffixes.is_empty() {
@@ -121,6 +112,51 @@ pub(crate) fn uses<'p>(
             Ok(Used::value(from.passed.in_turn(to.passed)))
         }
     }
+}
+
+/// What is given away. Fails only where no host memory is left.
+#[cycle(uses)]
+fn given(
+    scope: &Scope<'_, '_>,
+    alloc: Global,
+    around: Around<'_>,
+    value: &Expression,
+) -> Result<Used, AllocError>
+    ensures { (g : Env) (how : TheUsage) → IsWithin scope.now around.entry g
+        → IfOk result (IsUsed how (uses_as_value (uses_of g (expression_tree value.now)).value)) }
+{
+    let used = uses(scope, alloc, around, Usage::Value, value)?;
+    Ok(Used::value(used.passed))
+}
+
+/// What is looked at. Fails only where no host memory is left.
+#[cycle(uses)]
+fn looked(
+    scope: &Scope<'_, '_>,
+    alloc: Global,
+    around: Around<'_>,
+    operand: &Expression,
+) -> Result<Used, AllocError>
+    ensures { (g : Env) (how : TheUsage) → IsWithin scope.now around.entry g
+        → IfOk result (IsUsed how (uses_as_value (uses_of g (expression_tree operand.now)).look)) }
+{
+    let used = uses(scope, alloc, around, Usage::Look, operand)?;
+    Ok(Used::value(used.passed))
+}
+
+/// A call of a function with these arguments. Fails only where no host memory is left.
+#[cycle(uses)]
+fn called(
+    scope: &Scope<'_, '_>,
+    alloc: Global,
+    around: Around<'_>,
+    arguments: &[Expression],
+) -> Result<Used, AllocError>
+    ensures { (g : Env) (how : TheUsage) → IsWithin scope.now around.entry g
+        → IfOk result (IsUsed how (uses_as_value (passed_all g unchanged (expressions_of (map expression_tree arguments.now))))) }
+{
+    let passed = passed_all(scope, alloc, around, arguments)?;
+    Ok(Used::value(passed))
 }
 
 /// Arguments, which are given away. Fails only where no host memory is left.
@@ -197,10 +233,7 @@ fn prefixed(
         (Prefixed at operator (expression_tree operand.now)))) }
 {
     match operator {
-        Prefix::Negate | Prefix::Not | Prefix::Complement => {
-            let used = uses(scope, alloc, around, Usage::Look, operand)?;
-            Ok(Used::value(used.passed))
-        }
+        Prefix::Negate | Prefix::Not | Prefix::Complement => looked(scope, alloc, around, operand),
         Prefix::Dereference => {
             let judged = judge_inside(scope, alloc, around, operand)?;
             let used = uses(scope, alloc, around, Usage::Look, operand)?;

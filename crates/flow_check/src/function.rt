@@ -1,22 +1,25 @@
 // The faults of flow of functions.
 
-ghost use Rattle.std.specs.Prelude.{◌≡◌, ◌++◌, IfOk, List, OnOk, false, map, reverse};
+ghost use Rattle.std.specs.Prelude.{◌≡◌, ◌++◌, IfOk, List, [], OnOk, false, map, reverse};
 ghost use Rattle.cyc_tree.specs.Tree as tree;
 ghost use Rattle.cyc_tree.specs.View.{function_tree};
 ghost use Rattle.flow_summaries.specs.Statements.{fault_of_body};
+ghost use Rattle.source_typing.specs.Functions as rules;
 ghost use Rattle.source_typing.specs.Functions.{body_scope, head_of, with_parameters};
 ghost use Rattle.source_typing.specs.Left.{states_at};
 ghost use Rattle.source_typing.specs.Scope.{Env};
 ghost use Rattle.source_typing.specs.Tables.{Tables};
 ghost use Rattle.source_typing.specs.Written.{RegionNamed};
 ghost use Rattle.check_functions.specs.Bodies.{KnowsNames, code_names, names_of, types_of};
+ghost use Rattle.check_functions.specs.Heads.{IsHead};
 ghost use Rattle.flow_effects.specs.Passed.{state_of};
 ghost use Rattle.flow_check.specs.Standing.{Stands};
 
 use crate::declared::begun;
 use crate::statement::items_exits;
 use check_faults::Fault;
-use check_functions::{Names, Parameter, declare_parameter, entered, known_type, read_head};
+use check_functions::{Head, Names, Parameter, declare_parameter, entered, known_type, read_head};
+use check_regions::RegionNames;
 use check_scopes::Scope;
 use check_statements::Context;
 use cyc_tree::Function;
@@ -48,6 +51,51 @@ fn parameters_begun<'p>(
     Ok(states)
 }
 
+/// The earliest fault of flow of a function's body, where no local is in scope before its parameters. Fails only where no host memory is
+/// left.
+fn body_flow<'p>(
+    scope: &mut Scope<'_, 'p>,
+    known: &mut RegionNames<'p>,
+    alloc: Global,
+    context: Context<'_, 'p>,
+    parameters: &[Parameter<'p>],
+    function: &'p Function,
+) -> Result<Option<Fault>, AllocError>
+    ensures { (g : Env) → let f = function_tree function.entry.now in g.locals ≡ [] → code_names parameters.now ≡ names_of f.parameters
+        → Stands context.entry known.old 0 scope.old g
+        → IfOk result (λ o. o ≡ fault_of_body (with_parameters f.parameters (types_of parameters.now) g) f) }
+{
+    let states = parameters_begun(scope, alloc, context, parameters)?;
+    let exits = items_exits(scope, known, alloc, context, 0, &function.body)?;
+    Ok(exits.whole.found(states.as_slice()))
+}
+
+/// The earliest fault of flow of a function with this head, after so many items, where the program's names mean this. Fails only where no
+/// host memory is left.
+fn headed_flow<'p>(
+    alloc: Global,
+    names: Names<'_, 'p>,
+    item: u32,
+    head: Head<'p>,
+    function: &'p Function,
+) -> Result<Option<Fault>, AllocError>
+    ensures { (g : Tables) (h : rules.Head) → KnowsNames names.entry g → let f = function_tree function.entry.now in IsHead head.entry f h
+        → IfOk result (λ o. o ≡ fault_of_body (body_scope false g item f h) f) }
+{
+    let mut scope = entered(alloc, names, false, &head)?;
+    let frame = RegionId::Level(head.variables.count());
+    let mut known = head.variables.into_names();
+    let context = Context {
+        result: known_type(&head.result),
+        frame,
+        item,
+        in_loop: false,
+        in_switch: false,
+    };
+    let parameters = head.parameters.as_slice();
+    body_flow(&mut scope, &mut known, alloc, context, parameters, function)
+}
+
 /// The earliest fault of flow of a function after so many items, where the program's names mean this. Fails only where no host memory is
 /// left.
 pub(crate) fn function_flow<'p>(
@@ -60,17 +108,5 @@ pub(crate) fn function_flow<'p>(
         IfOk result (λ o. o ≡ fault_of_body (body_scope false g item f (head_of false g f)) f) }
 {
     let head = read_head(alloc, names.tags, false, function)?;
-    let mut scope = entered(alloc, names, false, &head)?;
-    let frame = RegionId::Level(head.variables.count());
-    let mut known = head.variables.into_names();
-    let context = Context {
-        result: known_type(&head.result),
-        frame,
-        item,
-        in_loop: false,
-        in_switch: false,
-    };
-    let states = parameters_begun(&mut scope, alloc, context, head.parameters.as_slice())?;
-    let exits = items_exits(&mut scope, &mut known, alloc, context, 0, &function.body)?;
-    Ok(exits.whole.found(states.as_slice()))
+    headed_flow(alloc, names, item, head, function)
 }

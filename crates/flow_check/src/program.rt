@@ -2,12 +2,14 @@
 
 ghost use Rattle.std.specs.Prelude.{◌≡◌, IfOk};
 ghost use Rattle.cyc_tree.specs.View.{program_item_tree, program_tree};
-ghost use Rattle.flow_summaries.specs.Statements.{fault_from, fault_of_item};
+ghost use Rattle.flow_summaries.specs.Statements.{fault_from, fault_of_flow, fault_of_item};
 ghost use Rattle.source_typing.specs.Faults.{earliest};
 ghost use Rattle.source_typing.specs.Left.{flow_faults};
+ghost use Rattle.source_typing.specs.Programs.{builtins, entries, judged_tags};
 ghost use Rattle.source_typing.specs.Tables as known;
 ghost use Rattle.check_faults.specs.Faults.{faults_of};
 ghost use Rattle.check_functions.specs.Bodies.{KnowsNames};
+ghost use Rattle.check_programs.specs.Structs.{KnowsStructs};
 
 use crate::function::function_flow;
 use check_faults::{Fault, sooner};
@@ -50,6 +52,24 @@ fn items_flow<'p>(
     Ok(found)
 }
 
+/// The earliest fault of flow of a program whose structs and unions these are. Fails only where no host memory is left.
+fn known_flow<'p>(
+    alloc: Global,
+    structs: Structs<'_, 'p>,
+    items: &'p [Item],
+) -> Result<Option<Fault>, AllocError>
+    ensures { let all = program_tree items.entry.now in KnowsStructs structs.entry (builtins (entries (judged_tags all)))
+        → IfOk result (λ f. f ≡ fault_of_flow all) }
+{
+    let globals = program_names(alloc, structs, false, items)?;
+    let names = Names {
+        globals: &globals,
+        tags: structs.tags,
+        tables: structs.tables,
+    };
+    items_flow(alloc, names, items)
+}
+
 /// The earliest fault of flow of a program, whatever other faults it has. Fails only where no host memory is left.
 pub fn flow_fault(alloc: Global, program: &Program) -> Result<Option<Fault>, AllocError>
     ensures { IfOk result (λ f. faults_of f ≡ earliest (flow_faults program.now)) }
@@ -60,11 +80,5 @@ pub fn flow_fault(alloc: Global, program: &Program) -> Result<Option<Fault>, All
         tags: &tags.names,
         tables: &tags.tables,
     };
-    let globals = program_names(alloc, structs, false, items)?;
-    let names = Names {
-        globals: &globals,
-        tags: &tags.names,
-        tables: &tags.tables,
-    };
-    items_flow(alloc, names, items)
+    known_flow(alloc, structs, items)
 }

@@ -1,10 +1,19 @@
 // What statements and blocks do to locals that can't be copied.
 
-ghost use Rattle.std.specs.Prelude.{◌≡◌, ◌≤◌, IfOk, OnOk, length, map, option_map, ℕ};
-ghost use Rattle.cyc_tree.specs.View.{clause_tree, clauses_of, item_tree, items_of, statement_tree};
+ghost use Rattle.std.specs.Prelude.{◌≡◌, ◌≤◌, IfOk, None, OnOk, length, map, option_map, ℕ};
+ghost use Rattle.cyc_tree.specs.View.{clause_tree, clauses_of, expression_tree, item_tree, items_of, name_tree, statement_tree};
+ghost use Rattle.flow_summaries.specs.Exits.{either_exits, ends_after, exits, loop_exits, switch_left, with_passage};
+ghost use Rattle.flow_summaries.specs.Expressions.{uses_of};
+ghost use Rattle.flow_summaries.specs.Passages.{in_turn};
 ghost use Rattle.flow_summaries.specs.Statements as rules;
+ghost use Rattle.flow_summaries.specs.Statements.{freed_local, passage_of_result};
+ghost use Rattle.flow_summaries.specs.Uses.{number_of};
+ghost use Rattle.source_typing.specs.Expressions.{judge};
 ghost use Rattle.source_typing.specs.Scope.{Env, block_entered};
+ghost use Rattle.source_typing.specs.Statements.{chosen, in_a_loop, in_a_switch};
 ghost use Rattle.check_scopes.specs.Changes.{left};
+ghost use Rattle.check_scopes.specs.Knows.{Knows};
+ghost use Rattle.check_scopes.specs.Matching.{AreLocals};
 ghost use Rattle.check_regions.specs.declared.scope.RegionMark.{RegionMark};
 ghost use Rattle.check_statements.specs.Contexts.{kept_to};
 ghost use Rattle.check_statements.specs.Switching.{chosen_in};
@@ -18,9 +27,100 @@ use check_expressions::judge;
 use check_regions::RegionNames;
 use check_scopes::Scope;
 use check_statements::{Chosen, Context, bind, next_region, union_of};
-use cyc_tree::{BlockItem, Clause, Pattern, Statement};
+use cyc_tree::{BlockItem, Clause, Expression, Name, Pattern, Statement};
 use flow_effects::{Exits, Step, all_before};
 use std::alloc::{AllocError, Global};
+
+/// What an expression that is discarded does. Fails only where no host memory is left.
+fn run_exits(scope: &Scope<'_, '_>, alloc: Global, value: &Expression) -> Result<Exits, AllocError>
+    ensures { (g : Env) → Knows scope.now g → AreLocals scope.now.locals g.locals
+        → IfOk result (λ w. exits_of w ≡ ends_after (uses_of g (expression_tree value.now)).value) }
+{
+    Ok(Exits::ends_after(given(scope, alloc, value)?))
+}
+
+/// What an exchange of two places does. Fails only where no host memory is left.
+fn exchange_exits(
+    scope: &Scope<'_, '_>,
+    alloc: Global,
+    left: &Expression,
+    right: &Expression,
+) -> Result<Exits, AllocError>
+    ensures { (g : Env) → Knows scope.now g → AreLocals scope.now.locals g.locals → IfOk result (λ w. exits_of w
+        ≡ ends_after (in_turn (uses_of g (expression_tree left.now)).look (uses_of g (expression_tree right.now)).look)) }
+{
+    let left = looked(scope, alloc, left)?;
+    let right = looked(scope, alloc, right)?;
+    Ok(Exits::ends_after(left.in_turn(right)))
+}
+
+/// What a `return` does. Fails only where no host memory is left.
+fn return_exits(
+    scope: &Scope<'_, '_>,
+    alloc: Global,
+    value: &Option<Expression>,
+) -> Result<Exits, AllocError>
+    ensures { (g : Env) → Knows scope.now g → AreLocals scope.now.locals g.locals → IfOk result (λ w. exits_of w
+        ≡ exits None None None (passage_of_result g (option_map expression_tree value.now)).faults) }
+{
+    Ok(Exits::returns(result_given(scope, alloc, value)?))
+}
+
+/// What the freeing of a local at a place does. Fails only where no host memory is left.
+fn free_exits(
+    scope: &Scope<'_, '_>,
+    alloc: Global,
+    at: u32,
+    name: &Name,
+) -> Result<Exits, AllocError>
+    ensures { (g : Env) → AreLocals scope.now.locals g.locals → IfOk result (λ w. exits_of w
+        ≡ ends_after (freed_local at (name_tree name.now) (number_of g.locals (name_tree name.now).text))) }
+{
+    Ok(Exits::ends_after(freed(scope, alloc, at, name)?))
+}
+
+/// What a statement does on these ways, before which a value is looked at. Fails only where no host memory is left.
+fn after_look(
+    scope: &Scope<'_, '_>,
+    alloc: Global,
+    value: &Expression,
+    ways: Exits,
+) -> Result<Exits, AllocError>
+    ensures { (g : Env) → Knows scope.now g → AreLocals scope.now.locals g.locals → IfOk result (λ w. exits_of w
+        ≡ with_passage (uses_of g (expression_tree value.now)).look (exits_of ways)) }
+{
+    let passed = looked(scope, alloc, value)?;
+    ways.after(alloc, passed)
+}
+
+/// What an `if` does, by what its statements do. Fails only where no host memory is left.
+fn either_after(
+    scope: &Scope<'_, '_>,
+    alloc: Global,
+    condition: &Expression,
+    body: Exits,
+    otherwise: Exits,
+) -> Result<Exits, AllocError>
+    ensures { (g : Env) → Knows scope.now g → AreLocals scope.now.locals g.locals → IfOk result (λ w. exits_of w
+        ≡ with_passage (uses_of g (expression_tree condition.now)).look (either_exits (exits_of body) (exits_of otherwise))) }
+{
+    let ways = body.either(alloc, otherwise)?;
+    after_look(scope, alloc, condition, ways)
+}
+
+/// What a `switch` on a place does, by what its clauses do. Fails only where no host memory is left.
+fn switch_after(
+    scope: &Scope<'_, '_>,
+    alloc: Global,
+    place: &Expression,
+    clauses: Exits,
+) -> Result<Exits, AllocError>
+    ensures { (g : Env) → Knows scope.now g → AreLocals scope.now.locals g.locals → IfOk result (λ w. exits_of w
+        ≡ with_passage (uses_of g (expression_tree place.now)).look (switch_left (exits_of clauses))) }
+{
+    let ways = clauses.switch_left(alloc)?;
+    after_look(scope, alloc, place, ways)
+}
 
 /// What a statement does on each way out of it. What is in scope is the same before and after it. Fails only where no host memory is
 /// left.
@@ -40,43 +140,91 @@ fn exits<'p>(
     match statement {
         Statement::Empty(_) => Ok(Exits::ends()),
         Statement::Block(_, items) => block(scope, names, alloc, context, items),
-        Statement::Run(value) => Ok(Exits::ends_after(given(scope, alloc, value)?)),
-        Statement::Exchange(left, right) => {
-            let left = looked(scope, alloc, left)?;
-            let right = looked(scope, alloc, right)?;
-            Ok(Exits::ends_after(left.in_turn(right)))
-        }
+        Statement::Run(value) => run_exits(scope, alloc, value),
+        Statement::Exchange(left, right) => exchange_exits(scope, alloc, left, right),
         Statement::If(_, condition, body) => {
-            let condition = looked(scope, alloc, condition)?;
-            let body = exits(scope, names, alloc, context, body)?;
-            body.either(alloc, Exits::ends())?.after(alloc, condition)
+            if_exits(scope, names, alloc, context, body, condition, Exits::ends())
         }
         Statement::IfElse(_, condition, body, otherwise) => {
-            let condition = looked(scope, alloc, condition)?;
-            let body = exits(scope, names, alloc, context, body)?;
             let otherwise = exits(scope, names, alloc, context, otherwise)?;
-            body.either(alloc, otherwise)?.after(alloc, condition)
+            if_exits(scope, names, alloc, context, body, condition, otherwise)
         }
         Statement::While(_, condition, body) => {
-            let condition = looked(scope, alloc, condition)?;
-            let body = exits(scope, names, alloc, context.looping(), body)?;
-            body.loop_of(alloc, condition)
+            while_exits(scope, names, alloc, context, body, condition)
         }
         Statement::Switch(_, place, clauses) => {
-            let judged = judge(scope, alloc, place)?;
-            let place = looked(scope, alloc, place)?;
-            let chosen = union_of(&judged);
-            let ways = switched(scope, names, alloc, context.switching(), chosen, clauses)?;
-            ways.switch_left(alloc)?.after(alloc, place)
+            switch_exits(scope, names, alloc, context, clauses, place)
         }
         Statement::Break(_) => Ok(Exits::breaks()),
         Statement::Continue(_) => Ok(Exits::continues()),
-        Statement::Return(_, value) => Ok(Exits::returns(result_given(scope, alloc, value)?)),
-        Statement::FreeUnique(at, pointer) => {
-            Ok(Exits::ends_after(freed(scope, alloc, *at, pointer)?))
-        }
-        Statement::FreeKey(at, key) => Ok(Exits::ends_after(freed(scope, alloc, *at, key)?)),
+        Statement::Return(_, value) => return_exits(scope, alloc, value),
+        Statement::FreeUnique(at, pointer) => free_exits(scope, alloc, *at, pointer),
+        Statement::FreeKey(at, key) => free_exits(scope, alloc, *at, key),
     }
+}
+
+/// What an `if` does, by what it does otherwise. What is in scope is the same before and after it. Fails only where no host memory is
+/// left.
+#[cycle(exits)]
+fn if_exits<'p>(
+    scope: &mut Scope<'_, 'p>,
+    names: &mut RegionNames<'p>,
+    alloc: Global,
+    context: Context<'_, 'p>,
+    body: &'p Statement,
+    condition: &Expression,
+    otherwise: Exits,
+) -> Result<Exits, AllocError>
+    ensures exits { (g : Env) → Follows context.entry names.old scope.old g → IfOk result (λ w. exits_of w
+        ≡ with_passage (uses_of g (expression_tree condition.now)).look
+        (either_exits (rules.exits_of g (statement_tree body.entry.now)) (exits_of otherwise))) }
+    ensures scope { OnOk result (scope.new ≡ scope.old) }
+    ensures kept { OnOk result (names.new ≡ names.old) }
+{
+    let body = exits(scope, names, alloc, context, body)?;
+    either_after(scope, alloc, condition, body, otherwise)
+}
+
+/// What a `while` does. What is in scope is the same before and after it. Fails only where no host memory is left.
+#[cycle(exits)]
+fn while_exits<'p>(
+    scope: &mut Scope<'_, 'p>,
+    names: &mut RegionNames<'p>,
+    alloc: Global,
+    context: Context<'_, 'p>,
+    body: &'p Statement,
+    condition: &Expression,
+) -> Result<Exits, AllocError>
+    ensures exits { (g : Env) → Follows context.entry names.old scope.old g → IfOk result (λ w. exits_of w
+        ≡ loop_exits (uses_of g (expression_tree condition.now)).look (rules.exits_of (in_a_loop g) (statement_tree body.entry.now))) }
+    ensures scope { OnOk result (scope.new ≡ scope.old) }
+    ensures kept { OnOk result (names.new ≡ names.old) }
+{
+    let condition = looked(scope, alloc, condition)?;
+    let body = exits(scope, names, alloc, context.looping(), body)?;
+    body.loop_of(alloc, condition)
+}
+
+/// What a `switch` on a place does. What is in scope is the same before and after it. Fails only where no host memory is left.
+#[cycle(exits)]
+fn switch_exits<'p>(
+    scope: &mut Scope<'_, 'p>,
+    names: &mut RegionNames<'p>,
+    alloc: Global,
+    context: Context<'_, 'p>,
+    clauses: &'p [Clause],
+    place: &Expression,
+) -> Result<Exits, AllocError>
+    ensures exits { (g : Env) → Follows context.entry names.old scope.old g → let e = expression_tree place.now in
+        IfOk result (λ w. exits_of w ≡ with_passage (uses_of g e).look
+        (switch_left (rules.exits_of_clauses (in_a_switch g) (chosen (judge g e)) (clauses_of (map clause_tree clauses.entry.now))))) }
+    ensures scope { OnOk result (scope.new ≡ scope.old) }
+    ensures kept { OnOk result (names.new ≡ names.old) }
+{
+    let judged = judge(scope, alloc, place)?;
+    let chosen = union_of(&judged);
+    let ways = switched(scope, names, alloc, context.switching(), chosen, clauses)?;
+    switch_after(scope, alloc, place, ways)
 }
 
 /// What a block does. What is in scope is the same before and after it. Fails only where no host memory is left.

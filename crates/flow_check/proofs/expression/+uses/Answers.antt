@@ -1,31 +1,30 @@
-use Rattle.std.proofs.Common.{IfOk, List, [], ap, ap₂, arith, drop, false, length, map, not, refl, subst, sym, ◌≤◌, ◌+◌, ◌∙◌, ◌≡◌, ℕ}
-use Rattle.std.specs.Prelude.{bytes_eq, ◌&&◌, ◌||◌}
+mod Suffixes
+use Rattle.std.proofs.Common.{IfOk, List, [], ap, ap₂, arith, drop, length, map, not, refl, subst, sym, ◌≤◌, ◌∙◌, ◌≡◌}
+use Rattle.std.specs.Prelude.{◌&&◌, ◌||◌}
 use Rattle.std.proofs.lemmas.List.{drop_all}
 use Rattle.cyc_tree.proofs.Forms.{all_of_tree, any_of_tree, assign_tree, call_tree, chain_tree, character_tree, grouped_tree, heap_region_tree}
 use Rattle.cyc_tree.proofs.Forms.{make_union_tree, new_in_tree, new_tree, null_tree, num_elts_tree, number_tree, prefixed_tree, suffixed_tree}
 use Rattle.cyc_tree.proofs.Forms.{text_tree, unique_region_tree, variable_tree}
-use Rattle.cyc_tree.proofs.PartForms.{array_tree, arrow_tree, dot_tree, index_tree, one_tree}
 use Rattle.cyc_tree.specs.Tree.{Expression}
-use Rattle.cyc_tree.specs.View.{OneSuffix, expression_tree, expressions_of, link_tree, links_of, made_tree, name_tree, suffix_tree, suffixes_of}
+use Rattle.cyc_tree.specs.View.{expression_tree, expressions_of, link_tree, links_of, made_tree, name_tree, suffix_tree, suffixes_of}
+use Rattle.cyc_tree.specs.declared.expression.Expression as code
 use Rattle.cyc_tree.specs.declared.expression.Suffix.{Suffix}
 use Rattle.flow_summaries.specs.Expressions.{uses_made, uses_of}
-use Rattle.flow_summaries.specs.Passages.{copied_if, in_turn, in_turn_or_not, repeated, unchanged}
-use Rattle.flow_summaries.specs.Uses.{uses_as_place, uses_as_value}
+use Rattle.flow_summaries.specs.Passages.{copied_if, in_turn, in_turn_or_not, unchanged}
+use Rattle.flow_summaries.specs.Uses.{uses_as_value}
 use Rattle.source_meaning.specs.Expressions.{is_unique_region}
 use Rattle.source_typing.specs.Expressions.{judge}
-use Rattle.source_typing.specs.Making.{enclosed, inside, with_counter}
+use Rattle.source_typing.specs.Making.{enclosed, inside}
 use Rattle.source_typing.specs.Operators.{prefixed}
-use Rattle.source_typing.specs.Places.{contents, indexed}
+use Rattle.source_typing.specs.Places.{contents}
 use Rattle.source_typing.specs.Scope.{Value}
-use Rattle.check_faults.specs.Verdicts.{Short, short_after, short_both, short_of, shortened}
+use Rattle.check_faults.specs.Verdicts.{Short, short_after, short_of, shortened}
 use Rattle.check_operators.specs.Goals.{goal_in}
 use Rattle.check_operators.specs.Values.{value_of}
 use Rattle.check_expressions.specs.Enclosings.{enclosing_of}
 use Rattle.check_expressions.proofs.Forms.{judged}
 use Rattle.check_expressions.proofs.Makings.{enclosed_is, goal_is, handle_goal}
 use Rattle.check_expressions.specs.Goals.{enclosed_short}
-use Rattle.check_expressions.specs.Suffixes.{short_suffix}
-use Rattle.check_expressions.specs.Within.{is_counter}
 use Rattle.flow_effects.specs.Passed.{passage_of}
 use Rattle.flow_effects.specs.Used.{IsUsed}
 use Rattle.flow_effects.specs.declared.used.Usage.TheVariants as usage
@@ -33,22 +32,24 @@ use Rattle.flow_check.proofs.Forms.{call_uses, chain_alone, chain_uses, does, so
 use Rattle.flow_check.proofs.Forms.{tested_length, tests_joined, told}
 use Rattle.flow_check.proofs.PrefixUses.{address_shortly, contents_shortly, look_alone}
 use Rattle.flow_check.proofs.Steps.{all_step, links_step, tests_step}
-use Rattle.flow_check.proofs.SuffixUses.{after_arrow, after_dot, after_first, after_index, after_next, looked_is}
-use Rattle.flow_check.proofs.Within.{counter_around, inside_goal}
+use Rattle.flow_check.proofs.Within.{inside_goal}
 use Rattle.flow_check.specs.Folded.{all_short_uses, passed_all, passed_links, passed_tests}
 use Rattle.flow_check.specs.Short.{in_block_short, is_unique_short}
+use Rattle.flow_check.proofs.expression.+uses.Answers.Suffixes as Suffixes
 use Rattle.flow_check.proofs.expression.+uses.Goals as goal
 
 -- ---- forms without parts
 
 pub uses-returns-in-Number : goal.uses-returns-in-Number
 uses-returns-in-Number t c = λ g h.
-    does g c.args.how c.idle.result c.args.expression.now (Expression.Number c.in-Number.field-0 c.in-Number.field-1 c.in-Number.field-2) (uses_as_value unchanged)
+    does g c.args.how c.idle.result c.args.expression.now (Expression.Number c.in-Number.field-0 c.in-Number.field-1 c.in-Number.field-2)
+    (uses_as_value unchanged)
     (ap (λ e. expression_tree e) c.in-Number.is ∙ number_tree c.in-Number.field-0 c.in-Number.field-1 c.in-Number.field-2) refl (c.idle.ensures c.args.how)
 
 pub uses-returns-in-Character : goal.uses-returns-in-Character
 uses-returns-in-Character t c = λ g h.
-    does g c.args.how c.idle-in-Character.result c.args.expression.now (Expression.Character c.in-Character.field-0 c.in-Character.field-1) (uses_as_value unchanged)
+    does g c.args.how c.idle-in-Character.result c.args.expression.now (Expression.Character c.in-Character.field-0 c.in-Character.field-1)
+    (uses_as_value unchanged)
     (ap (λ e. expression_tree e) c.in-Character.is ∙ character_tree c.in-Character.field-0 c.in-Character.field-1) refl (c.idle-in-Character.ensures c.args.how)
 
 pub uses-returns-in-Text : goal.uses-returns-in-Text
@@ -79,48 +80,42 @@ uses-returns-in-Variable t c = λ g h.
     (uses_of g (Expression.Variable (name_tree c.in-Variable.name)))
     (ap (λ e. expression_tree e) c.in-Variable.is ∙ variable_tree c.in-Variable.name) refl (c.uses_of_name.ensures g h)
 
-pub uses-returns-in_ok-passed-in-Call : goal.uses-returns-in_ok-passed-in-Call
-uses-returns-in_ok-passed-in-Call t c = λ g h.
+pub uses-returns-in-Call : goal.uses-returns-in-Call
+uses-returns-in-Call t c = λ g h.
     let x = name_tree c.in-Call.field-0 in
     let es = c.in-Call.arguments.items in
-    let all = expressions_of (map expression_tree es) in
-    let passes : passage_of c.in_ok-passed-in-Call.passed ≡ passed_all g unchanged (expressions_of (map expression_tree es)) =
-    subst (λ xs. passage_of c.in_ok-passed-in-Call.passed ≡ passed_all g unchanged (expressions_of (map expression_tree xs))) c.deref.ensures.value
-    (c.in_ok-passed-in-Call.ensures g h) in
-    does g c.args.how c.value.result c.args.expression.now (Expression.Call x (expressions_of (map expression_tree es)))
-    (uses_as_value (passed_all g unchanged all))
+    let does_it : List code.Expression → Type 0 =
+    λ xs. IfOk c.called.result (IsUsed c.args.how (uses_as_value (passed_all g unchanged (expressions_of (map expression_tree xs))))) in
+    told g c.args.how c.called.result c.args.expression.now (Expression.Call x (expressions_of (map expression_tree es)))
+    (uses_as_value (passed_all g unchanged (expressions_of (map expression_tree es))))
     (ap (λ e. expression_tree e) c.in-Call.is ∙ call_tree c.in-Call.field-0 c.in-Call.arguments) (call_uses g x (expressions_of (map expression_tree es)))
-    (c.value.ensures c.args.how (passed_all g unchanged all) passes)
+    (subst does_it c.deref.ensures.value (c.called.ensures g c.args.how h))
 
-pub uses-returns-in_ok-value-in-MakeUnion : goal.uses-returns-in_ok-value-in-MakeUnion
-uses-returns-in_ok-value-in-MakeUnion t c = λ g h.
+pub uses-returns-in-MakeUnion : goal.uses-returns-in-MakeUnion
+uses-returns-in-MakeUnion t c = λ g h.
     let tag = name_tree c.in-MakeUnion.field-0 in
     let field = name_tree c.in-MakeUnion.field-1 in
     let e = expression_tree c.in-MakeUnion.value.value in
-    let passes : passage_of c.in_ok-value-in-MakeUnion.value.passed ≡ (uses_of g e).value =
-    subst (λ x. passage_of c.in_ok-value-in-MakeUnion.value.passed ≡ (uses_of g (expression_tree x)).value) c.deref-in-MakeUnion.ensures
-    (c.in_ok-value-in-MakeUnion.ensures g h).passed in
-    does g c.args.how c.value-in-MakeUnion.result c.args.expression.now (Expression.MakeUnion tag field e) (uses_as_value (uses_of g e).value)
+    told g c.args.how c.given.result c.args.expression.now (Expression.MakeUnion tag field e) (uses_as_value (uses_of g e).value)
     (ap (λ e. expression_tree e) c.in-MakeUnion.is ∙ make_union_tree c.in-MakeUnion.field-0 c.in-MakeUnion.field-1 c.in-MakeUnion.value) refl
-    (c.value-in-MakeUnion.ensures c.args.how (uses_of g e).value passes)
+    (subst (λ x. IfOk c.given.result (IsUsed c.args.how (uses_as_value (uses_of g (expression_tree x)).value))) c.deref-in-MakeUnion.ensures
+    (c.given.ensures g c.args.how h))
 
-pub uses-returns-in_ok-operand-in-NumElts : goal.uses-returns-in_ok-operand-in-NumElts
-uses-returns-in_ok-operand-in-NumElts t c = λ g h.
+pub uses-returns-in-NumElts : goal.uses-returns-in-NumElts
+uses-returns-in-NumElts t c = λ g h.
     let e = expression_tree c.in-NumElts.operand.value in
-    let passes : passage_of c.in_ok-operand-in-NumElts.operand.passed ≡ (uses_of g e).look =
-    subst (λ x. passage_of c.in_ok-operand-in-NumElts.operand.passed ≡ (uses_of g (expression_tree x)).look) c.deref-in-NumElts.ensures
-    (c.in_ok-operand-in-NumElts.ensures g h).passed in
-    does g c.args.how c.value-in-NumElts.result c.args.expression.now (Expression.NumElts c.in-NumElts.field-0 e) (uses_as_value (uses_of g e).look)
+    told g c.args.how c.looked.result c.args.expression.now (Expression.NumElts c.in-NumElts.field-0 e) (uses_as_value (uses_of g e).look)
     (ap (λ e. expression_tree e) c.in-NumElts.is ∙ num_elts_tree c.in-NumElts.field-0 c.in-NumElts.operand) refl
-    (c.value-in-NumElts.ensures c.args.how (uses_of g e).look passes)
+    (subst (λ x. IfOk c.looked.result (IsUsed c.args.how (uses_as_value (uses_of g (expression_tree x)).look))) c.deref-in-NumElts.ensures
+    (c.looked.ensures g c.args.how h))
 
 pub uses-returns-in-Grouped : goal.uses-returns-in-Grouped
 uses-returns-in-Grouped t c = λ g h.
     let e = expression_tree c.in-Grouped.inner.value in
-    told g c.args.how c.uses-in-Grouped.result c.args.expression.now (Expression.Grouped c.in-Grouped.field-0 e) (uses_of g e)
+    told g c.args.how c.uses.result c.args.expression.now (Expression.Grouped c.in-Grouped.field-0 e) (uses_of g e)
     (ap (λ e. expression_tree e) c.in-Grouped.is ∙ grouped_tree c.in-Grouped.field-0 c.in-Grouped.inner) refl
-    (subst (λ x. IfOk c.uses-in-Grouped.result (IsUsed c.args.how (uses_of g (expression_tree x)))) c.deref-in-Grouped.ensures
-    (c.uses-in-Grouped.ensures g h))
+    (subst (λ x. IfOk c.uses.result (IsUsed c.args.how (uses_of g (expression_tree x)))) c.deref-in-Grouped.ensures
+    (c.uses.ensures g h))
 
 pub uses-returns-in_ok-used-in-Suffixed : goal.uses-returns-in_ok-used-in-Suffixed
 uses-returns-in_ok-used-in-Suffixed t c = λ g h.
@@ -193,11 +188,11 @@ uses-returns-in_ok-passed-in-Chain t c = λ g h.
     ∙ ap (λ ls. passed_links g (passage_of c.in_ok-first-in-Chain.first.passed) (links_of (map link_tree ls))) c.deref-in-Chain-2.ensures.value
     ∙ ap (λ p. passed_links g p links)
     ((c.in_ok-first-in-Chain.ensures g h).passed ∙ ap (λ x. (uses_of g (expression_tree x)).look) c.deref-in-Chain.ensures) in
-    does g c.args.how c.value-in-Chain.result c.args.expression.now (Expression.Chain first links)
+    does g c.args.how c.value.result c.args.expression.now (Expression.Chain first links)
     (uses_as_value (passed_links g (uses_of g first).look links))
     (ap (λ e. expression_tree e) c.in-Chain.is ∙ chain_tree c.in-Chain.first c.in-Chain.links)
     (chain_uses g first ls (tested_length c.in-Chain.links c.is_empty-in-Chain.result c.is_empty-in-Chain.ensures ∙ c.if-is_empty-2.false))
-    (c.value-in-Chain.ensures c.args.how (passed_links g (uses_of g first).look links) passes)
+    (c.value.ensures c.args.how (passed_links g (uses_of g first).look links) passes)
 
 pub uses-returns-in_ok-passed-in-AllOf : goal.uses-returns-in_ok-passed-in-AllOf
 uses-returns-in_ok-passed-in-AllOf t c = λ g h.
@@ -245,6 +240,16 @@ uses-returns-in_ok-to-in-Assign t c = λ g h.
     (c.value-in-Assign.ensures c.args.how both (c.in_turn.ensures ∙ ap₂ in_turn from_is to_is))
 
 -- ---- an operand alone
+
+pub called-returns : goal.called-returns
+called-returns t c = λ g how h.
+    c.value.ensures how (passed_all g unchanged (expressions_of (map expression_tree c.args.arguments.now))) (c.in_ok-passed.ensures g h)
+
+pub given-returns : goal.given-returns
+given-returns t c = λ g how h. c.value.ensures how (uses_of g (expression_tree c.args.value.now)).value (c.in_ok-used.ensures g h).passed
+
+pub looked-returns : goal.looked-returns
+looked-returns t c = λ g how h. c.value.ensures how (uses_of g (expression_tree c.args.operand.now)).look (c.in_ok-used.ensures g h).passed
 
 pub uses-returns-then-is_empty : goal.uses-returns-then-is_empty
 uses-returns-then-is_empty t c = λ g h.
@@ -329,11 +334,10 @@ passed_tests-returns t c = λ g h.
 
 -- ---- operators before an operand
 
-pub prefixed-returns-in_ok-used-in-Negate : goal.prefixed-returns-in_ok-used-in-Negate
-prefixed-returns-in_ok-used-in-Negate t c = λ g h.
+pub prefixed-returns-in-Negate : goal.prefixed-returns-in-Negate
+prefixed-returns-in-Negate t c = λ g h.
     let e = expression_tree c.args.operand.now in
-    subst (λ u. IsUsed c.args.how u c.value.result) (sym (look_alone g c.args.at c.args.operator e c.in-Negate.is))
-    (c.value.ensures c.args.how (uses_of g e).look (c.in_ok-used-in-Negate.ensures g h).passed)
+    subst (λ u. IfOk c.looked.result (IsUsed c.args.how u)) (sym (look_alone g c.args.at c.args.operator e c.in-Negate.is)) (c.looked.ensures g c.args.how h)
 
 pub prefixed-returns-in_ok-contents-in-Dereference : goal.prefixed-returns-in_ok-contents-in-Dereference
 prefixed-returns-in_ok-contents-in-Dereference t c = λ g h.
@@ -347,7 +351,8 @@ prefixed-returns-in_ok-contents-in-Dereference t c = λ g h.
     ≡ in_turn (uses_of g e).look (copied_if (is_unique_short s && not (uses_of g e).whole) at) =
     c.pointed-passed.ensures (uses_of g e) (c.in_ok-used-in-Dereference.ensures g h) in
     subst (λ u. IsUsed c.args.how u c.place.result)
-    (contents_shortly g at (judge g e) (uses_of g e) s (c.in_ok-judged-in-Dereference.ensures g h.scope) (short_of value_of c.in_ok-contents-in-Dereference.contents)
+    (contents_shortly g at (judge g e) (uses_of g e) s (c.in_ok-judged-in-Dereference.ensures g h.scope)
+    (short_of value_of c.in_ok-contents-in-Dereference.contents)
     c.is_moved-moves.result (passage_of c.pointed-passed.result) contents_are moved passes
     ∙ ap (λ o. uses_of g (Expression.Prefixed at o e)) (sym c.in-Dereference.is))
     (c.place.ensures (passage_of c.pointed-passed.result) refl)
@@ -367,92 +372,27 @@ prefixed-returns-in_ok-used-in-AddressOf t c = λ g h.
 -- ---- suffixes
 
 pub suffix_after-returns-in_ok-index-in-Index : goal.suffix_after-returns-in_ok-index-in-Index
-suffix_after-returns-in_ok-index-in-Index t c = λ g u h used.
-    let s = short_of value_of c.args.judged in
-    let e = expression_tree c.in-Index.index.value in
-    let judged_is : short_of value_of c.indexed_parts-judged.result ≡ short_suffix g s (OneSuffix.Index e) =
-    c.indexed_parts-judged.ensures g h.scope.sees
-    ∙ ap (λ x. short_both s x (λ a b. shortened (indexed g a b)))
-    (c.in_ok-subscript-in-Index.ensures g h.scope ∙ ap (λ x. judged g x) c.deref.ensures) in
-    let index_is : passage_of c.in_ok-index-in-Index.index.passed ≡ (uses_of g e).look =
-    (c.in_ok-index-in-Index.ensures g h).passed ∙ ap (λ x. (uses_of g (expression_tree x)).look) c.deref-in-Index.ensures in
-    after_index g s (short_of value_of c.indexed_parts-judged.result) u c.of.result (suffix_tree c.args.suffix.now) c.place_of-at.result c.args.used.own
-    (passage_of c.in_turn-passed.result) e (ap (λ x. suffix_tree x) c.in-Index.is ∙ index_tree c.in-Index.index) c.place_of-at.ensures judged_is used.own
-    (c.in_turn-passed.ensures ∙ ap₂ in_turn index_is used.passed) (c.of.ensures g (passage_of c.in_turn-passed.result) h.scope.sees.tags refl)
+suffix_after-returns-in_ok-index-in-Index = Suffixes.suffix_after-returns-in_ok-index-in-Index
 
 pub suffix_after-returns-in_ok-judged-in-Dot : goal.suffix_after-returns-in_ok-judged-in-Dot
-suffix_after-returns-in_ok-judged-in-Dot t c = λ g u h used.
-    let s = short_of value_of c.args.judged in
-    after_dot g s (short_of value_of c.in_ok-judged-in-Dot.judged) u c.of-in-Dot.result (suffix_tree c.args.suffix.now) c.place_of-at.result c.args.used.own
-    (passage_of c.args.used.passed) (name_tree c.in-Dot.field) (ap (λ x. suffix_tree x) c.in-Dot.is ∙ dot_tree c.in-Dot.field) c.place_of-at.ensures
-    (c.in_ok-judged-in-Dot.ensures g h.scope.sees.tags) used.own used.passed (c.of-in-Dot.ensures g (passage_of c.args.used.passed) h.scope.sees.tags refl)
+suffix_after-returns-in_ok-judged-in-Dot = Suffixes.suffix_after-returns-in_ok-judged-in-Dot
 
 pub suffix_after-returns-in_ok-judged-in-Arrow : goal.suffix_after-returns-in_ok-judged-in-Arrow
-suffix_after-returns-in_ok-judged-in-Arrow t c = λ g u h used.
-    let s = short_of value_of c.args.judged in
-    after_arrow g s (short_of value_of c.in_ok-judged-in-Arrow.judged) u c.of-in-Arrow.result (suffix_tree c.args.suffix.now) c.place_of-at.result false
-    (passage_of c.pointed-passed.result) (name_tree c.in-Arrow.field) (ap (λ x. suffix_tree x) c.in-Arrow.is ∙ arrow_tree c.in-Arrow.field) c.place_of-at.ensures
-    (c.in_ok-judged-in-Arrow.ensures g h.scope.sees) refl
-    (c.pointed-passed.ensures u used ∙ ap (λ n. in_turn u.look (copied_if (is_unique_short s && not u.whole) n)) c.place_of-at.ensures)
-    (c.of-in-Arrow.ensures g (passage_of c.pointed-passed.result) h.scope.sees.tags refl)
+suffix_after-returns-in_ok-judged-in-Arrow = Suffixes.suffix_after-returns-in_ok-judged-in-Arrow
 
 pub suffixed-each-init : goal.suffixed-each-init
-suffixed-each-init t c = λ g u h used.
-    after_first g (short_of value_of c.args.judged) u c.in_ok-suffixed.suffixed c.in-Some.first.now c.in-Some.others.now c.args.suffixes.now
-    c.in-Some.ensures.cases.0 (c.in_ok-suffixed.ensures g u h used)
+suffixed-each-init = Suffixes.suffixed-each-init
 
 pub suffixed-each-preserved : goal.suffixed-each-preserved
-suffixed-each-preserved t c = λ g u h used.
-    let so_far = c.each.invariant g u h used in
-    let now = c.each.suffixed in
-    after_next g now c.in_ok-suffixed-2.suffixed c.in-Some.others.now c.each.suffix-index c.suffix-item.result
-    (all_short_uses g (short_of value_of c.args.judged) u (map suffix_tree c.args.suffixes.now)) c.each-test.true c.suffix-item.is so_far
-    (c.in_ok-suffixed-2.ensures g (uses_as_place now.at now.moves now.look.own (passage_of now.look.passed)) h (looked_is now so_far.part))
+suffixed-each-preserved = Suffixes.suffixed-each-preserved
 
 pub suffixed-returns : goal.suffixed-returns
-suffixed-returns t c = λ g u h used some.
-    let now = c.each.suffixed in
-    let xs = c.in-Some.others.now in
-    let done : drop c.each.suffix-index xs ≡ [] = drop_all c.each.suffix-index xs (omega (arith, c.each-test.false)) in
-    let v = uses_as_place now.at now.moves now.look.own (passage_of now.look.passed) in
-    let all = all_short_uses g (short_of value_of c.args.judged) u (map suffix_tree c.args.suffixes.now) in
-    let same : v ≡ all = ap (λ ys. all_short_uses g (short_of value_of now.judged) v (map suffix_tree ys)) (sym done) ∙ (c.each.invariant g u h used).same in
-    subst (λ w. IsUsed c.args.how w c.place.result) same (c.place.ensures (passage_of now.look.passed) refl)
+suffixed-returns = Suffixes.suffixed-returns
 
 -- ---- making
 
 pub made-returns-in_ok-value-in-One : goal.made-returns-in_ok-value-in-One
-made-returns-in_ok-value-in-One t c = λ g how h.
-    let e = expression_tree c.in-One.value.value in
-    let p = passage_of c.args.handle in
-    let both = in_turn p (uses_of g e).value in
-    let passes : passage_of c.in_ok-value-in-One.value.passed ≡ (uses_of g e).value =
-    (c.in_ok-value-in-One.ensures g h).passed ∙ ap (λ x. (uses_of g (expression_tree x)).value) c.deref.ensures in
-    subst (λ m. IsUsed how (uses_made g m p) c.value.result) (sym (ap (λ m. made_tree m) c.in-One.is ∙ one_tree c.in-One.value))
-    (c.value.ensures how both (c.in_turn.ensures ∙ ap (in_turn p) passes))
+made-returns-in_ok-value-in-One = Suffixes.made-returns-in_ok-value-in-One
 
 pub made-returns-in_ok-element-in-Array : goal.made-returns-in_ok-element-in-Array
-made-returns-in_ok-element-in-Array t c = λ g how h.
-    let x = name_tree c.in-Array.index in
-    let n = expression_tree c.in-Array.count.value in
-    let e = expression_tree c.in-Array.element.value in
-    let p = passage_of c.args.handle in
-    let inner = with_counter x g in
-    let more : (y : List ℕ) → is_counter c.as_slice.result.now y ≡ (is_counter c.args.around.counters.now y || bytes_eq x.text y) =
-    λ y. ap (λ cs. is_counter cs y) c.as_slice.ensures.value ∙ c.in_ok-counters-in-Array.ensures.found y
-    ∙ ap (λ (z : List ℕ). is_counter c.args.around.counters.now y || bytes_eq z y) c.deref-in-Array-2.ensures.value in
-    let one : length c.as_slice.result.now ≡ length c.args.around.counters.now + 1 =
-    ap (λ cs. length cs) c.as_slice.ensures.value ∙ c.in_ok-counters-in-Array.ensures.one_more in
-    let locals : c.in_ok-locals-in-Array.locals ≡ length g.locals = omega (arith, c.in_ok-locals-in-Array.ensures, h.count) in
-    let count_is : passage_of c.in_ok-count-in-Array.count.passed ≡ (uses_of g n).look =
-    (c.in_ok-count-in-Array.ensures g h).passed ∙ ap (λ y. (uses_of g (expression_tree y)).look) c.deref-in-Array.ensures in
-    let element_is : passage_of c.in_ok-element-in-Array.element.passed ≡ (uses_of inner e).value =
-    (c.in_ok-element-in-Array.ensures inner (counter_around _ x h refl more one)).passed
-    ∙ ap (λ y. (uses_of inner (expression_tree y)).value) c.deref-in-Array-3.ensures in
-    let elements_are : passage_of c.repeated-elements.result ≡ repeated (length g.locals) (uses_of inner e).value =
-    c.repeated-elements.ensures ∙ ap₂ repeated locals element_is in
-    let first : passage_of c.in_turn-in-Array.result ≡ in_turn p (uses_of g n).look = c.in_turn-in-Array.ensures ∙ ap (in_turn p) count_is in
-    let all = in_turn (in_turn p (uses_of g n).look) (repeated (length g.locals) (uses_of inner e).value) in
-    subst (λ m. IsUsed how (uses_made g m p) c.value-in-Array.result)
-    (sym (ap (λ m. made_tree m) c.in-Array.is ∙ array_tree c.in-Array.index c.in-Array.count c.in-Array.element))
-    (c.value-in-Array.ensures how all (c.in_turn-in-Array-2.ensures ∙ ap₂ in_turn first elements_are))
+made-returns-in_ok-element-in-Array = Suffixes.made-returns-in_ok-element-in-Array

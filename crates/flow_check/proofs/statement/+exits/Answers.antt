@@ -1,15 +1,15 @@
 use Rattle.std.proofs.Common.{◌≡◌, ◌≤◌, ◌+◌, IfOk, List, [], ap, arith, drop, length, map, subst, sym, ◌∙◌, ◌∷◌, ℕ}
-use Rattle.std.specs.Prelude.{None, option_map}
+use Rattle.std.specs.Prelude.{option_map}
 use Rattle.cyc_tree.proofs.PartForms.{clause_parts}
 use Rattle.cyc_tree.proofs.StatementForms.{block_tree, declare_tree, exchange_tree, execute_tree, free_key_tree}
-use Rattle.cyc_tree.proofs.StatementForms.{free_unique_tree, if_else_tree, if_tree, return_tree, switch_tree, while_tree}
+use Rattle.cyc_tree.proofs.StatementForms.{free_unique_tree, if_else_tree, if_tree, return_tree, run_tree, switch_tree, while_tree}
 use Rattle.cyc_tree.specs.Tree.{Case, Default, Statement}
-use Rattle.cyc_tree.specs.View.{OneItem, clause_tree, clauses_of, declaration_tree, expression_tree, item_tree, items_of, name_tree, pattern_tree, statement_tree}
+use Rattle.cyc_tree.specs.View.{OneItem, clause_tree, clauses_of, declaration_tree, expression_tree, item_tree, items_of}
+use Rattle.cyc_tree.specs.View.{name_tree, pattern_tree, statement_tree}
 use Rattle.cyc_tree.specs.declared.statement.BlockItem.{BlockItem}
 use Rattle.cyc_tree.specs.declared.statement.Clause.{Clause}
-use Rattle.flow_summaries.specs.Exits.{either_exits, ends_after, entered, exits, exits_in_sequence, loop_exits, switch_left, with_passage}
+use Rattle.flow_summaries.specs.Exits.{either_exits, entered, exits_in_sequence, loop_exits, switch_left, with_passage}
 use Rattle.flow_summaries.specs.Expressions.{uses_of}
-use Rattle.flow_summaries.specs.Passages.{in_turn}
 use Rattle.flow_summaries.specs.Statements as rules
 use Rattle.flow_summaries.specs.Statements.{exits_of_clauses, exits_of_items, exits_within}
 use Rattle.source_typing.specs.Expressions.{judge}
@@ -17,7 +17,7 @@ use Rattle.source_typing.specs.Left.{added_by}
 use Rattle.source_typing.specs.Regions.{Level}
 use Rattle.source_typing.specs.Scope.{Env, block_entered}
 use Rattle.source_typing.specs.States.{States}
-use Rattle.source_typing.specs.Statements.{clause_scope, in_a_loop, in_a_switch}
+use Rattle.source_typing.specs.Statements.{chosen, clause_scope, in_a_loop, in_a_switch}
 use Rattle.check_scopes.specs.Changes.{left}
 use Rattle.check_scopes.specs.Locals.{dropped_to}
 use Rattle.check_scopes.specs.declared.scope.Scope.{Scope}
@@ -40,7 +40,7 @@ use Rattle.check_statements.proofs.Blocks.{
   scope_behind,
 }
 use Rattle.flow_effects.specs.Exits.{exits_of}
-use Rattle.flow_effects.specs.Passed.{added_of, passage_of}
+use Rattle.flow_effects.specs.Passed.{added_of}
 use Rattle.flow_effects.specs.Steps.{all_before, declared_before, step_before}
 use Rattle.flow_check.specs.Declarations.{Adds, Nothing}
 use Rattle.flow_check.specs.Standing.{Stands}
@@ -204,7 +204,8 @@ items_exits-each-preserved t c =
           ap (λ s. step_before s (exits_of_items (scope_behind g (item_tree item)) (items_of rest))) w.step-is
           ∙ ap (λ i. exits_in_sequence (exits_of w.in_ok-exits-in-Execute.field-0) (exits_of_items (scope_behind g i) (items_of rest))) (sym is)
           ∙ ap (λ v. exits_in_sequence v (exits_of_items g (items_of rest)))
-          (w.in_ok-exits-in-Execute.ensures.exits g (record { known = h.stands.known; suits = h.stands.suits; around = h.stands.block.around; locals = h.locals }))
+          (w.in_ok-exits-in-Execute.ensures.exits g
+          (record { known = h.stands.known; suits = h.stands.suits; around = h.stands.block.around; locals = h.locals }))
           ∙ ap (λ i. exits_of_items g (items_of (i ∷ rest))) is
     ] in
     let stands : (g : Env) → Stands context names outer c.each.scope g
@@ -265,101 +266,115 @@ exits-returns-in-Block-clause-exits t c = λ g h.
     (subst (λ is. IfOk c.block.result (λ w. exits_of w ≡ exits_of_items (block_entered g) (items_of (map item_tree is))))
     c.deref.ensures.value (c.block.ensures.exits g h))
 
-pub exits-returns-in_ok-right-in-Exchange-clause-exits : goal.exits-returns-in_ok-right-in-Exchange-clause-exits
-exits-returns-in_ok-right-in-Exchange-clause-exits t c = λ g h.
-    let x = c.in-Exchange in
-    let a = expression_tree x.left in
-    let b = expression_tree x.right in
-    c.ends_after-in-Exchange.ensures ∙ ap ends_after (c.in_turn.ensures ∙ ap (λ p. in_turn p (passage_of c.in_ok-right-in-Exchange.right))
-    (c.in_ok-left-in-Exchange.ensures g h.known h.locals)
-    ∙ ap (in_turn (uses_of g a).look) (c.in_ok-right-in-Exchange.ensures g h.known h.locals))
-    ∙ ap (rules.exits_of g) (sym (ap statement_tree x.is ∙ exchange_tree x.left x.right))
+pub exits-returns-in-Run-clause-exits : goal.exits-returns-in-Run-clause-exits
+exits-returns-in-Run-clause-exits t c = λ g h.
+    let x = c.in-Run in
+    of_statement c.run_exits.result g c.args.statement.now (Statement.Run (expression_tree x.value)) (ap statement_tree x.is ∙ run_tree x.value)
+    (c.run_exits.ensures g h.known h.locals)
 
-pub exits-returns-in_ok-either-in-If-clause-exits : goal.exits-returns-in_ok-either-in-If-clause-exits
-exits-returns-in_ok-either-in-If-clause-exits t c = λ g h.
+pub exits-returns-in-Exchange-clause-exits : goal.exits-returns-in-Exchange-clause-exits
+exits-returns-in-Exchange-clause-exits t c = λ g h.
+    let x = c.in-Exchange in
+    of_statement c.exchange_exits.result g c.args.statement.now (Statement.Exchange (expression_tree x.left) (expression_tree x.right))
+    (ap statement_tree x.is ∙ exchange_tree x.left x.right) (c.exchange_exits.ensures g h.known h.locals)
+
+pub exits-returns-in-If-clause-exits : goal.exits-returns-in-If-clause-exits
+exits-returns-in-If-clause-exits t c = λ g h.
     let x = c.in-If in
     let e = expression_tree x.condition in
     let s = statement_tree x.body.value in
-    let body = c.in_ok-body-in-If.ensures.exits g h ∙ ap (λ b. rules.exits_of g (statement_tree b)) c.deref-in-If.ensures in
-    let either = c.in_ok-either-in-If.ensures ∙ ap (λ w. either_exits w (exits_of c.ends-in-If.result)) body
+    let either = ap (λ w. either_exits w (exits_of c.ends-in-If.result)) (ap (λ b. rules.exits_of g (statement_tree b)) c.deref-in-If.ensures)
     ∙ ap (either_exits (rules.exits_of g s)) c.ends-in-If.ensures in
-    of_statement c.after.result g c.args.statement.now (Statement.If x.field-0 e s)
+    of_statement c.if_exits.result g c.args.statement.now (Statement.If x.field-0 e s)
     (ap statement_tree x.is ∙ if_tree x.field-0 x.condition x.body)
-    (answers_as c.after.result _ (rules.exits_of g (Statement.If x.field-0 e s))
-    (ap (λ p. with_passage p (exits_of c.in_ok-either-in-If.field-0)) (c.in_ok-condition-in-If.ensures g h.known h.locals)
-    ∙ ap (with_passage (uses_of g e).look) either) c.after.ensures)
+    (answers_as c.if_exits.result _ (rules.exits_of g (Statement.If x.field-0 e s)) (ap (with_passage (uses_of g e).look) either)
+    (c.if_exits.ensures.exits g h))
 
-pub exits-returns-in_ok-either-in-IfElse-clause-exits : goal.exits-returns-in_ok-either-in-IfElse-clause-exits
-exits-returns-in_ok-either-in-IfElse-clause-exits t c = λ g h.
-    let all = c.args.scope.now in
+pub exits-returns-in_ok-otherwise-in-IfElse-clause-exits : goal.exits-returns-in_ok-otherwise-in-IfElse-clause-exits
+exits-returns-in_ok-otherwise-in-IfElse-clause-exits t c = λ g h.
     let x = c.in-IfElse in
     let e = expression_tree x.condition in
     let s = statement_tree x.body.value in
     let o = statement_tree x.otherwise.value in
-    let body = c.in_ok-body-in-IfElse.ensures.exits g h ∙ ap (λ b. rules.exits_of g (statement_tree b)) c.deref-in-IfElse.ensures in
-    let same = c.in_ok-body-in-IfElse.ensures.scope in
-    let follows = still_follows c.args.context c.args.names.now c.exits-in-IfElse.new.names all c.exits-in-IfElse.new.scope g same
-    c.in_ok-body-in-IfElse.ensures.kept h in
-    let other = c.in_ok-otherwise-in-IfElse.ensures.exits g follows
-    ∙ ap (λ b. rules.exits_of g (statement_tree b)) c.deref-in-IfElse-2.ensures in
-    let either = c.in_ok-either-in-IfElse.ensures ∙ ap (λ w. either_exits w (exits_of c.in_ok-otherwise-in-IfElse.otherwise)) body
-    ∙ ap (either_exits (rules.exits_of g s)) other in
-    of_statement c.after-in-IfElse.result g c.args.statement.now (Statement.IfElse x.field-0 e s o)
+    let other = c.in_ok-otherwise-in-IfElse.ensures in
+    let after = still_follows c.args.context c.args.names.now c.exits.new.names c.args.scope.now c.exits.new.scope g other.scope other.kept h in
+    let either = ap (λ w. either_exits w (exits_of c.in_ok-otherwise-in-IfElse.otherwise))
+    (ap (λ b. rules.exits_of g (statement_tree b)) c.deref-in-IfElse-2.ensures)
+    ∙ ap (either_exits (rules.exits_of g s)) (other.exits g h ∙ ap (λ b. rules.exits_of g (statement_tree b)) c.deref-in-IfElse.ensures) in
+    of_statement c.if_exits-in-IfElse.result g c.args.statement.now (Statement.IfElse x.field-0 e s o)
     (ap statement_tree x.is ∙ if_else_tree x.field-0 x.condition x.body x.otherwise)
-    (answers_as c.after-in-IfElse.result _ (rules.exits_of g (Statement.IfElse x.field-0 e s o))
-    (ap (λ p. with_passage p (exits_of c.in_ok-either-in-IfElse.field-0)) (c.in_ok-condition-in-IfElse.ensures g h.known h.locals)
-    ∙ ap (with_passage (uses_of g e).look) either) c.after-in-IfElse.ensures)
+    (answers_as c.if_exits-in-IfElse.result _ (rules.exits_of g (Statement.IfElse x.field-0 e s o)) (ap (with_passage (uses_of g e).look) either)
+    (c.if_exits-in-IfElse.ensures.exits g after))
 
-pub exits-returns-in_ok-body-in-While-clause-exits : goal.exits-returns-in_ok-body-in-While-clause-exits
-exits-returns-in_ok-body-in-While-clause-exits t c = λ g h.
-    let all = c.args.scope.now in
+pub exits-returns-in-While-clause-exits : goal.exits-returns-in-While-clause-exits
+exits-returns-in-While-clause-exits t c = λ g h.
     let x = c.in-While in
     let e = expression_tree x.condition in
     let s = statement_tree x.body.value in
-    let body = c.in_ok-body-in-While.ensures.exits (in_a_loop g)
-    (loop_follows c.args.context c.looping.result c.args.names.now all g h c.looping.ensures)
-    ∙ ap (λ b. rules.exits_of (in_a_loop g) (statement_tree b)) c.deref-in-While.ensures in
-    of_statement c.loop_of.result g c.args.statement.now (Statement.While x.field-0 e s)
+    of_statement c.while_exits.result g c.args.statement.now (Statement.While x.field-0 e s)
     (ap statement_tree x.is ∙ while_tree x.field-0 x.condition x.body)
-    (answers_as c.loop_of.result _ (rules.exits_of g (Statement.While x.field-0 e s))
-    (ap (λ p. loop_exits p (exits_of c.in_ok-body-in-While.body)) (c.in_ok-condition-in-While.ensures g h.known h.locals)
-    ∙ ap (loop_exits (uses_of g e).look) body) c.loop_of.ensures)
+    (answers_as c.while_exits.result _ (rules.exits_of g (Statement.While x.field-0 e s))
+    (ap (λ b. loop_exits (uses_of g e).look (rules.exits_of (in_a_loop g) (statement_tree b))) c.deref-in-While.ensures)
+    (c.while_exits.ensures.exits g h))
 
-pub exits-returns-in_ok-switch_left-in-Switch-clause-exits : goal.exits-returns-in_ok-switch_left-in-Switch-clause-exits
-exits-returns-in_ok-switch_left-in-Switch-clause-exits t c = λ g h.
-    let all = c.args.scope.now in
+pub exits-returns-in-Switch-clause-exits : goal.exits-returns-in-Switch-clause-exits
+exits-returns-in-Switch-clause-exits t c = λ g h.
     let x = c.in-Switch in
     let e = expression_tree x.place in
     let cs = clauses_of (map clause_tree x.clauses.items) in
-    let v = judge g e in
-    let union = c.union_of-chosen.ensures v (c.in_ok-judged-in-Switch.ensures g h.known) in
-    let ways = c.in_ok-ways-in-Switch.ensures.exits (in_a_switch g)
-    (switch_follows c.args.context c.switching.result c.args.names.now all g h c.switching.ensures)
-    ∙ ap (λ (l : List Clause). exits_of_clauses (in_a_switch g) (option_map chosen_in c.union_of-chosen.result)
-    (clauses_of (map clause_tree l))) c.deref-in-Switch.ensures.value
-    ∙ ap (λ u. exits_of_clauses (in_a_switch g) u cs) union in
-    let left = c.in_ok-switch_left-in-Switch.ensures ∙ ap switch_left ways in
-    of_statement c.after-in-Switch.result g c.args.statement.now (Statement.Switch x.field-0 e cs)
+    of_statement c.switch_exits.result g c.args.statement.now (Statement.Switch x.field-0 e cs)
     (ap statement_tree x.is ∙ switch_tree x.field-0 x.place x.clauses)
-    (answers_as c.after-in-Switch.result _ (rules.exits_of g (Statement.Switch x.field-0 e cs))
-    (ap (λ p. with_passage p (exits_of c.in_ok-switch_left-in-Switch.field-0)) (c.in_ok-place-in-Switch.ensures g h.known h.locals)
-    ∙ ap (with_passage (uses_of g e).look) left) c.after-in-Switch.ensures)
+    (answers_as c.switch_exits.result _ (rules.exits_of g (Statement.Switch x.field-0 e cs))
+    (ap (λ (l : List Clause). with_passage (uses_of g e).look (switch_left (exits_of_clauses (in_a_switch g) (chosen (judge g e))
+    (clauses_of (map clause_tree l))))) c.deref-in-Switch.ensures.value)
+    (c.switch_exits.ensures.exits g h))
 
-pub exits-returns-in_ok-result_given-in-Return-clause-exits : goal.exits-returns-in_ok-result_given-in-Return-clause-exits
-exits-returns-in_ok-result_given-in-Return-clause-exits t c = λ g h.
+pub exits-returns-in-Return-clause-exits : goal.exits-returns-in-Return-clause-exits
+exits-returns-in-Return-clause-exits t c = λ g h.
     let x = c.in-Return in
-    c.returns.ensures
-    ∙ ap (λ p. exits None None None p.faults) (c.in_ok-result_given-in-Return.ensures g h.known h.locals)
-    ∙ ap (rules.exits_of g) (sym (ap statement_tree x.is ∙ return_tree x.field-0 x.value))
+    of_statement c.return_exits.result g c.args.statement.now (Statement.Return x.field-0 (option_map expression_tree x.value))
+    (ap statement_tree x.is ∙ return_tree x.field-0 x.value) (c.return_exits.ensures g h.known h.locals)
 
-pub exits-returns-in_ok-freed-in-FreeUnique-clause-exits : goal.exits-returns-in_ok-freed-in-FreeUnique-clause-exits
-exits-returns-in_ok-freed-in-FreeUnique-clause-exits t c = λ g h.
+pub exits-returns-in-FreeUnique-clause-exits : goal.exits-returns-in-FreeUnique-clause-exits
+exits-returns-in-FreeUnique-clause-exits t c = λ g h.
     let x = c.in-FreeUnique in
-    c.ends_after-in-FreeUnique.ensures ∙ ap ends_after (c.in_ok-freed-in-FreeUnique.ensures g h.locals)
-    ∙ ap (rules.exits_of g) (sym (ap statement_tree x.is ∙ free_unique_tree x.at x.pointer))
+    of_statement c.free_exits.result g c.args.statement.now (Statement.FreeUnique x.at (name_tree x.pointer))
+    (ap statement_tree x.is ∙ free_unique_tree x.at x.pointer) (c.free_exits.ensures g h.locals)
 
-pub exits-returns-in_ok-freed-in-FreeKey-clause-exits : goal.exits-returns-in_ok-freed-in-FreeKey-clause-exits
-exits-returns-in_ok-freed-in-FreeKey-clause-exits t c = λ g h.
+pub exits-returns-in-FreeKey-clause-exits : goal.exits-returns-in-FreeKey-clause-exits
+exits-returns-in-FreeKey-clause-exits t c = λ g h.
     let x = c.in-FreeKey in
-    c.ends_after-in-FreeKey.ensures ∙ ap ends_after (c.in_ok-freed-in-FreeKey.ensures g h.locals)
-    ∙ ap (rules.exits_of g) (sym (ap statement_tree x.is ∙ free_key_tree x.at x.key))
+    of_statement c.free_exits-in-FreeKey.result g c.args.statement.now (Statement.FreeKey x.at (name_tree x.key))
+    (ap statement_tree x.is ∙ free_key_tree x.at x.key) (c.free_exits-in-FreeKey.ensures g h.locals)
+
+-- ---- statements with others in them
+
+pub if_exits-returns-clause-exits : goal.if_exits-returns-clause-exits
+if_exits-returns-clause-exits t c = λ g h.
+    let look = (uses_of g (expression_tree c.args.condition.now)).look in
+    let other = exits_of c.args.otherwise in
+    let body = c.in_ok-body.ensures in
+    let after = still_follows c.args.context c.args.names.now c.exits.new.names c.args.scope.now c.exits.new.scope g body.scope body.kept h in
+    answers_as c.either_after.result _ (with_passage look (either_exits (rules.exits_of g (statement_tree c.args.body.now)) other))
+    (ap (λ w. with_passage look (either_exits w other)) (body.exits g h)) (c.either_after.ensures g after.known after.locals)
+
+pub while_exits-returns-clause-exits : goal.while_exits-returns-clause-exits
+while_exits-returns-clause-exits t c = λ g h.
+    let look = (uses_of g (expression_tree c.args.condition.now)).look in
+    let body = c.in_ok-body.ensures.exits (in_a_loop g)
+    (loop_follows c.args.context c.looping.result c.args.names.now c.args.scope.now g h c.looping.ensures) in
+    answers_as c.loop_of.result _ (loop_exits look (rules.exits_of (in_a_loop g) (statement_tree c.args.body.now)))
+    (ap (λ p. loop_exits p (exits_of c.in_ok-body.body)) (c.in_ok-condition.ensures g h.known h.locals) ∙ ap (loop_exits look) body) c.loop_of.ensures
+
+pub switch_exits-returns-clause-exits : goal.switch_exits-returns-clause-exits
+switch_exits-returns-clause-exits t c = λ g h.
+    let all = c.args.scope.now in
+    let e = expression_tree c.args.place.now in
+    let cs = clauses_of (map clause_tree c.args.clauses.now) in
+    let ways = c.in_ok-ways.ensures in
+    let after = still_follows c.args.context c.args.names.now c.switched.new.names all c.switched.new.scope g ways.scope ways.kept h in
+    let union = c.union_of-chosen.ensures (judge g e) (c.in_ok-judged.ensures g h.known) in
+    let clauses = ways.exits (in_a_switch g) (switch_follows c.args.context c.switching.result c.args.names.now all g h c.switching.ensures)
+    ∙ ap (λ u. exits_of_clauses (in_a_switch g) u cs) union in
+    answers_as c.switch_after.result _ (with_passage (uses_of g e).look (switch_left (exits_of_clauses (in_a_switch g) (chosen (judge g e)) cs)))
+    (ap (λ w. with_passage (uses_of g e).look (switch_left w)) clauses) (c.switch_after.ensures g after.known after.locals)

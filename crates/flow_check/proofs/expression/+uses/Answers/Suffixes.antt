@@ -1,0 +1,113 @@
+-- Suffixes, and making: what they use.
+use Rattle.std.proofs.Common.{List, [], ap, ap₂, arith, drop, false, length, map, not, refl, subst, sym, ◌+◌, ◌∙◌, ◌≡◌, ℕ}
+use Rattle.std.specs.Prelude.{bytes_eq, ◌&&◌, ◌||◌}
+use Rattle.std.proofs.lemmas.List.{drop_all}
+use Rattle.cyc_tree.proofs.PartForms.{array_tree, arrow_tree, dot_tree, index_tree, one_tree}
+use Rattle.cyc_tree.specs.View.{OneSuffix, expression_tree, made_tree, name_tree, suffix_tree}
+use Rattle.flow_summaries.specs.Expressions.{uses_made, uses_of}
+use Rattle.flow_summaries.specs.Passages.{copied_if, in_turn, repeated}
+use Rattle.flow_summaries.specs.Uses.{uses_as_place}
+use Rattle.source_typing.specs.Making.{with_counter}
+use Rattle.source_typing.specs.Places.{indexed}
+use Rattle.check_faults.specs.Verdicts.{short_both, short_of, shortened}
+use Rattle.check_operators.specs.Values.{value_of}
+use Rattle.check_expressions.proofs.Forms.{judged}
+use Rattle.check_expressions.specs.Suffixes.{short_suffix}
+use Rattle.check_expressions.specs.Within.{is_counter}
+use Rattle.flow_effects.specs.Passed.{passage_of}
+use Rattle.flow_effects.specs.Used.{IsUsed}
+use Rattle.flow_check.proofs.SuffixUses.{after_arrow, after_dot, after_first, after_index, after_next, looked_is}
+use Rattle.flow_check.proofs.Within.{counter_around}
+use Rattle.flow_check.specs.Folded.{all_short_uses}
+use Rattle.flow_check.specs.Short.{is_unique_short}
+use Rattle.flow_check.proofs.expression.+uses.Goals as goal
+
+pub suffix_after-returns-in_ok-index-in-Index : goal.suffix_after-returns-in_ok-index-in-Index
+suffix_after-returns-in_ok-index-in-Index t c = λ g u h used.
+    let s = short_of value_of c.args.judged in
+    let e = expression_tree c.in-Index.index.value in
+    let judged_is : short_of value_of c.indexed_parts-judged.result ≡ short_suffix g s (OneSuffix.Index e) =
+    c.indexed_parts-judged.ensures g h.scope.sees
+    ∙ ap (λ x. short_both s x (λ a b. shortened (indexed g a b)))
+    (c.in_ok-subscript-in-Index.ensures g h.scope ∙ ap (λ x. judged g x) c.deref.ensures) in
+    let index_is : passage_of c.in_ok-index-in-Index.index.passed ≡ (uses_of g e).look =
+    (c.in_ok-index-in-Index.ensures g h).passed ∙ ap (λ x. (uses_of g (expression_tree x)).look) c.deref-in-Index.ensures in
+    after_index g s (short_of value_of c.indexed_parts-judged.result) u c.of.result (suffix_tree c.args.suffix.now) c.place_of-at.result c.args.used.own
+    (passage_of c.in_turn-passed.result) e (ap (λ x. suffix_tree x) c.in-Index.is ∙ index_tree c.in-Index.index) c.place_of-at.ensures judged_is used.own
+    (c.in_turn-passed.ensures ∙ ap₂ in_turn index_is used.passed) (c.of.ensures g (passage_of c.in_turn-passed.result) h.scope.sees.tags refl)
+
+pub suffix_after-returns-in_ok-judged-in-Dot : goal.suffix_after-returns-in_ok-judged-in-Dot
+suffix_after-returns-in_ok-judged-in-Dot t c = λ g u h used.
+    let s = short_of value_of c.args.judged in
+    after_dot g s (short_of value_of c.in_ok-judged-in-Dot.judged) u c.of-in-Dot.result (suffix_tree c.args.suffix.now) c.place_of-at.result c.args.used.own
+    (passage_of c.args.used.passed) (name_tree c.in-Dot.field) (ap (λ x. suffix_tree x) c.in-Dot.is ∙ dot_tree c.in-Dot.field) c.place_of-at.ensures
+    (c.in_ok-judged-in-Dot.ensures g h.scope.sees.tags) used.own used.passed (c.of-in-Dot.ensures g (passage_of c.args.used.passed) h.scope.sees.tags refl)
+
+pub suffix_after-returns-in_ok-judged-in-Arrow : goal.suffix_after-returns-in_ok-judged-in-Arrow
+suffix_after-returns-in_ok-judged-in-Arrow t c = λ g u h used.
+    let s = short_of value_of c.args.judged in
+    after_arrow g s (short_of value_of c.in_ok-judged-in-Arrow.judged) u c.of-in-Arrow.result (suffix_tree c.args.suffix.now) c.place_of-at.result false
+    (passage_of c.pointed-passed.result) (name_tree c.in-Arrow.field)
+    (ap (λ x. suffix_tree x) c.in-Arrow.is ∙ arrow_tree c.in-Arrow.field) c.place_of-at.ensures
+    (c.in_ok-judged-in-Arrow.ensures g h.scope.sees) refl
+    (c.pointed-passed.ensures u used ∙ ap (λ n. in_turn u.look (copied_if (is_unique_short s && not u.whole) n)) c.place_of-at.ensures)
+    (c.of-in-Arrow.ensures g (passage_of c.pointed-passed.result) h.scope.sees.tags refl)
+
+pub suffixed-each-init : goal.suffixed-each-init
+suffixed-each-init t c = λ g u h used.
+    after_first g (short_of value_of c.args.judged) u c.in_ok-suffixed.suffixed c.in-Some.first.now c.in-Some.others.now c.args.suffixes.now
+    c.in-Some.ensures.cases.0 (c.in_ok-suffixed.ensures g u h used)
+
+pub suffixed-each-preserved : goal.suffixed-each-preserved
+suffixed-each-preserved t c = λ g u h used.
+    let so_far = c.each.invariant g u h used in
+    let now = c.each.suffixed in
+    after_next g now c.in_ok-suffixed-2.suffixed c.in-Some.others.now c.each.suffix-index c.suffix-item.result
+    (all_short_uses g (short_of value_of c.args.judged) u (map suffix_tree c.args.suffixes.now)) c.each-test.true c.suffix-item.is so_far
+    (c.in_ok-suffixed-2.ensures g (uses_as_place now.at now.moves now.look.own (passage_of now.look.passed)) h (looked_is now so_far.part))
+
+pub suffixed-returns : goal.suffixed-returns
+suffixed-returns t c = λ g u h used some.
+    let now = c.each.suffixed in
+    let xs = c.in-Some.others.now in
+    let done : drop c.each.suffix-index xs ≡ [] = drop_all c.each.suffix-index xs (omega (arith, c.each-test.false)) in
+    let v = uses_as_place now.at now.moves now.look.own (passage_of now.look.passed) in
+    let all = all_short_uses g (short_of value_of c.args.judged) u (map suffix_tree c.args.suffixes.now) in
+    let same : v ≡ all = ap (λ ys. all_short_uses g (short_of value_of now.judged) v (map suffix_tree ys)) (sym done) ∙ (c.each.invariant g u h used).same in
+    subst (λ w. IsUsed c.args.how w c.place.result) same (c.place.ensures (passage_of now.look.passed) refl)
+
+pub made-returns-in_ok-value-in-One : goal.made-returns-in_ok-value-in-One
+made-returns-in_ok-value-in-One t c = λ g how h.
+    let e = expression_tree c.in-One.value.value in
+    let p = passage_of c.args.handle in
+    let both = in_turn p (uses_of g e).value in
+    let passes : passage_of c.in_ok-value-in-One.value.passed ≡ (uses_of g e).value =
+    (c.in_ok-value-in-One.ensures g h).passed ∙ ap (λ x. (uses_of g (expression_tree x)).value) c.deref.ensures in
+    subst (λ m. IsUsed how (uses_made g m p) c.value.result) (sym (ap (λ m. made_tree m) c.in-One.is ∙ one_tree c.in-One.value))
+    (c.value.ensures how both (c.in_turn.ensures ∙ ap (in_turn p) passes))
+
+pub made-returns-in_ok-element-in-Array : goal.made-returns-in_ok-element-in-Array
+made-returns-in_ok-element-in-Array t c = λ g how h.
+    let x = name_tree c.in-Array.index in
+    let n = expression_tree c.in-Array.count.value in
+    let e = expression_tree c.in-Array.element.value in
+    let p = passage_of c.args.handle in
+    let inner = with_counter x g in
+    let more : (y : List ℕ) → is_counter c.as_slice.result.now y ≡ (is_counter c.args.around.counters.now y || bytes_eq x.text y) =
+    λ y. ap (λ cs. is_counter cs y) c.as_slice.ensures.value ∙ c.in_ok-counters-in-Array.ensures.found y
+    ∙ ap (λ (z : List ℕ). is_counter c.args.around.counters.now y || bytes_eq z y) c.deref-in-Array-2.ensures.value in
+    let one : length c.as_slice.result.now ≡ length c.args.around.counters.now + 1 =
+    ap (λ cs. length cs) c.as_slice.ensures.value ∙ c.in_ok-counters-in-Array.ensures.one_more in
+    let locals : c.in_ok-locals-in-Array.locals ≡ length g.locals = omega (arith, c.in_ok-locals-in-Array.ensures, h.count) in
+    let count_is : passage_of c.in_ok-count-in-Array.count.passed ≡ (uses_of g n).look =
+    (c.in_ok-count-in-Array.ensures g h).passed ∙ ap (λ y. (uses_of g (expression_tree y)).look) c.deref-in-Array.ensures in
+    let element_is : passage_of c.in_ok-element-in-Array.element.passed ≡ (uses_of inner e).value =
+    (c.in_ok-element-in-Array.ensures inner (counter_around _ x h refl more one)).passed
+    ∙ ap (λ y. (uses_of inner (expression_tree y)).value) c.deref-in-Array-3.ensures in
+    let elements_are : passage_of c.repeated-elements.result ≡ repeated (length g.locals) (uses_of inner e).value =
+    c.repeated-elements.ensures ∙ ap₂ repeated locals element_is in
+    let first : passage_of c.in_turn-in-Array.result ≡ in_turn p (uses_of g n).look = c.in_turn-in-Array.ensures ∙ ap (in_turn p) count_is in
+    let all = in_turn (in_turn p (uses_of g n).look) (repeated (length g.locals) (uses_of inner e).value) in
+    subst (λ m. IsUsed how (uses_made g m p) c.value-in-Array.result)
+    (sym (ap (λ m. made_tree m) c.in-Array.is ∙ array_tree c.in-Array.index c.in-Array.count c.in-Array.element))
+    (c.value-in-Array.ensures how all (c.in_turn-in-Array-2.ensures ∙ ap₂ in_turn first elements_are))

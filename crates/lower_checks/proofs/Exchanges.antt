@@ -4,7 +4,7 @@ use Rattle.std.proofs.Common.{List, [], ◌∷◌, length, Some, None, if◌then
 use Rattle.std.specs.Prelude.{bytes_eq, is_some}
 use Rattle.std.proofs.lemmas.Bool.{false≢true}
 use Rattle.core_meaning.specs.Core.{Distance, Do, Load, Statement, Store}
-use Rattle.source_meaning.specs.Shapes.{Layout, Shape, UnionShape, has_tag, parts_of}
+use Rattle.source_meaning.specs.Shapes.{Layout, Shape, UnionShape, parts_of}
 use Rattle.source_meaning.specs.Steps.{World}
 use Rattle.source_lowering.specs.Layouts.{cell_pieces, has_fat, union_pieces}
 use Rattle.source_lowering.specs.Lowerable.{IsExchanged}

@@ -1,7 +1,6 @@
 -- What gives a local that is a word its first value.
-use Rattle.std.proofs.Common.{◌≡◌, ◌+◌, ℕ, refl, sym, ap, subst, List, ◌++◌}
+use Rattle.std.proofs.Common.{◌≡◌, ℕ, refl, List, ◌++◌}
 use Rattle.cyc_tree.specs.Tree.{Expression}
-use Rattle.core_meaning.specs.Core.{Statement}
 use Rattle.source_meaning.specs.Shapes.{
   Shape,
   IntShape,

@@ -10,7 +10,7 @@ use Rattle.source_lowering.specs.Programs.{one_out, outward}
 use Rattle.lower_checks.specs.Views.{stored_tree}
 use Rattle.lower_checks.specs.Visible.{names_of}
 use Rattle.lower_checks.specs.Marks.{AreKept, AreLinked, depth_of, found, last_in, marks_of}
-use Rattle.lower_checks.specs.declared.last.LastLocals.{LastLocals}
+use Rattle.lower_checks.specs.declared.last.Lasts.{Lasts}
 use Rattle.lower_checks.specs.declared.mark.Local.{Local}
 use Rattle.lower_checks.specs.declared.mark.Mark.{Mark}
 use Rattle.lower_checks.specs.declared.mark.Mark.TheVariants.{Begin, Declare}
@@ -33,7 +33,7 @@ last_updated name old new local updates other =
 -- ---- the table and the marks
 
 -- with one local more
-pub linked_more : (marks : List Mark) (l : Local) (hidden : Option Local) (old new : LastLocals) (depth : ℕ) → AreLinked marks old depth
+pub linked_more : (marks : List Mark) (l : Local) (hidden : Option Local) (old new : Lasts Local) (depth : ℕ) → AreLinked marks old depth
     → hidden ≡ last_in old l.name.now → l.depth ≡ depth
     → ((other : List ℕ) → last_in new other ≡ (if bytes_eq l.name.now other then Some l else last_in old other))
     → AreLinked (Declare l hidden ∷ marks) new depth
@@ -44,7 +44,7 @@ linked_more marks l hidden old new depth linked hides depth_is added = record {
 }
 
 -- with other tables that have the same
-pub linked_same : (marks : List Mark) (old new : LastLocals) (depth : ℕ) → AreLinked marks old depth
+pub linked_same : (marks : List Mark) (old new : Lasts Local) (depth : ℕ) → AreLinked marks old depth
     → ((other : List ℕ) → last_in new other ≡ last_in old other) → AreLinked marks new depth
 linked_same marks old new depth linked same = record {
   kept = linked.kept;
@@ -53,7 +53,7 @@ linked_same marks old new depth linked same = record {
 }
 
 -- the last local's name is in the table
-pub linked_last : (marks : List Mark) (l : Local) (hidden : Option Local) (last : LastLocals) (depth : ℕ) → AreLinked (Declare l hidden ∷ marks) last depth
+pub linked_last : (marks : List Mark) (l : Local) (hidden : Option Local) (last : Lasts Local) (depth : ℕ) → AreLinked (Declare l hidden ∷ marks) last depth
     → IsSome (last_in last l.name.now)
 linked_last marks l hidden last depth linked =
     ap is_some (linked.means l.name.now ∙ ap (λ b. if b then Some l else found marks l.name.now) ((bytes_decides l.name.now l.name.now).1 refl))
@@ -64,7 +64,7 @@ restored true hidden others l same = same refl
 restored false hidden others l same = refl
 
 -- with one local less
-pub linked_less : (marks : List Mark) (l : Local) (hidden : Option Local) (old new : LastLocals) (depth : ℕ) → AreLinked (Declare l hidden ∷ marks) old depth
+pub linked_less : (marks : List Mark) (l : Local) (hidden : Option Local) (old new : Lasts Local) (depth : ℕ) → AreLinked (Declare l hidden ∷ marks) old depth
     → ((other : List ℕ) → last_in new other ≡ (if bytes_eq l.name.now other then hidden else last_in old other)) → AreLinked marks new depth
 linked_less marks l hidden old new depth linked set = record {
   kept = linked.kept.1;
@@ -99,13 +99,15 @@ found_within (Begin ∷ ms) name kept = within_more (depth_of ms) (found ms name
 found_within (Declare l hidden ∷ ms) name kept =
     within_if (bytes_eq l.name.now name) (depth_of ms) l (found ms name) kept.0.depth (found_within ms name kept.1)
 
-out_more : (depth : ℕ) (local : Option Local) → Within depth local → option_map (named_at (suc depth)) local ≡ option_map one_out (option_map (named_at depth) local)
+out_more : (depth : ℕ) (local : Option Local) → Within depth local
+    → option_map (named_at (suc depth)) local ≡ option_map one_out (option_map (named_at depth) local)
 out_more depth (Some l) h =
     let more : suc depth - l.depth ≡ suc (depth - l.depth) = omega (arith, h) in
     ap (λ n. Some (record { name = l.name.now; shape = stored_tree l.stored; home = InBlock n l.index })) more
 out_more depth None h = refl
 
-moved_if : (own : Bool) (n : Named) (local : Option Named) → (if own then Some (one_out n) else option_map one_out local) ≡ option_map one_out (if own then Some n else local)
+moved_if : (own : Bool) (n : Named) (local : Option Named)
+    → (if own then Some (one_out n) else option_map one_out local) ≡ option_map one_out (if own then Some n else local)
 moved_if true n local = refl
 moved_if false n local = refl
 
@@ -137,7 +139,7 @@ found_named (Declare l hidden ∷ ms) name kept =
     (found_named ms name kept.1)
 
 -- so it is by the table's local
-pub visible_named : (marks : List Mark) (last : LastLocals) (depth : ℕ) → AreLinked marks last depth → (name : List ℕ)
+pub visible_named : (marks : List Mark) (last : Lasts Local) (depth : ℕ) → AreLinked marks last depth → (name : List ℕ)
     → option_map (named_at depth) (found marks name) ≡ local_named (names_of (marks_of marks)) name
 visible_named marks last depth linked name =
     ap (λ d. option_map (named_at d) (found marks name)) linked.depth_is ∙ found_named marks name linked.kept

@@ -4,7 +4,6 @@ use Rattle.std.proofs.Common.{
   ◌∙◌,
   ◌<◌,
   ◌+◌,
-  ◌-◌,
   ◌*◌,
   ◌/◌,
   ◌%◌,
@@ -83,13 +82,15 @@ unsaid_is (ThinShape n Alone from) = refl
 unsaid_is (ThinShape n Unsaid from) = refl
 unsaid_is s = refl
 
-nullable_owner : (region : Option RegionName) (by : Shape) → shared_owner (owner_given (given_to Nullable region by) (owner_of region)) ≡ owner_by (owner_of region) by
+nullable_owner : (region : Option RegionName) (by : Shape)
+    → shared_owner (owner_given (given_to Nullable region by) (owner_of region)) ≡ owner_by (owner_of region) by
 nullable_owner None by = unsaid_is by
 nullable_owner (Some (tree.Heap at)) by = shared_stays by
 nullable_owner (Some (tree.Unique at)) by = alone_stays by
 nullable_owner (Some (tree.Named name)) by = shared_stays by
 
-not_null_owner : (region : Option RegionName) (by : Shape) → shared_owner (owner_given (given_to NotNull region by) (owner_of region)) ≡ owner_by (owner_of region) by
+not_null_owner : (region : Option RegionName) (by : Shape)
+    → shared_owner (owner_given (given_to NotNull region by) (owner_of region)) ≡ owner_by (owner_of region) by
 not_null_owner None by = unsaid_is by
 not_null_owner (Some (tree.Heap at)) by = shared_stays by
 not_null_owner (Some (tree.Unique at)) by = alone_stays by

@@ -9,6 +9,7 @@ pub mod Refusals
 pub mod Scoped
 pub mod Given
 pub mod Signs
+pub mod Simple
 pub mod Structs
 pub mod Tables
 pub mod Unions

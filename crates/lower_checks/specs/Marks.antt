@@ -2,7 +2,7 @@
 use Rattle.std.specs.Prelude.{◌≡◌, ℕ, suc, List, [], ◌∷◌, map, Option, Some, None, unwrap_or, bytes_eq, if◌then◌else◌}
 use Rattle.indexmap.specs.IndexMap.{get_by}
 use Rattle.lower_checks.specs.Visible.{Declared, declared}
-use Rattle.lower_checks.specs.declared.last.LastLocals.{LastLocals}
+use Rattle.lower_checks.specs.declared.last.Lasts.{Lasts}
 use Rattle.lower_checks.specs.declared.mark.Local.{Local}
 use Rattle.lower_checks.specs.declared.mark.Mark.{Mark}
 use Rattle.lower_checks.specs.declared.mark.Mark.TheVariants.{Begin, Declare}
@@ -14,8 +14,8 @@ mark_of (Declare l hidden) = Some (declared l.name.now l.stored l.index)
 abbrev pub marks_of : List Mark → List (Option Declared)
 marks_of ms = map mark_of ms
 
--- the innermost local of a name, by the table
-abbrev pub last_in : LastLocals → List ℕ → Option Local
+-- the last of a name, by the table
+abbrev pub last_in : {V : Type 0} → Lasts V → List ℕ → Option V
 last_in last name = unwrap_or (get_by (λ key. bytes_eq name key.now) last.by_name) None
 
 -- the innermost local of a name; the last mark is the first of these
@@ -41,7 +41,7 @@ AreKept (Begin ∷ others) = AreKept others
 AreKept (Declare l hidden ∷ others) = IsKept l hidden others × AreKept others
 
 -- so do all; the table has what each name means, and the number of open blocks is known
-pub record AreLinked (marks : List Mark) (last : LastLocals) (depth : ℕ) : Type 0 where
+pub record AreLinked (marks : List Mark) (last : Lasts Local) (depth : ℕ) : Type 0 where
   pub kept : AreKept marks
   pub means : (name : List ℕ) → last_in last name ≡ found marks name
   pub depth_is : depth ≡ depth_of marks

@@ -12,4 +12,4 @@ world_in s = world_of s.program.now
 
 -- the numbers of the elements that are being made, and then the locals
 abbrev pub names_in : Scope → List Named
-names_in s = numbers_in s.numbers ++ names_of s.locals.now
+names_in s = numbers_in s.numbers.now ++ names_of s.locals.now

@@ -45,7 +45,8 @@ use cyc_tree::{Expression, Name};
 fn lower_block(program: &Table<'_>, shape: &Shape<'_>, body: &mut Body<'_>, to: Temporary)
     requires taken { IsSound body.old → IsObject (world_of program.now).unions (world_of program.now).structs (shape_tree shape.now) }
     ensures { Emits body.old body.new
-        (core.Do (core.RegionAlloc to.0 to.0 (to.0 + 1) (layout_of (world_of program.now) (shape_tree shape.now))) ∷ core.Do (core.Constant (to.0 + 2) 0) ∷ []) }
+        (core.Do (core.RegionAlloc to.0 to.0 (to.0 + 1) (layout_of (world_of program.now) (shape_tree shape.now)))
+        ∷ core.Do (core.Constant (to.0 + 2) 0) ∷ []) }
 {
     let many = body.further(to, 1);
     let number = body.further(to, 2);
@@ -87,7 +88,8 @@ fn lower_next(body: &mut Body<'_>, to: Temporary)
 /// Appends the loop over the elements, one turn for each number below their count, and the index of the array's pointer, which is 0.
 fn lower_turns(body: &mut Body<'_>, turn: Vec<Statement>, to: Temporary)
     ensures { Emits body.old body.new
-        (core.While (all_of (core.Do (core.Apply core.LessUnsigned (to.0 + 3) (to.0 + 2) (to.0 + 1)) ∷ [])) (to.0 + 3) (all_of (map statement_tree turn.items)) ∷
+        (core.While (all_of (core.Do (core.Apply core.LessUnsigned (to.0 + 3) (to.0 + 2) (to.0 + 1)) ∷ [])) (to.0 + 3)
+        (all_of (map statement_tree turn.items)) ∷
         core.Do (core.Constant (to.0 + 2) 0) ∷ []) }
 {
     let many = body.further(to, 1);
@@ -113,7 +115,8 @@ fn lower_each<'p>(
     requires taken { let w = world_in scope.now in
         let names = names_in scope.now in
         let e = expression_tree element.now in
-        IsSound body.old → IsObject w.unions w.structs (static_shape w names e) × TakesMember (static_shape w names e) (TakesWhole w names e) (Takes w names e) }
+        IsSound body.old → IsObject w.unions w.structs (static_shape w names e) × TakesMember (static_shape w names e) (TakesWhole w names e)
+        (Takes w names e) }
     ensures writes { let w = world_in scope.now in
         let names = names_in scope.now in
         let e = expression_tree element.entry.now in
@@ -147,7 +150,8 @@ fn lower_elements<'p>(
     requires taken { let w = world_in scope.now in
         let names = names_in scope.now in
         let e = expression_tree element.now in
-        IsSound body.old → IsObject w.unions w.structs (static_shape w names e) × TakesMember (static_shape w names e) (TakesWhole w names e) (Takes w names e) }
+        IsSound body.old → IsObject w.unions w.structs (static_shape w names e) × TakesMember (static_shape w names e) (TakesWhole w names e)
+        (Takes w names e) }
     ensures writes { let w = world_in scope.now in
         let names = names_in scope.now in
         let e = expression_tree element.entry.now in
@@ -183,7 +187,8 @@ pub fn lower_array<'p>(
     requires taken { let w = world_in scope.now in
         let names = number_named (name_tree index.now).text (to.0 + 2) ∷ names_in scope.now in
         let e = expression_tree element.now in
-        IsSound body.old → IsObject w.unions w.structs (static_shape w names e) × TakesMember (static_shape w names e) (TakesWhole w names e) (Takes w names e) }
+        IsSound body.old → IsObject w.unions w.structs (static_shape w names e) × TakesMember (static_shape w names e) (TakesWhole w names e)
+        (Takes w names e) }
     ensures writes { let w = world_in scope.now in
         let names = number_named (name_tree index.entry.now).text (to.0 + 2) ∷ names_in scope.now in
         let e = expression_tree element.entry.now in
@@ -196,13 +201,13 @@ pub fn lower_array<'p>(
         IsSound body.new → shape_tree result ≡ FatShape (static_shape (world_in scope.now) names (expression_tree element.entry.now)) }
 {
     let number = body.further(to, 2);
-    match with_number(scope.alloc, &scope.numbers, &index.text, number) {
+    match with_number(scope.alloc, scope.numbers, &index.text, number) {
         Ok(numbers) => {
             let inside = Scope {
                 alloc: scope.alloc,
                 program: scope.program,
                 locals: scope.locals,
-                numbers: Some(numbers),
+                numbers: &numbers,
             };
             lower_elements(&inside, element, body, to)
         }

@@ -13,6 +13,7 @@ ghost use Rattle.lower_checks.specs.declared.fault.LowerFault.TheVariants.{Memor
 use crate::fault::LowerFault;
 use crate::names::number;
 use crate::shape::Shape;
+use crate::vectors::append;
 use cyc_core::{Local, Operation, Statement, Temporary};
 use cyc_words::Kind;
 use std::alloc::Global;
@@ -62,8 +63,9 @@ impl<'p> Body<'p> {
     pub fn emit(&mut self, statement: Statement)
         ensures { Emits self.old self.new (statement_tree statement ∷ []) }
     {
-        if let Err(_) = self.code.push(statement) {
-            self.failed = true;
+        match append(&mut self.code, statement) {
+            Ok(()) => {}
+            Err(_) => self.failed = true,
         }
     }
 
@@ -110,8 +112,9 @@ impl<'p> Body<'p> {
         ensures raising { IsSound self.new → all_of (map statement_tree result.items) ≡ raised kind }
     {
         let mut raising = Vec::new(self.alloc);
-        if let Err(_) = raising.push(Statement::Raise(kind)) {
-            self.failed = true;
+        match append(&mut raising, Statement::Raise(kind)) {
+            Ok(()) => {}
+            Err(_) => self.failed = true,
         }
         raising
     }
@@ -187,8 +190,9 @@ impl<'p> Body<'p> {
     pub fn add(&mut self, shape: &Shape<'p>)
         ensures { Writes self.old self.new [] (shape_tree shape.now ∷ []) }
     {
-        if let Err(_) = self.own.push(*shape) {
-            self.failed = true;
+        match append(&mut self.own, *shape) {
+            Ok(()) => {}
+            Err(_) => self.failed = true,
         }
     }
 

@@ -16,6 +16,7 @@ use crate::fault::LowerFault;
 use crate::names::after;
 use crate::shape::Shape;
 use crate::table::{Callee, Table};
+use crate::vectors::append;
 use cyc_core::{Operation, Statement, Temporary};
 use cyc_tree::Member;
 use std::alloc::Global;
@@ -27,9 +28,7 @@ fn part_shapes<'p>(alloc: Global, parameters: &'p [Member]) -> Result<Vec<Shape<
 {
     let mut shapes = Vec::new(alloc);
     'each: for parameter in parameters {
-        if let Err(_) = shapes.push(Shape::of(&parameter.of)) {
-            return Err(LowerFault::Memory);
-        }
+        append(&mut shapes, Shape::of(&parameter.of))?;
     }
     Ok(shapes)
 }
@@ -48,9 +47,7 @@ pub fn call_parameters<'p>(
         return Ok(shapes);
     }
     if name == b"putchar".as_slice() {
-        if let Err(_) = shapes.push(Shape::Int) {
-            return Err(LowerFault::Memory);
-        }
+        append(&mut shapes, Shape::Int)?;
         return Ok(shapes);
     }
     match program.function_named(name) {

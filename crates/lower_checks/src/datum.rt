@@ -1,7 +1,6 @@
 // What a global and a string begin with.
 
 ghost use Rattle.std.specs.Prelude.{◌≡◌, ◌%◌, ◌++◌, ◌∷◌, [], Bool, IfOk, OnOk, option_map};
-ghost use Rattle.cyc_tree.specs.Tree.{Given};
 ghost use Rattle.cyc_tree.specs.View.{constant_tree, initial_tree};
 ghost use Rattle.core_meaning.specs.Memory.{Word};
 ghost use Rattle.cyc_core.specs.Trees.{datum_tree};
@@ -86,9 +85,8 @@ fn constant_pointer(program: &Table<'_>, constant: &Constant) -> Result<Datum, L
 
 /// A thin pointer, which is NULL or a string at first. Refuses a number.
 fn pointer_datum(program: &Table<'_>, initial: &Initial) -> Result<Datum, LowerFault>
-    ensures datum { let w = world_of program.now in
-        (may_be_null : Bool) (owner : SourceOwner) (to : SourceShape) → let s = ThinShape may_be_null owner to in
-        IfOk result (λ datum. datum_tree datum ≡ datum_of w s (initial_content w (initial_tree initial.now) s)) }
+    ensures datum { (may_be_null : Bool) (owner : SourceOwner) (to : SourceShape) →
+        IfOk result (λ datum. datum_tree datum ≡ global_datum (world_of program.now) (initial_tree initial.now) (ThinShape may_be_null owner to)) }
     ensures taken { (may_be_null : Bool) (owner : SourceOwner) (to : SourceShape) →
         TakesGlobal (ThinShape may_be_null owner to) (initial_tree initial.now) → NeverRefused result }
 {
@@ -109,23 +107,7 @@ fn string_bounds(alloc: Global, found: Option<Text>) -> Result<Datum, LowerFault
     }
 }
 
-/// The string that a constant is; none where it is no string, or none of the program's.
-fn constant_text(program: &Table<'_>, constant: &Constant) -> Result<Option<Text>, LowerFault>
-    ensures text { let w = world_of program.now in
-        IfOk result (λ found. (to : SourceShape) →
-        global_datum w (Given (constant_tree constant.now)) (FatShape to) ≡ text_datum w (FatShape to) (option_map text_value found)) }
-    ensures taken { NeverRefused result }
-{
-    match constant {
-        Constant::Text(at, _) => program.text_at(*at),
-        Constant::Number(_, _, _)
-        | Constant::Negative(_, _, _)
-        | Constant::Character(_, _)
-        | Constant::Null(_) => Ok(None),
-    }
-}
-
-/// The string that a global begins with; none where it begins with something else.
+/// The string that a global begins with; none where it begins with something else, or with none of the program's.
 fn initial_text(program: &Table<'_>, initial: &Initial) -> Result<Option<Text>, LowerFault>
     ensures text { let w = world_of program.now in
         IfOk result (λ found. (to : SourceShape) →
@@ -133,8 +115,13 @@ fn initial_text(program: &Table<'_>, initial: &Initial) -> Result<Option<Text>, 
     ensures taken { NeverRefused result }
 {
     match initial {
-        Initial::None | Initial::Array(_) => Ok(None),
-        Initial::Constant(constant) => constant_text(program, constant),
+        Initial::Constant(Constant::Text(at, _)) => program.text_at(*at),
+        Initial::None
+        | Initial::Array(_)
+        | Initial::Constant(Constant::Number(_, _, _))
+        | Initial::Constant(Constant::Negative(_, _, _))
+        | Initial::Constant(Constant::Character(_, _))
+        | Initial::Constant(Constant::Null(_)) => Ok(None),
     }
 }
 

@@ -19,6 +19,7 @@ ghost use Rattle.lower_checks.specs.Writing.{IsSound, Writes, next_of};
 
 use crate::body::Body;
 use crate::fat::lower_count;
+use crate::leaf::lower_leaf;
 use crate::made::lower_new;
 use crate::member::Reached;
 use crate::operands::{lower_all, lower_any, lower_called, lower_links};
@@ -26,10 +27,8 @@ use crate::operator::operator_shape;
 use crate::place::{lower_place, lower_pointer, lower_put, lower_suffixed};
 use crate::scope::Scope;
 use crate::shape::{Owner, Shape};
-use crate::shaped::{number_shape, owner_for, shape_of};
-use crate::text::lower_text;
+use crate::shaped::{owner_for, shape_of};
 use crate::values::{lower_conversion, lower_not, lower_operator, lower_truth, lower_word};
-use crate::variable::lower_get;
 use crate::words::lower_loads;
 use cyc_core::{Operation, Temporary};
 use cyc_tree::{Expression, Operator, Prefix};
@@ -51,27 +50,6 @@ pub fn lower_expression<'p>(
         shape_tree result ≡ static_shape (world_in scope.now) (names_in scope.now) (expression_tree expression.entry.now) }
 {
     match expression {
-        Expression::Number(_, value, suffix) => {
-            body.operation(Operation::Constant(to, *value));
-            number_shape(*value, *suffix)
-        }
-        Expression::Character(_, byte) => {
-            body.operation(Operation::Constant(to, u32::from(*byte)));
-            Shape::Char
-        }
-        Expression::Text(at, _) => {
-            lower_text(scope, body, *at, to);
-            Shape::text()
-        }
-        Expression::Null(_) => {
-            body.operation(Operation::NullPointer(to));
-            Shape::null()
-        }
-        Expression::HeapRegion(_) => {
-            body.operation(Operation::HeapHandle(to));
-            Shape::Handle
-        }
-        Expression::Variable(name) => lower_get(scope, body, &name.text, to),
         Expression::Grouped(_, inner) => lower_expression(scope, inner, body, to),
         Expression::NumElts(_, operand) => {
             lower_expression(scope, operand, body, to);
@@ -117,11 +95,7 @@ pub fn lower_expression<'p>(
             lower_assign(scope, place, body, &from, to)
         }
         Expression::Call(name, arguments) => lower_called(scope, arguments, body, &name.text, to),
-        Expression::UniqueRegion(_) => Shape::Void,
-        Expression::MakeUnion(_, _, _) => {
-            body.never();
-            Shape::Void
-        }
+        _ => lower_leaf(scope, expression, body, to),
     }
 }
 

@@ -33,6 +33,7 @@ use crate::fault::LowerFault;
 use crate::first::Firsts;
 use crate::shape::Shape;
 use crate::unions::Union;
+use crate::vectors::append;
 use cyc_core::{Cell, CellLayout, Layout, Width};
 use cyc_tree::{Member, Structure};
 use indexmap::IndexMap;
@@ -115,17 +116,6 @@ fn wider(a: Width, b: Width) -> Width
     }
 }
 
-/// Appends a cell.
-fn push_cell(cells: &mut Vec<CellLayout>, cell: CellLayout) -> Result<(), LowerFault>
-    ensures added { OnOk result (cells.new.items ≡ cells.old.items ++ cell ∷ []) }
-    ensures taken { NeverRefused result }
-{
-    match cells.push(cell) {
-        Ok(()) => Ok(()),
-        Err(_) => Err(LowerFault::Memory),
-    }
-}
-
 /// Appends cells, each so many bytes further on.
 fn push_moved(cells: &mut Vec<CellLayout>, by: u32, more: &[CellLayout]) -> Result<(), LowerFault>
     ensures added { OnOk result (map laid_cell cells.new.items ≡ map laid_cell cells.old.items ++ map (moved_cell by) (map laid_cell more.now)) }
@@ -137,7 +127,7 @@ fn push_moved(cells: &mut Vec<CellLayout>, by: u32, more: &[CellLayout]) -> Resu
             cell: cell.cell,
             padding: 0,
         };
-        push_cell(cells, moved)?;
+        append(cells, moved)?;
     }
     Ok(())
 }
@@ -173,7 +163,7 @@ fn fill_all(alloc: Global, cells: &[CellLayout], bytes: u32) -> Result<Vec<CellL
     let mut all = Vec::new(alloc);
     let mut rest = cells;
     'each: while let Some((first, others)) = rest.split_first() {
-        push_cell(&mut all, fill(*first, next_of(others, bytes)))?;
+        append(&mut all, fill(*first, next_of(others, bytes)))?;
         rest = others;
     }
     Ok(all)
@@ -284,7 +274,7 @@ impl<'p> Structs<'p> {
             };
         }
         let cell = self.cell(shape)?;
-        push_cell(
+        append(
             cells,
             CellLayout {
                 offset: at,

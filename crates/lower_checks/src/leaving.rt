@@ -115,8 +115,9 @@ fn note_opened(body: &mut Body<'_>, opened: &mut Vec<bool>, by_key: bool)
     ensures stays { Stays body.old body.new }
     ensures noted { IsSound body.new → opened.new.items ≡ opened.old.items ++ by_key ∷ [] }
 {
-    if let Err(_) = opened.push(by_key) {
-        body.fail();
+    match opened.push(by_key) {
+        Ok(()) => {}
+        Err(_) => body.fail(),
     }
 }
 
@@ -126,8 +127,9 @@ pub fn opened_outside(body: &mut Body<'_>, opened: &[bool]) -> Vec<bool>
     ensures opened { IsSound body.new → result.items ≡ opened.now }
 {
     let mut outside = Vec::new(body.alloc);
-    if let Err(_) = outside.extend_from_slice(opened) {
-        body.fail();
+    match outside.extend_from_slice(opened) {
+        Ok(()) => {}
+        Err(_) => body.fail(),
     }
     outside
 }

@@ -8,7 +8,7 @@ ghost use Rattle.lower_checks.specs.Visible.{declared, left, names_of};
 ghost use Rattle.lower_checks.specs.Refusals.{NeverRefused};
 
 use crate::fault::LowerFault;
-use crate::last::LastLocals;
+use crate::last::Lasts;
 use crate::mark::{Local, Mark};
 use crate::names::{Named, after};
 use crate::stored::Stored;
@@ -20,7 +20,7 @@ use std::marker::Model;
 #[derive(Drop)]
 pub struct Locals<'p> {
     marks: Vec<Mark<'p>>,
-    last: LastLocals<'p>,
+    last: Lasts<'p, Local<'p>>,
     depth: u32,
 }
 
@@ -43,7 +43,7 @@ impl<'p> Locals<'p> {
     {
         Locals {
             marks: Vec::new(alloc),
-            last: LastLocals::new(alloc),
+            last: Lasts::new(alloc),
             depth: 0,
         }
     }
@@ -83,7 +83,7 @@ impl<'p> Locals<'p> {
         if let Err(_) = self.marks.push(Mark::Declare(local, hidden)) {
             return Err(LowerFault::Memory);
         }
-        match self.last.add(local) {
+        match self.last.add(local.name, local) {
             Ok(()) => Ok(()),
             Err(_) => {
                 self.marks.pop();

@@ -1,11 +1,12 @@
 // The numbers of the elements that are being made, by their names.
 
-ghost use Rattle.std.specs.Prelude.{◌≡◌, ◌∷◌, ◌++◌, IfOk, OnOk, map, option_map};
+ghost use Rattle.std.specs.Prelude.{◌≡◌, ◌∷◌, IfOk, map, option_map};
 ghost use Rattle.source_lowering.specs.Lowered.{local_named, number_named};
 ghost use Rattle.lower_checks.specs.Refusals.{NeverRefused};
 ghost use Rattle.lower_checks.specs.Numbers.{number_tree, numbers_in};
 
 use crate::fault::LowerFault;
+use crate::vectors::append;
 use cyc_core::Temporary;
 use std::alloc::Global;
 
@@ -16,9 +17,9 @@ pub struct Number<'p> {
     pub held: Temporary,
 }
 
-/// The innermost number of a name.
-fn among<'p>(numbers: &[Number<'p>], name: &[u8]) -> Option<Number<'p>>
-    ensures { option_map number_tree result ≡ local_named (map number_tree numbers.now) name.now }
+/// The innermost number of a name, where there is one.
+pub fn number_named<'p>(numbers: &[Number<'p>], name: &[u8]) -> Option<Number<'p>>
+    ensures { option_map number_tree result ≡ local_named (numbers_in numbers.now) name.now }
 {
     'each: for number in numbers {
         if number.name == name {
@@ -28,33 +29,10 @@ fn among<'p>(numbers: &[Number<'p>], name: &[u8]) -> Option<Number<'p>>
     None
 }
 
-/// The innermost number of a name, where there is one.
-pub fn number_named<'p>(numbers: &Option<Vec<Number<'p>>>, name: &[u8]) -> Option<Number<'p>>
-    ensures { option_map number_tree result ≡ local_named (numbers_in numbers.now) name.now }
-{
-    match numbers {
-        Some(numbers) => among(numbers, name),
-        None => None,
-    }
-}
-
-/// Appends numbers.
-fn add_numbers<'p>(more: &mut Vec<Number<'p>>, numbers: &[Number<'p>]) -> Result<(), LowerFault>
-    ensures added { OnOk result (map number_tree more.new.items ≡ map number_tree more.old.items ++ map number_tree numbers.now) }
-    ensures taken { NeverRefused result }
-{
-    'each: for number in numbers {
-        if let Err(_) = more.push(*number) {
-            return Err(LowerFault::Memory);
-        }
-    }
-    Ok(())
-}
-
 /// A further number inside others. Fails only where no host memory is left.
 pub fn with_number<'p>(
     alloc: Global,
-    numbers: &Option<Vec<Number<'p>>>,
+    numbers: &[Number<'p>],
     name: &'p [u8],
     held: Temporary,
 ) -> Result<Vec<Number<'p>>, LowerFault>
@@ -63,11 +41,9 @@ pub fn with_number<'p>(
     ensures taken { NeverRefused result }
 {
     let mut more = Vec::new(alloc);
-    if let Err(_) = more.push(Number { name, held }) {
-        return Err(LowerFault::Memory);
+    append(&mut more, Number { name, held })?;
+    match more.extend_from_slice(numbers) {
+        Ok(()) => Ok(more),
+        Err(_) => Err(LowerFault::Memory),
     }
-    if let Some(numbers) = numbers {
-        add_numbers(&mut more, numbers)?;
-    }
-    Ok(more)
 }

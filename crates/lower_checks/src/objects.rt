@@ -18,6 +18,7 @@ use crate::fault::LowerFault;
 use crate::shape::Shape;
 use crate::stored::Stored;
 use crate::table::Table;
+use crate::vectors::append;
 use cyc_core::{Cell, CellLayout, Layout, Local, Statement, Temporary};
 use std::alloc::Global;
 use std::rc::Rc;
@@ -89,9 +90,7 @@ pub fn cell_layout(alloc: Global, cell: Cell) -> Result<Rc<Layout>, LowerFault>
         cell,
         padding: 0,
     };
-    if let Err(_) = cells.push(first) {
-        return Err(LowerFault::Memory);
-    }
+    append(&mut cells, first)?;
     match Rc::new(alloc, Layout { cells, bytes }) {
         Ok(layout) => Ok(layout),
         Err(_) => Err(LowerFault::Memory),
@@ -179,9 +178,7 @@ pub fn values_of(
     let mut locals = Vec::new(alloc);
     'each: for shape in shapes {
         let local = value_of(program, *shape)?;
-        if let Err(_) = locals.push(local) {
-            return Err(LowerFault::Memory);
-        }
+        append(&mut locals, local)?;
     }
     Ok(locals)
 }
@@ -198,9 +195,7 @@ pub fn locals_of(
     let mut locals = Vec::new(alloc);
     'each: for stored in all {
         let local = local_of(alloc, program, *stored)?;
-        if let Err(_) = locals.push(local) {
-            return Err(LowerFault::Memory);
-        }
+        append(&mut locals, local)?;
     }
     Ok(locals)
 }

@@ -19,6 +19,7 @@ use crate::stored::Stored;
 use crate::table::{Table, function_number, global_stored};
 use crate::text::lower_strings;
 use crate::unions::few_members;
+use crate::vectors::append;
 use accepted_programs::Checked;
 use cyc_core::{Datum, Function, Program};
 use cyc_tree::{Global as Declared, Item, Program as Source};
@@ -73,9 +74,7 @@ fn lower_functions(alloc: Global, program: &Table<'_>) -> Result<Vec<Function>, 
     let mut functions = Vec::new(alloc);
     'each: for item in items {
         if let Item::Function(function) = item {
-            if let Err(_) = functions.push(lower_function(alloc, program, function)?) {
-                return Err(LowerFault::Memory);
-            }
+            append(&mut functions, lower_function(alloc, program, function)?)?;
         }
     }
     Ok(functions)

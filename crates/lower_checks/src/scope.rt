@@ -5,12 +5,11 @@ use crate::numbers::Number;
 use crate::table::Table;
 use std::alloc::Global;
 
-/// A program, the locals that are visible, and the numbers of the elements that are being made, where there are some, the innermost one
-/// first.
-#[derive(Drop)]
+/// A program, the locals that are visible, and the numbers of the elements that are being made, the innermost one first.
+#[derive(Clone, Copy)]
 pub struct Scope<'s, 'p> {
     pub alloc: Global,
     pub program: &'s Table<'p>,
     pub locals: &'s Locals<'p>,
-    pub numbers: Option<Vec<Number<'p>>>,
+    pub numbers: &'s [Number<'p>],
 }

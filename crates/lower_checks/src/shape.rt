@@ -1,9 +1,10 @@
 // Shapes, and what depends on them alone.
 
-ghost use Rattle.std.specs.Prelude.{◌≡◌, ◌∷◌, ◌++◌, [], suc, List, true, false, length, IfOk, OnOk, map, option_map};
+ghost use Rattle.std.specs.Prelude.{◌≡◌, ◌∷◌, List, true, false, IfOk, option_map};
 ghost use Rattle.cyc_tree.specs.View.{base_tree, pointer_tree, region_tree, type_tree};
 ghost use Rattle.source_meaning.specs.Shapes as shapes;
-ghost use Rattle.source_meaning.specs.Shapes.{CharShape, FatShape, ThinShape, VoidShape, Shared, base_shape, owner_of, pointee, settled, shared_owner, signed_shape, written};
+ghost use Rattle.source_meaning.specs.Shapes.{CharShape, FatShape, ThinShape, VoidShape, Shared, base_shape};
+ghost use Rattle.source_meaning.specs.Shapes.{owner_of, pointee, settled, shared_owner, signed_shape, written};
 ghost use Rattle.source_lowering.specs.Lowered.{results_in, width_of};
 ghost use Rattle.source_lowering.specs.Members.{words_in};
 ghost use Rattle.cyc_core.specs.Trees.{bytes_of, optional_tree};
@@ -333,17 +334,5 @@ impl<'p> Shape<'p> {
             Shape::Fat(_) => Ok(Some(Words::Three(to, further(to, 1)?, further(to, 2)?))),
             _ => Ok(Some(Words::One(to))),
         }
-    }
-}
-
-/// Appends a shape.
-pub fn add_shape<'p>(shapes: &mut Vec<Shape<'p>>, shape: Shape<'p>) -> Result<(), LowerFault>
-    ensures added { OnOk result (map shape_tree shapes.new.items ≡ map shape_tree shapes.old.items ++ shape_tree shape.entry ∷ []) }
-    ensures grows { OnOk result (length shapes.new.items ≡ suc (length shapes.old.items)) }
-    ensures taken { NeverRefused result }
-{
-    match shapes.push(shape) {
-        Ok(()) => Ok(()),
-        Err(_) => Err(LowerFault::Memory),
     }
 }

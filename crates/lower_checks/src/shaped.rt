@@ -5,7 +5,8 @@ ghost use Rattle.cyc_tree.specs.View.{expression_tree, link_tree, links_of, made
 ghost use Rattle.source_meaning.specs.Shapes.{FatShape, part_of, part_shape};
 ghost use Rattle.source_meaning.specs.Calls.{number_type};
 ghost use Rattle.source_meaning.specs.Programs.{world_of, integer_shape};
-ghost use Rattle.source_lowering.specs.Lowered.{call_shape, linked_shape, makes_struct, member_shape, named_shape, new_shape, number_named, owner_in, prefix_shape, static_shape, suffixed_shape, valued};
+ghost use Rattle.source_lowering.specs.Lowered.{call_shape, linked_shape, makes_struct, member_shape, named_shape, new_shape};
+ghost use Rattle.source_lowering.specs.Lowered.{number_named, owner_in, prefix_shape, static_shape, suffixed_shape, valued};
 ghost use Rattle.lower_checks.specs.Refusals.{NeverRefused};
 ghost use Rattle.lower_checks.specs.Scoped.{names_in, world_in};
 ghost use Rattle.source_meaning.specs.Expressions.{is_unique_region};
@@ -85,7 +86,7 @@ pub fn call_shape<'p>(program: &Table<'p>, name: &'p [u8]) -> Shape<'p>
 pub fn named_shape<'p>(scope: &Scope<'_, 'p>, name: &[u8]) -> Shape<'p>
     ensures { shape_tree result ≡ valued (named_shape (world_in scope.now) (names_in scope.now) name.now) }
 {
-    if let Some(_) = number_named(&scope.numbers, name) {
+    if let Some(_) = number_named(scope.numbers, name) {
         return Shape::Unsigned;
     }
     if let Some(local) = scope.locals.named(name) {
@@ -182,15 +183,16 @@ fn elements_shape<'p>(
     ensures shape { IfOk result
         (λ shape.
         shape_tree shape ≡
-        FatShape (static_shape (world_in scope.now) (number_named (name_tree index.entry.now).text 0 ∷ names_in scope.now) (expression_tree element.entry.now))) }
+        FatShape (static_shape (world_in scope.now) (number_named (name_tree index.entry.now).text 0 ∷ names_in scope.now)
+        (expression_tree element.entry.now))) }
     ensures taken { NeverRefused result }
 {
-    let numbers = with_number(scope.alloc, &scope.numbers, &index.text, Temporary(0))?;
+    let numbers = with_number(scope.alloc, scope.numbers, &index.text, Temporary(0))?;
     let inside = Scope {
         alloc: scope.alloc,
         program: scope.program,
         locals: scope.locals,
-        numbers: Some(numbers),
+        numbers: &numbers,
     };
     shape_of(&inside, element)?.elements()
 }

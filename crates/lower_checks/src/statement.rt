@@ -1,36 +1,46 @@
 // Statements and blocks.
 
 ghost use Rattle.std.specs.Prelude.{◌≡◌, ◌∷◌, ◌++◌, [], suc, Some, None, length, map};
-ghost use Rattle.cyc_tree.specs.View.{expression_tree, statement_tree as source_tree, item_tree, items_of, name_tree};
+ghost use Rattle.cyc_tree.specs.View.{declaration_tree, expression_tree, statement_tree as source_tree, item_tree, items_of, name_tree};
 ghost use Rattle.cyc_core.specs.Trees.{statement_tree};
 ghost use Rattle.source_meaning.specs.Programs.{world_of};
 ghost use Rattle.core_meaning.specs.Core as core;
 ghost use Rattle.source_lowering.specs.Lowered.{all_of, expression_code, expression_values};
-ghost use Rattle.source_lowering.specs.Programs.{block_shapes, item_values, items_code, locals_of, outward, statement_code, statement_values};
-ghost use Rattle.source_lowering.specs.Lowerable.{Takes, TakesItems, TakesStatement};
+ghost use Rattle.source_lowering.specs.Programs.{
+  block_shapes,
+  declaration_code,
+  declaration_values,
+  item_values,
+  items_code,
+  local_shape,
+  locals_of,
+  names_behind,
+  outward,
+  statement_code,
+  statement_values,
+};
+ghost use Rattle.source_lowering.specs.Lowerable.{Takes, TakesDeclaration, TakesItems, TakesStatement};
 ghost use Rattle.lower_checks.specs.Scoped.{names_in, world_in};
 ghost use Rattle.source_lowering.specs.Objects.{AreVariables};
 ghost use Rattle.lower_checks.specs.Views.{regions_tree, shape_tree, stored_tree};
 ghost use Rattle.lower_checks.specs.Visible.{declared as declared_as, left, names_of};
 ghost use Rattle.lower_checks.specs.Writing.{Emits, IsApart, IsSound, Stays, Writes, next_of};
 
-use crate::assigned::lower_run;
 use crate::body::Body;
 use crate::declaration::{declared, lower_declaration};
-use crate::exchange::lower_exchange;
 use crate::expression::lower_expression;
-use crate::freeing::{lower_free, lower_free_key};
-use crate::leaving::{RegionsAround, lower_leaving, lower_left, lower_return, opened_outside};
+use crate::leaving::{RegionsAround, lower_leaving, opened_outside};
 use crate::locals::Locals;
 use crate::names::number;
 use crate::objects::locals_of;
 use crate::scope::Scope;
 use crate::shape::Shape;
+use crate::simple::lower_simple;
 use crate::stored::{Stored, add_stored};
 use crate::switch::lower_switch;
 use crate::table::Table;
 use cyc_core::{Statement, Temporary};
-use cyc_tree::{BlockItem, Expression, Name, Statement as Source};
+use cyc_tree::{BlockItem, Declaration, Expression, Name, Statement as Source};
 
 /// Appends what a statement does, in a function with a result of this shape, among regions; appends the shapes of the unnamed values. The
 /// next unnamed value's number is how many there are.
@@ -53,133 +63,34 @@ fn lower_statement<'p>(
     ensures kept { IsSound body.new → locals.new ≡ locals.old }
 {
     let to = around.value();
+    let scope = Scope {
+        alloc: body.alloc,
+        program,
+        locals,
+        numbers: &[],
+    };
     match statement {
-        Source::Empty(_) => {}
         Source::Block(_, items) => lower_block(program, shape, locals, items, body, around, opened),
-        Source::Run(value) => lower_run(
-            &Scope {
-                alloc: body.alloc,
-                program,
-                locals,
-                numbers: None,
-            },
-            value,
-            body,
-            to,
-        ),
         Source::If(_, condition, these) => {
-            lower_expression(
-                &Scope {
-                    alloc: body.alloc,
-                    program,
-                    locals,
-                    numbers: None,
-                },
-                condition,
-                body,
-                to,
-            );
+            lower_expression(&scope, condition, body, to);
             let these = lower_part(program, shape, locals, these, body, around, opened);
             body.branch(to, these, Vec::new(body.alloc));
         }
         Source::IfElse(_, condition, these, those) => {
-            lower_expression(
-                &Scope {
-                    alloc: body.alloc,
-                    program,
-                    locals,
-                    numbers: None,
-                },
-                condition,
-                body,
-                to,
-            );
+            lower_expression(&scope, condition, body, to);
             let these = lower_part(program, shape, locals, these, body, around, opened);
             let those = lower_part(program, shape, locals, those, body, around, opened);
             body.branch(to, these, those);
         }
         Source::While(_, condition, turn) => {
-            let test = lower_test(
-                &Scope {
-                    alloc: body.alloc,
-                    program,
-                    locals,
-                    numbers: None,
-                },
-                condition,
-                body,
-                to,
-            );
+            let test = lower_test(&scope, condition, body, to);
             let turn = lower_part(program, shape, locals, turn, body, around.in_loop(), opened);
             body.turns(test, to, turn);
         }
         Source::Switch(_, place, clauses) => {
             lower_switch(program, shape, locals, clauses, place, body, around, opened)
         }
-        Source::Break(_) => lower_left(body, around, opened, around.broken, Statement::Break),
-        Source::Continue(_) => lower_left(
-            body,
-            around,
-            opened,
-            around.continued,
-            Statement::Continue,
-        ),
-        Source::Return(_, None) => lower_left(
-            body,
-            around,
-            opened,
-            around.all,
-            Statement::Return(None),
-        ),
-        Source::Return(_, Some(value)) => {
-            lower_return(
-                &Scope {
-                    alloc: body.alloc,
-                    program,
-                    locals,
-                    numbers: None,
-                },
-                shape,
-                value,
-                body,
-                around,
-                opened,
-            )
-        }
-        Source::Exchange(left, right) => lower_exchange(
-            &Scope {
-                alloc: body.alloc,
-                program,
-                locals,
-                numbers: None,
-            },
-            left,
-            right,
-            body,
-            to,
-        ),
-        Source::FreeUnique(_, pointer) => lower_free(
-            &Scope {
-                alloc: body.alloc,
-                program,
-                locals,
-                numbers: None,
-            },
-            pointer,
-            body,
-            to,
-        ),
-        Source::FreeKey(_, key) => lower_free_key(
-            &Scope {
-                alloc: body.alloc,
-                program,
-                locals,
-                numbers: None,
-            },
-            key,
-            body,
-            to,
-        ),
+        _ => lower_simple(&scope, shape, statement, body, around, opened),
     }
 }
 
@@ -191,7 +102,8 @@ fn lower_test<'p>(
     to: Temporary,
 ) -> Vec<Statement>
     requires taken { IsSound body.old → Takes (world_in scope.now) (names_in scope.now) (expression_tree condition.now) }
-    ensures apart { IsSound body.new → IsApart body.old body.new (expression_values (world_in scope.now) (names_in scope.now) (expression_tree condition.entry.now)) }
+    ensures apart { IsSound body.new → IsApart body.old body.new (expression_values (world_in scope.now) (names_in scope.now)
+        (expression_tree condition.entry.now)) }
     ensures part { let e = expression_tree condition.entry.now in
         IsSound body.new → map statement_tree result.items ≡ expression_code (world_in scope.now) (names_in scope.now) e to.0 (next_of body.old) }
 {
@@ -212,7 +124,8 @@ fn lower_part<'p>(
     opened: &[bool],
 ) -> Vec<Statement>
     requires taken { IsSound body.old → TakesStatement (world_of program.now) (shape_tree shape.now) (names_of locals.old) (source_tree statement.now) }
-    ensures apart { IsSound body.new → IsApart body.old body.new (statement_values (world_of program.now) (names_of locals.old) (source_tree statement.entry.now)) }
+    ensures apart { IsSound body.new → IsApart body.old body.new (statement_values (world_of program.now) (names_of locals.old)
+        (source_tree statement.entry.now)) }
     ensures part { let s = source_tree statement.entry.now in
         IsSound body.new → map statement_tree result.items ≡
         statement_code (world_of program.now) (shape_tree shape.now) (names_of locals.old) (regions_tree around opened.now) (next_of body.old) s }
@@ -335,6 +248,49 @@ pub fn declare<'p>(
     bind(locals, name, stored, index, body);
 }
 
+/// Declares a further local of the innermost block, and appends what gives it its first value, which comes into a temporary; appends the
+/// shapes of the unnamed values. The local's number is how many there are.
+fn lower_declared<'p>(
+    program: &Table<'p>,
+    locals: &mut Locals<'p>,
+    declaration: &'p Declaration,
+    declared_here: &mut Vec<Stored<'p>>,
+    body: &mut Body<'p>,
+    to: Temporary,
+)
+    requires taken { IsSound body.old → TakesDeclaration (world_of program.now) (names_of locals.old) (declaration_tree declaration.now) }
+    ensures writes { let w = world_of program.now in
+        let names = names_of locals.old in
+        let d = declaration_tree declaration.entry.now in
+        Writes body.old body.new (declaration_code w names d to.0 (length declared_here.old.items) (next_of body.old)) (declaration_values w names d) }
+    ensures names { IsSound body.new →
+        names_of locals.new ≡
+        names_behind (world_of program.now) (names_of locals.old) (length declared_here.old.items) (declaration_tree declaration.entry.now) }
+    ensures left { IsSound body.new → left locals.new ≡ left locals.old }
+    ensures shapes { IsSound body.new →
+        map stored_tree declared_here.new.items ≡
+        map stored_tree declared_here.old.items ++ local_shape (world_of program.now) (names_of locals.old) (declaration_tree declaration.entry.now) ∷ [] }
+    ensures grows { IsSound body.new → length declared_here.new.items ≡ suc (length declared_here.old.items) }
+{
+    let index = body.number(number(declared_here.len()));
+    let scope = Scope {
+        alloc: body.alloc,
+        program,
+        locals,
+        numbers: &[],
+    };
+    let stored = declared(&scope, declaration, body);
+    lower_declaration(&scope, declaration, body, to, index);
+    declare(
+        locals,
+        declared_here,
+        declaration.local(),
+        stored,
+        index,
+        body,
+    );
+}
+
 /// Appends what the items of a block do, the locals that they declare, and the shapes of the unnamed values. The next local's
 /// number is how many there are, and so is the next unnamed value's. The regions that the items declare are left at the end.
 #[cycle(statement)]
@@ -366,26 +322,8 @@ pub fn lower_items<'p>(
     'each: for item in items {
         match item {
             BlockItem::Declare(declaration) => {
-                let index = body.number(number(declared_here.len()));
-                let stored = {
-                    let scope = Scope {
-                        alloc: body.alloc,
-                        program,
-                        locals,
-                        numbers: None,
-                    };
-                    let stored = declared(&scope, declaration, body);
-                    lower_declaration(&scope, declaration, body, regions.value(), index);
-                    stored
-                };
-                declare(
-                    locals,
-                    declared_here,
-                    declaration.local(),
-                    stored,
-                    index,
-                    body,
-                );
+                let to = regions.value();
+                lower_declared(program, locals, declaration, declared_here, body, to);
                 regions = regions.with(body, &mut all, declaration);
             }
             BlockItem::Execute(statement) => {

@@ -10,6 +10,7 @@ ghost use Rattle.lower_checks.specs.Views.{shape_tree, stored_tree};
 use crate::fault::LowerFault;
 use crate::given::Given;
 use crate::shape::{Pointee, Shape, Written};
+use crate::vectors::append;
 use cyc_tree::TypeName;
 
 /// What a name stands for.
@@ -56,8 +57,5 @@ pub fn add_stored<'p>(all: &mut Vec<Stored<'p>>, stored: Stored<'p>) -> Result<(
     ensures grows { OnOk result (length all.new.items ≡ suc (length all.old.items)) }
     ensures taken { NeverRefused result }
 {
-    match all.push(stored) {
-        Ok(()) => Ok(()),
-        Err(_) => Err(LowerFault::Memory),
-    }
+    append(all, stored)
 }

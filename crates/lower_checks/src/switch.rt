@@ -318,7 +318,7 @@ pub fn lower_switch<'p>(
             alloc: body.alloc,
             program,
             locals,
-            numbers: None,
+            numbers: &[],
         },
         place,
         body,

@@ -17,6 +17,7 @@ use crate::fat::lower_bounds;
 use crate::fault::LowerFault;
 use crate::scope::Scope;
 use crate::table::Table;
+use crate::vectors::append;
 use cyc_core::{Datum, Operation, Temporary};
 use std::alloc::Global;
 
@@ -48,9 +49,7 @@ pub fn lower_strings(
     let strings = program.strings();
     'each: for literal in strings {
         let datum = literal_datum(alloc, *literal)?;
-        if let Err(_) = data.push(datum) {
-            return Err(LowerFault::Memory);
-        }
+        append(data, datum)?;
     }
     Ok(())
 }

@@ -1,7 +1,8 @@
 // Variables are read and written, and pointers to them are made.
 
 ghost use Rattle.std.specs.Prelude.{◌≡◌};
-ghost use Rattle.source_lowering.specs.Lowered.{address_by, get_code, get_local, load_global, local_named, named_shape, put_by, put_local, store_global, stored_code, valued};
+ghost use Rattle.source_lowering.specs.Lowered.{address_by, get_code, get_local, load_global, local_named, named_shape};
+ghost use Rattle.source_lowering.specs.Lowered.{put_by, put_local, store_global, stored_code, valued};
 ghost use Rattle.source_meaning.specs.Places.{bound_to};
 ghost use Rattle.lower_checks.specs.Scoped.{names_in, world_in};
 ghost use Rattle.lower_checks.specs.Views.{shape_tree, stored_tree};
@@ -72,7 +73,7 @@ pub fn lower_get<'p>(
     ensures code { Emits body.old body.new (get_code (world_in scope.now) (names_in scope.now) name.now to.0) }
     ensures shape { shape_tree result ≡ valued (named_shape (world_in scope.now) (names_in scope.now) name.now) }
 {
-    if let Some(number) = number_named(&scope.numbers, name) {
+    if let Some(number) = number_named(scope.numbers, name) {
         body.operation(Operation::Move(to, number.held));
         return Shape::Unsigned;
     }
@@ -146,7 +147,7 @@ fn lower_store_global(body: &mut Body<'_>, global: &Found<'_>, from: Temporary)
 pub fn lower_named(scope: &Scope<'_, '_>, body: &mut Body<'_>, name: &[u8], from: Temporary)
     ensures { Emits body.old body.new (put_by (local_named (names_in scope.now) name.now) (bound_to (world_in scope.now).globals name.now) from.0) }
 {
-    if let Some(_) = number_named(&scope.numbers, name) {
+    if let Some(_) = number_named(scope.numbers, name) {
         return;
     }
     if let Some(local) = scope.locals.named(name) {
@@ -168,7 +169,7 @@ pub fn lower_address<'p>(
     ensures code { Emits body.old body.new (address_by (local_named (names_in scope.now) name.now) (bound_to (world_in scope.now).globals name.now) to.0) }
     ensures shape { shape_tree result ≡ valued (named_shape (world_in scope.now) (names_in scope.now) name.now) }
 {
-    if let Some(_) = number_named(&scope.numbers, name) {
+    if let Some(_) = number_named(scope.numbers, name) {
         return Shape::Unsigned;
     }
     if let Some(local) = scope.locals.named(name) {

@@ -1,6 +1,7 @@
-use Rattle.std.proofs.Common.{◌≡◌, IfOk, ⊎_elim, false, sym, subst}
+use Rattle.std.proofs.Common.{◌≡◌, Bool, IfOk, ⊎_elim, ap, false, sym, subst}
 use Rattle.cyc_tree.specs.View.{initial_tree}
 use Rattle.cyc_core.specs.Trees.{datum_tree}
+use Rattle.source_meaning.specs.Shapes.{Owner, Shape, ThinShape}
 use Rattle.source_meaning.specs.Programs.{world_of}
 use Rattle.source_lowering.specs.Programs.{global_datum}
 use Rattle.source_lowering.specs.Lowerable.{TakesGlobal}
@@ -12,23 +13,23 @@ pub returns-in-Thin-clause-datum : goal.returns-in-Thin-clause-datum
 returns-in-Thin-clause-datum c =
     let w = world_of c.args.program.now in
     let i = initial_tree c.args.initial.now in
+    let thin : (may_be_null : Bool) (owner : Owner) (to : Shape) → shape_tree c.args.shape ≡ ThinShape may_be_null owner to
+    → IfOk c.pointer_datum.result (λ d. datum_tree d ≡ global_datum w i (shape_tree c.args.shape)) =
+    λ may_be_null owner to is.
+    subst (λ (s : Shape). IfOk c.pointer_datum.result (λ d. datum_tree d ≡ global_datum w i s)) (sym is)
+    (c.pointer_datum.ensures.datum may_be_null owner to) in
     ⊎_elim
-    (λ thin.
-    subst (λ s. IfOk c.pointer_datum.result (λ d. datum_tree d ≡ global_datum w i (shape_tree s))) (sym thin.3)
-    (c.pointer_datum.ensures.datum thin.0 (owner_tree thin.1) (written_shape thin.2)))
-    (λ address.
-    subst (λ s. IfOk c.pointer_datum.result (λ d. datum_tree d ≡ global_datum w i (shape_tree s))) (sym address.3)
-    (c.pointer_datum.ensures.datum false (owner_tree address.0) (around (signs_of address.1) (plain_tree address.2))))
+    (λ found. thin found.0 (owner_tree found.1) (written_shape found.2) (ap shape_tree found.3))
+    (λ found. thin false (owner_tree found.0) (around (signs_of found.1) (plain_tree found.2)) (ap shape_tree found.3))
     c.in-Thin.is
 
 pub returns-in-Thin-clause-taken : goal.returns-in-Thin-clause-taken
 returns-in-Thin-clause-taken c =
     λ object takes.
     let i = initial_tree c.args.initial.now in
+    let thin = λ (may_be_null : Bool) (owner : Owner) (to : Shape) (is : shape_tree c.args.shape ≡ ThinShape may_be_null owner to).
+    c.pointer_datum.ensures.taken may_be_null owner to (subst (λ (s : Shape). TakesGlobal s i) is takes) in
     ⊎_elim
-    (λ thin.
-    c.pointer_datum.ensures.taken thin.0 (owner_tree thin.1) (written_shape thin.2) (subst (λ s. TakesGlobal (shape_tree s) i) thin.3 takes))
-    (λ address.
-    c.pointer_datum.ensures.taken false (owner_tree address.0) (around (signs_of address.1) (plain_tree address.2))
-    (subst (λ s. TakesGlobal (shape_tree s) i) address.3 takes))
+    (λ found. thin found.0 (owner_tree found.1) (written_shape found.2) (ap shape_tree found.3))
+    (λ found. thin false (owner_tree found.0) (around (signs_of found.1) (plain_tree found.2)) (ap shape_tree found.3))
     c.in-Thin.is

@@ -1,11 +1,11 @@
-use Rattle.std.proofs.Common.{◌≡◌, ◌∙◌, sym, refl, ap, subst, [], ◌++◌, append-nil, map}
+use Rattle.std.proofs.Common.{◌≡◌, ◌∙◌, sym, refl, ap, subst, ◌++◌, append-nil, map}
 use Rattle.cyc_tree.specs.Tree.{Expression}
 use Rattle.cyc_tree.specs.View.{name_tree, type_tree}
 use Rattle.source_meaning.specs.Shapes.{Shape, settled_by, written}
 use Rattle.source_lowering.specs.Lowered.{conversion_code, expression_code, get_code, named_shape, put_local, static_shape, valued}
 use Rattle.lower_checks.specs.Scoped.{names_in, world_in}
 use Rattle.lower_checks.specs.Views.{shape_tree}
-use Rattle.lower_checks.specs.Writing.{IsEmitted, IsWritten, next_of, values_of}
+use Rattle.lower_checks.specs.Writing.{IsEmitted, next_of, values_of}
 use Rattle.lower_checks.proofs.Initials.{word_code}
 use Rattle.lower_checks.proofs.Writing.{emit_emit, same_emit}
 use Rattle.lower_checks.proofs.declaration.lower_alias.Goals as goal

@@ -1,4 +1,4 @@
-use Rattle.std.proofs.Common.{refl, subst, List, [], ◌∷◌, ◌++◌}
+use Rattle.std.proofs.Common.{refl, subst, [], ◌∷◌, ◌++◌}
 use Rattle.core_meaning.specs.Core as core
 use Rattle.cyc_tree.specs.View.{name_tree}
 use Rattle.source_lowering.specs.Lowered.{get_code}

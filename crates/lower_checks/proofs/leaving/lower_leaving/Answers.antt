@@ -6,7 +6,7 @@ use Rattle.core_meaning.specs.Core as core
 use Rattle.source_lowering.specs.Programs.{leaving_code, left_by}
 use Rattle.lower_checks.specs.Writing.{IsEmitted, IsEmitting, code_of}
 use Rattle.lower_checks.specs.declared.body.Body.{Body}
-use Rattle.lower_checks.proofs.Items.{left_one, nothing_left}
+use Rattle.lower_checks.proofs.Items.{left_one}
 use Rattle.lower_checks.proofs.Writing.{emitting_more}
 use Rattle.lower_checks.proofs.leaving.lower_leaving.Goals as goal
 

@@ -4,4 +4,4 @@ use Rattle.source_meaning.specs.Programs.{world_of}
 use Rattle.lower_checks.proofs.text.lower_strings.Goals as goal
 
 pub each-preserved : goal.each-preserved
-each-preserved c = grind (arith, common_steps, c.each.invariant, c.in_ok-datum.ensures.datum (world_of c.args.program.now))
+each-preserved c = grind (arith, common_steps, c.each.invariant, c.in_ok-datum.ensures.datum (world_of c.args.program.now), c.in_ok-append.ensures.appended)

@@ -16,6 +16,6 @@ returns-in_default-global_named-clause-code c sound =
     let name = c.args.name.now in
     let global = bound_to (world_in s).globals name in
     let local : local_named (names_in s) name ≡ None =
-    found_behind (numbers_in s.numbers) (names_of s.locals.now) name c.in_default.ensures ∙ sym c.in_default-named.ensures in
+    found_behind (numbers_in s.numbers.now) (names_of s.locals.now) name c.in_default.ensures ∙ sym c.in_default-named.ensures in
     emitted_none c.args.body.now (get_by (local_named (names_in s) name) global c.args.to.0) sound
     (ap₂ (λ (l : Option Named) (g : Option Entity). get_by l g c.args.to.0) local (sym c.in_default-global_named.ensures.named))

@@ -15,8 +15,9 @@ returns-in-Some c sound =
     let s = c.args.scope.now in
     let name = c.args.name.now in
     let global = bound_to (world_in s).globals name in
-    let first = found_first (numbers_in s.numbers) (names_of s.locals.now) name (number_tree c.in-Some.field-0) c.in-Some.ensures in
-    emitted_none c.args.body.now (put_by (local_named (names_in s) name) global c.args.from.0) sound (ap (λ (l : Option Named). put_by l global c.args.from.0) first)
+    let first = found_first (numbers_in s.numbers.now) (names_of s.locals.now) name (number_tree c.in-Some.field-0) c.in-Some.ensures in
+    emitted_none c.args.body.now (put_by (local_named (names_in s) name) global c.args.from.0) sound
+    (ap (λ (l : Option Named). put_by l global c.args.from.0) first)
 
 -- there is nothing of that name
 pub returns-in_default-global_named : goal.returns-in_default-global_named
@@ -25,6 +26,6 @@ returns-in_default-global_named c sound =
     let name = c.args.name.now in
     let global = bound_to (world_in s).globals name in
     let local : local_named (names_in s) name ≡ None =
-    found_behind (numbers_in s.numbers) (names_of s.locals.now) name c.in_default.ensures ∙ sym c.in_default-named.ensures in
+    found_behind (numbers_in s.numbers.now) (names_of s.locals.now) name c.in_default.ensures ∙ sym c.in_default-named.ensures in
     emitted_none c.args.body.now (put_by (local_named (names_in s) name) global c.args.from.0) sound
     (ap₂ (λ (l : Option Named) (g : Option Entity). put_by l g c.args.from.0) local (sym c.in_default-global_named.ensures.named))

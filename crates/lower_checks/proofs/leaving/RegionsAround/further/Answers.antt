@@ -1,4 +1,4 @@
-use Rattle.std.proofs.Common.{◌≡◌, ◌∙◌, suc, arith, ap, List, [], ◌∷◌}
+use Rattle.std.proofs.Common.{◌∙◌, suc, arith, ap, [], ◌∷◌}
 use Rattle.std.proofs.lemmas.List.{reverse-append}
 use Rattle.std.specs.Prelude.{reverse}
 use Rattle.lower_checks.proofs.Items.{same_regions}

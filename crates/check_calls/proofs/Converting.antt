@@ -1,6 +1,6 @@
 -- Conversions of arguments, by what is said of each.
 use Rattle.std.specs.List.{list_all}
-use Rattle.std.specs.Prelude.{is_some, map, nat_eq, not, option_map, replicate, unwrap_or, ◌&&◌, ◌||◌, ◌++◌}
+use Rattle.std.specs.Prelude.{if◌then◌else◌, is_some, map, nat_eq, not, option_map, replicate, unwrap_or, ◌&&◌, ◌||◌, ◌++◌}
 use Rattle.std.proofs.Common.{◌≡◌, ℕ, Bool, true, false, Option, Some, None, List, [], ◌∷◌, refl, sym, ◌∙◌, ap, length}
 use Rattle.std.proofs.lemmas.List.{length-map}
 use Rattle.cyc_types.specs.Regions.{region_of}
@@ -8,20 +8,21 @@ use Rattle.cyc_types.specs.Types.{static_type}
 use Rattle.cyc_types.specs.declared.ctype.CType.{CType}
 use Rattle.check_operators.specs.Values.{value_of}
 use Rattle.check_operators.specs.declared.value.Value.{Value}
-use Rattle.source_typing.specs.Calls.{all_convert, all_known, arguments_converted, arguments_counted, arguments_fit, if_all_known, partly_convert}
-use Rattle.source_typing.specs.Conversions.{converts}
+use Rattle.source_typing.specs.Calls.{all_convert, all_known, arguments_converted, arguments_counted, arguments_fit, if_all_known, if_regions_known}
+use Rattle.source_typing.specs.Calls.{partly_convert}
+use Rattle.source_typing.specs.Conversions.{broken, conversion, converts}
 use Rattle.source_typing.specs.Faults.{Fault, earliest, fault, sooner_of, type_rule}
 use Rattle.source_typing.specs.Fixing.{fixed_from, fixed_known}
 use Rattle.source_typing.specs.Regions.{Region, TheHeap}
 use Rattle.source_typing.specs.Scope.{Enclosing, Env}
 use Rattle.source_typing.specs.Tables.{argument, or_heap}
-use Rattle.source_typing.specs.Types.{renamed}
+use Rattle.source_typing.specs.Types.{StaticType, renamed}
 use Rattle.source_typing.specs.Verdicts.{unless_faulty}
 use Rattle.check_faults.specs.Faults.{faults_of, first_of, sooner_found}
 use Rattle.check_faults.specs.Verdicts.{Wrong, shortened}
 use Rattle.check_faults.specs.declared.fault.Fault as found
 use Rattle.check_faults.proofs.Earliest.{earliest_of_both, found_sooner, sooner_none}
-use Rattle.check_calls.specs.Converted.{argument_faults, arguments_faults, short_unless}
+use Rattle.check_calls.specs.Converted.{argument_faults, arguments_faults, counted, is_whole, short_unless}
 use Rattle.check_calls.specs.Fitted.{fits_all, parameter_types}
 use Rattle.check_calls.specs.Fixings.{fixed_with, fixing_faults, fixings_of, last_fixing, regions_by, settled, which_are_known}
 use Rattle.check_calls.specs.declared.fixing.Fixed.{Fixed}
@@ -32,7 +33,8 @@ use Rattle.check_calls.proofs.Settling.{are_settled}
 
 -- ---- of all of them
 
-pub none_given : (partly : Bool) (g : Env) (some : List (Option Region)) (rs : List Region) (ps : List (Option CType)) → arguments_faults partly g some rs ps [] ≡ []
+pub none_given : (partly : Bool) (g : Env) (some : List (Option Region)) (rs : List Region) (ps : List (Option CType))
+    → arguments_faults partly g some rs ps [] ≡ []
 none_given partly g some rs [] = refl
 none_given partly g some rs (p ∷ ps) = refl
 
@@ -140,3 +142,24 @@ module _ (g : Env) (ps : List (Option CType)) (vs : List Value) (fs : List (Opti
       ∙ ap (λ h. shortened (arguments_converted g (fixed_known h at (fits_all ps vs) 0 n) (parameter_types ps) (map value_of vs)
       (fixed_from h at (fits_all ps vs) 0 n))) (sym same)
       ∙ ap (λ b. shortened (arguments_counted b g at n (parameter_types ps) (map value_of vs))) (sym (counts_are true ps vs count))
+
+-- ---- of one of them
+
+-- a conversion's fault is found alone, whether or not it is looked at with its regions
+alone : (types : Bool) (f : Fault) → (if types then Some f else None) ≡ earliest (if types then f ∷ [] else [])
+alone true f = refl
+alone false f = refl
+
+pub counted_alone : (whole : Bool) (at : ℕ) (rule : Option ℕ) → counted whole (earliest (broken at rule)) ≡ earliest (if_regions_known whole (broken at rule))
+counted_alone true at rule = refl
+counted_alone false at None = refl
+counted_alone false at (Some rule) = alone (nat_eq rule type_rule) (fault rule at)
+
+-- what is found of one argument, by whether its conversion is looked at with its regions and by what its parameter's type is renamed to
+pub argument_found : (partly : Bool) (g : Env) (some : List (Option Region)) (rs : List Region) (o : Option CType) (p : CType) (v : Value) (whole : Bool)
+    (t : StaticType) (found : Option Fault) → o ≡ Some p → whole ≡ is_whole partly some (static_type p) → t ≡ renamed (argument rs) (static_type p)
+    → found ≡ earliest (converts g (value_of v) t) → counted whole found ≡ earliest (argument_faults partly g some rs o v)
+argument_found partly g some rs o p v whole t found parameter_is whole_is type_is found_is =
+    ap (λ b. counted b found) whole_is ∙ ap (counted (is_whole partly some (static_type p))) (found_is ∙ ap (λ u. earliest (converts g (value_of v) u)) type_is)
+    ∙ counted_alone (is_whole partly some (static_type p)) (value_of v).at (conversion g.regions (value_of v).type (renamed (argument rs) (static_type p)))
+    ∙ ap (λ x. earliest (argument_faults partly g some rs x v)) (sym parameter_is)

@@ -13,9 +13,15 @@ use std::marker::Model;
 
 /// The region names in scope, with the regions that they name. No two have one spelling. A contract sees them as the rules list
 /// them, the latest first.
-#[derive(Drop)]
 pub struct RegionNames<'p> {
     names: IndexMap<&'p [u8], RegionId>,
+}
+
+// Written out, so that a caller's proof sees one call and not the drop of each field.
+impl Drop for RegionNames<'_> {
+    fn drop(self) {
+        let RegionNames { names: _names } = self;
+    }
 }
 
 impl<'p> Model for RegionNames<'p> {

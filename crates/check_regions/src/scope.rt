@@ -38,11 +38,21 @@ pub struct RegionMark {
 }
 
 /// The region names in scope at a point of a function.
-#[derive(Drop)]
 pub struct RegionScope {
     begun: Vec<Begun>,
     opened: Vec<RegionId>,
     bounds: Vec<(RegionId, RegionId)>,
+}
+
+// Written out, so that a caller's proof sees one call and not the drop of each field.
+impl Drop for RegionScope {
+    fn drop(self) {
+        let RegionScope {
+            begun: _begun,
+            opened: _opened,
+            bounds: _bounds,
+        } = self;
+    }
 }
 
 impl Model for RegionScope {

@@ -7,10 +7,16 @@ use indexmap::IndexMap;
 use std::alloc::{AllocError, Global};
 
 /// The last local of each name, by how many locals were declared before it.
-#[derive(Drop)]
 pub(crate) struct LastLocals<'p> {
     /// A name whose locals were all left has no position.
     by_name: IndexMap<&'p [u8], Option<usize>>,
+}
+
+// Written out, so that a caller's proof sees one call and not the drop of each field.
+impl Drop for LastLocals<'_> {
+    fn drop(self) {
+        let LastLocals { by_name: _by_name } = self;
+    }
 }
 
 impl<'p> LastLocals<'p> {

@@ -10,7 +10,6 @@ use std::alloc::{AllocError, Global};
 use std::marker::Model;
 
 /// What a local is.
-#[derive(Drop)]
 pub enum What<'p> {
     /// A variable of a type, in a region.
     Variable(CType<'p>, RegionId),
@@ -20,6 +19,16 @@ pub enum What<'p> {
     Counter,
     /// One whose declaration is at fault.
     NotKnown,
+}
+
+// Written out, so that a caller's proof sees one call and not the drop of each field.
+impl Drop for What<'_> {
+    fn drop(self) {
+        match self {
+            What::Variable(_of, _) | What::Array(_of, _) => {}
+            What::Counter | What::NotKnown => {}
+        }
+    }
 }
 
 /// A local by its name, and the one of that name that it hides.
@@ -32,10 +41,19 @@ struct Local<'p> {
 
 /// The locals that are visible at a point, in the order of their declarations. A contract sees them as a list of what each
 /// name is, the latest first.
-#[derive(Drop)]
 pub struct Locals<'p> {
     all: Vec<Local<'p>>,
     last: LastLocals<'p>,
+}
+
+// Written out, so that a caller's proof sees one call and not the drop of each field.
+impl Drop for Locals<'_> {
+    fn drop(self) {
+        let Locals {
+            all: _all,
+            last: _last,
+        } = self;
+    }
 }
 
 impl<'p> Model for Locals<'p> {

@@ -3,7 +3,6 @@
 use cyc_types::{CType, RegionId};
 
 /// A function whose head has no fault: what it takes and gives, by its region variables, which are the first levels.
-#[derive(Drop)]
 pub struct Signature<'p> {
     /// How many region variables it has.
     pub regions: u32,
@@ -17,8 +16,20 @@ pub struct Signature<'p> {
     pub bounds: Vec<(RegionId, RegionId)>,
 }
 
+// Written out, so that a caller's proof sees one call and not the drop of each field.
+impl Drop for Signature<'_> {
+    fn drop(self) {
+        let Signature {
+            regions: _,
+            parameters: _parameters,
+            result: _result,
+            effect: _effect,
+            bounds: _bounds,
+        } = self;
+    }
+}
+
 /// What a name means that no local hides.
-#[derive(Drop)]
 pub enum Meaning<'p> {
     /// A variable of a type, in a region.
     Variable(CType<'p>, RegionId),
@@ -40,4 +51,20 @@ pub enum Meaning<'p> {
     FaultyTag(u32),
     /// A global or a function whose declaration is at fault.
     NotKnown,
+}
+
+// Written out, so that a caller's proof sees one call and not the drop of each field.
+impl Drop for Meaning<'_> {
+    fn drop(self) {
+        match self {
+            Meaning::Variable(_of, _) | Meaning::Array(_of, _) => {}
+            Meaning::Counter | Meaning::Builtin(_) | Meaning::NotKnown => {}
+            Meaning::Tag {
+                is_union: _,
+                regions: _,
+            } => {}
+            Meaning::FaultyTag(_) => {}
+            Meaning::Function(_signature) => {}
+        }
+    }
 }

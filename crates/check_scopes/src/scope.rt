@@ -41,7 +41,6 @@ pub enum Named<'a, 'p> {
 
 /// What is in scope where an expression is judged: names, structs and unions, regions, and whether the rules on live regions and effects
 /// are left out.
-#[derive(Drop)]
 pub struct Scope<'g, 'p> {
     pub globals: &'g Globals<'p>,
     /// The structs and unions of the program.
@@ -49,6 +48,19 @@ pub struct Scope<'g, 'p> {
     pub locals: Locals<'p>,
     pub regions: RegionScope,
     pub lenient: bool,
+}
+
+// Written out, so that a caller's proof sees one call and not the drop of each field.
+impl Drop for Scope<'_, '_> {
+    fn drop(self) {
+        let Scope {
+            globals: _,
+            tables: _,
+            locals: _locals,
+            regions: _regions,
+            lenient: _,
+        } = self;
+    }
 }
 
 /// What a local is, as what its name means.

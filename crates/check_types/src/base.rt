@@ -18,7 +18,6 @@ use std::alloc::{AllocError, Global};
 pub type WrittenArguments = SmallVec<Option<RegionId>, 2>;
 
 /// A type that is no pointer, as a text writes it.
-#[derive(Drop)]
 pub enum WrittenBase<'p> {
     Int,
     Unsigned,
@@ -32,6 +31,17 @@ pub enum WrittenBase<'p> {
     Struct(&'p [u8], WrittenArguments),
     /// A union by its tag.
     Union(&'p [u8], WrittenArguments),
+}
+
+// Written out, so that a caller's proof sees one call and not the drop of each field.
+impl Drop for WrittenBase<'_> {
+    fn drop(self) {
+        match self {
+            WrittenBase::Int | WrittenBase::Unsigned | WrittenBase::Char | WrittenBase::Void => {}
+            WrittenBase::Handle(_) | WrittenBase::Key(_) => {}
+            WrittenBase::Struct(_, _regions) | WrittenBase::Union(_, _regions) => {}
+        }
+    }
 }
 
 /// Whether a pointer may lead to a base.

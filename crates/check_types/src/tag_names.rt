@@ -13,9 +13,15 @@ use indexmap::IndexMap;
 use std::alloc::{AllocError, Global};
 
 /// What the names of a program mean where the tag of a struct or union is wanted.
-#[derive(Drop)]
 pub struct TagNames<'p> {
     entries: IndexMap<&'p [u8], TagName>,
+}
+
+// Written out, so that a caller's proof sees one call and not the drop of each field.
+impl Drop for TagNames<'_> {
+    fn drop(self) {
+        let TagNames { entries: _entries } = self;
+    }
 }
 
 impl<'p> TagNames<'p> {

@@ -50,7 +50,7 @@ fn is_union_value(program: &Program) -> bool {
         suffixed(program),
         Some((
             Expression::MakeUnion(_, _, _),
-            [Suffix::Dot(_), Suffix::Index(_), Suffix::Arrow(_)]
+            [Suffix::Dot(..), Suffix::Index(..), Suffix::Arrow(..)]
         ))
     )
 }
@@ -58,7 +58,7 @@ fn is_union_value(program: &Program) -> bool {
 fn is_variable(program: &Program) -> bool {
     matches!(
         suffixed(program),
-        Some((Expression::Variable(_), [Suffix::Dot(_), Suffix::Dot(_)]))
+        Some((Expression::Variable(_), [Suffix::Dot(..), Suffix::Dot(..)]))
     )
 }
 

@@ -22,7 +22,6 @@ pub struct Member {
 }
 
 /// A struct or a tagged union: its tag, its region parameters and its members, in order.
-#[derive(Drop)]
 pub struct Structure {
     /// The place of its first token.
     pub at: u32,
@@ -31,8 +30,19 @@ pub struct Structure {
     pub members: Vec<Member>,
 }
 
+// Written out, so that a caller's proof sees one call and not the drop of each field.
+impl Drop for Structure {
+    fn drop(self) {
+        let Structure {
+            at: _,
+            tag: _tag,
+            regions: _regions,
+            members: _members,
+        } = self;
+    }
+}
+
 /// A constant. The first number is the place of its first token.
-#[derive(Drop)]
 pub enum Constant {
     /// A number, and whether it has the suffix `u`.
     Number(u32, u32, bool),
@@ -45,8 +55,18 @@ pub enum Constant {
     Null(u32),
 }
 
+// Written out, so that a caller's proof sees one call and not the drop of each field.
+impl Drop for Constant {
+    fn drop(self) {
+        match self {
+            Constant::Number(_, _, _) | Constant::Negative(_, _, _) => {}
+            Constant::Character(_, _) | Constant::Null(_) => {}
+            Constant::Text(_, _bytes) => {}
+        }
+    }
+}
+
 /// What a global begins with.
-#[derive(Drop)]
 pub enum Initial {
     /// The beginning of its type.
     None,
@@ -55,12 +75,32 @@ pub enum Initial {
     Constant(Constant),
 }
 
+// Written out, so that a caller's proof sees one call and not the drop of each field.
+impl Drop for Initial {
+    fn drop(self) {
+        match self {
+            Initial::None | Initial::Array(_) => {}
+            Initial::Constant(_constant) => {}
+        }
+    }
+}
+
 /// A global variable or array.
-#[derive(Drop)]
 pub struct Global {
     pub of: TypeName,
     pub name: Name,
     pub initial: Initial,
+}
+
+// Written out, so that a caller's proof sees one call and not the drop of each field.
+impl Drop for Global {
+    fn drop(self) {
+        let Global {
+            of: _of,
+            name: _name,
+            initial: _initial,
+        } = self;
+    }
 }
 
 /// A bound of a function: the first region outlives the second.
@@ -84,7 +124,6 @@ impl MadeWith<Heap> for Bound {
 pub type Bounds = SmallVec<Bound, 2>;
 
 /// A function of the program.
-#[derive(Drop)]
 pub struct Function {
     pub result: TypeName,
     pub name: Name,
@@ -95,6 +134,21 @@ pub struct Function {
     pub body: Vec<BlockItem>,
     /// The place of the closing brace.
     pub end: u32,
+}
+
+// Written out, so that a caller's proof sees one call and not the drop of each field.
+impl Drop for Function {
+    fn drop(self) {
+        let Function {
+            result: _result,
+            name: _name,
+            parameters: _parameters,
+            effect: _effect,
+            bounds: _bounds,
+            body: _body,
+            end: _,
+        } = self;
+    }
 }
 
 /// An item of a program.

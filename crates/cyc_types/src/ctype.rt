@@ -17,10 +17,19 @@ use std::alloc::AllocError;
 pub type Layers = SmallVec<Layer, 2>;
 
 /// A type: a base, and the pointers to it from the base outwards.
-#[derive(Drop)]
 pub struct CType<'p> {
     pub base: BaseType<'p>,
     pub layers: Layers,
+}
+
+// Written out, so that a caller's proof sees one call and not the drop of each field.
+impl Drop for CType<'_> {
+    fn drop(self) {
+        let CType {
+            base: _base,
+            layers: _layers,
+        } = self;
+    }
 }
 
 /// How alike two types are under pointers, by how alike they are themselves.

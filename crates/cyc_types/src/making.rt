@@ -24,21 +24,19 @@ impl<'p> CType<'p> {
 
     /// A pointer to the type. Fails only where no host memory is left.
     #[tactic(auto, using(crate::proofs::Converting::pointed_more))]
-    pub fn under(self, pointer: Layer) -> Result<Self, AllocError>
+    pub fn under(mut self, pointer: Layer) -> Result<Self, AllocError>
         ensures { IfOk result (λ t. static_type t ≡ pointer_to pointer (static_type self.entry)) }
     {
-        let CType { base, mut layers } = self;
-        layers.push(pointer)?;
-        Ok(CType { base, layers })
+        self.layers.push(pointer)?;
+        Ok(self)
     }
 
     /// What a pointer leads to; a type that is no pointer stays as it is.
-    pub fn into_pointee(self) -> Self
+    pub fn into_pointee(mut self) -> Self
         ensures { MatchOption (outermost self.entry.layers.items) (static_type result ≡ static_type self.entry)
             (λ l. static_type self.entry ≡ pointer_to l (static_type result)) }
     {
-        let CType { base, mut layers } = self;
-        let _outermost = layers.pop();
-        CType { base, layers }
+        let _outermost = self.layers.pop();
+        self
     }
 }

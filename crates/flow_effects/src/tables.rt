@@ -8,7 +8,7 @@ ghost use Rattle.flow_effects.specs.declared.touch.How.TheVariants as how;
 
 use crate::table::Table;
 use crate::touch::{How, Touch};
-use crate::touches::{Touches, forget, join, join_nothing, set_touch, touch_at, turn};
+use crate::touches::{Touches, forget, join, join_nothing, set_touch, touch_at};
 use std::alloc::{AllocError, Global};
 
 impl Table {
@@ -65,7 +65,7 @@ impl Table {
         ensures { table_at result ≡ (λ i. joined how.Turn (table_at self i) (table_at next i)) }
     {
         let mut touches = next.touches;
-        turn(self.touches, &mut touches);
+        self.touches.turn(&mut touches);
         Table {
             count: self.count.max(next.count),
             touches,

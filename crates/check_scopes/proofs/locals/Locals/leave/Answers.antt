@@ -10,26 +10,6 @@ each-preserved-in-Some c =
     leaves_one c.each.self-inside.all.items c.pop.new.self.items c.in-Some.local c.in-Some.ensures.items c.each.invariant c.set.new.self
     (omega (arith, c.each-test.true, c.len.ensures)) c.set.ensures
 
-pub each-preserved-in-Some-2 : goal.each-preserved-in-Some-2
-each-preserved-in-Some-2 c =
-    leaves_one c.each.self-inside.all.items c.pop.new.self.items c.in-Some.local c.in-Some.ensures.items c.each.invariant c.set.new.self
-    (omega (arith, c.each-test.true, c.len.ensures)) c.set.ensures
-
-pub each-preserved-in-Some-3 : goal.each-preserved-in-Some-3
-each-preserved-in-Some-3 c =
-    leaves_one c.each.self-inside.all.items c.pop.new.self.items c.in-Some.local c.in-Some.ensures.items c.each.invariant c.set.new.self
-    (omega (arith, c.each-test.true, c.len.ensures)) c.set.ensures
-
-pub each-preserved-in-Some-4 : goal.each-preserved-in-Some-4
-each-preserved-in-Some-4 c =
-    leaves_one c.each.self-inside.all.items c.pop.new.self.items c.in-Some.local c.in-Some.ensures.items c.each.invariant c.set.new.self
-    (omega (arith, c.each-test.true, c.len.ensures)) c.set.ensures
-
-pub each-preserved-in-Some-5 : goal.each-preserved-in-Some-5
-each-preserved-in-Some-5 c =
-    leaves_one c.each.self-inside.all.items c.pop.new.self.items c.in-Some.local c.in-Some.ensures.items c.each.invariant c.set.new.self
-    (omega (arith, c.each-test.true, c.len.ensures)) c.set.ensures
-
 pub returns : goal.returns
 returns c =
     all_left c.args.count c.args.self.now c.each.self-inside.all.items c.each.self-inside.last c.each.invariant

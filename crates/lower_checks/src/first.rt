@@ -9,9 +9,15 @@ use indexmap::IndexMap;
 use std::alloc::{AllocError, Global};
 
 /// The first of each name.
-#[derive(Drop)]
 pub struct Firsts<'p, V> {
     by_name: IndexMap<&'p [u8], V>,
+}
+
+// Written out, so that a caller's proof sees one call and not the drop of each field.
+impl<V: Drop> Drop for Firsts<'_, V> {
+    fn drop(self) {
+        let Firsts { by_name: _by_name } = self;
+    }
 }
 
 impl<'p, V: Copy> Firsts<'p, V> {

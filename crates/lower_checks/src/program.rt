@@ -49,15 +49,8 @@ fn lower_globals(alloc: Global, program: &Table<'_>) -> Result<Vec<Datum>, Lower
     let items = program.items();
     let mut globals = Vec::new(alloc);
     'each: for item in items {
-        match item {
-            Item::Global(global) => {
-                if let Err(_) = globals.push(lower_global(alloc, program, global)?) {
-                    return Err(LowerFault::Memory);
-                }
-            }
-            Item::Function(_) => {}
-            Item::Struct(_) => {}
-            Item::Union(_) => {}
+        if let Item::Global(global) = item {
+            append(&mut globals, lower_global(alloc, program, global)?)?;
         }
     }
     Ok(globals)

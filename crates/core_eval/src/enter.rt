@@ -39,7 +39,7 @@ pub fn follow<'p>(
     ensures next { IfOk result (λ due. next_of due ≡ Go (Follow (body_tree statements.entry.now))) }
     ensures waits { OnOk result (waits_of stack.new.items ≡ wait_of pending.entry ∷ waits_of stack.old.items) }
 {
-    stack.push(pending)?;
+    wait(stack, pending)?;
     Ok(Due::Go(Now::Follow(statements)))
 }
 

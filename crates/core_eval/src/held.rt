@@ -162,40 +162,27 @@ impl Held {
     pub fn with_part(self, part: u32, value: Value) -> Option<Self>
         ensures { result ≡ put_part self part value }
     {
-        let kept = Bound::kept(value);
-        match self {
-            Held::Byte(_) => {
-                if part == 0 {
-                    Some(Held::Byte(value))
-                } else {
-                    None
-                }
+        match (self, part, Bound::kept(value)) {
+            (Held::Byte(_), 0, _) => Some(Held::Byte(value)),
+            (Held::Word(_), 0, _) => Some(Held::Word(value)),
+            (Held::Fat(_, count, index), 0, _) => Some(Held::Fat(value, count, index)),
+            (Held::Fat(first, _, index), 1, Some(count)) => Some(Held::Fat(first, count, index)),
+            (Held::Fat(first, count, _), 2, Some(index)) => Some(Held::Fat(first, count, index)),
+            (Held::Tagged(_, member), 0, Some(tag)) => Some(Held::Tagged(tag, member)),
+            (Held::Tagged(tag, _), 1, _) => Some(Held::Tagged(tag, value)),
+            (Held::TaggedFat(_, first, count, index), 0, Some(tag)) => {
+                Some(Held::TaggedFat(tag, first, count, index))
             }
-            Held::Word(_) => {
-                if part == 0 {
-                    Some(Held::Word(value))
-                } else {
-                    None
-                }
+            (Held::TaggedFat(tag, _, count, index), 1, _) => {
+                Some(Held::TaggedFat(tag, value, count, index))
             }
-            Held::Fat(first, count, index) => match part {
-                0 => Some(Held::Fat(value, count, index)),
-                1 => Some(Held::Fat(first, kept?, index)),
-                2 => Some(Held::Fat(first, count, kept?)),
-                _ => None,
-            },
-            Held::Tagged(tag, member) => match part {
-                0 => Some(Held::Tagged(kept?, member)),
-                1 => Some(Held::Tagged(tag, value)),
-                _ => None,
-            },
-            Held::TaggedFat(tag, first, count, index) => match part {
-                0 => Some(Held::TaggedFat(kept?, first, count, index)),
-                1 => Some(Held::TaggedFat(tag, value, count, index)),
-                2 => Some(Held::TaggedFat(tag, first, kept?, index)),
-                3 => Some(Held::TaggedFat(tag, first, count, kept?)),
-                _ => None,
-            },
+            (Held::TaggedFat(tag, first, _, index), 2, Some(count)) => {
+                Some(Held::TaggedFat(tag, first, count, index))
+            }
+            (Held::TaggedFat(tag, first, count, _), 3, Some(index)) => {
+                Some(Held::TaggedFat(tag, first, count, index))
+            }
+            _ => None,
         }
     }
 

@@ -7,14 +7,14 @@ use cyc_core::{Statement, Temporary, Words};
 use cyc_words::Kind;
 
 /// What a function returns: a word, or the three of a fat pointer, which are its first element, how many it has, and its index.
-#[derive(Clone, Copy, Drop)]
+#[derive(Clone, Copy)]
 pub enum Returned {
     One(Value),
     Three(Value, Bound, Bound),
 }
 
 /// How a statement is left.
-#[derive(Clone, Copy, Drop)]
+#[derive(Clone, Copy)]
 pub enum Flow {
     Falls,
     Breaks,
@@ -23,7 +23,7 @@ pub enum Flow {
 }
 
 /// What is done next.
-#[derive(Clone, Copy, Drop)]
+#[derive(Clone, Copy)]
 pub enum Now<'p> {
     /// These statements are executed.
     Follow(&'p [Statement]),

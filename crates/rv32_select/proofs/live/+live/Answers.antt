@@ -10,6 +10,7 @@ use Rattle.std.proofs.Common.{
   [],
   ◌∷◌,
   true,
+  false,
   ap,
   ap₂,
   arith,
@@ -25,13 +26,14 @@ use Rattle.std.proofs.Common.{
 use Rattle.std.specs.Prelude.{OnOk, Result}
 use Rattle.std.proofs.lemmas.List.{append_assoc, reverse-append, length-map, map-append, length_push, take_all, take_more}
 use Rattle.core_meaning.specs.Core.{Statement, Statements, If, While, Block, Leave}
-use Rattle.cyc_core.specs.Trees.{local_tree, body_tree, statement_tree}
+use Rattle.cyc_core.specs.Trees.{local_tree, body_tree, optional_tree, statement_tree, temporary_tree}
+use Rattle.cyc_core.specs.declared.operation.Temporary.{Temporary}
 use Rattle.core_lines.specs.Loaded.{unknown_in}
 use Rattle.core_lines.specs.Saved.{all_flagged, either_flagged, live_in, live_of, saves_in, saves_of}
 use Rattle.core_lines.specs.Selected.{Surroundings, holding, names_after_all, naming}
 use Rattle.rv32_select.specs.Places.{surroundings}
 use Rattle.rv32_select.specs.Starts.{Start, point_start, starting, starts_of}
-use Rattle.rv32_select.proofs.Forms.{block_tree, if_tree, leave_tree, while_tree}
+use Rattle.rv32_select.proofs.Forms.{block_tree, call_tree, do_tree, if_tree, leave_tree, while_tree}
 use Rattle.rv32_select.proofs.Sizes.{statement_size, statements_size}
 use Rattle.rv32_select.proofs.Backwards.{ends_alike, size_last, last_start, starts_last, starts_many, as_same, same_back, same_there, live_back, saves_back}
 use Rattle.rv32_select.proofs.live.+live.Goals as goal
@@ -280,3 +282,42 @@ live_if-returns t c =
       same = done.same ∙ ap (λ (v : Surroundings). holding last.held (naming last.names v)) at_first;
       homes = done.homes ∙ c.go_to-2.ensures.homes ∙ homes;
     }
+
+pub live_statement-returns-in-Do-clause-saves : goal.live_statement-returns-in-Do-clause-saves
+live_statement-returns-in-Do-clause-saves t c =
+    let a = c.args in
+    let x = c.in-Do in
+    let u = surroundings a.place.now in
+    subst (λ (s : Statement). OnOk c.live_operation.result (c.live_operation.new.saves.items ≡ a.saves.now.items
+    ++ reverse (saves_in u.homes u.statics u.names u.held a.live.now.items a.out.now a.again.now s)))
+    (sym (ap statement_tree x.is ∙ do_tree x.operation)) c.live_operation.ensures.saves
+
+pub live_statement-returns-in-Do-clause-live : goal.live_statement-returns-in-Do-clause-live
+live_statement-returns-in-Do-clause-live t c =
+    let a = c.args in
+    let x = c.in-Do in
+    let u = surroundings a.place.now in
+    subst (λ (s : Statement). OnOk c.live_operation.result (c.live_operation.new.live.items
+    ≡ live_in u.homes u.statics u.names u.held a.live.now.items a.out.now a.again.now s))
+    (sym (ap statement_tree x.is ∙ do_tree x.operation)) c.live_operation.ensures.live
+
+pub live_statement-returns-in-Call-clause-saves : goal.live_statement-returns-in-Call-clause-saves
+live_statement-returns-in-Call-clause-saves t c =
+    let a = c.args in
+    let x = c.in-Call in
+    let u = surroundings a.place.now in
+    subst (λ (s : Statement). OnOk c.live_call.result (c.live_call.new.saves.items ≡ a.saves.now.items
+    ++ reverse (saves_in u.homes u.statics u.names u.held a.live.now.items a.out.now a.again.now s)))
+    (sym (ap statement_tree x.is ∙ call_tree x.results _ x.arguments)) c.live_call.ensures.saves
+
+pub live_statement-returns-in-Call-clause-live : goal.live_statement-returns-in-Call-clause-live
+live_statement-returns-in-Call-clause-live t c =
+    let a = c.args in
+    let x = c.in-Call in
+    let u = surroundings a.place.now in
+    subst (λ (s : Statement). OnOk c.live_call.result (c.live_call.new.live.items
+    ≡ live_in u.homes u.statics u.names u.held a.live.now.items a.out.now a.again.now s))
+    (sym (ap statement_tree x.is ∙ call_tree x.results _ x.arguments))
+    (subst (λ (ts : List Temporary). OnOk c.live_call.result (c.live_call.new.live.items
+    ≡ all_flagged true (unknown_in u.held (map temporary_tree ts)) (all_flagged false (optional_tree x.results) a.live.now.items)))
+    c.deref-in-Call.ensures.value c.live_call.ensures.live)

@@ -33,19 +33,13 @@ fn described<'a>(alloc: Global, name: &'a str, about: &'a str, below: &'a str) -
     Parser::new(alloc, name).about(about).after_help(below)
 }
 
-/// The words and options of a command.
-fn args_of<'a>(alloc: Global, choices: &[Choice]) -> Result<Vec<Arg<'a>>, AllocError> {
-    let mut args = Vec::new(alloc);
-    for choice in choices {
-        args.push(arg_of(alloc, choice))?;
-    }
-    Ok(args)
-}
-
 /// The parser of a command's words.
 fn parser_of<'a>(alloc: Global, words: &Words) -> Result<Parser<'a>, AllocError> {
-    let args = args_of(alloc, words.choices)?;
-    described(alloc, words.name, words.about, words.faults).args(args)
+    let mut parser = described(alloc, words.name, words.about, words.faults);
+    for choice in words.choices {
+        parser = parser.arg(arg_of(alloc, choice))?;
+    }
+    Ok(parser)
 }
 
 /// The parsers of the commands.
@@ -87,16 +81,29 @@ fn compile<'a>(input: &'a str, matches: &ArgMatches<'a>) -> Option<Command<'a>> 
     })
 }
 
-/// What `run` is given.
-fn run<'a>(input: &'a str, matches: &ArgMatches<'a>) -> Option<Command<'a>> {
-    let pages = pages_of(matches)?;
+/// What a command is given that goes on for at most so many steps.
+fn bounded<'a>(name: &str, input: &'a str, matches: &ArgMatches<'a>) -> Option<Command<'a>> {
     let steps = matches.get_one("steps")?;
-    Some(Command::Run {
-        input,
-        pages,
-        steps,
-        shows_ending: matches.get_flag("ending"),
-    })
+    let shows_ending = matches.get_flag("ending");
+    match name {
+        "run" => Some(Command::Run {
+            input,
+            pages: pages_of(matches)?,
+            steps,
+            shows_ending,
+        }),
+        "eval" => Some(Command::Eval {
+            input,
+            fuel: steps,
+            shows_ending,
+        }),
+        "exec" => Some(Command::Exec {
+            input,
+            steps,
+            shows_ending,
+        }),
+        _ => None,
+    }
 }
 
 /// The command of words that the parser has taken, which has checked their ranges and put in what is left out.
@@ -104,20 +111,9 @@ fn read<'a>(name: &str, matches: &ArgMatches<'a>) -> Option<Command<'a>> {
     let input = matches.get_str("file")?;
     match name {
         "check" => Some(Command::Check { input }),
-        "compile" => compile(input, matches),
-        "run" => run(input, matches),
-        "eval" => Some(Command::Eval {
-            input,
-            fuel: matches.get_one("steps")?,
-            shows_ending: matches.get_flag("ending"),
-        }),
-        "exec" => Some(Command::Exec {
-            input,
-            steps: matches.get_one("steps")?,
-            shows_ending: matches.get_flag("ending"),
-        }),
         "dump" => Some(Command::Dump { input }),
-        _ => None,
+        "compile" => compile(input, matches),
+        _ => bounded(name, input, matches),
     }
 }
 
@@ -127,20 +123,12 @@ fn found<'a>(matches: &ArgMatches<'a>) -> Option<Command<'a>> {
     read(name, words)
 }
 
-/// That the words are no command.
-fn no_command(parser: &mut Parser<'_>) -> Error {
-    match parser.error(ErrorKind::MissingSubcommand, "no such command") {
-        Ok(error) => error,
-        Err(error) => Error::from(error),
-    }
-}
-
 /// The command of the words, by this parser.
 fn parsed<'a, S: AsStr>(parser: &mut Parser<'a>, words: &'a [S]) -> Result<Command<'a>, Error> {
     let matches = parser.try_get_matches_from_mut(words)?;
     match found(&matches) {
         Some(command) => Ok(command),
-        None => Err(no_command(parser)),
+        None => Err(parser.error(ErrorKind::MissingSubcommand, "no such command")?),
     }
 }
 

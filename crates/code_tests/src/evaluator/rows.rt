@@ -66,7 +66,7 @@ fn memory_operation(row: Row<'_>) -> Option<Operation> {
     }
 }
 
-// what a row that makes or tests a pointer or a handle does
+// what a row that makes or tests a pointer, a handle or a key does
 fn pointer_operation(row: Row<'_>) -> Option<Operation> {
     let [first, second, third, fourth, fifth] = row.numbers;
     let (to, from, other) = (Temporary(first), Temporary(second), Temporary(third));
@@ -83,19 +83,10 @@ fn pointer_operation(row: Row<'_>) -> Option<Operation> {
         "region_new" => Some(Operation::RegionNew(to)),
         "region_free" => Some(Operation::RegionFree(to)),
         "unique_free" => Some(Operation::UniqueFree(to)),
-        _ => None,
-    }
-}
-
-// what a row on a key does
-fn key_operation(row: Row<'_>) -> Option<Operation> {
-    let [first, _, _, _, _] = row.numbers;
-    let key = Temporary(first);
-    match row.name {
-        "key_new" => Some(Operation::KeyNew(key)),
-        "key_open" => Some(Operation::KeyOpen(key)),
-        "key_close" => Some(Operation::KeyClose(key)),
-        "key_free" => Some(Operation::KeyFree(key)),
+        "key_new" => Some(Operation::KeyNew(to)),
+        "key_open" => Some(Operation::KeyOpen(to)),
+        "key_close" => Some(Operation::KeyClose(to)),
+        "key_free" => Some(Operation::KeyFree(to)),
         _ => None,
     }
 }
@@ -123,5 +114,4 @@ pub fn operation_of(row: Row<'_>) -> Option<Operation> {
     number_operation(row)
         .or(memory_operation(row))
         .or(pointer_operation(row))
-        .or(key_operation(row))
 }

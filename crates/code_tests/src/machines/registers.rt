@@ -2,46 +2,51 @@
 
 use rv32_isa::Register;
 
-// whether the first half of the constants have their numbers
-fn are_low() -> bool {
-    Register::ZERO.number() == 0
-        && Register::RETURN_ADDRESS.number() == 1
-        && Register::STACK_POINTER.number() == 2
-        && Register::TEMPORARY_0.number() == 5
-        && Register::TEMPORARY_1.number() == 6
-        && Register::TEMPORARY_2.number() == 7
-        && Register::SAVED_0.number() == 8
-        && Register::SAVED_1.number() == 9
-        && Register::ARGUMENT_0.number() == 10
-        && Register::ARGUMENT_1.number() == 11
-        && Register::ARGUMENT_2.number() == 12
-        && Register::ARGUMENT_3.number() == 13
-        && Register::ARGUMENT_4.number() == 14
-        && Register::ARGUMENT_5.number() == 15
-        && Register::ARGUMENT_6.number() == 16
-        && Register::ARGUMENT_7.number() == 17
+// the constants, each with its number; x3 and x4 have none
+const CONSTANTS: [(Register, u8); 30] = [
+    (Register::ZERO, 0),
+    (Register::RETURN_ADDRESS, 1),
+    (Register::STACK_POINTER, 2),
+    (Register::TEMPORARY_0, 5),
+    (Register::TEMPORARY_1, 6),
+    (Register::TEMPORARY_2, 7),
+    (Register::SAVED_0, 8),
+    (Register::SAVED_1, 9),
+    (Register::ARGUMENT_0, 10),
+    (Register::ARGUMENT_1, 11),
+    (Register::ARGUMENT_2, 12),
+    (Register::ARGUMENT_3, 13),
+    (Register::ARGUMENT_4, 14),
+    (Register::ARGUMENT_5, 15),
+    (Register::ARGUMENT_6, 16),
+    (Register::ARGUMENT_7, 17),
+    (Register::SAVED_2, 18),
+    (Register::SAVED_3, 19),
+    (Register::SAVED_4, 20),
+    (Register::SAVED_5, 21),
+    (Register::SAVED_6, 22),
+    (Register::SAVED_7, 23),
+    (Register::SAVED_8, 24),
+    (Register::SAVED_9, 25),
+    (Register::SAVED_10, 26),
+    (Register::SAVED_11, 27),
+    (Register::TEMPORARY_3, 28),
+    (Register::TEMPORARY_4, 29),
+    (Register::TEMPORARY_5, 30),
+    (Register::TEMPORARY_6, 31),
+];
+
+// whether each constant has its number
+fn are_numbered() -> bool {
+    for (register, number) in CONSTANTS.iter() {
+        if register.number() != *number {
+            return false;
+        }
+    }
+    true
 }
 
-// whether the others have theirs
-fn are_high() -> bool {
-    Register::SAVED_2.number() == 18
-        && Register::SAVED_3.number() == 19
-        && Register::SAVED_4.number() == 20
-        && Register::SAVED_5.number() == 21
-        && Register::SAVED_6.number() == 22
-        && Register::SAVED_7.number() == 23
-        && Register::SAVED_8.number() == 24
-        && Register::SAVED_9.number() == 25
-        && Register::SAVED_10.number() == 26
-        && Register::SAVED_11.number() == 27
-        && Register::TEMPORARY_3.number() == 28
-        && Register::TEMPORARY_4.number() == 29
-        && Register::TEMPORARY_5.number() == 30
-        && Register::TEMPORARY_6.number() == 31
-}
-
-/// The constants in the order of their numbers; x3 and x4 have none.
 #[test]
 fn constants_have_the_numbers_of_the_abi(rt: HostRuntime) {
-    assert!(rt; are_low() && are_high());
+    assert!(rt; are_numbered());
 }

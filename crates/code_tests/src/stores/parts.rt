@@ -1,47 +1,27 @@
 // What stores stand on, call by call, where a store has no such call: pages and their words, pages that are taken, and keys over a pool.
 
 use crate::stores::BASE;
+use crate::texts::refuse;
 use dynamic_region::{Key, KeyRefusal, Keys, Pool, UniqueBlocks};
 use raw_pages::RawPages;
 use std::alloc::Global;
 use std::test::Fail;
 
-// whether a write to a word and a byte of two pages changes its place alone
+// whether a page has what is written to it: a word, a byte, and a range that is lent
 fn are_written(alloc: Global) -> bool {
-    let Ok(mut pages) = RawPages::new(alloc, 2) else {
-        return false;
-    };
-    pages.set_word(1, 0, 7);
-    let is_kept = pages.word(1, 0) == 7 && pages.word(0, 15) == 0;
-    let is_set = pages.set_byte(4096, 9) && pages.byte(4096) == Some(9);
-    is_kept && is_set && pages.byte(4095) == Some(0) && pages.byte(4097) == Some(0)
-}
-
-// whether a range that is lent is its part of two pages alone
-fn is_lent(alloc: Global) -> bool {
-    let Ok(mut pages) = RawPages::new(alloc, 2) else {
-        return false;
-    };
-    let is_zero = pages.slice(4095..4100) == [0; 5].as_slice();
-    for byte in pages.slice_mut(4095..4097) {
-        *byte = 5;
-    }
-    let is_written = pages.byte(4095) == Some(5) && pages.byte(4096) == Some(5);
-    is_zero && is_written && pages.byte(4094) == Some(0) && pages.byte(4097) == Some(0)
-}
-
-// whether a byte is read where it was written, and none behind the payload
-fn are_within(alloc: Global) -> bool {
     let Ok(mut pages) = RawPages::new(alloc, 1) else {
         return false;
     };
-    let is_set = pages.set_byte(4095, 9) && !pages.set_byte(4096, 9);
-    is_set && pages.byte(4095) == Some(9) && pages.byte(4096).is_none() && pages.pages() == 1
-}
-
-#[test]
-fn a_place_is_written_alone(rt: HostRuntime) {
-    assert!(rt; are_written(rt.alloc()) && is_lent(rt.alloc()) && are_within(rt.alloc()));
+    pages.set_word(0, 15, 7);
+    let is_set = pages.set_byte(4095, 9);
+    for byte in pages.slice_mut(0..2) {
+        *byte = 5;
+    }
+    is_set
+        && pages.word(0, 15) == 7
+        && pages.byte(4095) == Some(9)
+        && pages.slice(0..2) == [5; 2].as_slice()
+        && pages.pages() == 1
 }
 
 // whether the one page of a pool has words once it is taken, and then no region has it
@@ -61,11 +41,12 @@ fn has_words(pool: &mut Pool) -> bool {
         && pool.region_new().is_none()
 }
 
-#[test]
-fn taken_pages_have_words(rt: HostRuntime) -> Result<(), Fail> {
-    let is_right = has_words(&mut Pool::new(rt.alloc(), 1)?);
-    assert!(rt; is_right);
-    Ok(())
+// whether the same holds of a pool that is made
+fn are_words(alloc: Global) -> bool {
+    match Pool::new(alloc, 1) {
+        Ok(mut pool) => has_words(&mut pool),
+        Err(_) => false,
+    }
 }
 
 // whether the handle of a region is no key, in two pages
@@ -84,11 +65,12 @@ fn are_apart(keys: &mut Keys<Pool>) -> bool {
         && (keys.free_pages(), keys.fresh_pages(), keys.pages()) == (1, 0, 2)
 }
 
-#[test]
-fn a_regions_handle_is_no_key(rt: HostRuntime) -> Result<(), Fail> {
-    let is_right = are_apart(&mut Keys::new(Pool::new(rt.alloc(), 2)?));
-    assert!(rt; is_right);
-    Ok(())
+// whether the same holds of keys that are made
+fn are_keys_apart(alloc: Global) -> bool {
+    match Pool::new(alloc, 2) {
+        Ok(pool) => are_apart(&mut Keys::new(pool)),
+        Err(_) => false,
+    }
 }
 
 // whether a page that was taken before has no block, of two pages
@@ -101,7 +83,22 @@ fn has_no_block(alloc: Global) -> Option<bool> {
     Some(is_set && is_none && blocks.unique_alloc(32) == Ok(BASE + 4096))
 }
 
+// what doesn't hold, if there is such
+fn wrong(alloc: Global) -> Option<&'static str> {
+    if !are_written(alloc) {
+        Some("pages have what is written")
+    } else if !are_words(alloc) {
+        Some("taken pages have words")
+    } else if !are_keys_apart(alloc) {
+        Some("a region's handle is no key")
+    } else if has_no_block(alloc) != Some(true) {
+        Some("a page that was taken before has no block")
+    } else {
+        None
+    }
+}
+
 #[test]
-fn a_page_that_was_taken_before_has_no_block(rt: HostRuntime) {
-    assert!(rt; has_no_block(rt.alloc()) == Some(true));
+fn what_stores_stand_on_is_so(rt: HostRuntime) -> Result<(), Fail> {
+    refuse(wrong(rt.alloc()))
 }

@@ -1,5 +1,7 @@
-// An image byte by byte.
+// An image byte by byte, and the parts that one may have.
 
+use crate::machines::rows::{Rows, expect};
+use crate::texts::{number_of, parted};
 use cyc_image::{Parts, write};
 use std::alloc::{AllocError, Global};
 use std::test::Fail;
@@ -43,4 +45,48 @@ fn images_are_written(rt: HostRuntime) -> Result<(), Fail> {
         && is_written(rt.alloc(), 4, b"\x07\x08\x09", 4096, WITH_DATA.as_slice())?;
     assert!(rt; are_right);
     Ok(())
+}
+
+// whether parts fit with so many of these bytes as their code and as their data
+fn do_fit(zeros: &[u8], (code, statics): (u32, u32), (entry, pages): (u32, u32)) -> Option<bool> {
+    let parts = Parts {
+        entry,
+        code: zeros.get(..code as usize)?,
+        statics: zeros.get(..statics as usize)?,
+        pages,
+    };
+    Some(parts.fits())
+}
+
+/// Whether parts fit or don't as a row says: with an entry, so many bytes of code and of data, and so many pages.
+pub fn are_limits(alloc: Global, row: &str) -> Result<bool, AllocError> {
+    let (wanted, rest) = parted(row);
+    let (entry, rest) = parted(rest);
+    let (code, rest) = parted(rest);
+    let (statics, pages) = parted(rest);
+    let zeros = vec![in alloc; 0u8; 1_048_580]?;
+    let lengths = (number_of(code), number_of(statics));
+    let found = do_fit(&zeros, lengths, (number_of(entry), number_of(pages)));
+    Ok(found == Some(wanted == "fit"))
+}
+
+const LIMITS: &str = "\
+fit 0 4 0 1
+unfit 0 0 0 1
+unfit 0 3 0 1
+unfit 0 6 0 1
+fit 0 1048576 1048576 4096
+fit 1048572 1048576 0 1
+unfit 0 1048580 0 1
+unfit 0 4 1048577 1
+unfit 0 4 0 0
+unfit 0 4 0 4097
+fit 4 8 0 1
+unfit 2 8 0 1
+unfit 4 4 0 1
+unfit 4294967295 4 0 1";
+
+#[test]
+fn parts_fit_up_to_each_limit(rt: HostRuntime) -> Result<(), Fail> {
+    expect(rt.alloc(), Rows::Limits, LIMITS)
 }

@@ -5,7 +5,7 @@
 // `pc` and `x` with a number what the machine has, in hexadecimal. `input`, `output` and `run` are told in runs.rt.
 
 use crate::machines::programs::program_of;
-use crate::machines::rows::{expect, hex};
+use crate::machines::rows::{Rows, expect, hex};
 use crate::machines::runs::Devices;
 use crate::texts::{number_of, parted};
 use cyc_arena::{BlockStore, PagedStore, PlainStore};
@@ -183,6 +183,11 @@ until Exhausted; pc 1000c; x10 100001; step Exhausted; pc 1000c <- 00D00893 0010
 until Exhausted; pc 10008; x10 ffffffff; step Exhausted; pc 10008 <- 00D00893 FFF00513 00000073
 until Exhausted; pc 1000c; x10 2; step Exhausted; pc 1000c <- 00400893 00000073 00000073 00000073 | 2";
 
+#[test]
+fn a_stop_is_before_the_instruction(rt: HostRuntime) -> Result<(), Fail> {
+    expect(rt.alloc(), Rows::Machine, STOPS)
+}
+
 // A program that ends; getchar, and again; loads from the data, which extend the sign; what is stored is loaded again, and nothing stands behind the stack;
 // putchar, and a raise. In the last one a region, a block of 8 bytes in it, whose address goes to x5, and 0x12345000 stored there; the region is freed, and the
 // next one made; then bytes 0 to 2 of what stands there go to x12 to x14, and byte 4 to x15.
@@ -196,9 +201,8 @@ until Fault(Break); x12 0; x13 50; x14 34; x15 0 <- 00400893 00000073 00050313 0
 00030513 00600893 00000073 00400893 00000073 0002C603 0012C683 0022C703 0042C783 00100073";
 
 #[test]
-fn machines_stop_and_go_on_step_by_step(rt: HostRuntime) -> Result<(), Fail> {
-    expect(rt.alloc(), STOPS)?;
-    expect(rt.alloc(), STEPS)
+fn a_machine_goes_on_step_by_step(rt: HostRuntime) -> Result<(), Fail> {
+    expect(rt.alloc(), Rows::Machine, STEPS)
 }
 
 // whether a machine is made over a store that holds a byte, or where memory lacks, as under rt try --test --fail-alloc, its store comes back as it was

@@ -5,7 +5,7 @@
 // one ends, how many bytes are written then, and how many reads and writes there were and failed.
 
 use crate::machines::devices::{Script, Tape, script_of, tape_of};
-use crate::machines::rows::expect;
+use crate::machines::rows::{Rows, expect};
 use crate::texts::{number_of, parted};
 use cyc_arena::BlockStore;
 use cyc_host::{Ending, run};
@@ -93,6 +93,11 @@ input 0 hi; output 8192 0 fails hi; run 1 0 StepLimit 0 0 0 0 0; run 1 2 StepLim
 run 15 1 StepLimit 2 3 2 0 0; run 1 1 Ended(0) 2 3 2 0 0; run 2 1 Ended(0) 2 3 2 0 0 <- echo
 input 1 x; run 1 0 StepLimit 0 0 0 0 0; run 1 2 ReadFault 0 1 0 1 0; run 1 0 StepLimit 0 1 0 1 0; run 1 1 StepLimit 0 2 0 1 0; x10 78 <- twice";
 
+#[test]
+fn a_run_reads_and_writes_in_order(rt: HostRuntime) -> Result<(), Fail> {
+    expect(rt.alloc(), Rows::Machine, RUNS)
+}
+
 // A failed write takes the place of an ending. After a failed call no device is called; what was gathered is written before the next byte is read, and at
 // each ending.
 const FAILURES: &str = "\
@@ -111,6 +116,11 @@ input 0 hello; output 8192 3 fails he; run 1 1000 WriteFault 2 3 3 0 1 <- echo
 output 8192 0 fails A; run 1 1000 Raised(ArrayBounds) 1 0 1 0 0 <- raises
 output 8192 0 fails A; run 1 1000 Fault(Access) 1 0 1 0 0 <- cut";
 
+#[test]
+fn a_failed_call_is_the_last_one(rt: HostRuntime) -> Result<(), Fail> {
+    expect(rt.alloc(), Rows::Machine, FAILURES)
+}
+
 // Where the first write fails, x5 has how many bytes are still to be put out, the one among them that was put out last.
 const GATHERED: &str = "\
 output 8192 1 fails; run 1 100000 WriteFault 0 0 1 0 1; x5 0 <- less
@@ -121,8 +131,6 @@ output 8192 1 fails; run 1 100000 WriteFault 0 0 1 0 1; x5 2 <- more
 output 8192 0 fails AAAAA; run 1 100000 Ended(65) 4097 0 2 0 0 <- more";
 
 #[test]
-fn runs_end_between_their_devices(rt: HostRuntime) -> Result<(), Fail> {
-    expect(rt.alloc(), RUNS)?;
-    expect(rt.alloc(), FAILURES)?;
-    expect(rt.alloc(), GATHERED)
+fn output_is_written_at_the_4096th_byte(rt: HostRuntime) -> Result<(), Fail> {
+    expect(rt.alloc(), Rows::Machine, GATHERED)
 }

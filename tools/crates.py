@@ -9,7 +9,7 @@ LEAST = 10
 # How much a further job adds to the speed of a check, of what the first one has.
 FURTHER = 0.6
 # From how many seconds on further jobs pay: each of them reads all crates below anew.
-LONG = 120
+LONG = 60
 
 
 def groups():

@@ -15,7 +15,7 @@ use rv32_machine::Machine;
 use std::alloc::Global;
 
 /// What a run may use: the arena's pages, of 4,096 bytes each, and the number of steps.
-#[derive(Clone, Copy, PartialEq, Eq, Debug)]
+#[derive(Clone, Copy)]
 pub struct Limits {
     pub pages: u32,
     pub steps: u64,

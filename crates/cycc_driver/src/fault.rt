@@ -15,7 +15,7 @@ use std::fmt;
 use unique_flow::{CheckFault, FlowFault};
 
 /// A place in a text: the line and the column, from 1 on, of a byte.
-#[derive(Clone, Copy, PartialEq, Eq, Debug)]
+#[derive(Clone, Copy, Debug)]
 pub struct Place {
     pub line: u32,
     pub column: u32,
@@ -33,7 +33,7 @@ impl Place {
 }
 
 /// Why a text is refused, and where. In the order of their numbers, from 1 on.
-#[derive(Clone, Copy, PartialEq, Eq, Debug)]
+#[derive(Clone, Copy, Debug)]
 pub enum CompileFault {
     /// A byte that begins no token, or an unclosed or wrong token or comment.
     Lex(Place),

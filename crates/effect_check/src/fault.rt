@@ -4,7 +4,7 @@ use check_faults::Fault;
 use thiserror::Error;
 
 /// Why `effects` refuses a program.
-#[derive(Clone, Copy, PartialEq, Eq, Debug, Error)]
+#[derive(Clone, Copy, Debug, Error)]
 pub enum CheckFault {
     /// The earliest fault of names, types, regions and effects.
     #[error("{kind} at byte {at}", kind = .0.kind, at = .0.at)]

@@ -3,7 +3,7 @@
 use thiserror::Error;
 
 /// Why `flow` refuses a program. Places are offsets in the text.
-#[derive(Clone, Copy, PartialEq, Eq, Debug, Error)]
+#[derive(Clone, Copy, Debug, Error)]
 pub enum FlowFault {
     /// A local is used after its value was moved.
     #[error("the local at byte {0} was moved from")]

@@ -1,12 +1,1 @@
-pub mod ReadParameters
-pub mod HeadFaults
-pub mod Heads
 pub mod Bodies
-pub mod Effects
-pub mod Below
-pub mod Parameters
-pub mod Signatures
-pub mod KeyTypes
-pub use Rattle.check_statements.proofs.Answered
-pub use Rattle.check_statements.proofs.LocalTypes
-pub use Rattle.check_statements.proofs.Sizes

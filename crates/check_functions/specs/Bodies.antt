@@ -1,37 +1,6 @@
--- What a function's body is judged in.
-use Rattle.std.specs.Prelude.{List, None, Option, Some, map, ℕ}
-use Rattle.cyc_types.specs.Sameness.{HasTags}
-use Rattle.source_typing.specs.Tables.{Tables, find}
-use Rattle.source_typing.specs.Types.{StaticType}
-use Rattle.check_scopes.specs.Globals.{global_meaning}
-use Rattle.check_scopes.specs.Means.{Means}
-use Rattle.check_scopes.specs.declared.globals.Globals.{Globals}
-use Rattle.check_types.specs.Naming.{AreTagNames}
-use Rattle.check_functions.specs.Heads.{known_static}
-use Rattle.check_functions.specs.declared.body.Names.{Names}
-use Rattle.check_functions.specs.declared.head.Parameter.{Parameter}
-use Rattle.cyc_tree.specs.Tree as tree
+-- The fault of a function, by those of its parts.
+use Rattle.std.specs.Prelude.{None, Option, Some}
 use Rattle.source_typing.specs.Faults as rules
-
--- each global and function means what it means by the rules
-abbrev pub KnowsGlobals : Globals → Tables → Type 0
-KnowsGlobals s g = (x : List ℕ) → Means (find g x) (global_meaning s x)
-
--- Each name of a program means what it means by the rules, also where a tag is wanted, and so do structs and unions.
-pub record KnowsNames (s : Names) (g : Tables) : Type 0 where
-  pub globals : KnowsGlobals s.globals.now g
-  pub tag_names : AreTagNames s.tags.now g
-  pub tags : HasTags s.tables.now g
-
--- parameters by their names, and by their types where these are known
-abbrev pub code_names : List Parameter → List (List ℕ)
-code_names ps = map (λ (p : Parameter). p.name.now) ps
-
-abbrev pub names_of : List tree.Member → List (List ℕ)
-names_of ms = map (λ (m : tree.Member). m.name.text) ms
-
-abbrev pub types_of : List Parameter → List (Option StaticType)
-types_of ps = map (λ (p : Parameter). known_static p.of) ps
 
 -- the fault of a phrase's parts, or else its own
 abbrev pub own_found : Option rules.Fault → Option rules.Fault → Option rules.Fault

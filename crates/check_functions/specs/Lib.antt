@@ -1,5 +1,1 @@
 pub mod Bodies
-pub mod Heads
-pub mod Reading
-pub mod Used
-pub use Rattle.check_statements.specs.Declaring

@@ -1,73 +1,30 @@
 // The faults of functions.
 
-ghost use Rattle.std.specs.Prelude.{◌≡◌, IfOk, List, OnOk, [], map, not, true, ℕ};
+ghost use Rattle.std.specs.Prelude.{◌≡◌, IfOk, List, OnOk, map, not, true};
 ghost use Rattle.cyc_tree.specs.Tree as tree;
 ghost use Rattle.cyc_tree.specs.View.{function_tree, item_tree, items_of};
-ghost use Rattle.cyc_types.specs.Regions.{region_of};
 ghost use Rattle.source_typing.specs.Faults.{earliest, test, type_rule};
-ghost use Rattle.source_typing.specs.Functions.{body_scope, end_reached, function_faults, function_scope, needs_return, what_of_known, with_parameters};
+ghost use Rattle.source_typing.specs.Functions.{body_scope, end_reached, function_faults, needs_return, with_parameters};
 ghost use Rattle.source_typing.specs.Functions as rules;
-ghost use Rattle.source_typing.specs.Scope.{Env, with_local};
+ghost use Rattle.source_typing.specs.Scope.{Env};
 ghost use Rattle.source_typing.specs.Statements.{items_faults};
 ghost use Rattle.source_typing.specs.Tables as known;
 ghost use Rattle.source_typing.specs.Written.{RegionNamed};
 ghost use Rattle.check_faults.specs.Faults.{faults_of};
-ghost use Rattle.check_scopes.specs.Knows.{Knows};
-ghost use Rattle.check_scopes.specs.Matching.{AreLocals};
-ghost use Rattle.check_scopes.specs.Means.{WhatIs};
-ghost use Rattle.check_statements.specs.Contexts.{StandsIn};
-ghost use Rattle.check_functions.specs.Bodies.{KnowsNames, code_names, names_of, own_found, types_of};
-ghost use Rattle.check_functions.specs.Heads.{IsHead, known_static};
+ghost use Rattle.check_declarations.specs.Contexts.{StandsIn};
+ghost use Rattle.check_heads.specs.Bodies.{KnowsNames, code_names, names_of, types_of};
+ghost use Rattle.check_functions.specs.Bodies.{own_found};
+ghost use Rattle.check_heads.specs.Heads.{IsHead, known_static};
 
-use crate::head::{Head, Parameter, is_main, read_head};
-use crate::meaning::known_type;
+use check_declarations::{Context, declare_parameter};
 use check_faults::{Fault, FaultKind, Verdict, sooner};
-use check_regions::{RegionNames, RegionScope};
-use check_scopes::{Globals, Locals, Scope, What};
-use check_statements::{Context, items_fall, items_fault};
-use check_types::TagNames;
+use check_heads::{Head, Names, Parameter, entered, is_main, known_type, read_head};
+use check_regions::RegionNames;
+use check_scopes::Scope;
+use check_statements::{items_fall, items_fault};
 use cyc_tree::{BlockItem, Function};
-use cyc_types::{CType, RegionId, Tables};
+use cyc_types::{CType, RegionId};
 use std::alloc::{AllocError, Global};
-
-/// What the names of a program mean: as values, and where the tag of a struct or union is wanted.
-#[derive(Clone, Copy)]
-pub struct Names<'g, 'p> {
-    pub globals: &'g Globals<'p>,
-    pub tags: &'g TagNames<'p>,
-    /// The structs and unions.
-    pub tables: &'g Tables<'p>,
-}
-
-/// What a parameter of a type is as a local of the block with this stack region. Fails only where no host memory is left.
-fn local_of<'p>(frame: RegionId, of: &Verdict<CType<'p>>) -> Result<What<'p>, AllocError>
-    ensures { IfOk result (λ w. WhatIs (what_of_known (region_of frame) (known_static of.now)) w) }
-{
-    match known_type(of) {
-        Some(of) => Ok(What::Variable(of.try_clone()?, frame)),
-        None => Ok(What::NotKnown),
-    }
-}
-
-/// Declares a parameter in the body's block; a second one of a name leaves the first. Fails only where no host memory is left.
-pub fn declare_parameter<'p>(
-    scope: &mut Scope<'_, 'p>,
-    context: Context<'_, 'p>,
-    parameter: &Parameter<'p>,
-) -> Result<(), AllocError>
-    ensures stands { (ns : List RegionNamed) (g : Env) (x : tree.Name) → x.text ≡ parameter.now.name.now → StandsIn context.entry ns 0 scope.old g
-        → OnOk result (StandsIn context.entry ns 0 scope.new (with_local x (what_of_known g.frame (known_static parameter.now.of)) g)) }
-    ensures locals { (ns : List RegionNamed) (g : Env) (x : tree.Name) → x.text ≡ parameter.now.name.now → StandsIn context.entry ns 0 scope.old g
-        → AreLocals scope.old.locals g.locals
-        → OnOk result (AreLocals scope.new.locals (with_local x (what_of_known g.frame (known_static parameter.now.of)) g).locals) }
-{
-    if scope.locals.is_second(0, parameter.name) {
-        return Ok(());
-    }
-    let what = local_of(context.frame, &parameter.of)?;
-    scope.locals.declare(parameter.name, what)?;
-    Ok(())
-}
 
 /// Declares the parameters in the body's block. Fails only where no host memory is left.
 fn declare_parameters<'p>(
@@ -82,33 +39,6 @@ fn declare_parameters<'p>(
         declare_parameter(scope, context, parameter)?;
     }
     Ok(())
-}
-
-/// What is in scope where a function's body begins, without its parameters. Fails only where no host memory is left.
-pub fn entered<'g, 'p>(
-    alloc: Global,
-    names: Names<'g, 'p>,
-    lenient: bool,
-    head: &Head<'p>,
-) -> Result<Scope<'g, 'p>, AllocError>
-    ensures known { (g : known.Tables) (i : ℕ) (f : tree.Function) (h : rules.Head) → KnowsNames names.entry g → IsHead head.now f h
-        → IfOk result (λ s. Knows s (function_scope lenient g i h)) }
-    ensures alone { IfOk result (λ s. s.locals ≡ []) }
-{
-    let mut regions = RegionScope::of_function(
-        alloc,
-        head.variables.count(),
-        head.effect.as_slice(),
-        head.bounds.as_slice(),
-    )?;
-    regions.begin_block()?;
-    Ok(Scope {
-        globals: names.globals,
-        tables: names.tables,
-        locals: Locals::new(alloc),
-        regions,
-        lenient,
-    })
 }
 
 /// The earliest fault of a body's items, whose block's locals are the parameters. Fails only where no host memory is left.

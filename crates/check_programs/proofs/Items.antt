@@ -1,20 +1,17 @@
--- Items one by one.
+-- The faults of items, one by one.
 use Rattle.std.proofs.Common.{◌≡◌, ℕ, ◌+◌, ◌<◌, List, ◌∷◌, ◌++◌, sym, ap, ◌∙◌, drop, get_or, length}
 use Rattle.std.specs.Prelude.{Option}
-use Rattle.std.proofs.lemmas.List.{drop_more}
 use Rattle.source_typing.specs.Faults.{Fault, earliest}
 use Rattle.check_faults.proofs.Earliest.{earliest_of_both, first_joined, found_sooner}
 use Rattle.check_faults.specs.Faults.{faults_of, first_of, sooner_found}
 use Rattle.check_faults.specs.declared.fault.Fault as code
+use Rattle.check_tables.proofs.Items.{next_of}
 
 -- two parts in code
 pub both_found : (r a b : Option code.Fault) (fs gs : List Fault) → r ≡ sooner_found a b → faults_of a ≡ earliest fs → faults_of b ≡ earliest gs
     → faults_of r ≡ earliest (fs ++ gs)
 both_found r a b fs gs e p q =
     ap faults_of e ∙ found_sooner a b ∙ ap (λ o. first_of o (faults_of b)) p ∙ ap (first_of (earliest fs)) q ∙ sym (earliest_of_both fs gs)
-
-pub next_of : {X : Type 0} (xs : List X) (i : ℕ) (x : X) → i < length xs → x ≡ get_or xs i x → drop i xs ≡ x ∷ drop (i + 1) xs
-next_of xs i x h is_item = drop_more xs i x h ∙ ap (λ y. y ∷ drop (i + 1) xs) (sym is_item)
 
 -- what was found before an item, at it and after it
 pub next_found : {X : Type 0} (before after : List X → List Fault) (own : List Fault) (xs : List X) (i : ℕ) (x : X) (found fault : Option code.Fault)

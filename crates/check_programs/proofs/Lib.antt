@@ -1,9 +1,3 @@
-pub mod TagTables
-pub mod GlobalTypes
-pub mod Globals
 pub mod Items
-pub mod ItemNames
-pub mod TagItems
-pub mod Scopes
 pub mod Seeing
 pub mod Statics

@@ -5,9 +5,9 @@ use Rattle.source_typing.specs.Faults.{earliest}
 use Rattle.source_typing.specs.Programs.{is_seen, second_names, size_faults, statics_from}
 use Rattle.source_typing.specs.Tables.{Tables}
 use Rattle.check_faults.specs.Faults.{faults_of, first_of}
-use Rattle.check_programs.specs.Structs.{KnowsStructs}
+use Rattle.check_tables.specs.Structs.{KnowsStructs}
 use Rattle.check_programs.specs.Totals.{counted}
-use Rattle.check_programs.specs.declared.structs.Structs.{Structs}
+use Rattle.check_tables.specs.declared.structs.Structs.{Structs}
 use Rattle.check_programs.specs.declared.total.Total.{Total}
 use Rattle.check_scopes.specs.Globals.{global_meaning}
 use Rattle.check_scopes.specs.declared.globals.Globals.{Globals}

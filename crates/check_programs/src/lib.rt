@@ -5,18 +5,10 @@
 #![tactic(auto)]
 
 mod bodies;
-mod constant;
-mod foreign;
-mod global;
-mod global_types;
-mod names;
 mod program;
+mod seen;
 mod sizes;
 mod strings;
-mod structs;
 mod total;
 
-pub use check_structs::judged_tags;
-pub use names::{next_index, program_names};
 pub use program::program_fault;
-pub use structs::Structs;

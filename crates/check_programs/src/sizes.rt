@@ -9,16 +9,15 @@ ghost use Rattle.source_typing.specs.Programs.{if_first, size_faults};
 ghost use Rattle.source_typing.specs.Scope.{at_item};
 ghost use Rattle.source_typing.specs.Tables as rules_tables;
 ghost use Rattle.check_faults.specs.Faults.{faults_of};
-ghost use Rattle.check_programs.specs.Structs.{KnowsStructs};
+ghost use Rattle.check_tables.specs.Structs.{KnowsStructs};
 ghost use Rattle.check_programs.specs.Totals.{Adds, Counts};
 
 use crate::bodies::with_items;
-use crate::global::judged_global;
-use crate::names::{item_name, next_index, see};
-use crate::structs::Structs;
+use crate::seen::see;
 use crate::total::{Total, string_bytes};
 use check_faults::Fault;
 use check_scopes::Globals;
+use check_tables::{Structs, item_name, judged_global, next_index};
 use cyc_tree::{Constant, Initial, Item};
 use std::alloc::{AllocError, Global};
 

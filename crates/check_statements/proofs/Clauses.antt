@@ -1,24 +1,18 @@
 -- The clauses of a `switch`, one at a time.
-use Rattle.std.proofs.Common.{◌≡◌, ℕ, ◌+◌, ◌<◌, List, [], ◌∷◌, Bool, Option, Some, None, refl, sym, ap, ◌∙◌}
+use Rattle.std.proofs.Common.{◌≡◌, ℕ, ◌+◌, ◌<◌, List, [], ◌∷◌, Bool, Option, Some, refl, sym, ap, ◌∙◌}
 use Rattle.std.proofs.Common.{map, length, drop, get_or, arith}
 use Rattle.std.proofs.lemmas.List.{drop_more}
 use Rattle.cyc_tree.specs.Tree.{Case, Clauses, Default, MoreClauses, Pattern}
 use Rattle.cyc_tree.proofs.PartForms.{clause_parts}
 use Rattle.cyc_tree.specs.View.{OneClause, clause_tree, clauses_of, item_tree, items_of, pattern_tree}
-use Rattle.cyc_types.proofs.Converting.{by_none, by_outer}
-use Rattle.cyc_types.specs.Layers.{outermost, pointed, pointer_to}
-use Rattle.cyc_types.specs.declared.layer.Layer.{Layer}
-use Rattle.cyc_types.specs.declared.layer.Layer.TheVariants as layer
 use Rattle.cyc_tree.specs.declared.statement.Clause as code_clause
 use Rattle.source_typing.specs.Faults.{Fault, earliest, own_after}
-use Rattle.source_typing.specs.Regions.{Region}
-use Rattle.source_typing.specs.Scope.{Env, In, InBlock}
-use Rattle.source_typing.specs.Statements.{Chosen, chosen_of, clauses_faults, defaults, named_times, one_if}
-use Rattle.source_typing.specs.Types.{Char, Fat, Handle, Int, Key, Null, StaticType, Struct, Thin, Union, Unique, Unsigned, Void}
+use Rattle.source_typing.specs.Scope.{Env}
+use Rattle.source_typing.specs.Statements.{Chosen, clauses_faults, defaults, named_times, one_if}
 use Rattle.check_faults.specs.Faults.{faults_of, first_of, sooner_found}
 use Rattle.check_faults.specs.declared.fault.Fault as found
 use Rattle.check_faults.proofs.Earliest.{earliest_of_both, first_joined, found_sooner}
-use Rattle.check_statements.specs.Switching.{clause_faults, is_default, names_part, union_in}
+use Rattle.check_statements.specs.Switching.{clause_faults, is_default, names_part}
 
 -- ---- their faults
 
@@ -66,47 +60,6 @@ defaults_more c rest =
         ≡ one_if (is_default p) + defaults (clauses_of (map clause_tree rest))
     by (Case f y) = none_more (defaults (clauses_of (map clause_tree rest)))
     by Default = refl
-
--- ---- the union
-
-pub in_region_union : (t : StaticType) (r : Region) → chosen_of t (In r) ≡ union_in t
-in_region_union (Union tag rs) r = refl
-in_region_union Int r = refl
-in_region_union Unsigned r = refl
-in_region_union Char r = refl
-in_region_union Void r = refl
-in_region_union Null r = refl
-in_region_union (Thin n q t) r = refl
-in_region_union (Fat q t) r = refl
-in_region_union (Unique n t) r = refl
-in_region_union (Handle q) r = refl
-in_region_union (Key q) r = refl
-in_region_union (Struct tag rs) r = refl
-
-pub in_block_union : (t : StaticType) → chosen_of t InBlock ≡ union_in t
-in_block_union (Union tag rs) = refl
-in_block_union Int = refl
-in_block_union Unsigned = refl
-in_block_union Char = refl
-in_block_union Void = refl
-in_block_union Null = refl
-in_block_union (Thin n q t) = refl
-in_block_union (Fat q t) = refl
-in_block_union (Unique n t) = refl
-in_block_union (Handle q) = refl
-in_block_union (Key q) = refl
-in_block_union (Struct tag rs) = refl
-
-pub plain_union : (ls : List Layer) (t : StaticType) → outermost ls ≡ None → union_in (pointed t ls) ≡ union_in t
-plain_union ls t e = ap union_in (by_none ls t e)
-
-pointer_no_union : (l : Layer) (t : StaticType) → union_in (pointer_to l t) ≡ None
-pointer_no_union (layer.Thin n r) t = refl
-pointer_no_union (layer.Fat r) t = refl
-pointer_no_union (layer.Unique n) t = refl
-
-pub pointer_union : (ls : List Layer) (t : StaticType) (l : Layer) → outermost ls ≡ Some l → union_in (pointed t ls) ≡ None
-pointer_union ls t l e = ap union_in (by_outer ls t l e) ∙ pointer_no_union l _
 
 -- ---- the fault of parts, where there is one
 

@@ -17,8 +17,8 @@ use Rattle.check_faults.specs.Verdicts.{fault_in, paired, short_of, shortened}
 use Rattle.check_faults.specs.declared.fault.Fault as found
 use Rattle.check_faults.specs.declared.verdict.Verdict as code
 use Rattle.check_faults.specs.declared.verdict.Verdict.TheVariants as variant
-use Rattle.check_statements.proofs.Answered.{earliest_in}
-use Rattle.check_statements.proofs.Blocks.{two_found}
+use Rattle.check_heads.proofs.Answered.{earliest_in}
+use Rattle.check_declarations.proofs.Blocks.{two_found}
 
 -- what is in a suffix, and in those after it
 abbrev pub of_suffix : OneSuffix → List Fault

@@ -1,11 +1,3 @@
-pub mod Aliases
-pub mod Answered
 pub mod Blocks
 pub mod Clauses
-pub mod Declaring
 pub mod Exchanging
-pub mod LocalTypes
-pub mod Operands
-pub mod RegionScopes
-pub mod Sizes
-pub mod Owned

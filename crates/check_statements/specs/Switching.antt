@@ -1,23 +1,12 @@
--- The union of a `switch` and its clauses, in code and by the rules.
-use Rattle.std.specs.Prelude.{Bool, List, None, Option, Some, bytes_eq, false, not, true, ℕ, ◌&&◌, ◌++◌}
+-- The clauses of a `switch`, in code and by the rules.
+use Rattle.std.specs.Prelude.{Bool, List, Option, bytes_eq, false, not, true, ℕ, ◌&&◌, ◌++◌}
 use Rattle.cyc_tree.specs.Tree.{Case, Default, Pattern}
 use Rattle.cyc_tree.specs.View.{OneClause}
-use Rattle.cyc_types.specs.Regions.{regions_of}
 use Rattle.source_typing.specs.Faults.{Fault, own_after, test, type_rule}
 use Rattle.source_typing.specs.Scope.{Env}
 use Rattle.source_typing.specs.Statements.{clause_names, clause_scope, items_faults}
 use Rattle.source_typing.specs.Statements as rules
-use Rattle.source_typing.specs.Types.{StaticType, Union}
 use Rattle.source_typing.specs.Ways.{ways_of_items}
-use Rattle.check_statements.specs.declared.switch.Chosen.{Chosen}
-
-abbrev pub chosen_in : Chosen → rules.Chosen
-chosen_in c = record { tag = c.tag.now; regions = regions_of c.regions.now }
-
--- the union that a type is
-abbrev pub union_in : StaticType → Option rules.Chosen
-union_in (Union tag rs) = Some (record { tag = tag; regions = rs })
-union_in t = None
 
 -- whether a pattern is `default`
 abbrev pub is_default : Pattern → Bool

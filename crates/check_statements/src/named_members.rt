@@ -6,9 +6,10 @@ ghost use Rattle.cyc_types.specs.Sameness.{HasTags};
 ghost use Rattle.cyc_types.specs.Tags.{members_of};
 ghost use Rattle.source_typing.specs.Scope.{Env};
 ghost use Rattle.source_typing.specs.Statements.{all_named, clauses_fit, defaults, named_times, parts_of_chosen};
-ghost use Rattle.check_statements.specs.Switching.{chosen_in, is_default, names_part};
+ghost use Rattle.check_statements.specs.Switching.{is_default, names_part};
+ghost use Rattle.check_declarations.specs.Switching.{chosen_in};
 
-use crate::switch::Chosen;
+use check_declarations::Chosen;
 use cyc_tree::{Clause, Pattern};
 use cyc_types::{Member, Tables};
 

@@ -49,7 +49,7 @@ fn tested<'p>(judged: Verdict<Value<'p>>, at: u32) -> Verdict<Value<'p>>
 }
 
 /// The earliest fault of the condition of an `if` or a loop. Fails only where no host memory is left.
-#[tactic(auto, using(crate::proofs::Answered::fault_is))]
+#[tactic(auto, using(check_heads::proofs::Answered::fault_is))]
 pub(crate) fn condition_fault(
     scope: &Scope<'_, '_>,
     alloc: Global,
@@ -63,7 +63,7 @@ pub(crate) fn condition_fault(
 }
 
 /// The earliest fault of an expression that stands as a statement. Fails only where no host memory is left.
-#[tactic(auto, using(crate::proofs::Answered::fault_is))]
+#[tactic(auto, using(check_heads::proofs::Answered::fault_is))]
 pub(crate) fn expression_fault(
     scope: &Scope<'_, '_>,
     alloc: Global,

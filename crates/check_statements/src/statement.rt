@@ -10,18 +10,18 @@ ghost use Rattle.check_faults.specs.Faults.{faults_of};
 ghost use Rattle.check_scopes.specs.Changes.{AllAround, left};
 ghost use Rattle.check_scopes.specs.Knows.{Knows};
 ghost use Rattle.check_regions.specs.declared.scope.RegionMark.{RegionMark};
-ghost use Rattle.check_statements.specs.Contexts.{StandsIn, Suits, kept_to};
+ghost use Rattle.check_declarations.specs.Contexts.{StandsIn, Suits, kept_to};
 ghost use Rattle.check_statements.specs.Plain.{is_plain};
-ghost use Rattle.check_statements.specs.Switching.{chosen_in, clause_faults};
+ghost use Rattle.check_declarations.specs.Switching.{chosen_in};
+ghost use Rattle.check_statements.specs.Switching.{clause_faults};
 
-use crate::context::Context;
-use crate::declaration::declare;
 use crate::exchange::exchange_fault;
-use crate::operand::{Kind, operand_fault};
-use crate::regions::next_region;
 use crate::returning::{condition_fault, expression_fault, return_fault, unless};
-use crate::switch::{Chosen, bind, clause_found, switch_fault, union_of};
+use crate::switch::{clause_found, switch_fault};
 use crate::ways::reached_after;
+use check_declarations::{
+    Chosen, Context, Kind, bind, declare, next_region, operand_fault, union_of,
+};
 use check_expressions::judge;
 use check_faults::{Fault, sooner};
 use check_regions::RegionNames;

@@ -1,128 +1,31 @@
 // What a `switch` takes: a union's place, and clauses that fit the union.
 
-ghost use Rattle.std.specs.Prelude.{◌≡◌, ◌≤◌, ◌++◌, ◌&&◌, IfOk, List, None, OnOk, Some, length, map, not, option_map, ℕ};
+ghost use Rattle.std.specs.Prelude.{◌≡◌, ◌++◌, ◌&&◌, List, None, Some, map, not, option_map};
 ghost use Rattle.cyc_tree.specs.View.{clause_tree, clauses_of, name_tree, pattern_tree};
-ghost use Rattle.cyc_types.specs.Bases.{base_type};
-ghost use Rattle.cyc_types.specs.Regions.{region_of, regions_of};
 ghost use Rattle.cyc_types.specs.Sameness.{HasTags};
-ghost use Rattle.cyc_types.specs.Tags.{member_of, members_of};
-ghost use Rattle.cyc_types.specs.Types.{static_type};
 ghost use Rattle.source_typing.specs.Faults.{earliest, own_after, test, type_rule};
-ghost use Rattle.source_typing.specs.Scope.{Env, block_entered, next_region};
-ghost use Rattle.source_typing.specs.Statements.{
-  bound_what,
-  chosen,
-  clause_names,
-  clause_scope,
-  items_faults,
-  part_what,
-  parts_of_chosen,
-  switched,
-};
-ghost use Rattle.source_typing.specs.Tables.{part_in};
+ghost use Rattle.source_typing.specs.Scope.{Env};
+ghost use Rattle.source_typing.specs.Statements.{chosen, clause_names, clause_scope, items_faults, switched};
 ghost use Rattle.check_faults.specs.Faults.{faults_of};
 ghost use Rattle.check_faults.specs.Verdicts.{short_of, shortened};
 ghost use Rattle.source_typing.specs.Ways.{ways_of_items};
-ghost use Rattle.source_typing.specs.Written.{RegionNamed};
-ghost use Rattle.check_scopes.specs.Matching.{AreLocals};
-ghost use Rattle.check_scopes.specs.Changes.{left};
-ghost use Rattle.check_scopes.specs.Means.{WhatIs};
-ghost use Rattle.check_regions.specs.declared.scope.RegionMark.{RegionMark};
-ghost use Rattle.check_statements.specs.Contexts.{StandsIn};
-ghost use Rattle.check_statements.specs.declared.context.Context.{Context};
 ghost use Rattle.check_operators.specs.Values.{value_of};
-ghost use Rattle.check_statements.specs.Switching.{chosen_in, clause_faults, union_in};
+ghost use Rattle.check_declarations.specs.Switching.{chosen_in};
+ghost use Rattle.check_statements.specs.Switching.{clause_faults};
 ghost use Rattle.cyc_tree.specs.Tree as tree;
 ghost use Rattle.source_typing.specs.Faults as rules;
 ghost use Rattle.source_typing.specs.Scope as judged;
-ghost use Rattle.source_typing.specs.Statements as statements;
 ghost use Rattle.source_typing.specs.Verdicts as verdict;
 
 use crate::named_members::clauses_fit;
 use crate::returning::unless;
 use crate::ways::items_fall;
+use check_declarations::{Chosen, member, place_union};
 use check_faults::{Fault, FaultKind, Verdict, sooner};
-use check_operators::{Seat, Value, renamed_type};
-use check_scopes::{Scope, What};
+use check_operators::Value;
+use check_scopes::Scope;
 use cyc_tree::{Clause, Name, Pattern};
-use cyc_types::{BaseType, CType, Member, RegionId, Tables};
-use std::alloc::AllocError;
-
-/// The union of a `switch`.
-#[derive(Clone, Copy)]
-pub struct Chosen<'a> {
-    pub(crate) tag: &'a [u8],
-    regions: &'a [RegionId],
-}
-
-/// The union of a `switch` on what was judged, where it is one's place.
-pub fn union_of<'a>(place: &'a Verdict<Value<'_>>) -> Option<Chosen<'a>>
-    ensures { (v : verdict.Verdict judged.Value) → short_of value_of place.now ≡ shortened v → option_map chosen_in result ≡ chosen v }
-{
-    match place {
-        Verdict::Of(value) => place_union(value),
-        Verdict::Wrong(_) | Verdict::NotJudged => None,
-    }
-}
-
-/// The union that a value is, where it is a place of one.
-#[tactic(auto, using(crate::proofs::Clauses::in_region_union, crate::proofs::Clauses::in_block_union))]
-fn place_union<'a>(value: &'a Value<'_>) -> Option<Chosen<'a>>
-    ensures { option_map chosen_in result ≡ statements.chosen_of (value_of value.now).type (value_of value.now).seat }
-{
-    match value.seat {
-        Seat::Nowhere => None,
-        Seat::In(_) => type_union(&value.of),
-        Seat::InBlock => type_union(&value.of),
-    }
-}
-
-/// The union that a type is.
-#[tactic(auto, using(crate::proofs::Clauses::plain_union, crate::proofs::Clauses::pointer_union))]
-fn type_union<'a>(of: &'a CType<'_>) -> Option<Chosen<'a>>
-    ensures { option_map chosen_in result ≡ union_in (static_type of.now) }
-{
-    match of.outer() {
-        Some(_) => None,
-        None => base_union(&of.base),
-    }
-}
-
-/// The union that a type is that is no pointer.
-fn base_union<'a>(of: &'a BaseType<'_>) -> Option<Chosen<'a>>
-    ensures { option_map chosen_in result ≡ union_in (base_type of.now) }
-{
-    match of {
-        BaseType::Union(tag, regions) => Some(Chosen {
-            tag: *tag,
-            regions: regions.as_slice(),
-        }),
-        _ => None,
-    }
-}
-
-/// The member of a name.
-fn named<'a, 'p>(members: &'a [Member<'p>], name: &[u8]) -> Option<&'a Member<'p>>
-    ensures { option_map (λ m. member_of m.now) result ≡ part_in (members_of members.now) name.now }
-{
-    'each: for member in members {
-        if member.name == name {
-            return Some(member);
-        }
-    }
-    None
-}
-
-/// The member of a name, of the union of a `switch`.
-fn member<'a, 'p>(tables: &'a Tables<'p>, union: Chosen<'_>, name: &[u8]) -> Option<&'a Member<'p>>
-    ensures { (g : Env) → HasTags tables.now g.tables
-        → option_map (λ m. member_of m.now) result ≡ part_in (parts_of_chosen g (Some (chosen_in union.entry))) name.now }
-{
-    match tables.tag(union.tag) {
-        Some(tag) => named(&tag.members, name),
-        None => None,
-    }
-}
+use cyc_types::Tables;
 
 /// The fault of a clause's pattern: an unknown member of the union, where that is known.
 fn pattern_fault(
@@ -151,81 +54,6 @@ fn unknown_fault(tables: &Tables<'_>, union: Chosen<'_>, field: &Name) -> Option
             kind: FaultKind::Name,
             at: field.at,
         })
-    }
-}
-
-/// What the name of a clause stands for: a copy of the member, in the clause's stack region. Fails only where no host memory is left.
-fn bound_what<'p>(
-    tables: &Tables<'p>,
-    chosen: Option<Chosen<'_>>,
-    frame: RegionId,
-    field: &Name,
-) -> Result<What<'p>, AllocError>
-    ensures { (g : Env) → HasTags tables.now g.tables → let c = option_map chosen_in chosen.entry in
-        IfOk result (WhatIs (bound_what (region_of frame) c (part_in (parts_of_chosen g c) (name_tree field.now).text))) }
-{
-    match chosen {
-        Some(union) => bound_member(tables, union, frame, field),
-        None => Ok(What::NotKnown),
-    }
-}
-
-/// The same of a union that is known.
-fn bound_member<'p>(
-    tables: &Tables<'p>,
-    union: Chosen<'_>,
-    frame: RegionId,
-    field: &Name,
-) -> Result<What<'p>, AllocError>
-    ensures { (g : Env) → HasTags tables.now g.tables → let c = Some (chosen_in union.entry) in
-        IfOk result (WhatIs (bound_what (region_of frame) c (part_in (parts_of_chosen g c) (name_tree field.now).text))) }
-{
-    match member(tables, union, &field.text) {
-        Some(member) => member_what(member, union.regions, frame),
-        None => Ok(What::NotKnown),
-    }
-}
-
-/// A copy of a member of a union with these region arguments; one of no known type isn't known. Fails only where no host memory is left.
-fn member_what<'p>(
-    member: &Member<'p>,
-    regions: &[RegionId],
-    frame: RegionId,
-) -> Result<What<'p>, AllocError>
-    ensures { IfOk result (WhatIs (part_what (region_of frame) (regions_of regions.now) (member_of member.now).type)) }
-{
-    match &member.of {
-        Some(of) => {
-            let renamed = renamed_type(regions, of)?;
-            Ok(What::Variable(renamed, frame))
-        }
-        None => Ok(What::NotKnown),
-    }
-}
-
-/// Declares the name of a clause in its block, which has no locals yet. Fails only where no host memory is left.
-pub fn bind<'p>(
-    scope: &mut Scope<'_, 'p>,
-    chosen: Option<Chosen<'_>>,
-    frame: RegionId,
-    pattern: &'p Pattern,
-) -> Result<(), AllocError>
-    ensures stands { (c : Context) (ns : List RegionNamed) (g : Env) → StandsIn c ns (length scope.old.locals) scope.old (block_entered g)
-        → region_of frame ≡ next_region g → OnOk result (StandsIn c ns (length scope.old.locals) scope.new
-        (clause_scope g (option_map chosen_in chosen.entry) (pattern_tree pattern.entry.now))) }
-    ensures locals { (c : Context) (ns : List RegionNamed) (g : Env) → StandsIn c ns (length scope.old.locals) scope.old (block_entered g)
-        → region_of frame ≡ next_region g → AreLocals scope.old.locals g.locals → OnOk result (AreLocals scope.new.locals
-        (clause_scope g (option_map chosen_in chosen.entry) (pattern_tree pattern.entry.now)).locals) }
-    ensures regions { OnOk result (scope.new.regions ≡ scope.old.regions) }
-    ensures left { OnOk result ((count : ℕ) (mark : RegionMark) → count ≤ length scope.old.locals → left count mark scope.new ≡ left count mark scope.old) }
-{
-    match pattern {
-        Pattern::Case(field, name) => {
-            let what = bound_what(scope.tables, chosen, frame, field)?;
-            scope.locals.declare(&name.text, what)?;
-            Ok(())
-        }
-        Pattern::Default => Ok(()),
     }
 }
 

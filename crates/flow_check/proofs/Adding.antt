@@ -15,9 +15,9 @@ use Rattle.check_scopes.specs.Locals.{Known, find_what}
 use Rattle.check_scopes.specs.Matching.{AreLocals}
 use Rattle.check_scopes.specs.Means.{WhatIs}
 use Rattle.check_scopes.specs.declared.locals.What as code
-use Rattle.check_statements.proofs.Declaring.{both_scopes}
-use Rattle.check_statements.proofs.Owned.{own_locals}
-use Rattle.check_statements.specs.Declaring.{own_scope, own_what}
+use Rattle.check_declarations.proofs.Declaring.{both_scopes}
+use Rattle.check_declarations.proofs.Owned.{own_locals}
+use Rattle.check_declarations.specs.Declaring.{own_scope, own_what}
 use Rattle.flow_check.specs.Declarations.{Adds, Nothing, One, initial_before, loan_before}
 
 -- a declaration, by its initializer and its loan

@@ -8,8 +8,8 @@ use Rattle.flow_summaries.specs.Statements.{exits_of_items}
 use Rattle.source_typing.specs.Scope.{Env}
 use Rattle.source_typing.specs.Written.{RegionNamed}
 use Rattle.check_scopes.specs.declared.scope.Scope.{Scope}
-use Rattle.check_statements.proofs.Blocks.{scope_behind}
-use Rattle.check_statements.specs.declared.context.Context.{Context}
+use Rattle.check_declarations.proofs.Blocks.{scope_behind}
+use Rattle.check_declarations.specs.declared.context.Context.{Context}
 use Rattle.flow_effects.proofs.Sequences.{before_more}
 use Rattle.flow_effects.specs.Steps.{all_before, step_before}
 use Rattle.flow_effects.specs.declared.steps.Step.{Step}

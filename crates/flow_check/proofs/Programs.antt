@@ -10,12 +10,12 @@ use Rattle.source_typing.specs.Programs.{builtins, entries, judged_tags, tables_
 use Rattle.source_typing.specs.Tables.{Tables}
 use Rattle.check_faults.specs.Faults.{sooner_found}
 use Rattle.check_faults.specs.declared.fault.Fault.{Fault}
-use Rattle.check_functions.specs.Bodies.{KnowsGlobals, KnowsNames}
-use Rattle.check_functions.specs.declared.body.Names.{Names}
-use Rattle.check_programs.proofs.Items.{next_of}
-use Rattle.check_programs.proofs.TagTables.{knows_all}
-use Rattle.check_programs.specs.Structs.{KnowsStructs}
-use Rattle.check_programs.specs.declared.structs.Structs.{Structs}
+use Rattle.check_heads.specs.Bodies.{KnowsGlobals, KnowsNames}
+use Rattle.check_heads.specs.declared.entering.Names.{Names}
+use Rattle.check_tables.proofs.Items.{next_of}
+use Rattle.check_tables.proofs.TagTables.{knows_all}
+use Rattle.check_tables.specs.Structs.{KnowsStructs}
+use Rattle.check_tables.specs.declared.structs.Structs.{Structs}
 use Rattle.check_types.specs.Naming.{AreTagNames}
 
 -- what was found before an item, at it and after it

@@ -11,7 +11,7 @@ use Rattle.flow_summaries.specs.Uses.{Uses}
 use Rattle.source_typing.specs.Scope.{Env, Value}
 use Rattle.check_faults.specs.Verdicts.{Short}
 use Rattle.check_expressions.specs.Suffixes.{short_suffix}
-use Rattle.check_programs.proofs.Items.{next_of}
+use Rattle.check_tables.proofs.Items.{next_of}
 use Rattle.flow_check.specs.Folded.{all_short_uses, passed_all, passed_links, passed_tests, short_uses}
 
 module _ (g : Env) where

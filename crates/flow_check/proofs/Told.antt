@@ -12,8 +12,8 @@ use Rattle.source_typing.specs.Scope.{Env}
 use Rattle.source_typing.specs.Statements.{Chosen, in_a_loop, in_a_switch}
 use Rattle.source_typing.specs.Written.{RegionNamed}
 use Rattle.check_scopes.specs.declared.scope.Scope.{Scope}
-use Rattle.check_statements.proofs.Blocks.{loop_known, loop_suits, switch_known, switch_suits}
-use Rattle.check_statements.specs.declared.context.Context.{Context}
+use Rattle.check_declarations.proofs.Blocks.{loop_known, loop_suits, switch_known, switch_suits}
+use Rattle.check_declarations.specs.declared.context.Context.{Context}
 use Rattle.flow_effects.proofs.Sequences.{before_more}
 use Rattle.flow_effects.specs.Steps.{all_before}
 use Rattle.flow_effects.specs.declared.steps.Step.{Step}

@@ -6,8 +6,8 @@ use Rattle.check_scopes.specs.Matching.{AreLocals}
 use Rattle.check_scopes.specs.declared.scope.Scope.{Scope}
 use Rattle.source_typing.specs.Scope.{Env}
 use Rattle.source_typing.specs.Written.{RegionNamed}
-use Rattle.check_statements.specs.Contexts.{StandsIn, Suits}
-use Rattle.check_statements.specs.declared.context.Context.{Context}
+use Rattle.check_declarations.specs.Contexts.{StandsIn, Suits}
+use Rattle.check_declarations.specs.declared.context.Context.{Context}
 
 -- All that is in scope is known, with its locals one by one.
 pub record Follows (c : Context) (names : List RegionNamed) (s : Scope) (g : Env) : Type 0 where

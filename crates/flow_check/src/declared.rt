@@ -16,16 +16,16 @@ ghost use Rattle.check_scopes.specs.Knows.{Knows};
 ghost use Rattle.check_scopes.specs.Matching.{AreLocals};
 ghost use Rattle.check_scopes.specs.Means.{WhatIs};
 ghost use Rattle.check_regions.specs.declared.scope.RegionMark.{RegionMark};
-ghost use Rattle.check_statements.specs.Contexts.{kept_to};
+ghost use Rattle.check_declarations.specs.Contexts.{kept_to};
 ghost use Rattle.flow_check.specs.Declarations.{Adds, initial_before, loan_before};
 ghost use Rattle.flow_check.specs.Standing.{Stands};
 ghost use Rattle.flow_effects.specs.Passed.{added_of, state_of};
 ghost use Rattle.flow_effects.specs.Steps.{declared_before, lent_if, passed_if};
 
 use crate::expressions::given;
+use check_declarations::{Context, declare};
 use check_regions::RegionNames;
 use check_scopes::{Scope, What};
-use check_statements::{Context, declare};
 use cyc_tree::{Declaration, Initializer, Name};
 use cyc_types::{Tables, is_copyable};
 use flow_effects::{Begun, Declared, Loan, Passed};

@@ -7,9 +7,9 @@ ghost use Rattle.source_typing.specs.Scope.{Env};
 ghost use Rattle.check_faults.specs.Verdicts.{short_of};
 ghost use Rattle.flow_check.specs.Short.{in_block_short, is_moved_short, is_unique_short, place_short};
 
+use check_declarations::is_unique;
 use check_faults::Verdict;
 use check_operators::{Seat, Value};
-use check_statements::is_unique;
 use cyc_types::{Tables, is_copyable};
 
 /// Whether a value would be moved.

@@ -8,13 +8,14 @@ ghost use Rattle.source_typing.specs.Left.{flow_faults};
 ghost use Rattle.source_typing.specs.Programs.{builtins, entries, judged_tags};
 ghost use Rattle.source_typing.specs.Tables as known;
 ghost use Rattle.check_faults.specs.Faults.{faults_of};
-ghost use Rattle.check_functions.specs.Bodies.{KnowsNames};
-ghost use Rattle.check_programs.specs.Structs.{KnowsStructs};
+ghost use Rattle.check_heads.specs.Bodies.{KnowsNames};
+ghost use Rattle.check_tables.specs.Structs.{KnowsStructs};
 
 use crate::function::function_flow;
 use check_faults::{Fault, sooner};
-use check_functions::Names;
-use check_programs::{Structs, judged_tags, next_index, program_names};
+use check_heads::Names;
+use check_structs::judged_tags;
+use check_tables::{Structs, next_index, program_names};
 use cyc_tree::{Item, Program};
 use std::alloc::{AllocError, Global};
 

@@ -1,6 +1,6 @@
 use Rattle.cyc_tree.specs.View.{program_tree}
 use Rattle.source_typing.specs.Programs.{tables_of}
-use Rattle.check_programs.proofs.TagTables.{knows_all}
+use Rattle.check_tables.proofs.TagTables.{knows_all}
 use Rattle.check_programs.proofs.program.bodies_fault.Goals as goal
 
 pub returns : goal.returns

@@ -5,7 +5,7 @@ use Rattle.cyc_tree.specs.Tree.{Program}
 use Rattle.source_typing.specs.Faults.{earliest}
 use Rattle.source_typing.specs.Programs.{all_tag_faults, items_from, judged_tags, main_found, second_names, size_faults, tables_of, typing_faults}
 use Rattle.check_programs.proofs.Items.{both_found}
-use Rattle.check_programs.proofs.TagTables.{knows_all}
+use Rattle.check_tables.proofs.TagTables.{knows_all}
 use Rattle.check_programs.proofs.program.program_fault.Goals as goal
 
 pub returns : goal.returns

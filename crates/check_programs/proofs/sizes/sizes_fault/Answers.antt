@@ -7,7 +7,7 @@ use Rattle.std.specs.Prelude.{is_some, not, ◌++◌}
 use Rattle.source_typing.specs.Globals.{item_statics}
 use Rattle.source_typing.specs.Programs.{if_first, is_seen, name_of, statics_from}
 use Rattle.source_typing.specs.Scope.{at_item}
-use Rattle.check_programs.proofs.Items.{next_of}
+use Rattle.check_tables.proofs.Items.{next_of}
 use Rattle.check_programs.specs.Programs.{AreSeen}
 use Rattle.check_programs.specs.Totals.{counted}
 use Rattle.check_programs.proofs.sizes.sizes_fault.Goals as goal

@@ -7,7 +7,8 @@ use Rattle.cyc_tree.specs.View.{expression_tree, expressions_of, link_tree, link
 use Rattle.source_typing.specs.Exchanges.{acts, all_acts, link_acts, made_acts, suffix_acts}
 use Rattle.source_typing.specs.Faults.{earliest, fault, type_rule}
 use Rattle.check_faults.specs.Faults.{faults_of, first_of}
-use Rattle.check_statements.proofs.Blocks.{one_more, two_found}
+use Rattle.check_declarations.proofs.Blocks.{two_found}
+use Rattle.check_statements.proofs.Blocks.{one_more}
 use Rattle.check_statements.proofs.Exchanging.{of_suffix, suffix_more}
 use Rattle.check_statements.proofs.acts.+acts.Goals as goal
 use Rattle.check_statements.proofs.acts.+acts.Goals.{act_in_suffixes-in-Arrow, act_in_suffixes-in-Dot, act_in_suffixes-in-Index}

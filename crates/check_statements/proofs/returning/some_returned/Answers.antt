@@ -6,7 +6,7 @@ use Rattle.source_typing.specs.Faults.{earliest}
 use Rattle.source_typing.specs.Statements.{returned}
 use Rattle.check_faults.specs.Faults.{faults_of}
 use Rattle.check_faults.specs.Verdicts.{short_of}
-use Rattle.check_statements.proofs.Answered.{of_short}
+use Rattle.check_heads.proofs.Answered.{of_short}
 use Rattle.check_statements.proofs.returning.some_returned.Goals as goal
 
 pub returns-in-Of-Some : goal.returns-in-Of-Some

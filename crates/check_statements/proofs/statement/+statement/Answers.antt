@@ -23,18 +23,16 @@ use Rattle.check_scopes.specs.declared.scope.Scope.{Scope}
 use Rattle.check_regions.specs.Marks.{mark_of}
 use Rattle.check_regions.specs.Scopes.{Scoped, first_of}
 use Rattle.check_regions.specs.declared.scope.RegionMark.{RegionMark}
-use Rattle.check_statements.specs.Contexts.{StandsIn, Suits, kept_to}
+use Rattle.check_declarations.specs.Contexts.{StandsIn, Suits, kept_to}
 use Rattle.check_statements.specs.Leaving.{item_falls}
 use Rattle.check_statements.specs.Plain.{is_plain}
-use Rattle.check_statements.specs.Switching.{chosen_in, clause_faults}
-use Rattle.check_statements.proofs.Blocks.{
-  Going,
+use Rattle.check_declarations.specs.Switching.{chosen_in}
+use Rattle.check_statements.specs.Switching.{clause_faults}
+use Rattle.check_declarations.proofs.Blocks.{
   all_kept,
   begun_longer,
   block_left,
   block_stands,
-  goes_on,
-  item_faults,
   left_is,
   loop_known,
   loop_suits,
@@ -48,6 +46,7 @@ use Rattle.check_statements.proofs.Blocks.{
   switch_suits,
   two_found,
 }
+use Rattle.check_statements.proofs.Blocks.{Going, goes_on, item_faults}
 use Rattle.check_statements.proofs.Clauses.{clause_goes_on, clause_trees}
 use Rattle.check_statements.proofs.statement.+statement.Goals as goal
 use Rattle.check_statements.proofs.statement.+statement.Goals.{items_fault-in-Declare+in_ok-fault-in-Declare, items_fault-in-Execute+in_ok-fault-in-Execute}

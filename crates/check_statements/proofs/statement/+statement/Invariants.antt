@@ -8,8 +8,8 @@ use Rattle.check_scopes.specs.Changes.{AllAround, left}
 use Rattle.check_scopes.specs.Knows.{Knows}
 use Rattle.check_regions.specs.declared.scope.RegionMark.{RegionMark}
 use Rattle.check_faults.specs.Faults.{faults_of, first_of}
-use Rattle.check_statements.specs.Contexts.{StandsIn, Suits, kept_to}
-use Rattle.check_statements.specs.Switching.{chosen_in}
+use Rattle.check_declarations.specs.Contexts.{StandsIn, Suits, kept_to}
+use Rattle.check_declarations.specs.Switching.{chosen_in}
 use Rattle.check_statements.proofs.Blocks.{Going}
 use Rattle.check_statements.proofs.Clauses.{clause_trees}
 use Rattle.check_statements.proofs.statement.+statement.Given as goal

@@ -5,8 +5,8 @@ use Rattle.cyc_tree.specs.View.{OneClause, clause_tree}
 use Rattle.source_typing.specs.Faults.{earliest, test, type_rule}
 use Rattle.source_typing.specs.Statements.{clause_names, clause_scope, items_faults}
 use Rattle.source_typing.specs.Ways.{ways_of_items}
-use Rattle.check_statements.specs.Switching.{chosen_in}
-use Rattle.check_statements.proofs.Blocks.{two_found}
+use Rattle.check_declarations.specs.Switching.{chosen_in}
+use Rattle.check_declarations.proofs.Blocks.{two_found}
 use Rattle.check_statements.proofs.switch.clause_found.Goals as goal
 
 pub returns : goal.returns

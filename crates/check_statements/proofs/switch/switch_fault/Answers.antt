@@ -2,8 +2,8 @@ use Rattle.std.proofs.Common.{ap, sym, ◌++◌, ◌∙◌}
 use Rattle.check_operators.specs.Values.{value_of}
 use Rattle.source_typing.specs.Verdicts as verdict
 use Rattle.check_faults.specs.Faults.{fault_of, faults_of}
-use Rattle.check_statements.proofs.Answered.{fault_is}
-use Rattle.check_statements.proofs.Blocks.{two_found}
+use Rattle.check_heads.proofs.Answered.{fault_is}
+use Rattle.check_declarations.proofs.Blocks.{two_found}
 use Rattle.check_statements.proofs.Clauses.{own_kept}
 use Rattle.check_statements.proofs.switch.switch_fault.Goals as goal
 

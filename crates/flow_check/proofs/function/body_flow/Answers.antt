@@ -6,7 +6,7 @@ use Rattle.flow_summaries.specs.Passages.{found_in}
 use Rattle.flow_summaries.specs.Statements as rules
 use Rattle.source_typing.specs.Functions.{with_parameters}
 use Rattle.source_typing.specs.Left.{states_at, states_of}
-use Rattle.check_functions.specs.Bodies.{types_of}
+use Rattle.check_heads.specs.Bodies.{types_of}
 use Rattle.flow_effects.specs.Exits.{exits_of}
 use Rattle.flow_effects.specs.Passed.{passage_of, state_of}
 use Rattle.flow_effects.specs.declared.passed.Begun.{Begun}

@@ -4,9 +4,9 @@ use Rattle.cyc_types.specs.declared.region.RegionId.TheVariants.{Level}
 use Rattle.flow_summaries.specs.Statements.{fault_of_body}
 use Rattle.check_scopes.specs.Matching.{AreLocals}
 use Rattle.source_typing.specs.Functions.{body_scope, function_scope, with_parameters}
-use Rattle.check_functions.specs.Bodies.{code_names, types_of}
-use Rattle.check_functions.proofs.Bodies.{stands}
-use Rattle.check_statements.specs.declared.context.Context.{Context}
+use Rattle.check_heads.specs.Bodies.{code_names, types_of}
+use Rattle.check_declarations.proofs.Bodies.{stands}
+use Rattle.check_declarations.specs.declared.context.Context.{Context}
 use Rattle.flow_check.specs.Standing.{Stands}
 use Rattle.flow_check.proofs.function.headed_flow.Goals as goal
 

@@ -3,9 +3,9 @@ use Rattle.std.specs.Prelude.{reverse}
 use Rattle.source_typing.specs.Functions.{what_of_known, with_parameters}
 use Rattle.source_typing.specs.Left.{added_by, states_at}
 use Rattle.source_typing.specs.Scope.{with_local}
-use Rattle.check_functions.specs.Bodies.{types_of}
-use Rattle.check_functions.specs.Heads.{known_static}
-use Rattle.check_functions.proofs.Parameters.{all_parameters, next_parameter}
+use Rattle.check_heads.specs.Bodies.{types_of}
+use Rattle.check_heads.specs.Heads.{known_static}
+use Rattle.check_declarations.proofs.Parameters.{all_parameters, next_parameter}
 use Rattle.flow_effects.specs.Passed.{added_of, state_of}
 use Rattle.flow_effects.specs.declared.passed.Begun.{Begun}
 use Rattle.flow_check.proofs.Adding.{adds_local}

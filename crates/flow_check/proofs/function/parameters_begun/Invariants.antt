@@ -5,7 +5,7 @@ use Rattle.source_typing.specs.Functions.{with_parameters}
 use Rattle.source_typing.specs.Left.{states_at}
 use Rattle.source_typing.specs.Scope.{Env}
 use Rattle.source_typing.specs.Written.{RegionNamed}
-use Rattle.check_functions.specs.Bodies.{code_names, names_of, types_of}
+use Rattle.check_heads.specs.Bodies.{code_names, names_of, types_of}
 use Rattle.flow_effects.specs.Passed.{state_of}
 use Rattle.flow_check.specs.Standing.{Stands}
 use Rattle.flow_check.proofs.function.parameters_begun.Given as goal

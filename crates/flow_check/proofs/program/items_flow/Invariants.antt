@@ -1,6 +1,6 @@
 use Rattle.std.proofs.Common.{drop, ◌≡◌}
 use Rattle.cyc_tree.specs.View.{program_tree}
-use Rattle.check_functions.specs.Bodies.{KnowsNames}
+use Rattle.check_heads.specs.Bodies.{KnowsNames}
 use Rattle.flow_summaries.specs.Statements.{fault_from}
 use Rattle.source_typing.specs.Tables.{Tables}
 use Rattle.check_faults.specs.Faults.{sooner_found}

@@ -24,9 +24,9 @@ use Rattle.check_scopes.specs.declared.scope.Scope.{Scope}
 use Rattle.check_regions.specs.Marks.{mark_of}
 use Rattle.check_regions.specs.Scopes.{Scoped, first_of}
 use Rattle.check_regions.specs.declared.scope.RegionMark.{RegionMark}
-use Rattle.check_statements.specs.Contexts.{StandsIn, kept_to}
-use Rattle.check_statements.specs.Switching.{chosen_in}
-use Rattle.check_statements.proofs.Blocks.{
+use Rattle.check_declarations.specs.Contexts.{StandsIn, kept_to}
+use Rattle.check_declarations.specs.Switching.{chosen_in}
+use Rattle.check_declarations.proofs.Blocks.{
   all_kept,
   begun_longer,
   block_left,

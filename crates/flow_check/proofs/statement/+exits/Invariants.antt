@@ -5,8 +5,8 @@ use Rattle.flow_summaries.specs.Statements.{exits_of_clauses, exits_of_items}
 use Rattle.source_typing.specs.Scope.{Env}
 use Rattle.check_scopes.specs.Changes.{left}
 use Rattle.check_regions.specs.declared.scope.RegionMark.{RegionMark}
-use Rattle.check_statements.specs.Contexts.{kept_to}
-use Rattle.check_statements.specs.Switching.{chosen_in}
+use Rattle.check_declarations.specs.Contexts.{kept_to}
+use Rattle.check_declarations.specs.Switching.{chosen_in}
 use Rattle.flow_effects.specs.Steps.{all_before}
 use Rattle.flow_check.proofs.Blocks.{Going}
 use Rattle.flow_check.specs.Standing.{Follows, Stands}

@@ -1,0 +1,19 @@
+use Rattle.std.proofs.Common.{Bor, List, Some, ap, subst, sym, ℕ, ◌∙◌}
+use Rattle.std.specs.Prelude.{Option, option_map}
+use Rattle.cyc_types.specs.Regions.{region_of}
+use Rattle.cyc_types.specs.Tags.{member_of}
+use Rattle.cyc_types.specs.declared.tag.Member.{Member}
+use Rattle.check_scopes.specs.Means.{WhatIs}
+use Rattle.check_scopes.specs.declared.locals.What.TheVariants as local
+use Rattle.source_typing.specs.Statements.{bound_what, parts_of_chosen}
+use Rattle.source_typing.specs.Tables.{part_in}
+use Rattle.check_declarations.specs.Switching.{chosen_in}
+use Rattle.check_declarations.proofs.members.bound_member.Goals as goal
+
+pub returns-in-None : goal.returns-in-None
+returns-in-None c = λ g tags.
+    let u = Some (chosen_in c.args.union) in
+    subst (λ p. WhatIs (bound_what (region_of c.args.frame) u p) local.NotKnown)
+    (ap (λ (o : Option (Bor Member)). option_map (λ m. member_of m.now) o) (sym c.in-None.is) ∙ c.member.ensures g tags
+    ∙ ap (λ (x : List ℕ). part_in (parts_of_chosen g u) x) c.deref.ensures.value)
+    WhatIs.NotKnown

@@ -1,0 +1,5 @@
+pub mod Aliases
+pub mod Contexts
+pub mod Declaring
+pub mod Operands
+pub mod Switching

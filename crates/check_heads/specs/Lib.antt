@@ -1,0 +1,4 @@
+pub mod Bodies
+pub mod Heads
+pub mod Reading
+pub mod Used

@@ -1,0 +1,105 @@
+// Constants, as globals begin with them.
+
+ghost use Rattle.std.specs.Prelude.{◌≡◌, Bool, IfOk, ℕ};
+ghost use Rattle.cyc_tree.specs.View.{constant_tree, initial_tree};
+ghost use Rattle.cyc_types.specs.Bases.{base_type};
+ghost use Rattle.cyc_types.specs.Types.{static_type};
+ghost use Rattle.check_operators.specs.Values.{value_of};
+ghost use Rattle.source_typing.specs.Declarations.{set_faults};
+ghost use Rattle.source_typing.specs.Expressions.{number_typed};
+ghost use Rattle.source_typing.specs.Faults.{earliest};
+ghost use Rattle.source_typing.specs.Globals.{constant};
+ghost use Rattle.source_typing.specs.Scope.{at_item, value};
+ghost use Rattle.source_typing.specs.Scope as judged;
+ghost use Rattle.source_typing.specs.Tables as rules_tables;
+ghost use Rattle.source_typing.specs.Types.{StaticType};
+ghost use Rattle.check_faults.specs.Faults.{faults_of};
+ghost use Rattle.check_faults.specs.Verdicts.{short_of, shortened};
+ghost use Rattle.check_tables.specs.Globals.{faults_by};
+ghost use Rattle.source_typing.specs.Verdicts as rules;
+
+use check_declarations::set_fault;
+use check_faults::{Fault, Verdict};
+use check_operators::{Seat, Value, string};
+use check_regions::RegionScope;
+use check_scopes::{Globals, Locals, Scope};
+use cyc_tree::{Constant, Initial};
+use cyc_types::{BaseType, CType, Tables};
+use std::alloc::{AllocError, Global};
+
+/// The type of a number, which may have the suffix `u`.
+fn number_base<'p>(number: u32, suffix: bool) -> BaseType<'p>
+    ensures { base_type result ≡ number_typed number suffix }
+{
+    if !suffix && number < 0x8000_0000 {
+        BaseType::Int
+    } else {
+        BaseType::Unsigned
+    }
+}
+
+/// A value of a type that is no pointer.
+fn plain_value<'p>(alloc: Global, at: u32, base: BaseType<'p>) -> Verdict<Value<'p>>
+    ensures { short_of value_of result ≡ shortened (value at (base_type base.entry)) }
+{
+    Verdict::Of(Value {
+        at,
+        of: CType::plain(alloc, base),
+        seat: Seat::Nowhere,
+    })
+}
+
+/// The value of a constant. Fails only where no host memory is left.
+fn constant_value<'p>(alloc: Global, given: &Constant) -> Result<Verdict<Value<'p>>, AllocError>
+    ensures { IfOk result (λ v. short_of value_of v ≡ shortened (constant (constant_tree given.now))) }
+{
+    match given {
+        Constant::Number(at, number, suffix) | Constant::Negative(at, number, suffix) => {
+            Ok(plain_value(alloc, *at, number_base(*number, *suffix)))
+        }
+        Constant::Character(at, _) => Ok(plain_value(alloc, *at, BaseType::Char)),
+        Constant::Null(at) => Ok(plain_value(alloc, *at, BaseType::Null)),
+        Constant::Text(at, text) => string(alloc, *at, text),
+    }
+}
+
+/// The earliest fault of a global's type and its constant. Fails only where no host memory is left.
+fn given_fault(
+    alloc: Global,
+    value: &Verdict<Value<'_>>,
+    of: &Verdict<CType<'_>>,
+) -> Result<Option<Fault>, AllocError>
+    ensures { (lenient : Bool) (g : rules_tables.Tables) (i : ℕ) (v : rules.Verdict judged.Value) (t : rules.Verdict StaticType)
+        → short_of value_of value.now ≡ shortened v → short_of static_type of.now ≡ shortened t
+        → IfOk result (λ f. faults_of f ≡ earliest (set_faults (at_item lenient g i) v t)) }
+{
+    let globals = Globals::new(alloc);
+    let tables = Tables::new(alloc);
+    let scope = Scope {
+        globals: &globals,
+        tables: &tables,
+        locals: Locals::new(alloc),
+        regions: RegionScope::of_item(alloc),
+        lenient: false,
+    };
+    set_fault(&scope, value, of)
+}
+
+/// The earliest fault of a global's type and of what it begins with. Fails only where no host memory is left.
+pub(crate) fn initial_fault(
+    alloc: Global,
+    initial: &Initial,
+    to: &Verdict<CType<'_>>,
+) -> Result<Option<Fault>, AllocError>
+    ensures { (lenient : Bool) (g : rules_tables.Tables) (i : ℕ) (v : rules.Verdict StaticType) → short_of static_type to.now ≡ shortened v
+        → IfOk result (λ f. faults_of f ≡ earliest (faults_by (at_item lenient g i) (initial_tree initial.now) v)) }
+{
+    match initial {
+        Initial::None => Ok(to.fault()),
+        Initial::Array(_) => Ok(to.fault()),
+        Initial::Constant(constant) => {
+            let value = constant_value(alloc, constant)?;
+            given_fault(alloc, &value, to)
+        }
+    }
+}

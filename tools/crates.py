@@ -54,7 +54,7 @@ def seconds():
     if GATE.exists():
         for row in re.finditer(r"^\| `(\w+)` \| *(\d+) *\|", GATE.read_text(), re.MULTILINE):
             found.setdefault(row[1], int(row[2]))
-    return {name: found.get(name) or LEAST + lines_of(name) // 5 for name in uses()}
+    return {name: found.get(name) or LEAST + lines_of(name) // 8 for name in uses()}
 
 
 def rests(graph, cost):

@@ -2,11 +2,11 @@
 //
 // A program is a text: a line has one row or several with `; ` between them, and a row is a name and numbers. Most rows are an operation of Core, as
 // `add 3 1 2`, whose first number is the temporary that gets the result (evaluator/rows.rt); the others begin and end functions and statements with
-// statements within them (evaluator/programs.rt).
+// statements within them (evaluator/programs.rt). Behind a program stand its cases, a line each (evaluator/endings.rt).
 
 mod arrays;
 mod endings;
-mod evaluations;
+mod fuel;
 mod keys;
 mod leaves;
 mod objects;
@@ -19,3 +19,4 @@ mod strings;
 mod unions;
 mod uniques;
 mod unnamed;
+mod words;

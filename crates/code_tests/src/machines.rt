@@ -1,7 +1,6 @@
 // Images, the machine, its runs between devices and how far a placed jump reaches: what no clause of theirs says, and no case of `case_runs`.
 
 mod counted_calls;
-mod devices;
 mod images;
 mod machine;
 mod placing;

@@ -1,6 +1,7 @@
 // Stores of regions: what no clause of theirs says, and each public call once, by tables of calls.
 
 mod asked;
+mod calls;
 mod parts;
 mod rows;
 mod tables;

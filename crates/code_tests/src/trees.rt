@@ -218,15 +218,11 @@ clauses$int main() { switch (u) { case {.a = x}: x; break; default: } }$true
 minus five$char *`H *@fat`U @`r ?*@thin*@notnull x = -5u;$true";
 
 #[test]
-fn parts(rt: HostRuntime) -> Result<(), Fail> {
-    expect_rows(rt.alloc(), PARTS)
-}
-
-#[test]
-fn faults_print(rt: HostRuntime) -> Result<(), Fail> {
+fn parts_and_faults_are_shown(rt: HostRuntime) -> Result<(), Fail> {
     let (fault, memory) = (LexFault::Lex(7), LexFault::Memory);
     expect(
         format!(in rt.alloc(); "{fault};{memory};")?,
         "Lex;out of memory;",
-    )
+    )?;
+    expect_rows(rt.alloc(), PARTS)
 }

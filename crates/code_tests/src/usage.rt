@@ -79,23 +79,17 @@ impl Env for Given<'_> {
     }
 }
 
-// whether words that a system gives are a command with this input, which is shown so
-fn has_input(alloc: Global, line: &str, input: &str, as_shown: &str) -> Result<bool, Fail> {
+// whether words that a system gives are a command with this input, which is shown so, and before the mark that stands behind it
+fn has_input(alloc: Global, line: &str, input: &str, mark: &str) -> Result<bool, Fail> {
     let words = words_of(&(Given { line }, alloc))?;
     let command = command_of(alloc, words.as_slice())?;
-    Ok(command.input() == input && shown(command.input()) == as_shown)
+    Ok(command.input().strip_suffix(mark) == Some(input) && shown(command.input()) == input)
 }
 
-#[test]
-fn a_path_that_is_no_text_is_shown_and_marked(rt: HostRuntime) -> Result<(), Fail> {
-    let is_right = has_input(
-        rt.alloc(),
-        "cycc check f?.cyc",
-        "f\u{FFFD}.cyc\0",
-        "f\u{FFFD}.cyc",
-    )?;
-    assert!(rt; is_right);
-    Ok(())
+// whether the words of a row, which are no text, are a command whose input is marked
+fn is_shown_marked(alloc: Global, row: &str) -> Result<bool, Fail> {
+    let (words, input) = words_and_rest(row);
+    has_input(alloc, words, input, "\0")
 }
 
 // whether the text of words that are no command has the sign of bytes that are no text, and not the mark of these
@@ -113,17 +107,18 @@ fn is_no_text(alloc: Global, row: &str) -> Result<bool, Fail> {
     }
 }
 
-// whether it is so what a row says: words are a command, their help has a text, or they are no text and no command
+// whether it is so what a row says: words are a command, their help has a text, or they are no text and a command, or none
 fn is_so(alloc: Global, row: &str) -> Result<bool, Fail> {
     let (sort, row) = parted(row);
     match sort {
         "command" => is_read(alloc, row),
         "help" => is_help(alloc, row),
+        "marked" => is_shown_marked(alloc, row),
         _ => is_no_text(alloc, row),
     }
 }
 
-// Words, and the command that they are; what the help of words has to say; and words that are no text.
+// Words, and the command that they are; what the help of words has to say; a path that is no text, which is shown and marked; and words that are no text.
 const WORDS: &str = r#"command cycc check a.cyc -> Check { input: "a.cyc" }
 command cycc compile a b --pages 7 -> Compile { input: "a", output: "b", pages: Pages { number: 7 } }
 command cycc compile a b -> Compile { input: "a", output: "b", pages: Pages { number: 1024 } }
@@ -141,9 +136,22 @@ help cycc run --help -> TooDeep
 help cycc eval --help -> Consumed
 help cycc exec --help -> Trailing
 help cycc dump --help -> Magic
+marked cycc check f?.cyc -> f�.cyc
 no_text cycc run a --pages=1?
 no_text cycc run a --ending?
 no_text cycc check? a b"#;
+
+// a path of a thousand letters, behind the words before it
+const LONG: &str = "\
+cycc check \
+aaaaaaaaaaaaaaaaaaaaaaaaaaaaaaaaaaaaaaaaaaaaaaaaaaaaaaaaaaaaaaaaaaaaaaaaaaaaaaaaaaaaaaaaaaaaaaaaaaaaaaaaaaaaaaaaaaaaaaaaaaaaa\
+aaaaaaaaaaaaaaaaaaaaaaaaaaaaaaaaaaaaaaaaaaaaaaaaaaaaaaaaaaaaaaaaaaaaaaaaaaaaaaaaaaaaaaaaaaaaaaaaaaaaaaaaaaaaaaaaaaaaaaaaaaaaa\
+aaaaaaaaaaaaaaaaaaaaaaaaaaaaaaaaaaaaaaaaaaaaaaaaaaaaaaaaaaaaaaaaaaaaaaaaaaaaaaaaaaaaaaaaaaaaaaaaaaaaaaaaaaaaaaaaaaaaaaaaaaaaa\
+aaaaaaaaaaaaaaaaaaaaaaaaaaaaaaaaaaaaaaaaaaaaaaaaaaaaaaaaaaaaaaaaaaaaaaaaaaaaaaaaaaaaaaaaaaaaaaaaaaaaaaaaaaaaaaaaaaaaaaaaaaaaa\
+aaaaaaaaaaaaaaaaaaaaaaaaaaaaaaaaaaaaaaaaaaaaaaaaaaaaaaaaaaaaaaaaaaaaaaaaaaaaaaaaaaaaaaaaaaaaaaaaaaaaaaaaaaaaaaaaaaaaaaaaaaaaa\
+aaaaaaaaaaaaaaaaaaaaaaaaaaaaaaaaaaaaaaaaaaaaaaaaaaaaaaaaaaaaaaaaaaaaaaaaaaaaaaaaaaaaaaaaaaaaaaaaaaaaaaaaaaaaaaaaaaaaaaaaaaaaa\
+aaaaaaaaaaaaaaaaaaaaaaaaaaaaaaaaaaaaaaaaaaaaaaaaaaaaaaaaaaaaaaaaaaaaaaaaaaaaaaaaaaaaaaaaaaaaaaaaaaaaaaaaaaaaaaaaaaaaaaaaaaaaa\
+aaaaaaaaaaaaaaaaaaaaaaaaaaaaaaaaaaaaaaaaaaaaaaaaaaaaaaaaaaaaaaaaaaaaaaaaaaaaaaaaaaaaaaaaaaaaaaaaaaaaaaaaaaaaaaaaaaaaaaaaaaaaa";
 
 #[test]
 fn words_are_read(rt: HostRuntime) -> Result<(), Fail> {
@@ -152,23 +160,8 @@ fn words_are_read(rt: HostRuntime) -> Result<(), Fail> {
             return refuse(Some(row));
         }
     }
-    Ok(())
-}
-
-// a path of a thousand letters, behind the words before it
-fn long_line(alloc: Global) -> Result<String, AllocError> {
-    let mut line = String::from_str(alloc, "cycc check ")?;
-    for _ in 0..1000 {
-        line.push('a')?;
-    }
-    Ok(line)
-}
-
-#[test]
-fn long_words_are_whole(rt: HostRuntime) -> Result<(), Fail> {
-    let line = long_line(rt.alloc())?;
-    let path = line.as_str().strip_prefix("cycc check ").unwrap_or("");
-    let is_right = has_input(rt.alloc(), line.as_str(), path, path)?;
-    assert!(rt; is_right && path.len() == 1000);
+    let path = LONG.strip_prefix("cycc check ").unwrap_or("");
+    let is_whole = has_input(rt.alloc(), LONG, path, "")?;
+    assert!(rt; is_whole && path.len() == 1000);
     Ok(())
 }

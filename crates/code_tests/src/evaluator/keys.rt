@@ -1,18 +1,15 @@
 // Evaluations of programs of Core with keys.
 
-use crate::evaluator::endings::expect_endings;
-use std::test::Fail;
-
-// a key, whose region is open, and a pointer to a block of it, which holds 7; then what the second temporary holds, which is 1 before the last rows
-const WITH_KEY: &str = "\
+/// Programs and how they end (evaluator/endings.rt).
+pub const KEYS: &str = "\
 function 0
 key_new 0; key_open 0; constant 1 1; region_words 2 0 1; constant 1 7; store 2 1; constant 1 1
 ?
 return 1
-end";
-
-// nothing leads to the blocks of a closed region, and they are kept
-const A_CLOSED_REGION_KEEPS_ITS_BLOCKS: &str = "\
+end
+--
+# a key, whose region is open, and a pointer to a block of it, which holds 7; then what the second temporary holds, which is 1 before the last rows
+# nothing leads to the blocks of a closed region, and they are kept
 Ended(7) <- load 1 2
 Ended(7) <- key_close 0; key_open 0; load 1 2
 Ended(7) <- key_close 0; offset 3 2 0 0; key_open 0; load 1 3
@@ -23,10 +20,8 @@ Stuck <- key_close 0; same_place 1 2 2
 Ended(7) <- heap_handle 3; region_words 3 3 1; copy_word 3 2; load 1 3
 Stuck <- heap_handle 3; region_words 3 3 1; key_close 0; copy_word 3 2
 Stuck <- key_close 0; clear_pairs 2 0
-Stuck <- key_close 0; region_words 3 0 1";
-
-// a region is closed when its key is made, and is opened, closed and freed in turn
-const A_KEY_OPENS_AND_CLOSES: &str = "\
+Stuck <- key_close 0; region_words 3 0 1
+# a region is closed when its key is made, and is opened, closed and freed in turn
 Ended(7) <- load 1 2; key_close 0; key_free 0
 Ended(1) <- key_close 0; key_open 0; region_words 3 0 1; store 3 1; load 1 3
 Stuck <- key_open 0
@@ -36,10 +31,8 @@ Stuck <- key_close 0; key_free 0; key_free 0
 Stuck <- key_close 0; key_free 0; key_open 0
 Stuck <- key_close 0; key_free 0; load 1 2
 Stuck <- key_new 3; region_words 2 3 1
-Stuck <- key_new 3; key_close 3";
-
-// no handle is a key, no key a handle, and no block of a key's region a unique one
-const KEYS_ARE_NO_HANDLES: &str = "\
+Stuck <- key_new 3; key_close 3
+# no handle is a key, no key a handle, and no block of a key's region a unique one
 Stuck <- region_free 0
 Stuck <- key_close 0; region_free 0
 Stuck <- unique_free 2
@@ -51,11 +44,3 @@ Stuck <- heap_handle 3; key_close 3
 Stuck <- heap_handle 3; key_open 3
 Stuck <- heap_handle 3; key_free 3
 Stuck <- key_open 1";
-
-#[test]
-fn keys_open_and_close_their_regions(rt: HostRuntime) -> Result<(), Fail> {
-    let alloc = rt.alloc();
-    expect_endings(alloc, WITH_KEY, A_CLOSED_REGION_KEEPS_ITS_BLOCKS)?;
-    expect_endings(alloc, WITH_KEY, A_KEY_OPENS_AND_CLOSES)?;
-    expect_endings(alloc, WITH_KEY, KEYS_ARE_NO_HANDLES)
-}

@@ -1,32 +1,20 @@
 // Evaluations of programs of Core with objects of many cells.
 
-use crate::evaluator::endings::expect_endings;
-use std::test::Fail;
-
-// two pairs, whose addresses the first two temporaries have: the members of the first are set; then what is left of the second pair's second member
-// less its first
-const WITH_PAIRS: &str = "\
+/// Programs and how they end (evaluator/endings.rt).
+pub const OBJECTS: &str = "\
 function 0
 block; with_pairs 1; with_pairs 1
 local_address 0 0; local_address 1 1; clear_pairs 0 1; clear_pairs 1 1; constant 2 0x107; store_byte 0 2; store 0 2 1 4
 ?
 offset 3 1 1 4; load 4 3; load_byte 5 1; subtract 4 4 5; return 4
 end
-end";
-
-const A_WHOLE_OBJECT_IS_COPIED_AND_CLEARED: &str = "\
+end
+--
+# two pairs, whose addresses the first two temporaries have: the members of the first are set; then what is left of the second pair's second member
+# less its first
 Ended(256) <- copy_pair 1 0
-Ended(0) <- clear_pairs 0 1";
-
-// no object is copied to itself, none is read where it has no member, and no pointer goes further than an object's bytes
-const WHAT_OBJECTS_CANNOT_DO_IS_STUCK: &str = "\
+Ended(0) <- clear_pairs 0 1
+# no object is copied to itself, none is read where it has no member, and no pointer goes further than an object's bytes
 Stuck <- copy_pair 0 0
 Stuck <- load 1 0
 Stuck <- offset 1 0 0 0x2000000";
-
-#[test]
-fn whole_objects_are_copied_and_cleared(rt: HostRuntime) -> Result<(), Fail> {
-    let alloc = rt.alloc();
-    expect_endings(alloc, WITH_PAIRS, A_WHOLE_OBJECT_IS_COPIED_AND_CLEARED)?;
-    expect_endings(alloc, WITH_PAIRS, WHAT_OBJECTS_CANNOT_DO_IS_STUCK)
-}

@@ -1,8 +1,8 @@
 // The parts of programs that rows say and that own memory: globals, locals, and statements without statements within them.
 
 use crate::evaluator::rows::{Row, operation_of};
+use crate::evaluator::words::{Shape, Word};
 use cyc_core::{Cell, CellLayout, Datum, Layout, Local, Statement, Temporary, Words};
-use cyc_words::Kind;
 use std::alloc::Global;
 use std::rc::Rc;
 
@@ -21,50 +21,38 @@ fn object(alloc: Global, cells: &[CellLayout], bytes: u32) -> Option<Rc<Layout>>
     Rc::new(alloc, Layout { cells, bytes }).ok()
 }
 
-// the layout of a shape: `int`; `struct { char first; int second; }`; a tagged union none of whose members is a fat pointer, and one with a fat pointer
-fn layout_of(alloc: Global, shape: &str) -> Option<Rc<Layout>> {
+// the layout of a shape
+fn layout_of(alloc: Global, shape: Shape) -> Option<Rc<Layout>> {
     match shape {
-        "word" | "words" => object(alloc, &[cell(0, Cell::Word, 0)], 4),
-        "pair" | "pairs" => { object(alloc, &[cell(0, Cell::Byte, 3), cell(4, Cell::Word, 0)], 8) }
-        "union" | "unions" => object(alloc, &[cell(0, Cell::Tagged, 0)], 8),
-        "fat_union" => object(alloc, &[cell(0, Cell::TaggedFat, 0)], 16),
-        _ => None,
+        Shape::Int => object(alloc, &[cell(0, Cell::Word, 0)], 4),
+        Shape::Pair => object(alloc, &[cell(0, Cell::Byte, 3), cell(4, Cell::Word, 0)], 8),
+        Shape::Union => object(alloc, &[cell(0, Cell::Tagged, 0)], 8),
+        Shape::FatUnion => object(alloc, &[cell(0, Cell::TaggedFat, 0)], 16),
     }
 }
 
 /// The global that a row says, where it says one.
-pub fn datum_of(alloc: Global, row: Row<'_>) -> Option<Datum> {
+pub fn datum_of(alloc: Global, row: Row) -> Option<Datum> {
     let [first, second, _, _, _] = row.numbers;
-    match row.name {
-        "global_byte" => Some(Datum::Byte(0)),
-        "global_null" => Some(Datum::Null),
-        "global_address" => Some(Datum::Address(first)),
-        "global_bounds" => Some(Datum::Bounds(first, second)),
-        "global_ab" => Some(Datum::Text(b"ab".to_vec(alloc).ok()?)),
-        "global_pairs" => Some(Datum::Whole(layout_of(alloc, "pairs")?, first)),
-        _ => None,
-    }
-}
-
-// the cell of a local of one cell
-fn scalar_of(name: &str) -> Option<Cell> {
-    match name {
-        "with_word" => Some(Cell::Word),
-        "with_fat" => Some(Cell::Fat),
-        "with_union" => Some(Cell::Tagged),
-        "with_fat_union" => Some(Cell::TaggedFat),
+    match row.word {
+        Word::GlobalByte => Some(Datum::Byte(0)),
+        Word::GlobalNull => Some(Datum::Null),
+        Word::GlobalAddress => Some(Datum::Address(first)),
+        Word::GlobalBounds => Some(Datum::Bounds(first, second)),
+        Word::GlobalText => Some(Datum::Text(b"ab".to_vec(alloc).ok()?)),
+        Word::GlobalPairs => Some(Datum::Whole(layout_of(alloc, Shape::Pair)?, first)),
         _ => None,
     }
 }
 
 /// The local or unnamed value that a row says, where it says one.
-pub fn local_of(alloc: Global, row: Row<'_>) -> Option<Local> {
+pub fn local_of(alloc: Global, row: Row) -> Option<Local> {
     let [count, _, _, _, _] = row.numbers;
-    if let Some(cell) = scalar_of(row.name) {
-        return Some(Local::Scalar(cell));
+    match row.word {
+        Word::Scalar(cell) => Some(Local::Scalar(cell)),
+        Word::Whole(shape) => Some(Local::Whole(layout_of(alloc, shape)?, count)),
+        _ => None,
     }
-    let shape = row.name.strip_prefix("with_")?;
-    Some(Local::Whole(layout_of(alloc, shape)?, count))
 }
 
 /// The temporaries of a value: none, one or three.
@@ -78,35 +66,37 @@ pub fn words_of(numbers: [u32; 3], count: usize) -> Option<Words> {
 }
 
 // the statement on objects of a shape that a row says, where it says one
-fn object_statement(alloc: Global, row: Row<'_>) -> Option<Statement> {
+fn object_statement(alloc: Global, row: Row) -> Option<Statement> {
     let [first, second, third, _, _] = row.numbers;
     let (to, from) = (Temporary(first), Temporary(second));
-    let (verb, shape) = row.name.split_once('_')?;
-    let layout = layout_of(alloc, shape)?;
-    match verb {
-        "copy" => Some(Statement::Copy(to, from, layout)),
-        "clear" => Some(Statement::Clear(to, layout, second)),
-        "unique" => Some(Statement::UniqueAlloc(to, layout)),
-        "region" => Some(Statement::RegionAlloc(to, from, Temporary(third), layout)),
+    match row.word {
+        Word::Copy(shape) => Some(Statement::Copy(to, from, layout_of(alloc, shape)?)),
+        Word::Clear(shape) => Some(Statement::Clear(to, layout_of(alloc, shape)?, second)),
+        Word::Unique(shape) => Some(Statement::UniqueAlloc(to, layout_of(alloc, shape)?)),
+        Word::Region(shape) => Some(Statement::RegionAlloc(
+            to,
+            from,
+            Temporary(third),
+            layout_of(alloc, shape)?,
+        )),
         _ => None,
     }
 }
 
 // the statement without an object that a row says, where it says one
-fn plain_statement(row: Row<'_>) -> Option<Statement> {
+fn plain_statement(row: Row) -> Option<Statement> {
     let [first, second, third, _, _] = row.numbers;
-    match row.name {
-        "break" => Some(Statement::Break),
-        "continue" => Some(Statement::Continue),
-        "return" => Some(Statement::Return(words_of([first, second, third], row.count))),
-        "raise_null" => Some(Statement::Raise(Kind::NullException)),
-        "raise_bounds" => Some(Statement::Raise(Kind::ArrayBounds)),
+    match row.word {
+        Word::Break => Some(Statement::Break),
+        Word::Continue => Some(Statement::Continue),
+        Word::Return => Some(Statement::Return(words_of([first, second, third], row.count))),
+        Word::Raise(kind) => Some(Statement::Raise(kind)),
         _ => Some(Statement::Do(operation_of(row)?)),
     }
 }
 
 /// The statement that a row says, where it says one that is no call.
-pub fn statement_of(alloc: Global, row: Row<'_>) -> Option<Statement> {
+pub fn statement_of(alloc: Global, row: Row) -> Option<Statement> {
     match plain_statement(row) {
         Some(statement) => Some(statement),
         None => object_statement(alloc, row),

@@ -7,10 +7,10 @@
 
 use crate::evaluator::parts::{datum_of, local_of, statement_of, words_of};
 use crate::evaluator::rows::{Row, row_of};
+use crate::evaluator::words::Word;
 use cyc_core::{Function, Local, Program, Statement, Temporary};
 use std::alloc::Global;
 use std::mem;
-use std::test::Fail;
 
 // what goes on up to an `end`
 #[derive(Clone, Copy)]
@@ -104,21 +104,21 @@ impl Reader {
         }
     }
 
-    fn pass(&mut self, row: Row<'_>) -> Option<()> {
+    fn pass(&mut self, row: Row) -> Option<()> {
         for number in row.numbers.iter().take(row.count) {
             self.passed.push(Temporary(*number)).ok()?;
         }
         Some(())
     }
 
-    fn call(&mut self, row: Row<'_>) -> Option<()> {
+    fn call(&mut self, row: Row) -> Option<()> {
         let [function, first, second, third, _] = row.numbers;
         let results = words_of([first, second, third], row.count.saturating_sub(1));
         let passed = mem::replace(&mut self.passed, Vec::new(self.alloc));
         self.add(Statement::Call(results, function, passed))
     }
 
-    fn part(&mut self, row: Row<'_>) -> Option<()> {
+    fn part(&mut self, row: Row) -> Option<()> {
         if let Some(datum) = datum_of(self.alloc, row) {
             return self.program.globals.push(datum).ok();
         }
@@ -132,51 +132,56 @@ impl Reader {
     fn read(&mut self, text: &str) -> Option<()> {
         let row = row_of(text)?;
         let [number, _, _, _, _] = row.numbers;
-        match row.name {
-            "function" => self.open(Sort::Function(number)),
-            "block" => self.open(Sort::Block),
-            "leave" => self.open(Sort::Leave),
-            "if" => self.open(Sort::If(Temporary(number))),
-            "while" => self.open(Sort::While(Temporary(number))),
-            "else" | "do" => self.turn(),
-            "end" => self.close(),
-            "pass" => self.pass(row),
-            "call" => self.call(row),
+        match row.word {
+            Word::Function => self.open(Sort::Function(number)),
+            Word::Block => self.open(Sort::Block),
+            Word::Leave => self.open(Sort::Leave),
+            Word::If => self.open(Sort::If(Temporary(number))),
+            Word::While => self.open(Sort::While(Temporary(number))),
+            Word::Turn => self.turn(),
+            Word::End => self.close(),
+            Word::Pass => self.pass(row),
+            Word::Call => self.call(row),
             _ => self.part(row),
         }
     }
 
-    fn read_line(&mut self, line: &str) -> Result<(), Fail> {
+    fn read_line(&mut self, line: &str) -> Option<()> {
         for text in line.split("; ") {
-            if self.read(text).is_none() {
-                return Err(Fail::new(format_args!("no row, or no memory for it: {text}")));
-            }
+            self.read(text)?;
         }
-        Ok(())
+        Some(())
     }
 
     // reads the lines of a text, where the given ones stand for its lines `?`
-    fn read_text(&mut self, text: &str, given: &str) -> Result<(), Fail> {
-        let mut lines = given.split(" | ");
+    fn read_text(&mut self, text: &str, given: &str) -> Option<()> {
+        let mut given = given.split(" | ");
         for line in text.lines() {
-            let rows = if line == "?" {
-                lines.next().unwrap_or(line)
-            } else {
-                line
-            };
+            let rows = if line == "?" { given.next()? } else { line };
             self.read_line(rows)?;
         }
-        if self.levels.is_empty() && lines.next().unwrap_or("").is_empty() {
-            Ok(())
+        if given.next().unwrap_or("").is_empty() {
+            Some(())
         } else {
-            Err("an end is missing, or a line was not asked for")?
+            None
+        }
+    }
+
+    // the program, where no end is missing
+    fn into_program(self) -> Option<Program> {
+        if self.levels.is_empty() {
+            Some(self.program)
+        } else {
+            None
         }
     }
 }
 
-/// The program of a text, where the lines `?` stand for the given ones, which have ` | ` between them.
-pub fn program_of(alloc: Global, text: &str, given: &str) -> Result<Program, Fail> {
+/// The program of a text, where the lines `?` stand for the given ones, which have ` | ` between them; none where it has a row that is none, or memory lacks.
+pub fn program_of(alloc: Global, text: &str, given: &str) -> Option<Program> {
     let mut reader = Reader::new(alloc);
-    reader.read_text(text, given)?;
-    Ok(reader.program)
+    match reader.read_text(text, given) {
+        None => None,
+        Some(()) => reader.into_program(),
+    }
 }

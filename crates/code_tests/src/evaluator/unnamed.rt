@@ -1,9 +1,7 @@
 // Evaluations of programs of Core with unnamed values of functions: pairs of a char and, one cell and four bytes on, an int.
 
-use crate::evaluator::endings::expect_endings;
-use std::test::Fail;
-
-const THROUGH: &str = "\
+/// Programs and how they end (evaluator/endings.rt).
+pub const UNNAMED: &str = "\
 function 0; with_pairs 1
 own_address 0 0; clear_pairs 0 1; constant 1 0x107; store 0 1 1 4; store_byte 0 1
 block; with_pairs 1
@@ -11,9 +9,11 @@ local_address 1 0; copy_pair 1 0; clear_pairs 0 1; load 2 1 1 4; load_byte 3 1; 
 end
 end
 function 1; with_pairs 1
-end";
+end
+--
+# the unnamed pair is a local's value, and what becomes of it later is not the local's
+Ended(256)
 
-const CALLEE_STORES: &str = "\
 function 0; with_pairs 1
 own_address 0 0; constant 1 5; store 0 1 1 4; pass 0; call 1; load 1 0 1 4; return 1
 end
@@ -21,14 +21,12 @@ function 1; with_pairs 1
 own_address 1 0; constant 2 9
 ?
 return
-end";
-
-// a callee stores to its caller's unnamed pair, and to its own, which is another
-const EACH_CALL_HAS_ITS_OWN: &str = "\
+end
+--
+# a callee stores to its caller's unnamed pair, and to its own, which is another
 Ended(9) <- store 0 2 1 4
-Ended(5) <- store 1 2 1 4";
+Ended(5) <- store 1 2 1 4
 
-const CALL_OVER: &str = "\
 function 0; with_pairs 1
 constant 1 5; pass 1; call 1 0
 ?
@@ -36,34 +34,21 @@ return 1
 end
 function 1; with_pairs 1
 own_address 1 0; store 1 0 1 4; return 1
-end";
-
-// a pointer to an unnamed value of a call that is over may be tested for NULL, and no more
-const AN_UNNAMED_VALUE_IS_GONE_WITH_ITS_CALL: &str = "\
+end
+--
+# a pointer to an unnamed value of a call that is over may be tested for NULL, and no more
 Ended(0) <- is_null 1 0
 Stuck <- load 1 0 1 4
-Stuck <- store 0 1 1 4";
+Stuck <- store 0 1 1 4
 
-const LOADED: &str = "\
 function 0; with_pairs 1
 constant 1 5
 ?
 load 1 0 1 4; return 1
 end
 function 1; with_pairs 1
-end";
-
-// an unnamed value holds nothing at first, and none stands behind the last
-const WHAT_UNNAMED_VALUES_CANNOT_DO_IS_STUCK: &str = "\
+end
+--
+# an unnamed value holds nothing at first, and none stands behind the last
 Stuck <- own_address 0 0; constant 1 5
 Stuck <- own_address 0 1; store 0 1 1 4";
-
-#[test]
-fn unnamed_values_are_their_calls(rt: HostRuntime) -> Result<(), Fail> {
-    let alloc = rt.alloc();
-    // the unnamed pair is a local's value, and what becomes of it later is not the local's
-    expect_endings(alloc, THROUGH, "Ended(256)")?;
-    expect_endings(alloc, CALLEE_STORES, EACH_CALL_HAS_ITS_OWN)?;
-    expect_endings(alloc, CALL_OVER, AN_UNNAMED_VALUE_IS_GONE_WITH_ITS_CALL)?;
-    expect_endings(alloc, LOADED, WHAT_UNNAMED_VALUES_CANNOT_DO_IS_STUCK)
-}

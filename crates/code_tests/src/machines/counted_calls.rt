@@ -1,31 +1,11 @@
 // Flushes, which never count, whether they fail or not, and writes that take nothing.
 
+use crate::devices::Tape;
 use cyc_words::{Counted, Output};
-use std::io::{self, Error, ErrorKind, Write};
-
-// takes nothing at a call, after which it can't be flushed
-#[derive(Drop)]
-struct Shut {
-    is_asked: bool,
-}
-
-impl Write for Shut {
-    fn write(&mut self, _bytes: &[u8]) -> io::Result<usize> {
-        self.is_asked = true;
-        Ok(0)
-    }
-
-    fn flush(&mut self) -> io::Result<()> {
-        if self.is_asked {
-            Err(Error::from(ErrorKind::Other))
-        } else {
-            Ok(())
-        }
-    }
-}
+use std::io::Write;
 
 // whether a flush is what it is inside, and counts nothing, nor a write of nothing; and a write of a byte that isn't taken counts
-fn are_counted(output: &mut Counted<Shut>) -> bool {
+fn are_counted(output: &mut Counted<Tape>) -> bool {
     let is_flushed = output.flush().is_ok();
     let nothing = output.send(b"").ok();
     let is_lost = output.flush().is_err();
@@ -37,7 +17,7 @@ fn are_counted(output: &mut Counted<Shut>) -> bool {
 
 #[test]
 fn a_flush_never_counts(rt: HostRuntime) {
-    let mut output = Counted::new(Shut { is_asked: false });
+    let mut output = Counted::new(Tape::stumbling("0 0 fails"));
     let are_right = are_counted(&mut output);
     assert!(rt; are_right);
 }

@@ -1,6 +1,5 @@
 // An image byte by byte, and the parts that one may have.
 
-use crate::machines::rows::{Rows, expect};
 use crate::texts::{number_of, parted};
 use cyc_image::{Parts, write};
 use std::alloc::{AllocError, Global};
@@ -70,7 +69,8 @@ pub fn are_limits(alloc: Global, row: &str) -> Result<bool, AllocError> {
     Ok(found == Some(wanted == "fit"))
 }
 
-const LIMITS: &str = "\
+/// The limits of the parts of an image.
+pub const LIMITS: &str = "\
 fit 0 4 0 1
 unfit 0 0 0 1
 unfit 0 3 0 1
@@ -85,8 +85,3 @@ fit 4 8 0 1
 unfit 2 8 0 1
 unfit 4 4 0 1
 unfit 4294967295 4 0 1";
-
-#[test]
-fn parts_fit_up_to_each_limit(rt: HostRuntime) -> Result<(), Fail> {
-    expect(rt.alloc(), Rows::Limits, LIMITS)
-}

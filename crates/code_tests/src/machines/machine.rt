@@ -4,8 +4,8 @@
 // pages, where they aren't 1. `step` says the event of a step, `until` that of the next step that is not Next, `give` and `refuse` what becomes of an answer,
 // `pc` and `x` with a number what the machine has, in hexadecimal. `input`, `output` and `run` are told in runs.rt.
 
-use crate::machines::programs::program_of;
-use crate::machines::rows::{Rows, expect, hex};
+use crate::machines::programs::{PROGRAMS, program_of};
+use crate::machines::rows::hex;
 use crate::machines::runs::Devices;
 use crate::texts::{number_of, parted};
 use cyc_arena::{BlockStore, PagedStore, PlainStore};
@@ -127,17 +127,20 @@ fn is_done_over_both(alloc: Global, row: &'static str, image: &Image) -> Result<
     Ok(plain && paged)
 }
 
-/// Whether it is so what a row says.
-pub fn is_done(alloc: Global, row: &'static str) -> Result<bool, Fail> {
-    let (wanted, words) = row.split_once(" <- ").unwrap_or((row, ""));
-    let (words, pages) = words.split_once(" | ").unwrap_or((words, "1"));
-    let image = image_of(alloc, program_of(words), number_of(pages))?;
+/// Whether it is so what a row says of a machine, which is made of what stands behind it.
+pub fn is_done(alloc: Global, wanted: &'static str, image: &str) -> Result<bool, Fail> {
+    let (words, pages) = image.split_once(" | ").unwrap_or((image, "1"));
+    let image = image_of(alloc, program_of(&PROGRAMS, words), number_of(pages))?;
     is_done_over_both(alloc, wanted, &image)
 }
 
-// How a machine stops and where, what x10 has then, and that it stays so: the smallest image of each fault; loads from the arena, stores to it and jumps
-// there; calls of the store, in order or not; and frames, as long as the stack, which fits, of one byte more, and of the most bytes.
-const STOPS: &str = "\
+/// How a machine stops and where, what x10 has then, and that it stays so: the smallest image of each fault; loads from the arena, stores to it and jumps
+/// there; calls of the store, in order or not; and frames, as long as the stack, which fits, of one byte more, and of the most bytes.
+///
+/// Then a machine that goes on step by step: a program that ends; getchar, and again; loads from the data, which extend the sign; what is stored is loaded again, and nothing stands behind the stack;
+/// putchar, and a raise. In the last one a region, a block of 8 bytes in it, whose address goes to x5, and 0x12345000 stored there; the region is freed, and the
+/// next one made; then bytes 0 to 2 of what stands there go to x12 to x14, and byte 4 to x15.
+pub const STEPS: &str = "\
 until Fault(Access); pc 10004; x10 0; step Fault(Access); pc 10004 <- 00000893
 until Fault(Illegal); pc 10000; x10 0; step Fault(Illegal); pc 10000 <- 00000000
 until Fault(Break); pc 10000; x10 0; step Fault(Break); pc 10000 <- 00100073
@@ -181,17 +184,7 @@ until Ended(1); pc 10014; x10 1; step Ended(1); pc 10014 <- 00900893 00000073 00
 until Fault(BadCall); pc 10008; x10 100000; step Fault(BadCall); pc 10008 <- 00D00893 00100537 00000073
 until Exhausted; pc 1000c; x10 100001; step Exhausted; pc 1000c <- 00D00893 00100537 00150513 00000073
 until Exhausted; pc 10008; x10 ffffffff; step Exhausted; pc 10008 <- 00D00893 FFF00513 00000073
-until Exhausted; pc 1000c; x10 2; step Exhausted; pc 1000c <- 00400893 00000073 00000073 00000073 | 2";
-
-#[test]
-fn a_stop_is_before_the_instruction(rt: HostRuntime) -> Result<(), Fail> {
-    expect(rt.alloc(), Rows::Machine, STOPS)
-}
-
-// A program that ends; getchar, and again; loads from the data, which extend the sign; what is stored is loaded again, and nothing stands behind the stack;
-// putchar, and a raise. In the last one a region, a block of 8 bytes in it, whose address goes to x5, and 0x12345000 stored there; the region is freed, and the
-// next one made; then bytes 0 to 2 of what stands there go to x12 to x14, and byte 4 to x15.
-const STEPS: &str = "\
+until Exhausted; pc 1000c; x10 2; step Exhausted; pc 1000c <- 00400893 00000073 00000073 00000073 | 2
 step Next; step Next; step Ended(7); step Ended(7); pc 10008; x10 7; x2 500000; x32 0 <- 00000893 00700513 00000073
 refuse 1; until Get; step Get; pc 10004; give 200; pc 10008; x10 c8; refuse none; step Get; give none; x10 ffffffff <- 00200893 00000073 00000073
 until Fault(Access); x2 ffffff80; x3 ffff8180; x4 80; x5 8180; x6 83828180 <- 002000B7 00008103 00009183 0000C203 0000D283 0000A303
@@ -199,11 +192,6 @@ until Fault(Access); x3 ff00; pc 10014 <- FFE00093 FE112E23 FE010E23 FE011F23 FF
 until Put(65); x10 41; until Raised(ArrayBounds); pc 10014 <- 14100513 00100893 00000073 00200513 00300893 00000073
 until Fault(Break); x12 0; x13 50; x14 34; x15 0 <- 00400893 00000073 00050313 00500893 00800593 00000073 00050293 123453B7 0072A023 \
 00030513 00600893 00000073 00400893 00000073 0002C603 0012C683 0022C703 0042C783 00100073";
-
-#[test]
-fn a_machine_goes_on_step_by_step(rt: HostRuntime) -> Result<(), Fail> {
-    expect(rt.alloc(), Rows::Machine, STEPS)
-}
 
 // whether a machine is made over a store that holds a byte, or where memory lacks, as under rt try --test --fail-alloc, its store comes back as it was
 fn is_made_or_given_back(alloc: Global, image: &Image, mut store: PlainStore) -> bool {

@@ -18,15 +18,13 @@ fn put(lines: &mut Vec<Line>, instruction: Instr) -> Result<(), AllocError> {
     Ok(())
 }
 
-// adds a jump on zero to the label 0, and an instruction behind it
-fn put_jump(lines: &mut Vec<Line>, behind: Instr) -> Result<(), AllocError> {
-    lines.push(Line::JumpIfZero(Register::TEMPORARY_0, 0))?;
-    put(lines, behind)
-}
-
-// adds that label, and an instruction behind it
-fn put_label(lines: &mut Vec<Line>, behind: Instr) -> Result<(), AllocError> {
-    lines.push(Line::Label(0))?;
+// adds a jump on zero to the label 0, or that label, and an instruction behind it
+fn put_end(lines: &mut Vec<Line>, is_jump: bool, behind: Instr) -> Result<(), AllocError> {
+    if is_jump {
+        lines.push(Line::JumpIfZero(Register::TEMPORARY_0, 0))?;
+    } else {
+        lines.push(Line::Label(0))?;
+    }
     put(lines, behind)
 }
 
@@ -40,15 +38,9 @@ fn fill(lines: &mut Vec<Line>, count: u16) -> Result<(), AllocError> {
 
 // adds a jump and its label, which is ahead or behind, with some instructions and these between them
 fn put_both(lines: &mut Vec<Line>, is_ahead: bool, between: u16) -> Result<(), AllocError> {
-    if is_ahead {
-        put_jump(lines, nothing())?;
-        fill(lines, between)?;
-        put_label(lines, nothing())
-    } else {
-        put_label(lines, nothing())?;
-        fill(lines, between)?;
-        put_jump(lines, nothing())
-    }
+    put_end(lines, is_ahead, nothing())?;
+    fill(lines, between)?;
+    put_end(lines, !is_ahead, nothing())
 }
 
 // how many words these lines are as they are placed
@@ -74,14 +66,18 @@ fn expect(words: usize, wanted: usize) -> Result<(), Fail> {
     }
 }
 
-#[test]
-fn jump_to_a_label_ahead(rt: HostRuntime) -> Result<(), Fail> {
-    expect(words(rt.alloc(), true, 1_021, nothing())?, 1_023 + 1)?;
-    expect(words(rt.alloc(), true, 1_022, nothing())?, 1_024 + 2)
-}
+// whether the label is ahead, how many instructions are between, and how many words all are then: those that reach furthest, and one more
+const REACHES: [(bool, u16, usize); 4] = [
+    (true, 1_021, 1_023 + 1),
+    (true, 1_022, 1_024 + 2),
+    (false, 1_023, 1_025 + 1),
+    (false, 1_024, 1_026 + 2),
+];
 
 #[test]
-fn jump_to_a_label_behind(rt: HostRuntime) -> Result<(), Fail> {
-    expect(words(rt.alloc(), false, 1_023, nothing())?, 1_025 + 1)?;
-    expect(words(rt.alloc(), false, 1_024, nothing())?, 1_026 + 2)
+fn a_jump_that_reaches_is_one_word(rt: HostRuntime) -> Result<(), Fail> {
+    for (is_ahead, between, wanted) in REACHES.iter() {
+        expect(words(rt.alloc(), *is_ahead, *between, nothing())?, *wanted)?;
+    }
+    Ok(())
 }

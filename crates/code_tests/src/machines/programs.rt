@@ -29,17 +29,24 @@ const PAGE: &str =
 const MORE: &str =
     "00100893 04100513 000012b7 00128293 00000073 fff28293 fe029ce3 00000893 00000073";
 
+/// The programs, by their names.
+pub const PROGRAMS: [(&str, &str); 8] = [
+    ("echo", ECHO),
+    ("twice", TWICE),
+    ("raises", RAISES),
+    ("cut", CUT),
+    ("five", FIVE),
+    ("less", LESS),
+    ("page", PAGE),
+    ("more", MORE),
+];
+
 /// The words of the program of a name, or a text that is no name.
-pub fn program_of(name: &str) -> &str {
-    match name {
-        "echo" => ECHO,
-        "twice" => TWICE,
-        "raises" => RAISES,
-        "cut" => CUT,
-        "five" => FIVE,
-        "less" => LESS,
-        "page" => PAGE,
-        "more" => MORE,
-        words => words,
+pub fn program_of<'t>(programs: &'t [(&'t str, &'t str)], name: &'t str) -> &'t str {
+    for (it, words) in programs.iter() {
+        if *it == name {
+            return words;
+        }
     }
+    name
 }

@@ -1,5 +1,6 @@
 // What the calls of tables are made on: stores, and the unique blocks over a pool below them.
 
+use crate::stores::calls::Call;
 use cyc_arena::{BlockStore, PagedStore, PlainStore, StoreRefusal};
 use dynamic_region::{Handle, Refusal, Regions, UniqueBlocks};
 use unique_blocks::UniqueRefusal;
@@ -9,8 +10,8 @@ pub type Said = Result<u32, &'static str>;
 
 /// What calls are made on.
 pub trait Asked {
-    /// A call by its name, on the region or key of this number, or at the address so many bytes behind a block.
-    fn ask(&mut self, call: &str, base: u32, number: u32) -> Said;
+    /// A call, on the region or key of this number, or at the address so many bytes behind a block.
+    fn ask(&mut self, call: Call, base: u32, number: u32) -> Said;
 
     /// Stores a byte of the arena; false outside it.
     fn put(&mut self, at: u32, byte: u8) -> bool;
@@ -67,28 +68,28 @@ fn few(count: u64) -> Said {
 }
 
 // a call on a store
-fn ask_store<S: BlockStore>(store: &mut S, call: &str, base: u32, number: u32) -> Said {
+fn ask_store<S: BlockStore>(store: &mut S, call: Call, base: u32, number: u32) -> Said {
     let at = base.wrapping_add(number);
     match call {
-        "region_new" => numbered(store.region_new()),
-        "region_alloc" => numbered(store.region_alloc(base, number)),
-        "region_free" => done(store.region_free(base)),
-        "unique_alloc" => numbered(store.unique_alloc(number)),
-        "unique_free" => done(store.unique_free(at)),
-        "key_new" => numbered(store.key_new()),
-        "key_open" => numbered(store.key_open(base)),
-        "key_close" => done(store.key_close(base)),
-        "key_free" => done(store.key_free(base)),
-        "load8" => byte_given(store.load8(at)),
-        "store8" => Ok(u32::from(store.store8(at, 9))),
-        "live" => Ok(u32::from(store.is_live(at))),
-        "pages" => Ok(store.pages()),
+        Call::RegionNew => numbered(store.region_new()),
+        Call::RegionAlloc => numbered(store.region_alloc(base, number)),
+        Call::RegionFree => done(store.region_free(base)),
+        Call::UniqueAlloc => numbered(store.unique_alloc(number)),
+        Call::UniqueFree => done(store.unique_free(at)),
+        Call::KeyNew => numbered(store.key_new()),
+        Call::KeyOpen => numbered(store.key_open(base)),
+        Call::KeyClose => done(store.key_close(base)),
+        Call::KeyFree => done(store.key_free(base)),
+        Call::Load8 => byte_given(store.load8(at)),
+        Call::Store8 => Ok(u32::from(store.store8(at, 9))),
+        Call::Live => Ok(u32::from(store.is_live(at))),
+        Call::Pages => Ok(store.pages()),
         _ => Err("another call"),
     }
 }
 
 impl Asked for PlainStore {
-    fn ask(&mut self, call: &str, base: u32, number: u32) -> Said {
+    fn ask(&mut self, call: Call, base: u32, number: u32) -> Said {
         ask_store(self, call, base, number)
     }
 
@@ -98,11 +99,11 @@ impl Asked for PlainStore {
 }
 
 impl Asked for PagedStore<UniqueBlocks> {
-    fn ask(&mut self, call: &str, base: u32, number: u32) -> Said {
-        if call == "touched" {
-            return few(self.touched());
+    fn ask(&mut self, call: Call, base: u32, number: u32) -> Said {
+        match call {
+            Call::Touched => few(self.touched()),
+            _ => ask_store(self, call, base, number),
         }
-        ask_store(self, call, base, number)
     }
 
     fn put(&mut self, at: u32, byte: u8) -> bool {
@@ -143,21 +144,21 @@ fn region_freed(said: Result<(), Refusal>) -> Said {
 }
 
 // a call on regions
-fn ask_regions<R: Regions>(regions: &mut R, call: &str, base: u32, number: u32) -> Said {
+fn ask_regions<R: Regions>(regions: &mut R, call: Call, base: u32, number: u32) -> Said {
     let (handle, at) = (Handle(base), base.wrapping_add(number));
     match call {
-        "region_new" => region_made(regions.region_new()),
-        "region_alloc" => region_placed(regions.region_alloc(handle, number)),
-        "region_free" => region_freed(regions.region_free(handle)),
-        "tag" => given(regions.tag(handle)),
-        "set_tag" => Ok(u32::from(regions.set_tag(handle, number))),
-        "free" => Ok(regions.free_pages()),
-        "fresh" => Ok(regions.fresh_pages()),
-        "touched" => few(u64::from(regions.touched())),
-        "load8" => byte_given(regions.load8(at)),
-        "store8" => Ok(u32::from(regions.store8(at, 9))),
-        "live" => Ok(u32::from(regions.is_live(at))),
-        "pages" => Ok(regions.pages()),
+        Call::RegionNew => region_made(regions.region_new()),
+        Call::RegionAlloc => region_placed(regions.region_alloc(handle, number)),
+        Call::RegionFree => region_freed(regions.region_free(handle)),
+        Call::Tag => given(regions.tag(handle)),
+        Call::SetTag => Ok(u32::from(regions.set_tag(handle, number))),
+        Call::Free => Ok(regions.free_pages()),
+        Call::Fresh => Ok(regions.fresh_pages()),
+        Call::Touched => few(u64::from(regions.touched())),
+        Call::Load8 => byte_given(regions.load8(at)),
+        Call::Store8 => Ok(u32::from(regions.store8(at, 9))),
+        Call::Live => Ok(u32::from(regions.is_live(at))),
+        Call::Pages => Ok(regions.pages()),
         _ => Err("another call"),
     }
 }
@@ -187,10 +188,10 @@ fn block_freed(said: Result<(), UniqueRefusal>) -> Said {
 }
 
 impl Asked for UniqueBlocks {
-    fn ask(&mut self, call: &str, base: u32, number: u32) -> Said {
+    fn ask(&mut self, call: Call, base: u32, number: u32) -> Said {
         match call {
-            "unique_alloc" => block_placed(self.unique_alloc(number)),
-            "unique_free" => block_freed(self.unique_free(base.wrapping_add(number))),
+            Call::UniqueAlloc => block_placed(self.unique_alloc(number)),
+            Call::UniqueFree => block_freed(self.unique_free(base.wrapping_add(number))),
             _ => ask_regions(self, call, base, number),
         }
     }

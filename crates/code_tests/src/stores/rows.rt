@@ -2,8 +2,9 @@
 
 use crate::stores::BASE;
 use crate::stores::asked::{Asked, Said};
-use crate::stores::tables::{EDGES, ONE_PAGE, OPEN_PAGES, POOLED, REGIONS, SLOTS};
-use crate::texts::number_of;
+use crate::stores::calls::{Call, call_of};
+use crate::stores::tables::TABLES;
+use crate::texts::{number_of, parted, refuse};
 use cyc_arena::{PagedStore, PagesFault, PlainStore};
 use dynamic_region::{Pool, UniqueBlocks};
 use std::alloc::Global;
@@ -18,19 +19,19 @@ struct Last {
 
 impl Last {
     // what a call is made on
-    fn base(self, call: &str) -> u32 {
+    fn base(self, call: Call) -> u32 {
         match call {
-            "unique_free" | "load8" | "store8" | "live" => self.block,
+            Call::UniqueFree | Call::Load8 | Call::Store8 | Call::Live => self.block,
             _ => self.region,
         }
     }
 
     // the same behind a call that was said this
-    fn after(self, call: &str, said: Said) -> Last {
+    fn after(self, call: Call, said: Said) -> Last {
         let Last { region, block } = self;
         match (said, call) {
-            (Ok(region), "region_new" | "key_new") => Last { region, block },
-            (Ok(block), "region_alloc" | "unique_alloc") => Last { region, block },
+            (Ok(region), Call::RegionNew | Call::KeyNew) => Last { region, block },
+            (Ok(block), Call::RegionAlloc | Call::UniqueAlloc) => Last { region, block },
             _ => self,
         }
     }
@@ -55,11 +56,11 @@ fn is_wanted(said: Said, wanted: &str) -> bool {
 
 // makes a call so often as a row says, and fills the arena before one that may change what is held: what is last then, if all that is said is wanted
 fn done<A: Asked>(asked: &mut A, last: Last, row: &str) -> Option<Last> {
-    let (times, rest) = row.split_once(' ')?;
-    let (call, rest) = rest.split_once(' ')?;
-    let (number, wanted) = rest.split_once(' ')?;
-    let (mut last, number) = (last, number_of(number));
-    if call.contains('_') {
+    let (times, rest) = parted(row);
+    let (name, rest) = parted(rest);
+    let (number, wanted) = parted(rest);
+    let (mut last, number, call) = (last, number_of(number), call_of(name)?);
+    if name.contains('_') {
         fill(asked);
     }
     for _ in 0..number_of(times) {
@@ -87,73 +88,59 @@ fn unlike<'t, A: Asked>(asked: &mut A, rows: &'t str) -> Option<&'t str> {
     None
 }
 
-// what a table's calls are made on
-#[derive(Clone, Copy)]
-enum Sort {
-    Plain,
-    Paged,
-    Blocks,
+// the same of what was made for it
+fn unlike_of<A: Asked + Drop>(
+    made: Result<A, PagesFault>,
+    rows: &str,
+) -> Result<Option<&str>, PagesFault> {
+    match made {
+        Ok(mut asked) => Ok(unlike(&mut asked, rows)),
+        Err(fault) => Err(fault),
+    }
 }
 
-// the first row of a table that is answered otherwise, or none
-fn wrong_row(alloc: Global, sort: Sort, table: &str) -> Result<Option<&str>, PagesFault> {
-    let (pages, rows) = table.split_once(" pages\n").unwrap_or((table, "no rows"));
+// unique blocks over a pool
+fn blocks(alloc: Global, pages: u32) -> Result<UniqueBlocks, PagesFault> {
+    Ok(UniqueBlocks::new(Pool::new(alloc, pages)?))
+}
+
+// the first row that is answered otherwise by what the head of a table names, or none
+fn wrong_row<'t>(alloc: Global, head: &str, rows: &'t str) -> Result<Option<&'t str>, PagesFault> {
+    let (sort, pages) = parted(head);
     let pages = number_of(pages);
     match sort {
-        Sort::Plain => Ok(unlike(&mut PlainStore::new(alloc, pages)?, rows)),
-        Sort::Paged => Ok(unlike(&mut PagedStore::new(alloc, pages)?, rows)),
-        Sort::Blocks => {
-            let mut blocks = UniqueBlocks::new(Pool::new(alloc, pages)?);
-            Ok(unlike(&mut blocks, rows))
-        }
+        "plain" => unlike_of(PlainStore::new(alloc, pages), rows),
+        "paged" => unlike_of(PagedStore::new(alloc, pages), rows),
+        _ => unlike_of(blocks(alloc, pages), rows),
     }
 }
 
-// refuses tables with a row that is answered otherwise
-fn expect(alloc: Global, sort: Sort, tables: &str) -> Result<(), Fail> {
+// the first row of tables that is answered otherwise, or none
+fn wrong_row_of(alloc: Global, tables: &str) -> Result<Option<&str>, PagesFault> {
     for table in tables.split("\n\n") {
-        if let Some(row) = wrong_row(alloc, sort, table)? {
-            return Err(Fail::new(row));
+        let (heads, rows) = table.split_once(":\n").unwrap_or((table, "no rows"));
+        for head in heads.split(", ") {
+            if let Some(row) = wrong_row(alloc, head, rows)? {
+                return Ok(Some(row));
+            }
         }
     }
-    Ok(())
-}
-
-// whether nothing is made for want of memory, or what is made answers by its laws
-fn answers_if_made(alloc: Global, sort: Sort) -> bool {
-    match wrong_row(alloc, sort, ONE_PAGE) {
-        Ok(row) => row.is_none(),
-        Err(fault) => fault == PagesFault::Memory,
-    }
+    Ok(None)
 }
 
 // Where memory lacks as under rt try --test --fail-alloc, no store is made, and one that is made never lacks any.
 #[test]
 fn where_memory_lacks_no_store_is_made(rt: HostRuntime) {
-    assert!(rt;
-        answers_if_made(rt.alloc(), Sort::Plain) && answers_if_made(rt.alloc(), Sort::Paged)
-    );
+    let is_right = match wrong_row_of(rt.alloc(), TABLES) {
+        Ok(row) => row.is_none(),
+        Err(PagesFault::Memory) => true,
+        Err(PagesFault::Pages) => false,
+    };
+    assert!(rt; is_right);
 }
 
-// Makes the same two stores, and wants both.
-#[test]
-fn stores_of_a_page_have_their_edges(rt: HostRuntime) -> Result<(), Fail> {
-    expect(rt.alloc(), Sort::Plain, EDGES)?;
-    expect(rt.alloc(), Sort::Paged, EDGES)
-}
-
+// Wants the same stores.
 #[test]
 fn stores_answer_by_their_laws(rt: HostRuntime) -> Result<(), Fail> {
-    expect(rt.alloc(), Sort::Plain, REGIONS)?;
-    expect(rt.alloc(), Sort::Plain, ONE_PAGE)?;
-    expect(rt.alloc(), Sort::Paged, REGIONS)?;
-    expect(rt.alloc(), Sort::Paged, ONE_PAGE)?;
-    expect(rt.alloc(), Sort::Paged, OPEN_PAGES)
-}
-
-#[test]
-fn unique_blocks_answer_by_their_laws(rt: HostRuntime) -> Result<(), Fail> {
-    expect(rt.alloc(), Sort::Blocks, EDGES)?;
-    expect(rt.alloc(), Sort::Blocks, POOLED)?;
-    expect(rt.alloc(), Sort::Blocks, SLOTS)
+    refuse(wrong_row_of(rt.alloc(), TABLES)?)
 }

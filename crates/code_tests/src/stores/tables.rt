@@ -1,11 +1,30 @@
 // Tables of calls with what each has to say.
 //
-// A table begins with how many pages there are. A row has how often a call is made, its name, a number, and what is said. The number is how many bytes are asked
-// for, the tag that is set, or how many bytes behind the last block an address lies, where 4294967295 is the byte before it.
+// A table begins with what its calls are made on, and how many pages there are each time. A row has how often a call is made, its name, a number, and what is
+// said. The number is how many bytes are asked for, the tag that is set, or how many bytes behind the last block an address lies, where 4294967295 is the byte
+// before it.
 
-/// Regions of two pages; regions of 64 pages; and the heap of one page, which its first block takes.
-pub const REGIONS: &str = "\
-2 pages
+/// The arena of one page, whose bytes are 0 at first. Regions of two pages; regions of 64 pages; and the heap of one page, which its first block takes. Keys
+/// and unique blocks of one page. A key's region of 64 pages, which are all given back by a few words. Then unique blocks over a pool: regions of 64 pages,
+/// with the counts of pages and of the words of headers that are touched; tags of regions of one page, where the heap has none; and freed pages of which a new
+/// region has one, of three pages. Unique blocks of eight pages, in slots of the smallest class that holds them; the 128 slots of 32 bytes of one page, of
+/// which the first and the last are given back; a slot that is freed at its first address, of two pages; pages that stay with their class, of two; and a
+/// region beside unique blocks, of three.
+pub const TABLES: &str = "\
+plain 1, paged 1, blocks 1:
+1 pages 0 1
+1 load8 0 0
+1 load8 4095 0
+1 load8 4096 none
+1 load8 4294967295 none
+1 live 0 0
+1 store8 4095 1
+1 load8 4095 9
+1 load8 4094 0
+1 store8 4096 0
+1 store8 4294967295 0
+
+plain 2, paged 2, blocks 2:
 1 region_new 0 Ok
 1 region_alloc 4097 Full
 1 region_alloc 4096 Ok
@@ -18,7 +37,7 @@ pub const REGIONS: &str = "\
 1 region_alloc 4097 BadHandle
 1 region_new 0 Ok
 
-64 pages
+plain 64, paged 64, blocks 64:
 1 region_new 0 Ok
 60 region_alloc 4096 Ok
 1 region_free 0 Ok
@@ -29,17 +48,15 @@ pub const REGIONS: &str = "\
 64 region_new 0 Ok
 1 region_new 0 Full
 
-1 pages
+plain 1, paged 1:
 1 region_free 0 BadHandle
 1 region_alloc 0 Ok
 1 region_new 0 Full
 1 region_alloc 4088 Ok
 1 region_alloc 1 Full
-1 key_open 0 BadKey";
+1 key_open 0 BadKey
 
-/// Keys and unique blocks of one page.
-pub const ONE_PAGE: &str = "\
-1 pages
+plain 1, paged 1:
 1 key_new 0 Ok
 1 key_new 0 Full
 1 key_close 0 NotOpen
@@ -62,26 +79,9 @@ pub const ONE_PAGE: &str = "\
 1 unique_free 0 NotABlock
 128 unique_alloc 32 Ok
 1 unique_alloc 32 Full
-1 unique_alloc 33 Full";
+1 unique_alloc 33 Full
 
-/// The arena of one page, whose bytes are 0 at first.
-pub const EDGES: &str = "\
-1 pages
-1 pages 0 1
-1 load8 0 0
-1 load8 4095 0
-1 load8 4096 none
-1 load8 4294967295 none
-1 live 0 0
-1 store8 4095 1
-1 load8 4095 9
-1 load8 4094 0
-1 store8 4096 0
-1 store8 4294967295 0";
-
-/// A key's region of 64 pages, which are all given back by a few words.
-pub const OPEN_PAGES: &str = "\
-64 pages
+paged 64:
 1 key_new 0 Ok
 1 key_open 0 Ok
 64 region_alloc 4096 Ok
@@ -98,25 +98,9 @@ pub const OPEN_PAGES: &str = "\
 1 region_free 0 Ok
 1 touched 0 Ok
 64 region_new 0 Ok
-1 region_new 0 Full";
-
-/// Regions of two pages; of 64 pages, with the counts of pages and of the words of headers that are touched, and without; tags of regions of one page, where
-/// the heap has none; and freed pages of which a new region has one, of three pages.
-pub const POOLED: &str = "\
-2 pages
-1 region_new 0 Ok
-1 region_alloc 4097 Full
-1 region_alloc 4096 Ok
-1 region_alloc 1 Ok
-1 region_alloc 4089 Full
-1 region_alloc 4080 Ok
 1 region_new 0 Full
-1 region_free 0 Ok
-1 region_free 0 BadHandle
-1 region_alloc 4097 BadHandle
-1 region_new 0 Ok
 
-64 pages
+blocks 64:
 1 free 0 64
 1 region_new 0 Ok
 60 region_alloc 4096 Ok
@@ -127,18 +111,7 @@ pub const POOLED: &str = "\
 1 free 0 64
 1 fresh 0 4
 
-64 pages
-1 region_new 0 Ok
-60 region_alloc 4096 Ok
-1 region_free 0 Ok
-1 region_new 0 Ok
-64 region_alloc 4096 Ok
-1 region_alloc 1 Full
-1 region_free 0 Ok
-64 region_new 0 Ok
-1 region_new 0 Full
-
-1 pages
+blocks 1:
 1 tag 0 none
 1 set_tag 7 0
 1 region_new 0 Ok
@@ -151,7 +124,7 @@ pub const POOLED: &str = "\
 1 region_new 0 Ok
 1 tag 0 0
 
-3 pages
+blocks 3:
 1 region_new 0 Ok
 2 region_alloc 4096 Ok
 1 live 0 1
@@ -162,12 +135,9 @@ pub const POOLED: &str = "\
 1 live 0 0
 1 live 4294963200 0
 1 region_alloc 8 Ok
-1 live 7 1";
+1 live 7 1
 
-/// Unique blocks of eight pages, in slots of the smallest class that holds them; the 128 slots of 32 bytes of one page, of which the first and the last are
-/// given back; a slot that is freed at its first address, of two pages; pages that stay with their class, of two; and a region beside unique blocks, of three.
-pub const SLOTS: &str = "\
-8 pages
+blocks 8:
 1 unique_alloc 0 268435456
 1 unique_alloc 32 268435488
 1 live 0 1
@@ -180,7 +150,7 @@ pub const SLOTS: &str = "\
 1 unique_alloc 4097 Full
 1 free 0 5
 
-1 pages
+blocks 1:
 128 unique_alloc 12 Ok
 1 unique_alloc 12 Full
 1 unique_free 0 Ok
@@ -189,7 +159,7 @@ pub const SLOTS: &str = "\
 1 unique_alloc 12 268439520
 1 unique_alloc 1 Full
 
-2 pages
+blocks 2:
 1 unique_free 0 NotABlock
 1 unique_alloc 100 268435456
 1 unique_free 8 NotABlock
@@ -201,7 +171,7 @@ pub const SLOTS: &str = "\
 1 live 0 0
 1 unique_free 0 NotABlock
 
-2 pages
+blocks 2:
 1 unique_alloc 4096 268435456
 1 unique_free 0 Ok
 1 free 0 1
@@ -210,7 +180,7 @@ pub const SLOTS: &str = "\
 1 region_new 0 Full
 1 unique_alloc 3000 268435456
 
-3 pages
+blocks 3:
 1 region_new 0 Ok
 1 region_alloc 4096 268435456
 1 live 0 1

@@ -7,39 +7,39 @@ use cyc_types::{
 };
 use std::alloc::Global;
 
-/// Whether a base is of a kind. None is a pointer.
-pub fn base_is(of: &BaseType, kind: &str) -> bool {
-    match kind {
-        "pointer" => false,
-        "integer" => of.is_integer(),
-        "null" => of.is_null(),
-        "union" => of.is_union(),
-        "key" => of.is_key(),
-        "void" => of.is_void(),
-        "testable" => of.is_testable(),
-        "scalar" => of.is_scalar(),
-        "makeable" => of.is_makeable(),
-        _ => of.is_element(),
-    }
-}
-
-/// The kinds that a type may be of.
+/// The kinds that a type may be of. No kind's name is a part of another's.
 pub const KINDS: &str = "integer null union key void pointer testable scalar makeable element";
 
-/// Whether a type is of a kind.
-pub fn type_is(of: &CType, kind: &str) -> bool {
-    match kind {
-        "integer" => of.is_integer(),
-        "null" => of.is_null(),
-        "union" => of.is_union(),
-        "key" => of.is_key(),
-        "void" => of.is_void(),
-        "pointer" => of.is_pointer(),
-        "testable" => of.is_testable(),
-        "scalar" => of.is_scalar(),
-        "makeable" => of.is_makeable(),
-        _ => of.is_element(),
-    }
+/// Whether a type is of each kind.
+pub fn kinds_of(of: &CType) -> [bool; 10] {
+    [
+        of.is_integer(),
+        of.is_null(),
+        of.is_union(),
+        of.is_key(),
+        of.is_void(),
+        of.is_pointer(),
+        of.is_testable(),
+        of.is_scalar(),
+        of.is_makeable(),
+        of.is_element(),
+    ]
+}
+
+/// Whether a base is of each kind. None is a pointer.
+pub fn base_kinds_of(of: &BaseType) -> [bool; 10] {
+    [
+        of.is_integer(),
+        of.is_null(),
+        of.is_union(),
+        of.is_key(),
+        of.is_void(),
+        false,
+        of.is_testable(),
+        of.is_scalar(),
+        of.is_makeable(),
+        of.is_element(),
+    ]
 }
 
 // the name of a likeness

@@ -5,24 +5,25 @@
 // FIRST OFFSETS` says where its first cells lie. What else is asked is said of one type, or of two.
 
 use crate::texts::{number_of, parted, refuse};
-use crate::types::answers::{KINDS, added_name, base_is, extent_of, laid, said, type_is};
+use crate::types::answers::{KINDS, added_name, base_kinds_of, extent_of, kinds_of, laid, said};
 use crate::types::written::{tag_of, type_of};
 use cyc_types::{CType, Tables};
 use std::alloc::Global;
 use std::test::Fail;
 
-// whether a type is of a kind or isn't, and its base too, where it is no pointer
-fn is_of_kind(of: &CType, kind: &str, wanted: bool) -> bool {
-    type_is(of, kind) == wanted && (of.is_pointer() || base_is(&of.base, kind) == wanted)
-}
-
-// whether the kinds of a type are these, and those of its base, where it is no pointer; no kind's name is a part of another's
-fn has_kinds(of: &CType, kinds: &str) -> bool {
+// whether these kinds are the ones that a text names
+fn are_kinds(found: &[bool; 10], wanted: &str) -> bool {
     let mut are_right = true;
-    for kind in KINDS.split(' ') {
-        are_right = is_of_kind(of, kind, kinds.contains(kind)) && are_right;
+    for (kind, is_so) in KINDS.split(' ').zip(found.iter()) {
+        are_right = wanted.contains(kind) == *is_so && are_right;
     }
     are_right
+}
+
+// whether the kinds of a type are these, and those of its base, where it is no pointer
+fn has_kinds(of: &CType, wanted: &str) -> bool {
+    are_kinds(&kinds_of(of), wanted)
+        && (of.is_pointer() || are_kinds(&base_kinds_of(&of.base), wanted))
 }
 
 // a type's bytes and alignment, and what is behind them
@@ -141,6 +142,11 @@ fn wrong_row(alloc: Global, table: &'static str) -> Option<&'static str> {
 }
 
 // A type's kinds, how alike two are, and which converts to which.
+//
+// Then `struct node { struct node *only; }`, `struct box { struct node only; }`, and one that owns a block.
+//
+// Then sizes, and where cells lie. Each of d1 to d11 has two of the one before it: the tenth has 4,096 bytes. `over` has one more, and three behind it. Each of
+// e1 to e10 has eight of the one before it: the tenth would have 2 ^ 32 bytes, which is 0 where a sum wraps.
 const TYPES: &str = "\
 kinds int = integer testable scalar makeable element
 kinds char = integer testable scalar makeable element
@@ -180,10 +186,7 @@ converts null int+* = converts
 converts null int+! = Typing
 outlives int+* int+?0 = converts
 converts int+?0 int+* = Outlives
-outlives int+^ int+* = Region";
-
-// `struct node { struct node *only; }`, `struct box { struct node only; }`, and one that owns a block.
-const DECLARED: &str = "\
+outlives int+^ int+* = Region
 struct node 0 only struct:node+* = added
 struct box 1 only struct:node = added
 order box = 1
@@ -199,11 +202,7 @@ begins struct:owner = no
 struct lists 2 only struct:list = Undeclared
 struct box 2 only int = Again
 order lists = none
-order box = 1";
-
-// Each of d1 to d11 has two of the one before it: the tenth has 4,096 bytes. `over` has one more, and three behind it. Each of e1 to e10 has
-// eight of the one before it: the tenth would have 2 ^ 32 bytes, which is 0 where a sum wraps.
-const LAID: &str = "\
+order box = 1
 layout int = 4 4 1 int 0
 layout unsigned = 4 4 1 unsigned 0
 layout char = 1 1 1 char 0
@@ -255,7 +254,5 @@ layout struct:e10 = 0 0 0 none";
 // Types are told apart, structs are found by their names, and cells lie in order.
 #[test]
 fn types_are_as_they_are_said(rt: HostRuntime) -> Result<(), Fail> {
-    refuse(wrong_row(rt.alloc(), TYPES))?;
-    refuse(wrong_row(rt.alloc(), DECLARED))?;
-    refuse(wrong_row(rt.alloc(), LAID))
+    refuse(wrong_row(rt.alloc(), TYPES))
 }

@@ -64,12 +64,12 @@ fn is_ended(alloc: Global, text: &str, case: &'static str) -> Result<bool, Alloc
     }
 }
 
-// refuses a program with a case that isn't so
+// refuses a program with a case that isn't so, and shows all of them
 fn expect_cases(alloc: Global, text: &'static str) -> Result<(), Fail> {
     let (program, cases) = text.split_once("\n--\n").unwrap_or((text, "none"));
     for case in cases.lines() {
         if !case.starts_with('#') && !is_ended(alloc, program, case)? {
-            return Err(Fail::new(format_args!("{case} of {text}")));
+            return Err(Fail::new(text));
         }
     }
     Ok(())

@@ -1,7 +1,7 @@
 // The parts of programs that rows say and that own memory: globals, locals, and statements without statements within them.
 
 use crate::evaluator::rows::{Row, operation_of};
-use crate::evaluator::words::{Shape, Word};
+use crate::evaluator::words::{Shape, Verb, Word};
 use cyc_core::{Cell, CellLayout, Datum, Layout, Local, Statement, Temporary, Words};
 use std::alloc::Global;
 use std::rc::Rc;
@@ -69,17 +69,15 @@ pub fn words_of(numbers: [u32; 3], count: usize) -> Option<Words> {
 fn object_statement(alloc: Global, row: Row) -> Option<Statement> {
     let [first, second, third, _, _] = row.numbers;
     let (to, from) = (Temporary(first), Temporary(second));
-    match row.word {
-        Word::Copy(shape) => Some(Statement::Copy(to, from, layout_of(alloc, shape)?)),
-        Word::Clear(shape) => Some(Statement::Clear(to, layout_of(alloc, shape)?, second)),
-        Word::Unique(shape) => Some(Statement::UniqueAlloc(to, layout_of(alloc, shape)?)),
-        Word::Region(shape) => Some(Statement::RegionAlloc(
-            to,
-            from,
-            Temporary(third),
-            layout_of(alloc, shape)?,
-        )),
-        _ => None,
+    let Word::Object(verb, shape) = row.word else {
+        return None;
+    };
+    let layout = layout_of(alloc, shape)?;
+    match verb {
+        Verb::Copy => Some(Statement::Copy(to, from, layout)),
+        Verb::Clear => Some(Statement::Clear(to, layout, second)),
+        Verb::Unique => Some(Statement::UniqueAlloc(to, layout)),
+        Verb::Region => Some(Statement::RegionAlloc(to, from, Temporary(third), layout)),
     }
 }
 

@@ -12,6 +12,15 @@ pub enum Shape {
     FatUnion,
 }
 
+/// What is done with objects of a shape.
+#[derive(Clone, Copy)]
+pub enum Verb {
+    Copy,
+    Clear,
+    Unique,
+    Region,
+}
+
 /// What a row says by its name.
 #[derive(Clone, Copy)]
 pub enum Word {
@@ -36,10 +45,7 @@ pub enum Word {
     Continue,
     Return,
     Raise(Kind),
-    Copy(Shape),
-    Clear(Shape),
-    Unique(Shape),
-    Region(Shape),
+    Object(Verb, Shape),
     Constant,
     Getchar,
     Putchar,
@@ -130,14 +136,14 @@ const PARTS: [(&str, Word); 36] = [
     ("return", Word::Return),
     ("raise_null", Word::Raise(Kind::NullException)),
     ("raise_bounds", Word::Raise(Kind::ArrayBounds)),
-    ("copy_word", Word::Copy(Shape::Int)),
-    ("copy_pair", Word::Copy(Shape::Pair)),
-    ("copy_union", Word::Copy(Shape::Union)),
-    ("copy_fat_union", Word::Copy(Shape::FatUnion)),
-    ("clear_pairs", Word::Clear(Shape::Pair)),
-    ("clear_unions", Word::Clear(Shape::Union)),
-    ("unique_pair", Word::Unique(Shape::Pair)),
-    ("region_words", Word::Region(Shape::Int)),
+    ("copy_word", Word::Object(Verb::Copy, Shape::Int)),
+    ("copy_pair", Word::Object(Verb::Copy, Shape::Pair)),
+    ("copy_union", Word::Object(Verb::Copy, Shape::Union)),
+    ("copy_fat_union", Word::Object(Verb::Copy, Shape::FatUnion)),
+    ("clear_pairs", Word::Object(Verb::Clear, Shape::Pair)),
+    ("clear_unions", Word::Object(Verb::Clear, Shape::Union)),
+    ("unique_pair", Word::Object(Verb::Unique, Shape::Pair)),
+    ("region_words", Word::Object(Verb::Region, Shape::Int)),
 ];
 
 // the word of a name in a table

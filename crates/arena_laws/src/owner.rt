@@ -1,7 +1,7 @@
 // Whose a live address is.
 
 /// Whose a live address is.
-#[derive(Clone, Copy, PartialEq, Eq, Debug, Drop)]
+#[derive(Clone, Copy, Drop)]
 pub enum Owner {
     /// The region's or key's with this number (the heap's is 0).
     Region(u32),

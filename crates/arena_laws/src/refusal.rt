@@ -3,7 +3,7 @@
 use thiserror::Error;
 
 /// Why a call was refused. After a refusal the store is as it was.
-#[derive(Clone, Copy, PartialEq, Eq, Debug, Drop, Error)]
+#[derive(Clone, Copy, Debug, Drop, Error)]
 pub enum StoreRefusal {
     /// The block is above 4,096 bytes, or a page is needed and none is free.
     #[error("Full")]

@@ -1,7 +1,7 @@
 // What a live number stands for.
 
 /// What a live number stands for.
-#[derive(Clone, Copy, PartialEq, Eq, Debug, Drop)]
+#[derive(Clone, Copy, Drop)]
 pub enum Standing {
     /// A lexical region, by its handle.
     Lexical,

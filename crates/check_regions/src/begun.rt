@@ -4,7 +4,7 @@ ghost use Rattle.std.specs.Prelude.{◌≡◌};
 ghost use Rattle.check_regions.specs.Begun.{begins_live, is_over_heap, is_over_later};
 
 /// How a region name began, the heap apart.
-#[derive(Clone, Copy, Default)]
+#[derive(Clone, Copy)]
 pub enum Begun {
     /// A region variable of the function.
     Variable {
@@ -16,7 +16,6 @@ pub enum Begun {
         over_later: bool,
     },
     /// The stack region of a block, or a lexical region.
-    #[default]
     Block,
     /// The region of an alias or of a key, and whether it is live at once.
     Name(bool),

@@ -3,7 +3,7 @@
 use cyc_words::{Kind, MachineFault};
 
 /// How a run ends.
-#[derive(Clone, Copy, PartialEq, Eq, Debug)]
+#[derive(Clone, Copy, Debug)]
 pub enum Ending {
     /// The program ended with this status.
     Ended(i32),

@@ -14,12 +14,12 @@ use thiserror::Error;
 pub const GATHERED_BYTES: usize = 4096;
 
 /// A write that failed, or took no byte.
-#[derive(Clone, Copy, PartialEq, Eq, Debug, Error)]
+#[derive(Clone, Copy, Debug, Error)]
 #[error("the writer failed or took no byte")]
 pub struct WriteFailed;
 
 /// A read that failed.
-#[derive(Clone, Copy, PartialEq, Eq, Debug, Error)]
+#[derive(Clone, Copy, Debug, Error)]
 #[error("the reader failed")]
 pub struct ReadFailed;
 

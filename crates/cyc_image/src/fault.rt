@@ -9,7 +9,7 @@ use std::error::Error;
 use std::fmt;
 
 /// Why `load` refuses bytes, in the order in which it looks.
-#[derive(Clone, Copy, PartialEq, Eq, Debug)]
+#[derive(Clone, Copy, Debug)]
 pub enum ImageFault {
     /// Under 24 bytes, or fewer than the header speaks of.
     Short,

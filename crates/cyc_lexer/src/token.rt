@@ -1,7 +1,7 @@
 // Tokens.
 
 /// A word that is no name.
-#[derive(Clone, Copy, PartialEq, Eq, Debug)]
+#[derive(Clone, Copy, Debug)]
 pub enum Keyword {
     Int,
     Unsigned,
@@ -38,7 +38,7 @@ pub enum Keyword {
 }
 
 /// A sign.
-#[derive(Clone, Copy, PartialEq, Eq, Debug)]
+#[derive(Clone, Copy, Debug)]
 pub enum Sign {
     /// `@tagged`
     Tagged,

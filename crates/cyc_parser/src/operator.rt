@@ -9,7 +9,7 @@ use cyc_lexer::{Sign, TokenKind};
 use cyc_tree::{Operator, Prefix};
 
 /// A level of binary operators, from the one that binds least.
-#[derive(Clone, Copy, PartialEq, Eq)]
+#[derive(Clone, Copy)]
 pub enum Level {
     BitOr,
     BitXor,

@@ -5,7 +5,7 @@ ghost use Rattle.std.specs.Prelude.{◌≡◌};
 use crate::name::Name;
 
 /// An operator between two operands of one level.
-#[derive(Clone, Copy, PartialEq, Eq, Debug)]
+#[derive(Clone, Copy)]
 pub enum Operator {
     BitOr,
     BitXor,
@@ -26,7 +26,7 @@ pub enum Operator {
 }
 
 /// An operator before its operand.
-#[derive(Clone, Copy, PartialEq, Eq, Debug)]
+#[derive(Clone, Copy)]
 pub enum Prefix {
     /// `-`
     Negate,

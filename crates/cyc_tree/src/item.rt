@@ -104,7 +104,7 @@ impl Drop for Global {
 }
 
 /// A bound of a function: the first region outlives the second.
-#[derive(PartialEq, Eq, Debug, Drop)]
+#[derive(Drop)]
 pub struct Bound {
     pub longer: RegionName,
     pub shorter: RegionName,

@@ -5,14 +5,14 @@ use std::alloc::Global;
 use std::default::MadeWith;
 
 /// A name: where it stands, and its spelling.
-#[derive(PartialEq, Eq, Debug, Drop)]
+#[derive(Debug, Drop)]
 pub struct Name {
     pub at: u32,
     pub text: Vec<u8>,
 }
 
 /// A region name.
-#[derive(PartialEq, Eq, Debug)]
+#[derive(Debug)]
 pub enum RegionName {
     /// `` `H ``, the heap.
     Heap(u32),
@@ -76,7 +76,7 @@ impl Drop for Base {
 }
 
 /// The sign of a pointer.
-#[derive(Clone, Copy, PartialEq, Eq, Debug)]
+#[derive(Clone, Copy, Debug)]
 pub enum Sign {
     /// `*`: thin, may be NULL.
     Nullable,
@@ -87,7 +87,7 @@ pub enum Sign {
 }
 
 /// A pointer's sign, and its region where one is written.
-#[derive(PartialEq, Eq, Debug, Drop)]
+#[derive(Debug, Drop)]
 pub struct Pointer {
     pub sign: Sign,
     pub region: Option<RegionName>,

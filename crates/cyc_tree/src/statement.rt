@@ -78,7 +78,6 @@ pub enum BlockItem {
 }
 
 /// Which members a clause takes.
-#[derive(PartialEq, Eq, Debug)]
 pub enum Pattern {
     /// A member, whose value the name stands for.
     Case(Name, Name),

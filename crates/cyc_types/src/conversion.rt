@@ -16,7 +16,7 @@ use crate::layer::Layer;
 use crate::likeness::Likeness;
 
 /// The rule that a conversion breaks.
-#[derive(Clone, Copy, PartialEq, Eq)]
+#[derive(Clone, Copy)]
 pub enum Broken {
     /// The types are different.
     Typing,

@@ -8,7 +8,7 @@ use std::alloc::{AllocError, AllocFailed};
 use thiserror::Error;
 
 /// Why `Tables::add` refuses a struct or union.
-#[derive(Clone, Copy, PartialEq, Eq, Debug, Error)]
+#[derive(Clone, Copy, Debug, Error)]
 pub enum TableFault {
     /// A struct or union of the name is declared already.
     #[error("the name is declared already")]
@@ -38,7 +38,7 @@ impl From<AllocError> for TableFault {
 }
 
 /// Why `layout` refuses a type.
-#[derive(Clone, Copy, PartialEq, Eq, Debug, Error)]
+#[derive(Clone, Copy, Debug, Error)]
 pub enum SizeFault {
     /// The type has over 4,096 bytes.
     #[error("the type is too large")]

@@ -5,7 +5,7 @@ ghost use Rattle.source_typing.specs.Types.{are_equal, by_regions, matched, only
 ghost use Rattle.cyc_types.specs.Likeness.{likeness_of, match_of};
 
 /// How alike two types are.
-#[derive(Clone, Copy, PartialEq, Eq)]
+#[derive(Clone, Copy)]
 pub enum Likeness {
     Equal,
     /// Different in regions alone.

@@ -6,7 +6,7 @@ ghost use Rattle.cyc_words.specs.Faults.{kind_name, machine_fault_name};
 use std::fmt;
 
 /// What a checked operation of the source raises.
-#[derive(Clone, Copy, PartialEq, Eq, Debug)]
+#[derive(Clone, Copy, Debug)]
 pub enum Kind {
     /// A null pointer was used.
     NullException,
@@ -34,7 +34,7 @@ fn name_of_kind(kind: Kind) -> &'static str
 }
 
 /// Why the machine can't go on.
-#[derive(Clone, Copy, PartialEq, Eq, Debug)]
+#[derive(Clone, Copy, Debug)]
 pub enum MachineFault {
     /// The word is no instruction.
     Illegal,

@@ -6,7 +6,7 @@ ghost use Rattle.std.specs.Fmt.{decimal};
 use std::fmt;
 
 /// The key of a dynamic region, by its number, from 1 up.
-#[derive(Clone, Copy, PartialEq, Eq, Debug)]
+#[derive(Clone, Copy)]
 pub struct Key(pub u32);
 
 impl fmt::Display for Key {

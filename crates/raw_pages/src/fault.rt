@@ -3,7 +3,7 @@
 use thiserror::Error;
 
 /// Why no pages were made.
-#[derive(Clone, Copy, PartialEq, Eq, Debug, Drop, Error)]
+#[derive(Clone, Copy, Debug, Drop, Error)]
 pub enum PagesFault {
     /// The allocator refused.
     #[error("Memory")]

@@ -6,7 +6,7 @@ ghost use Rattle.std.specs.Fmt.{decimal};
 use std::fmt;
 
 /// The handle of a region, by its number. The heap's is 0.
-#[derive(Clone, Copy, PartialEq, Eq, Debug)]
+#[derive(Clone, Copy, PartialEq, Eq)]
 pub struct Handle(pub u32);
 
 impl fmt::Display for Handle {

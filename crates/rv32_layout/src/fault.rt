@@ -7,7 +7,7 @@ use std::alloc::AllocError;
 use thiserror::Error;
 
 /// Why `place` refuses lines, or `data` globals.
-#[derive(Clone, Copy, PartialEq, Eq, Debug, Error)]
+#[derive(Clone, Copy, Debug, Error)]
 pub enum LayoutFault {
     /// There would be over 1,048,576 bytes.
     #[error("the code or the data would be over 1,048,576 bytes")]

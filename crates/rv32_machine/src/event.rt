@@ -3,7 +3,7 @@
 use cyc_words::{Kind, MachineFault};
 
 /// What a step of the machine shows.
-#[derive(Clone, Copy, PartialEq, Eq, Debug)]
+#[derive(Clone, Copy, Debug)]
 pub enum Event {
     /// The machine went on to the next instruction.
     Next,

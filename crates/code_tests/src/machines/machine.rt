@@ -51,7 +51,7 @@ fn image_of(alloc: Global, words: &str, pages: u32) -> Result<Image, Fail> {
 fn event_of<S: BlockStore>(machine: &mut Machine<S>) -> Event {
     for _ in 0..20 {
         let event = machine.step();
-        if event != Event::Next {
+        if !matches!(event, Event::Next) {
             return event;
         }
     }

@@ -6,8 +6,7 @@ use crate::plain::run_over_plain;
 use crate::rules;
 use command_line::status::{MEMORY, usage_status};
 use command_line::{Command, command_of};
-use cycc_answer::{Counted, answer, ended, refused};
-use cycc_driver::{CompileFault, Ending};
+use cycc_answer::{CompileFault, Counted, Ending, answer, ended, refused};
 use std::alloc::{AllocError, Global};
 use std::io;
 

@@ -3,8 +3,7 @@
 use crate::answers::{Found, found_between};
 use crate::devices::Given;
 use command_line::Command;
-use cycc_answer::ended;
-use cycc_driver::{Image, Machine, PlainStore, compile, load, run};
+use cycc_answer::{Image, Machine, PlainStore, compile, ended, load, run};
 use std::alloc::{AllocError, Global};
 
 /// How far an image is run, and what is told of it: its ending, and where it ended.

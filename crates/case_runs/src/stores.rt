@@ -1,6 +1,6 @@
 // Calls of a store, and runs over it, to be timed by `bench/run`.
 
-use cycc_driver::{BlockStore, Counted, Ending, Image, Machine, PagedStore, PlainStore, load, run};
+use cycc_answer::{BlockStore, Counted, Ending, Image, Machine, PagedStore, PlainStore, load, run};
 use std::alloc::Global;
 use std::io;
 use std::time::{Duration, Instant};

@@ -5,3 +5,6 @@ pub mod Fitted
 pub mod Held
 pub mod Targets
 pub mod Unions
+pub use Rattle.check_operators.specs.Goals
+pub use Rattle.check_operators.specs.declared.value.Value
+pub use Rattle.check_operators.specs.Values

@@ -28,10 +28,10 @@ use Rattle.check_faults.proofs.Shortened.{after_of, after_unjudged, after_wrong}
 use Rattle.check_faults.specs.Verdicts.{Is, Wrong, fault_found, short_of, shortened, wrong_if}
 use Rattle.check_faults.specs.declared.verdict.Verdict as code_verdict
 use Rattle.check_faults.specs.declared.verdict.Verdict.TheVariants as variant
-use Rattle.check_types.specs.Tagged.{tag_name_of}
-use Rattle.check_types.specs.Written.{partial_type}
-use Rattle.check_types.specs.declared.settling.WrittenType.{WrittenType}
-use Rattle.check_types.specs.declared.tagged.TagName.TheVariants as tag
+use Rattle.check_heads.specs.Tagged.{tag_name_of}
+use Rattle.check_heads.specs.Written.{partial_type}
+use Rattle.check_heads.specs.WrittenType.{WrittenType}
+use Rattle.check_heads.specs.TagName.TheVariants as tag
 use Rattle.check_declarations.specs.Declaring.{could_be, elements_fit, fitting_by, stands_before, tag_of_meaning}
 use Rattle.check_heads.proofs.Answered.{of_short}
 

@@ -14,8 +14,8 @@ use Rattle.source_typing.specs.Tables.{Stored, Tables, Unknown, What, has_beginn
 use Rattle.source_typing.specs.Types.{Handle, Key, StaticType, Struct, Union, is_element, is_unique, is_void}
 use Rattle.source_typing.specs.Verdicts as verdict
 use Rattle.check_faults.specs.Faults.{faults_of}
-use Rattle.check_types.specs.declared.tagged.TagName.{TagName}
-use Rattle.check_types.specs.declared.tagged.TagName.TheVariants as tag
+use Rattle.check_heads.specs.TagName.{TagName}
+use Rattle.check_heads.specs.TagName.TheVariants as tag
 use Rattle.check_declarations.specs.declared.local.Judged.{Judged}
 
 -- ---- types

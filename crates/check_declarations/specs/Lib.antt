@@ -3,3 +3,5 @@ pub mod Contexts
 pub mod Declaring
 pub mod Operands
 pub mod Switching
+pub use Rattle.check_heads.specs.Bodies
+pub use Rattle.check_heads.specs.Heads

@@ -3,3 +3,4 @@ pub mod Goals
 pub mod Joined
 pub mod Suffixes
 pub use Rattle.check_calls.specs.Enclosings
+pub use Rattle.check_calls.specs.Values

@@ -6,7 +6,7 @@ ghost use Rattle.source_typing.specs.Faults.{earliest, fault, name_rule, test, t
 ghost use Rattle.source_typing.specs.Programs.{builtins, entries, item_faults, items_from, judged_tags, main_found, main_is, name_of, second_names};
 ghost use Rattle.source_typing.specs.Programs.{tables_of, typing_faults};
 ghost use Rattle.source_typing.specs.Tables as rules_tables;
-ghost use Rattle.check_heads.specs.Bodies.{KnowsNames};
+ghost use Rattle.check_tables.specs.Bodies.{KnowsNames};
 ghost use Rattle.check_faults.specs.Faults.{fault_of, faults_of};
 ghost use Rattle.check_programs.specs.Programs.{AreSeen};
 ghost use Rattle.check_tables.specs.Structs.{KnowsStructs};
@@ -15,10 +15,9 @@ use crate::seen::see;
 use crate::sizes::sizes_fault;
 use check_faults::{Fault, FaultKind, sooner};
 use check_functions::function_fault;
-use check_heads::{Names, is_main};
 use check_scopes::Globals;
 use check_structs::judged_tags;
-use check_tables::{Structs, item_name, judged_global, next_index, program_names};
+use check_tables::{Names, Structs, is_main, item_name, judged_global, next_index, program_names};
 use cyc_tree::{END_OF_TEXT, Item, Name, Program};
 use std::alloc::{AllocError, Global};
 

@@ -11,5 +11,6 @@ mod names;
 mod scope;
 
 pub use begun::Begun;
+pub use cyc_types::{CType, RegionId, Tables};
 pub use names::RegionNames;
 pub use scope::{RegionMark, RegionScope};

@@ -1,6 +1,6 @@
 // What a name means.
 
-use cyc_types::{CType, RegionId};
+use check_regions::{CType, RegionId};
 
 /// A function whose head has no fault: what it takes and gives, by its region variables, which are the first levels.
 pub struct Signature<'p> {

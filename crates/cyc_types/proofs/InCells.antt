@@ -4,9 +4,9 @@ use Rattle.std.proofs.lemmas.Bool.{and_parts}
 use Rattle.std.proofs.lemmas.List.{append_assoc, append-nil}
 use Rattle.std.proofs.lemmas.Slice.Eq.{bytes_eq-Decides}
 use Rattle.std.specs.Prelude.{None, Option, Some, bytes_eq, if◌then◌else◌, is_none, is_some, map}
-use Rattle.source_meaning.specs.Placing.{Placed, all_placed, placed_by, struct_placed}
-use Rattle.source_meaning.specs.Shapes.{Layout, Shape}
-use Rattle.source_meaning.specs.Sizes.{Extent, extent_by, laid_out, largest, no_extent, struct_extent, union_extent}
+use Rattle.source_typing.specs.Placing.{Placed, all_placed, placed_by, struct_placed}
+use Rattle.source_typing.specs.Shapes.{Layout, Shape}
+use Rattle.source_typing.specs.Sizes.{Extent, extent_by, laid_out, largest, no_extent, struct_extent, union_extent}
 use Rattle.source_typing.specs.Extents.{fits_bytes, known_shape, layouts_of, layouts_onto, part_shapes}
 use Rattle.source_typing.specs.Tables.{Part, each_part, if_known}
 use Rattle.source_typing.specs.Types.{Char, Fat, Handle, Int, Key, Null, StaticType, Struct, Thin, Union, Unique, Unsigned, Void, same_bool, shape_of}

@@ -1,8 +1,8 @@
 -- The struct or union is declared that a type as written is.
 use Rattle.std.proofs.Common.{◌≡◌, ℕ, Bool, true, false, List, [], ◌∷◌, ◌++◌, map, refl, ap, ◌∙◌}
 use Rattle.std.specs.Prelude.{None, Option, Some, is_some, suc, zero, ◌&&◌}
-use Rattle.cyc_tree.specs.Tree.{TypeName}
-use Rattle.cyc_tree.specs.declared.name.Sign.{Sign}
+use Rattle.source_typing.specs.Tree.{TypeName}
+use Rattle.source_typing.specs.Sign.{Sign}
 use Rattle.source_typing.specs.Declarations.{stands_earlier, tag_earlier}
 use Rattle.source_typing.specs.Faults.{Fault}
 use Rattle.source_typing.specs.Missing.{as_type, fat_with, filled_from, or_found, outer_region, pointee_of, settled, thin_with, unique_with}
@@ -15,8 +15,8 @@ use Rattle.source_typing.specs.Verdicts.{Faulty, Of, Unjudged, Verdict, after, i
 use Rattle.source_typing.specs.Written.{Found, RegionNamed, all_found, as_region, base_of, built, count_fits, counted_type, pointer_to, pointers_to}
 use Rattle.source_typing.specs.Written.{Is, IsUnique, Missing, spots_of, tag_of, type_built, with_arguments, written, written_on, written_with}
 use Rattle.cyc_types.specs.Known.{has_declared}
-use Rattle.cyc_tree.specs.Tree as tree
-use Rattle.cyc_tree.specs.declared.name.Sign.TheVariants as sign
+use Rattle.source_typing.specs.Tree as tree
+use Rattle.source_typing.specs.Sign.TheVariants as sign
 
 -- of a type with regions that may be missing
 abbrev declares : Tables → PartialType → Bool

@@ -23,8 +23,7 @@ use cyc_lexer::tokens;
 use cyc_meaning::lower;
 use cyc_parser::parse;
 use cyc_tree::Program;
-use rv32_layout::{LayoutFault, data, place};
-use rv32_select::select;
+use rv32_layout::{LayoutFault, data, place, select};
 use std::alloc::Global;
 use unique_flow::{CheckFault, Checked, effects, first_broken, flow, typed};
 

@@ -14,7 +14,7 @@ use Rattle.source_typing.specs.Tables.{Entry, OfBuiltin, OfFunction, OfOther, Of
 use Rattle.source_typing.specs.Types.{same_bool}
 use Rattle.source_typing.specs.Verdicts.{Verdict, refuse}
 use Rattle.source_typing.specs.Written.{if_sound, of_kind, tag_of}
-use Rattle.check_tables.proofs.TagTables.{tables_alike}
+use Rattle.check_programs.proofs.TagTables.{tables_alike}
 use Rattle.region_types.proofs.EasedGlobals.{global_same, sizes_same}
 use Rattle.region_types.proofs.EasedHeads.{function_clean}
 use Rattle.region_types.proofs.EasedTables.{entries_eased}

@@ -11,7 +11,7 @@ use Rattle.cyc_core.specs.Trees.{function_tree}
 use Rattle.rv32_layout.specs.declared.fault.LayoutFault.{LayoutFault}
 use Rattle.cyc_image.specs.Format.{data_limit}
 use Rattle.core_lines.proofs.labels.Relaxing.{no_longer}
-use Rattle.accepted_proof.proofs.Joined.{have_main}
+use Rattle.compile_proof.proofs.Joined.{have_main}
 use Rattle.compile_proof.proofs.AcceptedDo.{accepted_do}
 use Rattle.cycc_driver.proofs.Implementing.{data_fit, implemented, is_code}
 use Rattle.cycc_driver.proofs.compiling.lay_out.Goals as goal

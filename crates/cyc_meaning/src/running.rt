@@ -1,6 +1,7 @@
 // Runs of checked programs.
 
-ghost use Rattle.std.specs.Prelude.{◌≡◌, ◌≢◌};
+ghost use Rattle.std.specs.Prelude.{◌≡◌, ◌≢◌, ◌<◌, ◌^◌};
+ghost use Rattle.source_lowering.specs.Room.{program_room};
 ghost use Rattle.core_eval.specs.Evaluated.{reads_failed, writes_failed};
 ghost use Rattle.cyc_meaning.specs.Evaluated.{IsEvaluated};
 
@@ -24,6 +25,8 @@ pub fn eval<R: Input, W: Output>(
     writer: &mut W,
     fuel: u64,
 ) -> EvalEnding
+    // a word counts the temporaries of each of its functions
+    requires room { program_room checked.now < 2 ^ 32 }
     // what is written is the output of the source's run on the bytes that the reader gave, and the ending is that run's
     ensures evaluated { IsEvaluated result checked.now fuel
         (R.remaining reader.old) (R.remaining reader.new) (W.contents writer.old) (W.contents writer.new) }

@@ -7,3 +7,4 @@ pub mod Exhaustions
 pub mod Executions
 pub mod Exactness
 pub mod OneFault
+pub mod HavingRoom

@@ -146,14 +146,13 @@ member_variable unions structs (p ∷ ps) f n values is =
 -- ---- what a clause becomes
 
 -- what its number is compared with the tag by, and the block behind
-pub case_written : (a b c d e z : Body) (x y last : List Statement) (p : List Shape) → IsSame a b → IsEmitted b c x → IsEmitted c d y → IsApart d e p
+pub case_written : (a c d e z : Body) (x y last : List Statement) (p : List Shape) → IsEmitted a c x → IsEmitted c d y → IsApart d e p
     → IsEmitted e z last → IsWritten a z (x ++ (y ++ last)) p
-case_written a b c d e z x y last p same one two apart three =
-    same_write a b z (x ++ (y ++ last)) p same
-    (emit_write b c z x (y ++ last) (x ++ (y ++ last)) p one (emit_write c d z y last (y ++ last) p two (apart_emit d e z last p apart three) refl) refl)
+case_written a c d e z x y last p one two apart three =
+    emit_write a c z x (y ++ last) (x ++ (y ++ last)) p one (emit_write c d z y last (y ++ last) p two (apart_emit d e z last p apart three) refl) refl
 
-pub case_next : (a b c d : Body) (x y : List Statement) → IsSame a b → IsEmitted b c x → IsEmitted c d y → next_of d ≡ next_of a
-case_next a b c d x y same one two = emitted_next c d y two ∙ emitted_next b c x one ∙ same_next a b same
+pub case_next : (a c d : Body) (x y : List Statement) → IsEmitted a c x → IsEmitted c d y → next_of d ≡ next_of a
+case_next a c d x y one two = emitted_next c d y two ∙ emitted_next a c x one
 
 -- what its block does, behind two that emit
 pub clause_written : (b o p q x : Body) (first last : List Statement) (code : ℕ → List Statement) (values : List Shape) → IsSame b o → IsEmitted o p first

@@ -11,10 +11,10 @@ use Rattle.source_lowering.specs.Lowerable.{IsExchanged}
 use Rattle.source_lowering.specs.Members.{part_at}
 use Rattle.source_lowering.specs.Programs.{exchange_code, union_exchange, value_exchange, words_read, words_written}
 use Rattle.lower_checks.specs.Unions.{Union, cell_by, cell_words, first_union, union_by, union_with}
-use Rattle.lower_checks.specs.Writing.{IsEmitted, IsEmitting, IsSame}
+use Rattle.lower_checks.specs.Writing.{IsEmitted, IsEmitting}
 use Rattle.lower_checks.specs.declared.body.Body.{Body}
 use Rattle.lower_checks.proofs.UnionCells.{has_union}
-use Rattle.lower_checks.proofs.Writing.{emitting_more, same_emit}
+use Rattle.lower_checks.proofs.Writing.{emitting_more}
 
 -- ---- words
 
@@ -29,14 +29,14 @@ read_next words word t p within =
     ∙ ap₂ (λ (k u : ℕ). Do (Load (t + word) p (part_at 0 0 word)) ∷ words_read (words - (word + 1)) k u p) next at
 
 pub read_more :
-    (a e b z : Body) (all : List Statement) (words word t u p : ℕ) (d : Distance) → word < words → u ≡ t + word → d ≡ part_at 0 0 word
-    → IsEmitting a e all (words_read (words - word) word (t + word) p) → IsSame e b → IsEmitted b z (Do (Load u p d) ∷ [])
+    (a b z : Body) (all : List Statement) (words word t u p : ℕ) (d : Distance) → word < words → u ≡ t + word → d ≡ part_at 0 0 word
+    → IsEmitting a b all (words_read (words - word) word (t + word) p) → IsEmitted b z (Do (Load u p d) ∷ [])
     → IsEmitting a z all (words_read (words - (word + 1)) (word + 1) (t + (word + 1)) p)
-read_more a e b z all words word t u p d within at part left stays done =
+read_more a b z all words word t u p d within at part left done =
     let here = Do (Load (t + word) p (part_at 0 0 word)) ∷ [] in
     let same : Do (Load u p d) ∷ [] ≡ here = ap₂ (λ (v : ℕ) (x : Distance). Do (Load v p x) ∷ []) at part in
-    emitting_more a e z all here (words_read (words - (word + 1)) (word + 1) (t + (word + 1)) p)
-    (subst (IsEmitting a e all) (read_next words word t p within) left) (subst (IsEmitted e z) same (same_emit e b z (Do (Load u p d) ∷ []) stays done))
+    emitting_more a b z all here (words_read (words - (word + 1)) (word + 1) (t + (word + 1)) p)
+    (subst (IsEmitting a b all) (read_next words word t p within) left) (subst (IsEmitted b z) same done)
 
 written_next : (words word p t : ℕ) → word < words
     → words_written (words - word) word p (t + word) ≡
@@ -49,14 +49,14 @@ written_next words word p t within =
     ∙ ap₂ (λ (k u : ℕ). Do (Store p (part_at 0 0 word) (t + word)) ∷ words_written (words - (word + 1)) k p u) next at
 
 pub written_more :
-    (a e b z : Body) (all : List Statement) (words word p t u : ℕ) (d : Distance) → word < words → u ≡ t + word → d ≡ part_at 0 0 word
-    → IsEmitting a e all (words_written (words - word) word p (t + word)) → IsSame e b → IsEmitted b z (Do (Store p d u) ∷ [])
+    (a b z : Body) (all : List Statement) (words word p t u : ℕ) (d : Distance) → word < words → u ≡ t + word → d ≡ part_at 0 0 word
+    → IsEmitting a b all (words_written (words - word) word p (t + word)) → IsEmitted b z (Do (Store p d u) ∷ [])
     → IsEmitting a z all (words_written (words - (word + 1)) (word + 1) p (t + (word + 1)))
-written_more a e b z all words word p t u d within at part left stays done =
+written_more a b z all words word p t u d within at part left done =
     let here = Do (Store p (part_at 0 0 word) (t + word)) ∷ [] in
     let same : Do (Store p d u) ∷ [] ≡ here = ap₂ (λ (v : ℕ) (x : Distance). Do (Store p x v) ∷ []) at part in
-    emitting_more a e z all here (words_written (words - (word + 1)) (word + 1) p (t + (word + 1)))
-    (subst (IsEmitting a e all) (written_next words word p t within) left) (subst (IsEmitted e z) same (same_emit e b z (Do (Store p d u) ∷ []) stays done))
+    emitting_more a b z all here (words_written (words - (word + 1)) (word + 1) p (t + (word + 1)))
+    (subst (IsEmitting a b all) (written_next words word p t within) left) (subst (IsEmitted b z) same done)
 
 -- ---- by shape
 

@@ -12,10 +12,13 @@ mod Making
 mod Naming
 mod Nothing
 mod Parts
+mod Phrases
 mod Pointers
 mod Promised
 mod Reaching
 mod Remaining
+mod Room
+mod Roomy
 mod Rows
 mod StructLayouts
 mod Settling

@@ -1,4 +1,5 @@
 pub mod Cells
+pub mod Counted
 pub mod Firsts
 pub mod Marks
 pub mod Numbers
@@ -17,3 +18,5 @@ pub mod Views
 pub mod Visible
 pub mod Writing
 pub mod Bytes
+pub mod Room
+pub mod Roomy

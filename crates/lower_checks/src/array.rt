@@ -21,6 +21,8 @@ ghost use Rattle.source_lowering.specs.Lowered.{
   whole_values,
 };
 ghost use Rattle.source_lowering.specs.Lowerable.{IsObject, Takes, TakesMember, TakesWhole};
+ghost use Rattle.source_lowering.specs.Room.{room};
+ghost use Rattle.lower_checks.specs.Room.{HasRoom};
 ghost use Rattle.lower_checks.specs.Scoped.{names_in, world_in};
 ghost use Rattle.lower_checks.specs.Views.{shape_tree};
 ghost use Rattle.lower_checks.specs.Writing.{Emits, IsSound, Writes, next_of};
@@ -28,6 +30,7 @@ ghost use Rattle.lower_checks.specs.Writing.{Emits, IsSound, Writes, next_of};
 use crate::body::Body;
 use crate::expression::lower_expression;
 use crate::member::Reached;
+use crate::names::behind;
 use crate::numbers::with_number;
 use crate::objects::{lower_copy, object_layout};
 use crate::scope::Scope;
@@ -43,13 +46,14 @@ use cyc_tree::{Expression, Name};
 /// Appends what asks for a block for so many objects of a shape as the next temporary says, in the region of the handle in a temporary,
 /// which gets a pointer to the first one; and the number of the first element.
 fn lower_block(program: &Table<'_>, shape: &Shape<'_>, body: &mut Body<'_>, to: Temporary)
+    requires room { HasRoom to.0 2 }
     requires taken { IsSound body.old → IsObject (world_of program.now).unions (world_of program.now).structs (shape_tree shape.now) }
     ensures { Emits body.old body.new
         (core.Do (core.RegionAlloc to.0 to.0 (to.0 + 1) (layout_of (world_of program.now) (shape_tree shape.now)))
         ∷ core.Do (core.Constant (to.0 + 2) 0) ∷ []) }
 {
-    let many = body.further(to, 1);
-    let number = body.further(to, 2);
+    let many = behind(to, 1);
+    let number = behind(to, 2);
     match object_layout(body.alloc, program, *shape) {
         Ok(layout) => body.emit(Statement::RegionAlloc(to, to, many, layout)),
         Err(fault) => body.note(fault),
@@ -60,12 +64,13 @@ fn lower_block(program: &Table<'_>, shape: &Shape<'_>, body: &mut Body<'_>, to: 
 /// Appends what stores a value of a shape, which is in the third temporary behind an array's pointer and in those behind it, in the
 /// element of the number in the second one; or what copies the struct or the union there to which that temporary leads.
 fn lower_stored(program: &Table<'_>, shape: &Shape<'_>, body: &mut Body<'_>, to: Temporary)
+    requires room { HasRoom to.0 6 }
     requires taken { IsSound body.old → IsObject (world_of program.now).unions (world_of program.now).structs (shape_tree shape.now) }
     ensures { Emits body.old body.new (element_by (world_of program.now) (shape_tree shape.now) to.0 [] []) }
 {
-    let number = body.further(to, 2);
-    let value = body.further(to, 3);
-    let at = body.further(value, shape.words());
+    let number = behind(to, 2);
+    let value = behind(to, 3);
+    let at = behind(value, shape.words());
     let cells = body.number(count(program, *shape));
     let size = extent(program, *shape).size;
     body.operation(Operation::Element(at, to, number, cells, size));
@@ -77,24 +82,26 @@ fn lower_stored(program: &Table<'_>, shape: &Shape<'_>, body: &mut Body<'_>, to:
 
 /// Appends what raises the number of the element.
 fn lower_next(body: &mut Body<'_>, to: Temporary)
+    requires room { HasRoom to.0 3 }
     ensures { Emits body.old body.new (next_number to.0) }
 {
-    let number = body.further(to, 2);
-    let one = body.further(to, 3);
+    let number = behind(to, 2);
+    let one = behind(to, 3);
     body.operation(Operation::Constant(one, 1));
     body.operation(Operation::Apply(Binary::Add, number, number, one));
 }
 
 /// Appends the loop over the elements, one turn for each number below their count, and the index of the array's pointer, which is 0.
 fn lower_turns(body: &mut Body<'_>, turn: Vec<Statement>, to: Temporary)
+    requires room { HasRoom to.0 3 }
     ensures { Emits body.old body.new
         (core.While (all_of (core.Do (core.Apply core.LessUnsigned (to.0 + 3) (to.0 + 2) (to.0 + 1)) ∷ [])) (to.0 + 3)
         (all_of (map statement_tree turn.items)) ∷
         core.Do (core.Constant (to.0 + 2) 0) ∷ []) }
 {
-    let many = body.further(to, 1);
-    let number = body.further(to, 2);
-    let below = body.further(to, 3);
+    let many = behind(to, 1);
+    let number = behind(to, 2);
+    let below = behind(to, 3);
     let outer = body.begin();
     body.operation(Operation::Apply(Binary::LessUnsigned, below, number, many));
     let test = body.end(outer);
@@ -111,6 +118,7 @@ fn lower_each<'p>(
     body: &mut Body<'p>,
     to: Temporary,
 )
+    requires room { HasRoom to.0 (16 + room (expression_tree element.now)) }
     requires shape { IsSound body.old → shape_tree shape.now ≡ static_shape (world_in scope.now) (names_in scope.now) (expression_tree element.now) }
     requires taken { let w = world_in scope.now in
         let names = names_in scope.now in
@@ -125,7 +133,7 @@ fn lower_each<'p>(
         (element_by w (static_shape w names e) to.0 (whole_code w names e (to.0 + 3) number) (expression_code w names e (to.0 + 3) number))
         (values_by (static_shape w names e) (whole_values w names e) (expression_values w names e)) }
 {
-    let value = body.further(to, 3);
+    let value = behind(to, 3);
     match shape {
         Shape::Struct(_) | Shape::Union(_) => {
             lower_whole(scope, element, body, value);
@@ -147,6 +155,7 @@ fn lower_elements<'p>(
     body: &mut Body<'p>,
     to: Temporary,
 ) -> Shape<'p>
+    requires room { HasRoom to.0 (16 + room (expression_tree element.now)) }
     requires taken { let w = world_in scope.now in
         let names = names_in scope.now in
         let e = expression_tree element.now in
@@ -184,6 +193,7 @@ pub fn lower_array<'p>(
     body: &mut Body<'p>,
     to: Temporary,
 ) -> Shape<'p>
+    requires room { HasRoom to.0 (16 + room (expression_tree element.now)) }
     requires taken { let w = world_in scope.now in
         let names = number_named (name_tree index.now).text (to.0 + 2) ∷ names_in scope.now in
         let e = expression_tree element.now in
@@ -200,7 +210,7 @@ pub fn lower_array<'p>(
     ensures shape { let names = number_named (name_tree index.entry.now).text (to.0 + 2) ∷ names_in scope.now in
         IsSound body.new → shape_tree result ≡ FatShape (static_shape (world_in scope.now) names (expression_tree element.entry.now)) }
 {
-    let number = body.further(to, 2);
+    let number = behind(to, 2);
     match with_number(scope.alloc, scope.numbers, &index.text, number) {
         Ok(numbers) => {
             let inside = Scope {

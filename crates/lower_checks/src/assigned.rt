@@ -22,11 +22,14 @@ ghost use Rattle.source_lowering.specs.Lowerable.{
   TakesRun,
   TakesWhole,
 };
+ghost use Rattle.source_lowering.specs.Room.{room};
+ghost use Rattle.lower_checks.specs.Room.{HasRoom};
 ghost use Rattle.lower_checks.specs.Scoped.{names_in, world_in};
 ghost use Rattle.lower_checks.specs.Writing.{IsSound, Writes, next_of};
 
 use crate::body::Body;
 use crate::expression::{lower_assign, lower_expression};
+use crate::names::behind;
 use crate::objects::lower_copy;
 use crate::place::lower_place;
 use crate::scope::Scope;
@@ -45,6 +48,7 @@ fn lower_assigned<'p>(
     body: &mut Body<'p>,
     to: Temporary,
 )
+    requires room { HasRoom to.0 (1 + (room (expression_tree place.now) + room (expression_tree value.now))) }
     requires taken { let w = world_in scope.now in
         let names = names_in scope.now in
         let p = expression_tree place.now in
@@ -61,7 +65,7 @@ fn lower_assigned<'p>(
         (whole_values w names v ++ expression_values w names p) }
 {
     lower_whole(scope, value, body, to);
-    let at = body.further(to, 1);
+    let at = behind(to, 1);
     let shape = lower_place(scope, place, body, at);
     lower_copy(scope.program, &shape, body, at, to);
 }
@@ -75,6 +79,7 @@ fn lower_given<'p>(
     body: &mut Body<'p>,
     to: Temporary,
 )
+    requires room { HasRoom to.0 (room (tree.Assign (expression_tree place.now) (expression_tree value.now))) }
     requires taken { let w = world_in scope.now in
         let names = names_in scope.now in
         IsSound body.old → TakesPlace w names (expression_tree place.now) × Takes w names (expression_tree value.now) }
@@ -95,6 +100,7 @@ fn lower_dropped<'p>(
     body: &mut Body<'p>,
     to: Temporary,
 )
+    requires room { HasRoom to.0 (room (expression_tree expression.now)) }
     requires taken { let w = world_in scope.now in
         let names = names_in scope.now in
         let e = expression_tree expression.now in
@@ -121,6 +127,7 @@ pub fn lower_run<'p>(
     body: &mut Body<'p>,
     to: Temporary,
 )
+    requires room { HasRoom to.0 (room (expression_tree expression.now)) }
     requires taken { IsSound body.old → TakesRun (world_in scope.now) (names_in scope.now) (expression_tree expression.now) }
     ensures writes { let w = world_in scope.now in
         let names = names_in scope.now in

@@ -76,20 +76,6 @@ impl<'p> Body<'p> {
         self.emit(Statement::Do(operation));
     }
 
-    /// The temporary so many behind one.
-    pub fn further(&mut self, temporary: Temporary, by: u32) -> Temporary
-        ensures stays { Stays self.old self.new }
-        ensures further { IsSound self.new → result.0 ≡ temporary.0 + by }
-    {
-        match temporary.0.checked_add(by) {
-            Some(number) => Temporary(number),
-            None => {
-                self.failed = true;
-                temporary
-            }
-        }
-    }
-
     /// Sets aside what is written, to begin a part.
     pub fn begin(&mut self) -> Vec<Statement>
         ensures begun { IsBegun self.old self.new }

@@ -1,19 +1,20 @@
 // Calls of functions, after their arguments.
 
-ghost use Rattle.std.specs.Prelude.{◌≡◌, ◌∷◌, [], IfOk, Some, map};
+ghost use Rattle.std.specs.Prelude.{◌≡◌, ◌+◌, ◌∷◌, [], IfOk, Some, map};
 ghost use Rattle.cyc_tree.specs.View.{function_tree, member_tree};
 ghost use Rattle.cyc_core.specs.Trees.{temporary_tree, statement_tree};
 ghost use Rattle.source_meaning.specs.Shapes.{part_of, part_shapes};
 ghost use Rattle.source_meaning.specs.Programs.{routine_of, world_of};
 ghost use Rattle.source_lowering.specs.Lowered.{call_parameters, from_on, call_code};
 ghost use Rattle.source_lowering.specs.Pieces.{function_call};
+ghost use Rattle.lower_checks.specs.Room.{HasRoom};
 ghost use Rattle.lower_checks.specs.Views.{shape_tree};
 ghost use Rattle.lower_checks.specs.Refusals.{NeverRefused};
 ghost use Rattle.lower_checks.specs.Writing.{Emits};
 
 use crate::body::Body;
 use crate::fault::LowerFault;
-use crate::names::after;
+use crate::names::behind;
 use crate::shape::Shape;
 use crate::table::{Callee, Table};
 use crate::vectors::append;
@@ -58,6 +59,7 @@ pub fn call_parameters<'p>(
 
 /// So many temporaries, from one on.
 fn passed_from(alloc: Global, count: u32, first: Temporary) -> Result<Vec<Temporary>, LowerFault>
+    requires room { HasRoom first.0 count }
     ensures passed { IfOk result (λ passed. map temporary_tree passed.items ≡ from_on first.0 count) }
     ensures taken { NeverRefused result }
 {
@@ -67,7 +69,7 @@ fn passed_from(alloc: Global, count: u32, first: Temporary) -> Result<Vec<Tempor
         if let Err(_) = passed.push(next) {
             return Err(LowerFault::Memory);
         }
-        next = Temporary(after(next.0)?);
+        next = behind(next, 1);
     }
     Ok(passed)
 }
@@ -79,17 +81,19 @@ fn passing(
     words: u32,
     to: Temporary,
 ) -> Result<Statement, LowerFault>
+    requires room { HasRoom to.0 (words + 2) }
     ensures call { IfOk result
         (λ call. statement_tree call ∷ [] ≡ function_call (Some (routine_of (function_tree callee.entry.function.now))) callee.entry.number words to.0) }
     ensures taken { NeverRefused result }
 {
-    let result = Shape::of(&callee.function.result).result_in(to)?;
+    let result = Shape::of(&callee.function.result).result_in(to);
     let passed = passed_from(alloc, words, to)?;
     Ok(Statement::Call(result, callee.number, passed))
 }
 
 /// Appends the call of a function that is found, to which so many words are passed, from this temporary on.
 fn lower_callee(body: &mut Body<'_>, callee: Callee<'_>, words: u32, to: Temporary)
+    requires room { HasRoom to.0 (words + 2) }
     ensures { Emits body.old body.new (function_call (Some (routine_of (function_tree callee.entry.function.now))) callee.entry.number words to.0) }
 {
     match passing(body.alloc, callee, words, to) {
@@ -100,6 +104,7 @@ fn lower_callee(body: &mut Body<'_>, callee: Callee<'_>, words: u32, to: Tempora
 
 /// Appends the call of a function, to which so many words are passed, from this temporary on.
 pub fn lower_call(program: &Table<'_>, body: &mut Body<'_>, name: &[u8], words: u32, to: Temporary)
+    requires room { HasRoom to.0 (words + 2) }
     ensures { Emits body.old body.new (call_code (world_of program.now) name.now words to.0) }
 {
     if name == b"getchar".as_slice() {

@@ -11,6 +11,8 @@ ghost use Rattle.source_lowering.specs.Layouts.{layout_of, local_of};
 ghost use Rattle.source_lowering.specs.Programs.{declaration_code, declaration_values, initial_values, local_shape, source_code, unset_code, value_code};
 ghost use Rattle.source_lowering.specs.Whole.{expression_values, is_made, whole_values};
 ghost use Rattle.source_lowering.specs.Lowerable.{IsObject, IsWholeShape, IsWordShape, IsVariable, TakesDeclaration, TakesValue, TakesWhole};
+ghost use Rattle.source_lowering.specs.Room.{declaration_room, room};
+ghost use Rattle.lower_checks.specs.Room.{HasRoom};
 ghost use Rattle.lower_checks.specs.Scoped.{names_in, world_in};
 ghost use Rattle.lower_checks.specs.Views.{shape_tree, stored_tree};
 ghost use Rattle.lower_checks.specs.Writing.{Emits, IsSound, Stays, Writes, next_of};
@@ -18,6 +20,7 @@ ghost use Rattle.lower_checks.specs.Writing.{Emits, IsSound, Stays, Writes, next
 use crate::body::Body;
 use crate::expression::lower_expression;
 use crate::given::settled_by;
+use crate::names::behind;
 use crate::objects::{lower_copy, stored_layout};
 use crate::place::lower_place;
 use crate::scope::Scope;
@@ -150,6 +153,7 @@ fn lower_source<'p>(
     body: &mut Body<'p>,
     to: Temporary,
 )
+    requires room { HasRoom to.0 (room (expression_tree value.now)) }
     requires taken { IsSound body.old → TakesWhole (world_in scope.now) (names_in scope.now) (expression_tree value.now) }
     ensures writes { let w = world_in scope.now in
         let names = names_in scope.now in
@@ -174,6 +178,7 @@ fn lower_copied_in<'p>(
     to: Temporary,
     index: u32,
 )
+    requires room { HasRoom to.0 (1 + room (expression_tree value.now)) }
     requires taken { let w = world_in scope.now in
         IsSound body.old → IsWholeShape w.unions w.structs (shape_tree shape.now) × TakesWhole w (names_in scope.now) (expression_tree value.now) }
     ensures writes { let w = world_in scope.now in
@@ -185,7 +190,7 @@ fn lower_copied_in<'p>(
         (if is_made w e then whole_values w names e else expression_values w names e) }
 {
     lower_source(scope, value, body, to);
-    let at = body.further(to, 1);
+    let at = behind(to, 1);
     let local = Variable { out: 0, index };
     body.operation(Operation::LocalAddress(at, local));
     lower_copy(scope.program, shape, body, at, to);
@@ -200,6 +205,7 @@ fn lower_set<'p>(
     to: Temporary,
     index: u32,
 )
+    requires room { HasRoom to.0 (3 + room (expression_tree value.now)) }
     requires taken { let w = world_in scope.now in
         let s = shape_tree shape.now in
         IsSound body.old → IsObject w.unions w.structs s × TakesValue w (names_in scope.now) s (expression_tree value.now) }
@@ -242,6 +248,7 @@ fn lower_new_key(body: &mut Body<'_>, to: Temporary, index: u32)
 
 /// Appends what opens a region with the key of a name, which stays in a temporary and goes to the local of a number.
 fn lower_open(scope: &Scope<'_, '_>, key: &Name, body: &mut Body<'_>, to: Temporary, index: u32)
+    requires room { HasRoom to.0 2 }
     ensures { let names = names_in scope.now in
         Emits body.old body.new
         (get_code (world_in scope.now) names (name_tree key.now).text to.0 ++ (core.Do (core.KeyOpen to.0) ∷ core.Do (core.Put 0 index 4 to.0) ∷ [])) }
@@ -261,6 +268,7 @@ fn lower_alias<'p>(
     to: Temporary,
     index: u32,
 )
+    requires room { HasRoom to.0 3 }
     requires taken { let s = static_shape (world_in scope.now) (names_in scope.now) (tree.Variable (name_tree pointer.now)) in
         IsSound body.old → IsWordShape (settled_by (written (type_tree of.now)) s) }
     ensures writes { let w = world_in scope.now in
@@ -284,6 +292,7 @@ pub fn lower_declaration<'p>(
     to: Temporary,
     index: u32,
 )
+    requires room { HasRoom to.0 (declaration_room (declaration_tree declaration.now)) }
     requires taken { IsSound body.old → TakesDeclaration (world_in scope.now) (names_in scope.now) (declaration_tree declaration.now) }
     ensures writes { let w = world_in scope.now in
         let names = names_in scope.now in

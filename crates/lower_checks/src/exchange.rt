@@ -6,6 +6,8 @@ ghost use Rattle.source_meaning.specs.Programs.{world_of};
 ghost use Rattle.source_lowering.specs.Lowered.{expression_values, place_code, static_shape};
 ghost use Rattle.source_lowering.specs.Lowerable.{IsExchanged, TakesPlace};
 ghost use Rattle.source_lowering.specs.Programs.{exchange_code, union_exchange, value_exchange, words_read, words_written};
+ghost use Rattle.source_lowering.specs.Room.{room};
+ghost use Rattle.lower_checks.specs.Room.{HasRoom};
 ghost use Rattle.lower_checks.specs.Scoped.{names_in, world_in};
 ghost use Rattle.lower_checks.specs.Unions.{cell_words};
 ghost use Rattle.lower_checks.specs.Views.{shape_tree};
@@ -13,6 +15,7 @@ ghost use Rattle.lower_checks.specs.Writing.{Emits, IsSound, Writes, next_of};
 
 use crate::body::Body;
 use crate::member::Reached;
+use crate::names::behind;
 use crate::place::lower_place;
 use crate::scope::Scope;
 use crate::shape::Shape;
@@ -23,11 +26,12 @@ use cyc_tree::Expression;
 
 /// Appends what exchanges two words or two fat pointers to which a temporary and the next one lead, by way of those behind.
 fn lower_value_exchange(shape: &Shape<'_>, body: &mut Body<'_>, left: Temporary)
+    requires room { HasRoom left.0 7 }
     ensures { Emits body.old body.new (value_exchange (shape_tree shape.now) left.0) }
 {
-    let right = body.further(left, 1);
-    let first = body.further(left, 2);
-    let second = body.further(first, shape.words());
+    let right = behind(left, 1);
+    let first = behind(left, 2);
+    let second = behind(first, shape.words());
     let reached = Reached::at_once(*shape);
     body.operation(Operation::Move(first, left));
     lower_loads(body, &reached, first);
@@ -39,34 +43,37 @@ fn lower_value_exchange(shape: &Shape<'_>, body: &mut Body<'_>, left: Temporary)
 
 /// Appends what reads so many words of the union to which a pointer leads into a temporary and those behind it.
 fn lower_words_read(body: &mut Body<'_>, words: u32, to: Temporary, pointer: Temporary)
+    requires room { HasRoom to.0 3 }
     requires few { words ≤ 4 }
     ensures { Emits body.old body.new (words_read words 0 to.0 pointer.0) }
 {
     'each: for word in 0..words {
-        let at = body.further(to, word);
+        let at = behind(to, word);
         body.operation(Operation::Load(at, pointer, held_part(word, word * 4)));
     }
 }
 
 /// Appends what writes so many words of the union to which a pointer leads, from a temporary and those behind it.
 fn lower_words_written(body: &mut Body<'_>, words: u32, pointer: Temporary, from: Temporary)
+    requires room { HasRoom from.0 3 }
     requires few { words ≤ 4 }
     ensures { Emits body.old body.new (words_written words 0 pointer.0 from.0) }
 {
     'each: for word in 0..words {
-        let at = body.further(from, word);
+        let at = behind(from, word);
         body.operation(Operation::Store(pointer, held_part(word, word * 4), at));
     }
 }
 
 /// Appends what exchanges two unions of so many words to which a temporary and the next one lead, by way of those behind.
 fn lower_union_exchange(words: u32, body: &mut Body<'_>, left: Temporary)
+    requires room { HasRoom left.0 9 }
     requires few { words ≤ 4 }
     ensures { Emits body.old body.new (union_exchange words left.0) }
 {
-    let right = body.further(left, 1);
-    let first = body.further(left, 2);
-    let second = body.further(first, words);
+    let right = behind(left, 1);
+    let first = behind(left, 2);
+    let second = behind(first, words);
     lower_words_read(body, words, first, left);
     lower_words_read(body, words, second, right);
     lower_words_written(body, words, left, second);
@@ -86,6 +93,7 @@ fn union_words(cell: Cell) -> u32
 
 /// Appends what exchanges what two places of a shape hold, to which a temporary and the next one lead.
 fn lower_held_exchange(program: &Table<'_>, shape: &Shape<'_>, body: &mut Body<'_>, left: Temporary)
+    requires room { HasRoom left.0 9 }
     requires taken { IsSound body.old → IsExchanged (world_of program.now).unions (shape_tree shape.now) }
     ensures { Emits body.old body.new (exchange_code (world_of program.now) (shape_tree shape.now) left.0) }
 {
@@ -104,6 +112,7 @@ pub fn lower_exchange<'p>(
     body: &mut Body<'p>,
     to: Temporary,
 )
+    requires room { HasRoom to.0 (9 + (room (expression_tree left.now) + room (expression_tree right.now))) }
     requires taken { let w = world_in scope.now in
         let names = names_in scope.now in
         let e = expression_tree left.now in
@@ -119,7 +128,7 @@ pub fn lower_exchange<'p>(
         (expression_values w names a ++ expression_values w names b) }
 {
     let shape = lower_place(scope, left, body, to);
-    let next = body.further(to, 1);
+    let next = behind(to, 1);
     lower_place(scope, right, body, next);
     lower_held_exchange(scope.program, &shape, body, to);
 }

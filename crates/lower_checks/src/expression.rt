@@ -13,6 +13,8 @@ ghost use Rattle.source_lowering.specs.Lowered.{
   static_shape,
 };
 ghost use Rattle.source_lowering.specs.Lowerable.{Takes, TakesPlace, TakesPrefix};
+ghost use Rattle.source_lowering.specs.Room.{room};
+ghost use Rattle.lower_checks.specs.Room.{HasRoom};
 ghost use Rattle.lower_checks.specs.Scoped.{names_in, world_in};
 ghost use Rattle.lower_checks.specs.Views.{shape_tree};
 ghost use Rattle.lower_checks.specs.Writing.{IsSound, Writes, next_of};
@@ -22,6 +24,7 @@ use crate::fat::lower_count;
 use crate::leaf::lower_leaf;
 use crate::made::lower_new;
 use crate::member::Reached;
+use crate::names::behind;
 use crate::operands::{lower_all, lower_any, lower_called, lower_links};
 use crate::operator::operator_shape;
 use crate::place::{lower_place, lower_pointer, lower_put, lower_suffixed};
@@ -41,6 +44,7 @@ pub fn lower_expression<'p>(
     body: &mut Body<'p>,
     to: Temporary,
 ) -> Shape<'p>
+    requires room { HasRoom to.0 (room (expression_tree expression.now)) }
     requires taken { IsSound body.old → Takes (world_in scope.now) (names_in scope.now) (expression_tree expression.now) }
     ensures writes { let w = world_in scope.now in
         let names = names_in scope.now in
@@ -108,6 +112,7 @@ pub fn lower_assign<'p>(
     from: &Shape<'_>,
     to: Temporary,
 ) -> Shape<'p>
+    requires room { HasRoom to.0 (16 + room (expression_tree place.now)) }
     requires taken { IsSound body.old → TakesPlace (world_in scope.now) (names_in scope.now) (expression_tree place.now) }
     ensures writes { let w = world_in scope.now in
         let names = names_in scope.now in
@@ -133,6 +138,7 @@ fn lower_prefixed<'p>(
     operator: Prefix,
     to: Temporary,
 ) -> Shape<'p>
+    requires room { HasRoom to.0 (16 + room (expression_tree operand.now)) }
     requires taken { let w = world_in scope.now in
         let names = names_in scope.now in
         let e = expression_tree operand.now in
@@ -148,7 +154,7 @@ fn lower_prefixed<'p>(
     ensures shape { let e = expression_tree operand.entry.now in
         IsSound body.new → shape_tree result ≡ prefix_shape operator (static_shape (world_in scope.now) (names_in scope.now) e) }
 {
-    let right = body.further(to, 1);
+    let right = behind(to, 1);
     match operator {
         Prefix::Negate => {
             body.operation(Operation::Constant(to, 0));

@@ -7,10 +7,12 @@ ghost use Rattle.source_meaning.specs.Programs.{world_of};
 ghost use Rattle.source_lowering.specs.Lowered.{all_of, count_code, fat_code, reach_code, to_fat_code, to_thin_code};
 ghost use Rattle.source_lowering.specs.Pieces.{bounds_code, element_code, reached_code};
 ghost use Rattle.source_lowering.specs.Members.{index_code};
+ghost use Rattle.lower_checks.specs.Room.{HasRoom};
 ghost use Rattle.lower_checks.specs.Views.{shape_tree};
 ghost use Rattle.lower_checks.specs.Writing.{Emits};
 
 use crate::body::Body;
+use crate::names::behind;
 use crate::shape::Shape;
 use crate::sizes::{count, extent};
 use crate::table::Table;
@@ -21,11 +23,12 @@ use cyc_words::Kind;
 
 /// Appends the count behind a pointer, and the index 0.
 pub fn lower_bounds(body: &mut Body<'_>, pointer: Temporary, count: u32)
+    requires room { HasRoom pointer.0 2 }
     ensures { Emits body.old body.new (bounds_code pointer.0 count) }
 {
-    let at = body.further(pointer, 1);
+    let at = behind(pointer, 1);
     body.operation(Operation::Constant(at, count));
-    let index = body.further(pointer, 2);
+    let index = behind(pointer, 2);
     body.operation(Operation::Constant(index, 0));
 }
 
@@ -39,11 +42,12 @@ fn lower_reached(
     pointer: Temporary,
     otherwise: Vec<Statement>,
 )
+    requires room { HasRoom pointer.0 2 }
     ensures { Emits body.old body.new
         (reached_code (world_of program.now) (shape_tree element.now) to.0 pointer.0 (all_of (map statement_tree otherwise.items))) }
 {
-    let below = body.further(pointer, 1);
-    let index = body.further(pointer, 2);
+    let below = behind(pointer, 1);
+    let index = behind(pointer, 2);
     let cells = body.number(count(program, *element));
     let size = extent(program, *element).size;
     body.branch(below, Vec::new(body.alloc), otherwise);
@@ -52,10 +56,11 @@ fn lower_reached(
 
 /// Appends the comparison of a fat pointer's index with its count, which comes into the count's temporary.
 fn lower_below(body: &mut Body<'_>, pointer: Temporary)
+    requires room { HasRoom pointer.0 2 }
     ensures { Emits body.old body.new (core.Do (core.Apply core.LessUnsigned (pointer.0 + 1) (pointer.0 + 2) (pointer.0 + 1)) ∷ []) }
 {
-    let count = body.further(pointer, 1);
-    let index = body.further(pointer, 2);
+    let count = behind(pointer, 1);
+    let index = behind(pointer, 2);
     body.operation(Operation::Apply(Binary::LessUnsigned, count, index, count));
 }
 
@@ -68,6 +73,7 @@ pub fn lower_element(
     to: Temporary,
     pointer: Temporary,
 )
+    requires room { HasRoom pointer.0 2 }
     ensures { Emits body.old body.new (element_code (world_of program.now) (shape_tree element.now) to.0 pointer.0) }
 {
     lower_below(body, pointer);
@@ -81,6 +87,7 @@ pub fn lower_element(
 
 /// Appends what leaves a pointer to what a pointer of a shape leads to in its temporary; raises where it leads to nothing.
 pub fn lower_reach(program: &Table<'_>, shape: &Shape<'_>, body: &mut Body<'_>, pointer: Temporary)
+    requires room { HasRoom pointer.0 2 }
     ensures { Emits body.old body.new (reach_code (world_of program.now) (shape_tree shape.now) pointer.0) }
 {
     match shape {
@@ -97,20 +104,22 @@ pub fn lower_index(
     body: &mut Body<'_>,
     subscript: Temporary,
 )
+    requires room { HasRoom subscript.0 3 }
     ensures { Emits body.old body.new (index_code (world_of program.now) (shape_tree element.now) subscript.0) }
 {
-    let pointer = body.further(subscript, 1);
-    let index = body.further(subscript, 3);
+    let pointer = behind(subscript, 1);
+    let index = behind(subscript, 3);
     body.operation(Operation::Apply(Binary::Add, index, index, subscript));
     lower_element(program, element, body, subscript, pointer);
 }
 
 /// Appends how many elements a fat pointer leads to: its count less its index where that is below, and 0 else.
 pub fn lower_count(body: &mut Body<'_>, pointer: Temporary)
+    requires room { HasRoom pointer.0 2 }
     ensures { Emits body.old body.new (count_code pointer.0) }
 {
-    let count = body.further(pointer, 1);
-    let index = body.further(pointer, 2);
+    let count = behind(pointer, 1);
+    let index = behind(pointer, 2);
     body.operation(Operation::Apply(Binary::LessUnsigned, pointer, index, count));
     body.operation(Operation::Apply(Binary::Subtract, count, count, index));
     body.operation(Operation::Apply(Binary::Multiply, pointer, pointer, count));
@@ -118,10 +127,11 @@ pub fn lower_count(body: &mut Body<'_>, pointer: Temporary)
 
 /// Appends what moves a fat pointer by the integer behind it, or compares it with NULL.
 pub fn lower_fat(body: &mut Body<'_>, operator: Operator, pointer: Temporary)
+    requires room { HasRoom pointer.0 3 }
     ensures { Emits body.old body.new (fat_code operator pointer.0) }
 {
-    let index = body.further(pointer, 2);
-    let by = body.further(pointer, 3);
+    let index = behind(pointer, 2);
+    let by = behind(pointer, 3);
     match operator {
         Operator::Add => body.operation(Operation::Apply(Binary::Add, index, index, by)),
         Operator::Subtract => body.operation(Operation::Apply(Binary::Subtract, index, index, by)),
@@ -131,12 +141,13 @@ pub fn lower_fat(body: &mut Body<'_>, operator: Operator, pointer: Temporary)
 
 /// Appends what makes a fat pointer of a thin one of a shape: it has one element, and NULL none.
 pub fn lower_to_fat(body: &mut Body<'_>, from: &Shape<'_>, pointer: Temporary)
+    requires room { HasRoom pointer.0 2 }
     ensures { Emits body.old body.new (to_fat_code (shape_tree from.now) pointer.0) }
 {
     match from {
         Shape::Thin(true, _, _) => {
-            let count = body.further(pointer, 1);
-            let index = body.further(pointer, 2);
+            let count = behind(pointer, 1);
+            let index = behind(pointer, 2);
             body.operation(Operation::IsNull(count, pointer));
             body.operation(Operation::Constant(index, 1));
             body.operation(Operation::Apply(Binary::Xor, count, index, count));
@@ -156,6 +167,7 @@ pub fn lower_to_thin(
     body: &mut Body<'_>,
     pointer: Temporary,
 )
+    requires room { HasRoom pointer.0 2 }
     ensures { Emits body.old body.new (to_thin_code (world_of program.now) may_be_null (shape_tree element.now) pointer.0) }
 {
     if may_be_null {

@@ -1,6 +1,6 @@
 // Functions.
 
-ghost use Rattle.std.specs.Prelude.{◌≡◌, ◌++◌, IfOk, map};
+ghost use Rattle.std.specs.Prelude.{◌≡◌, ◌+◌, ◌*◌, ◌++◌, IfOk, length, map};
 ghost use Rattle.cyc_tree.specs.View.{member_tree, function_tree as source_tree};
 ghost use Rattle.cyc_core.specs.Trees.{body_tree, function_tree};
 ghost use Rattle.source_meaning.specs.Shapes.{part_of, part_shapes};
@@ -10,12 +10,13 @@ ghost use Rattle.source_lowering.specs.Programs.{parameter_names, parameters_cod
 ghost use Rattle.lower_checks.specs.Views.{shape_tree, stored_tree};
 ghost use Rattle.lower_checks.specs.Visible.{names_of};
 ghost use Rattle.source_lowering.specs.Lowerable.{TakesFunction};
+ghost use Rattle.source_lowering.specs.Room.{function_room};
 ghost use Rattle.lower_checks.specs.Refusals.{NeverRefused};
+ghost use Rattle.lower_checks.specs.Room.{HasRoom};
 ghost use Rattle.lower_checks.specs.Writing.{Emits, IsSound, values_of};
 
 use crate::body::Body;
 use crate::fault::LowerFault;
-use crate::layouts::sum;
 use crate::leaving::RegionsAround;
 use crate::locals::Locals;
 use crate::names::number;
@@ -31,16 +32,16 @@ use cyc_core::{Function, Operation, Statement, Temporary, Variable, Words};
 use cyc_tree::{Function as Source, Member};
 use std::alloc::Global;
 
-/// How many words parameters take. Refuses more than the greatest u32.
-fn parameter_words(parameters: &[Member]) -> Result<u32, LowerFault>
-    ensures words { IfOk result (λ words. words ≡ all_words (part_shapes (map part_of (map member_tree parameters.now)))) }
-    ensures taken { NeverRefused result }
+/// How many words parameters take.
+fn parameter_words(parameters: &[Member]) -> u32
+    requires room { HasRoom 0 (3 * length parameters.now) }
+    ensures { result ≡ all_words (part_shapes (map part_of (map member_tree parameters.now))) }
 {
     let mut words = 0;
     'each: for parameter in parameters {
-        words = sum(words, Shape::of(&parameter.of).words())?;
+        words += Shape::of(&parameter.of).words();
     }
-    Ok(words)
+    words
 }
 
 /// Declares the parameters, and appends what stores the value of each, whose words are in the temporaries from 0 on, one parameter behind
@@ -52,6 +53,7 @@ fn lower_parameters<'p>(
     parameters: &'p [Member],
     free: Temporary,
 )
+    requires room { HasRoom 0 (2 + 3 * length parameters.now) }
     ensures code { Emits body.old body.new (parameters_code (map part_of (map member_tree parameters.entry.now)) 0 0 free.0) }
     ensures names { IsSound body.new → names_of locals.new ≡ parameter_names (map part_of (map member_tree parameters.entry.now)) 0 (names_of locals.old) }
     ensures stored { IsSound body.new →
@@ -71,8 +73,8 @@ fn lower_parameters<'p>(
             index,
             body,
         );
-        index = body.sum(index, 1);
-        words = body.sum(words, shape.words());
+        index += 1;
+        words += shape.words();
     }
 }
 
@@ -96,6 +98,7 @@ fn lower_body<'p>(
     function: &'p Source,
     parameters: u32,
 ) -> Body<'p>
+    requires room { HasRoom 0 (function_room (source_tree function.now)) }
     requires taken { TakesFunction (world_of program.now) (source_tree function.now) }
     requires words { parameters ≡ all_words (part_shapes (routine_of (source_tree function.now)).parameters) }
     ensures code { let f = routine_of (source_tree function.entry.now) in IsSound result → body_tree result.code.items ≡ body_code (world_of program.now) f }
@@ -146,12 +149,13 @@ pub fn lower_function<'p>(
     program: &Table<'p>,
     function: &'p Source,
 ) -> Result<Function, LowerFault>
+    requires room { HasRoom 0 (function_room (source_tree function.now)) }
     requires taken { TakesFunction (world_of program.now) (source_tree function.now) }
     ensures code { let f = routine_of (source_tree function.entry.now) in
         IfOk result (λ lowered. function_tree lowered ≡ function_code (world_of program.now) f) }
     ensures memory { NeverRefused result }
 {
-    let parameters = parameter_words(&function.parameters)?;
+    let parameters = parameter_words(&function.parameters);
     let Body {
         code,
         own,

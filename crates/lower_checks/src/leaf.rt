@@ -4,6 +4,8 @@ ghost use Rattle.std.specs.Prelude.{◌≡◌, true};
 ghost use Rattle.cyc_tree.specs.View.{expression_tree};
 ghost use Rattle.source_lowering.specs.Lowered.{expression_code, expression_values, static_shape};
 ghost use Rattle.source_lowering.specs.Lowerable.{Takes};
+ghost use Rattle.source_lowering.specs.Room.{room};
+ghost use Rattle.lower_checks.specs.Room.{HasRoom};
 ghost use Rattle.lower_checks.specs.Scoped.{names_in, world_in};
 ghost use Rattle.lower_checks.specs.Simple.{is_leaf};
 ghost use Rattle.lower_checks.specs.Views.{shape_tree};
@@ -25,6 +27,7 @@ pub fn lower_leaf<'p>(
     body: &mut Body<'p>,
     to: Temporary,
 ) -> Shape<'p>
+    requires room { HasRoom to.0 (room (expression_tree expression.now)) }
     requires leaf { is_leaf (expression_tree expression.now) ≡ true }
     requires taken { IsSound body.old → Takes (world_in scope.now) (names_in scope.now) (expression_tree expression.now) }
     ensures writes { let w = world_in scope.now in

@@ -1,12 +1,15 @@
 // The regions that are in scope, and how they are left.
 
-ghost use Rattle.std.specs.Prelude.{◌≡◌, ◌<◌, ◌∷◌, ◌++◌, [], Bool, List, false, length, reverse, slice_index_or, suc};
+ghost use Rattle.std.specs.Prelude.{◌≡◌, ◌+◌, ◌<◌, ◌≤◌, ◌∷◌, ◌++◌, [], Bool, List, false, length, reverse, slice_index_or, suc};
 ghost use Rattle.core_meaning.specs.Core as core;
 ghost use Rattle.cyc_tree.specs.View.{declaration_tree, expression_tree};
 ghost use Rattle.cyc_core.specs.Trees.{operation_tree, statement_tree};
 ghost use Rattle.source_lowering.specs.Lowered.{conversion_code, expression_code, expression_values, results_in, static_shape};
 ghost use Rattle.source_lowering.specs.Programs.{in_loop, in_switch, leaving_code, left_by, no_regions, regions_with};
 ghost use Rattle.source_lowering.specs.Lowerable.{Takes};
+ghost use Rattle.source_lowering.specs.Room.{room};
+ghost use Rattle.lower_checks.specs.Counted.{IsCounted};
+ghost use Rattle.lower_checks.specs.Room.{HasRoom};
 ghost use Rattle.lower_checks.specs.Scoped.{names_in, world_in};
 ghost use Rattle.lower_checks.specs.Views.{regions_tree, shape_tree};
 ghost use Rattle.lower_checks.specs.Writing.{Emits, IsSound, Stays, Writes, next_of};
@@ -32,7 +35,8 @@ pub struct RegionsAround {
 impl RegionsAround {
     /// No region is in scope.
     pub fn none() -> RegionsAround
-        ensures { regions_tree result [] ≡ no_regions }
+        ensures none { regions_tree result [] ≡ no_regions }
+        ensures counted { IsCounted result }
     {
         RegionsAround {
             all: 0,
@@ -43,7 +47,9 @@ impl RegionsAround {
 
     /// Within a loop.
     pub fn in_loop(self) -> RegionsAround
-        ensures { (opened : List Bool) → regions_tree result opened ≡ in_loop (regions_tree self opened) }
+        ensures regions { (opened : List Bool) → regions_tree result opened ≡ in_loop (regions_tree self opened) }
+        ensures all { result.all ≡ self.all }
+        ensures counted { IsCounted result }
     {
         RegionsAround {
             all: self.all,
@@ -54,7 +60,10 @@ impl RegionsAround {
 
     /// Within a `switch`.
     pub fn in_switch(self) -> RegionsAround
-        ensures { (opened : List Bool) → regions_tree result opened ≡ in_switch (regions_tree self opened) }
+        requires counted { IsCounted self }
+        ensures regions { (opened : List Bool) → regions_tree result opened ≡ in_switch (regions_tree self opened) }
+        ensures all { result.all ≡ self.all }
+        ensures counted { IsCounted result }
     {
         RegionsAround {
             all: self.all,
@@ -65,7 +74,11 @@ impl RegionsAround {
 
     /// One more, which a key opened or not.
     fn further(self, body: &mut Body<'_>, opened: &mut Vec<bool>, by_key: bool) -> RegionsAround
+        requires room { HasRoom self.all 1 }
+        requires counted { IsCounted self }
         ensures stays { Stays body.old body.new }
+        ensures all { result.all ≡ suc self.all }
+        ensures counted { IsCounted result }
         ensures regions { IsSound body.new → regions_tree result opened.new.items ≡ record {
           all = suc self.all;
           broken = suc self.broken;
@@ -74,13 +87,10 @@ impl RegionsAround {
         } }
     {
         note_opened(body, opened, by_key);
-        let all = body.sum(self.all, 1);
-        let broken = body.sum(self.broken, 1);
-        let continued = body.sum(self.continued, 1);
         RegionsAround {
-            all,
-            broken,
-            continued,
+            all: self.all + 1,
+            broken: self.broken + 1,
+            continued: self.continued + 1,
         }
     }
 
@@ -91,7 +101,11 @@ impl RegionsAround {
         opened: &mut Vec<bool>,
         declaration: &Declaration,
     ) -> RegionsAround
+        requires room { HasRoom self.all 1 }
+        requires counted { IsCounted self }
         ensures stays { Stays body.old body.new }
+        ensures all { result.all ≤ suc self.all }
+        ensures counted { IsCounted result }
         ensures regions { IsSound body.new →
             regions_tree result opened.new.items ≡ regions_with (declaration_tree declaration.now) (regions_tree self opened.old.items) }
     {
@@ -171,12 +185,10 @@ pub fn lower_leaving(body: &mut Body<'_>, opened: &[bool], all: u32, count: u32)
 
 /// Appends a return with the value of a shape in a temporary and those behind it.
 fn lower_result(body: &mut Body<'_>, shape: &Shape<'_>, to: Temporary)
+    requires room { HasRoom to.0 2 }
     ensures { Emits body.old body.new (core.Return (results_in (shape_tree shape.now) to.0) ∷ []) }
 {
-    match shape.result_in(to) {
-        Ok(result) => body.emit(Statement::Return(result)),
-        Err(fault) => body.note(fault),
-    }
+    body.emit(Statement::Return(shape.result_in(to)));
 }
 
 /// Appends a return, with the value of an expression in the shape of the function's result, when all regions of the function are left;
@@ -189,6 +201,7 @@ pub fn lower_return<'p>(
     around: RegionsAround,
     opened: &[bool],
 )
+    requires room { HasRoom around.all (2 + room (expression_tree value.now)) }
     requires taken { IsSound body.old → Takes (world_in scope.now) (names_in scope.now) (expression_tree value.now) }
     ensures writes { let w = world_in scope.now in
         let names = names_in scope.now in

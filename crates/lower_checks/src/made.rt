@@ -19,6 +19,8 @@ ghost use Rattle.source_lowering.specs.Lowered.{
   whole_values,
 };
 ghost use Rattle.source_lowering.specs.Lowerable.{IsObject, Takes, TakesMember, TakesNew, TakesWhole};
+ghost use Rattle.source_lowering.specs.Room.{made_room, room};
+ghost use Rattle.lower_checks.specs.Room.{HasRoom};
 ghost use Rattle.lower_checks.specs.Scoped.{names_in, world_in};
 ghost use Rattle.lower_checks.specs.Views.{owner_tree, shape_tree};
 ghost use Rattle.lower_checks.specs.Writing.{Emits, IsSound, Writes, next_of};
@@ -27,6 +29,7 @@ use crate::array::lower_array;
 use crate::body::Body;
 use crate::expression::lower_expression;
 use crate::member::Reached;
+use crate::names::behind;
 use crate::objects::{lower_copy, object_layout};
 use crate::scope::Scope;
 use crate::shape::{Owner, Shape};
@@ -73,11 +76,12 @@ fn lower_object(
     body: &mut Body<'_>,
     to: Temporary,
 )
+    requires room { HasRoom to.0 4 }
     requires taken { IsSound body.old → IsObject (world_of program.now).unions (world_of program.now).structs (shape_tree shape.now) }
     ensures { Emits body.old body.new (new_code_by (world_of program.now) (is_alone (owner_tree owner)) (shape_tree shape.now) to.0 [] []) }
 {
-    let value = body.further(to, 1);
-    let count = body.further(value, shape.words());
+    let value = behind(to, 1);
+    let count = behind(value, shape.words());
     lower_request(program, shape, owner, body, to, count);
     match shape {
         Shape::Struct(_) | Shape::Union(_) => lower_copy(program, shape, body, to, value),
@@ -95,6 +99,7 @@ fn lower_one<'p>(
     body: &mut Body<'p>,
     to: Temporary,
 ) -> Shape<'p>
+    requires room { HasRoom to.0 (16 + room (expression_tree value.now)) }
     requires taken { let w = world_in scope.now in
         let names = names_in scope.now in
         let e = expression_tree value.now in
@@ -109,7 +114,7 @@ fn lower_one<'p>(
     ensures shape { IsSound body.new →
         shape_tree result ≡ ThinShape false (owner_tree owner) (static_shape (world_in scope.now) (names_in scope.now) (expression_tree value.entry.now)) }
 {
-    let next = body.further(to, 1);
+    let next = behind(to, 1);
     let shape = body.known(shape_of(scope, value));
     let address = body.known(shape.address(owner));
     match &shape {
@@ -136,6 +141,7 @@ pub fn lower_new<'p>(
     body: &mut Body<'p>,
     to: Temporary,
 ) -> Shape<'p>
+    requires room { HasRoom to.0 (16 + made_room (made_tree made.now)) }
     requires taken { IsSound body.old → TakesNew (world_in scope.now) (names_in scope.now) (made_tree made.now) }
     ensures writes { let w = world_in scope.now in
         let names = names_in scope.now in
@@ -146,7 +152,7 @@ pub fn lower_new<'p>(
     match made {
         Made::One(value) => lower_one(scope, value, owner, body, to),
         Made::Array(index, count, element) => {
-            let many = body.further(to, 1);
+            let many = behind(to, 1);
             lower_expression(scope, count, body, many);
             lower_array(scope, index, element, body, to)
         }

@@ -12,6 +12,7 @@ ghost use Rattle.source_lowering.specs.Lowered.{member_shape, offset_code, reach
 ghost use Rattle.source_lowering.specs.Lowerable.{IsObject, TakesMembers};
 ghost use Rattle.lower_checks.specs.Refusals.{NeverRefused};
 ghost use Rattle.lower_checks.specs.Reaching.{further_code, further_place, indices_in, member_place, place_at_once, reached_place};
+ghost use Rattle.lower_checks.specs.Room.{HasRoom};
 ghost use Rattle.lower_checks.specs.Scoped.{names_in, world_in};
 ghost use Rattle.lower_checks.specs.Views.{shape_tree};
 ghost use Rattle.lower_checks.specs.Writing.{Emits, IsSound, Stays};
@@ -165,6 +166,7 @@ pub fn lower_arrow<'p>(
     body: &mut Body<'_>,
     to: Temporary,
 ) -> Reached<'p>
+    requires room { HasRoom to.0 2 }
     requires taken { let w = world_of program.now in IsSound body.old → IsObject w.unions w.structs (member_shape w (pointee (shape_tree shape.now)) name.now) }
     ensures code { Emits body.old body.new (reach_code (world_of program.now) (shape_tree shape.now) to.0) }
     ensures place { IsSound body.new →
@@ -193,6 +195,7 @@ fn follow_one<'p>(
     reached: &Reached<'p>,
     pointer: Temporary,
 ) -> Reached<'p>
+    requires room { HasRoom pointer.0 2 }
     requires taken { IsSound body.old →
         TakesMembers (world_in scope.now) (names_in scope.now) (suffixes_of (suffix_tree suffix.now ∷ [])) (shape_tree reached.now.shape) }
     ensures code { Emits body.old body.new
@@ -228,6 +231,7 @@ pub fn follow<'p>(
     start: Reached<'p>,
     pointer: Temporary,
 ) -> Reached<'p>
+    requires room { HasRoom pointer.0 2 }
     requires taken { IsSound body.old →
         TakesMembers (world_in scope.now) (names_in scope.now) (suffixes_of (map suffix_tree suffixes.now)) (shape_tree start.shape) }
     ensures code { Emits body.old body.new

@@ -2,6 +2,7 @@
 
 ghost use Rattle.std.specs.Prelude.{◌≡◌, ◌+◌, IfOk};
 ghost use Rattle.lower_checks.specs.Refusals.{NeverRefused};
+ghost use Rattle.lower_checks.specs.Room.{HasRoom};
 
 use crate::fault::LowerFault;
 use crate::stored::Stored;
@@ -38,13 +39,10 @@ pub fn number(length: usize) -> Result<u32, LowerFault>
     }
 }
 
-/// So many temporaries further on. Refuses what is over the greatest u32.
-pub fn further(temporary: Temporary, by: u32) -> Result<Temporary, LowerFault>
-    ensures further { IfOk result (λ t. t.0 ≡ temporary.0 + by) }
-    ensures taken { NeverRefused result }
+/// The temporary so many behind one.
+pub fn behind(temporary: Temporary, by: u32) -> Temporary
+    requires { HasRoom temporary.0 by }
+    ensures { result.0 ≡ temporary.0 + by }
 {
-    match temporary.0.checked_add(by) {
-        Some(number) => Ok(Temporary(number)),
-        None => Err(LowerFault::Memory),
-    }
+    Temporary(temporary.0 + by)
 }

@@ -1,6 +1,6 @@
 // Operands and arguments, one after the other.
 
-ghost use Rattle.std.specs.Prelude.{◌≡◌, ◌++◌, map};
+ghost use Rattle.std.specs.Prelude.{◌≡◌, ◌+◌, ◌++◌, map};
 ghost use Rattle.cyc_tree.specs.View.{expression_tree, expressions_of, link_tree, links_of};
 ghost use Rattle.source_lowering.specs.Lowered.{
   all_code,
@@ -17,6 +17,8 @@ ghost use Rattle.source_lowering.specs.Lowered.{
   links_code,
 };
 ghost use Rattle.source_lowering.specs.Lowerable.{Takes, TakesAll, TakesLinks};
+ghost use Rattle.source_lowering.specs.Room.{argument_room, link_room, room};
+ghost use Rattle.lower_checks.specs.Room.{HasRoom};
 ghost use Rattle.lower_checks.specs.Scoped.{names_in, world_in};
 ghost use Rattle.lower_checks.specs.Views.{shape_tree};
 ghost use Rattle.lower_checks.specs.Writing.{IsApart, IsSound, Writes, next_of};
@@ -24,6 +26,7 @@ ghost use Rattle.lower_checks.specs.Writing.{IsApart, IsSound, Writes, next_of};
 use crate::body::Body;
 use crate::call::{call_parameters, lower_call};
 use crate::expression::lower_expression;
+use crate::names::behind;
 use crate::operator::operator_shape;
 use crate::scope::Scope;
 use crate::shape::Shape;
@@ -41,6 +44,7 @@ pub fn lower_links<'p>(
     first: Shape<'p>,
     to: Temporary,
 ) -> Shape<'p>
+    requires room { HasRoom to.0 (16 + link_room (links_of (map link_tree links.now))) }
     requires taken { IsSound body.old → TakesLinks (world_in scope.now) (names_in scope.now) (links_of (map link_tree links.now)) }
     ensures writes { let w = world_in scope.now in
         let names = names_in scope.now in
@@ -52,7 +56,7 @@ pub fn lower_links<'p>(
 {
     let mut left = first;
     'each: for link in links {
-        let right = body.further(to, left.words());
+        let right = behind(to, left.words());
         let shape = lower_expression(scope, &link.operand, body, right);
         lower_operator(body, link.operator, &left, &shape, to);
         left = operator_shape(link.operator, left, shape);
@@ -68,6 +72,7 @@ pub fn lower_all<'p>(
     body: &mut Body<'p>,
     to: Temporary,
 )
+    requires room { HasRoom to.0 (16 + argument_room (expressions_of (map expression_tree operands.now))) }
     requires taken { IsSound body.old → TakesAll (world_in scope.now) (names_in scope.now) (expressions_of (map expression_tree operands.now)) }
     ensures writes { let w = world_in scope.now in
         let names = names_in scope.now in
@@ -91,6 +96,7 @@ pub fn lower_any<'p>(
     body: &mut Body<'p>,
     to: Temporary,
 )
+    requires room { HasRoom to.0 (16 + argument_room (expressions_of (map expression_tree operands.now))) }
     requires taken { IsSound body.old → TakesAll (world_in scope.now) (names_in scope.now) (expressions_of (map expression_tree operands.now)) }
     ensures writes { let w = world_in scope.now in
         let names = names_in scope.now in
@@ -114,6 +120,7 @@ fn lower_apart<'p>(
     body: &mut Body<'p>,
     to: Temporary,
 )
+    requires room { HasRoom to.0 (room (expression_tree argument.now)) }
     requires taken { IsSound body.old → Takes (world_in scope.now) (names_in scope.now) (expression_tree argument.now) }
     ensures { IsSound body.new → IsApart body.old body.new (expression_values (world_in scope.now) (names_in scope.now) (expression_tree argument.entry.now)) }
 {
@@ -133,12 +140,13 @@ fn lower_arguments<'p>(
     shapes: &[Shape<'p>],
     first: Temporary,
 ) -> u32
+    requires room { HasRoom first.0 (16 + argument_room (expressions_of (map expression_tree arguments.now))) }
     requires taken { IsSound body.old → TakesAll (world_in scope.now) (names_in scope.now) (expressions_of (map expression_tree arguments.now)) }
     ensures writes { let w = world_in scope.now in
         let names = names_in scope.now in
         let es = expressions_of (map expression_tree arguments.entry.now) in
         Writes body.old body.new (arguments_code w names (map shape_tree shapes.now) es first.0 (next_of body.old)) (all_values w names es) }
-    ensures words { IsSound body.new → result ≡ argument_words (map shape_tree shapes.now) (expressions_of (map expression_tree arguments.entry.now)) }
+    ensures words { result ≡ argument_words (map shape_tree shapes.now) (expressions_of (map expression_tree arguments.entry.now)) }
 {
     let mut left = shapes;
     let mut words = 0;
@@ -147,11 +155,11 @@ fn lower_arguments<'p>(
             lower_apart(scope, argument, body, first);
             continue;
         };
-        let to = body.further(first, words);
+        let to = behind(first, words);
         let from = lower_expression(scope, argument, body, to);
         lower_conversion(scope.program, body, shape, &from, to);
         left = others;
-        words = body.sum(words, shape.words());
+        words += shape.words();
     }
     words
 }
@@ -165,6 +173,7 @@ pub fn lower_called<'p>(
     name: &'p [u8],
     to: Temporary,
 ) -> Shape<'p>
+    requires room { HasRoom to.0 (16 + argument_room (expressions_of (map expression_tree arguments.now))) }
     requires taken { IsSound body.old → TakesAll (world_in scope.now) (names_in scope.now) (expressions_of (map expression_tree arguments.now)) }
     ensures writes { let w = world_in scope.now in
         let names = names_in scope.now in

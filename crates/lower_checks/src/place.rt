@@ -16,6 +16,7 @@ ghost use Rattle.source_lowering.specs.Lowered.{
 };
 ghost use Rattle.source_lowering.specs.Members.{words_in};
 ghost use Rattle.source_lowering.specs.Lowerable.{Takes, TakesPlace, TakesSuffixes};
+ghost use Rattle.source_lowering.specs.Room.{room, suffix_room};
 ghost use Rattle.source_lowering.proofs.expressions.Indices.{TakesIndices};
 ghost use Rattle.lower_checks.specs.Reaching.{
   IsLeftAt,
@@ -28,6 +29,7 @@ ghost use Rattle.lower_checks.specs.Reaching.{
   reached_place,
   suffixed_left,
 };
+ghost use Rattle.lower_checks.specs.Room.{HasRoom};
 ghost use Rattle.lower_checks.specs.Scoped.{names_in, world_in};
 ghost use Rattle.lower_checks.specs.Views.{shape_tree};
 ghost use Rattle.lower_checks.specs.Writing.{IsSound, Writes, next_of};
@@ -36,6 +38,7 @@ use crate::body::Body;
 use crate::expression::lower_expression;
 use crate::fat::{lower_index, lower_reach};
 use crate::member::{Reached, follow, lower_arrow, lower_dot, lower_pointed, reached_in};
+use crate::names::behind;
 use crate::scope::Scope;
 use crate::shape::Shape;
 use crate::shaped::shape_of;
@@ -53,6 +56,7 @@ pub fn lower_put<'p>(
     body: &mut Body<'p>,
     from: Temporary,
 )
+    requires room { HasRoom from.0 (16 + room (expression_tree place.now)) }
     requires taken { IsSound body.old → TakesPlace (world_in scope.now) (names_in scope.now) (expression_tree place.now) }
     ensures writes { let w = world_in scope.now in
         let names = names_in scope.now in
@@ -64,7 +68,7 @@ pub fn lower_put<'p>(
         Expression::Grouped(_, inner) => lower_put(scope, inner, body, from),
         Expression::Suffixed(_, _) => {
             let shape = body.known(shape_of(scope, place));
-            let at = body.further(from, shape.words());
+            let at = behind(from, shape.words());
             let reached = lower_suffixed(scope, place, body, at);
             lower_stores(body, &reached, at, from);
         }
@@ -83,6 +87,7 @@ fn lower_through<'p>(
     body: &mut Body<'p>,
     from: Temporary,
 )
+    requires room { HasRoom from.0 (16 + room (expression_tree pointer.now)) }
     requires taken { IsSound body.old → Takes (world_in scope.now) (names_in scope.now) (expression_tree pointer.now) }
     ensures writes { let w = world_in scope.now in
         let names = names_in scope.now in
@@ -93,7 +98,7 @@ fn lower_through<'p>(
         (expression_values w names e) }
 {
     let of = body.known(shape_of(scope, pointer)).pointee();
-    let at = body.further(from, of.words());
+    let at = behind(from, of.words());
     let shape = lower_pointer(scope, pointer, body, at);
     lower_stores(body, &Reached::at_once(shape), at, from);
 }
@@ -107,6 +112,7 @@ pub fn lower_pointer<'p>(
     body: &mut Body<'p>,
     to: Temporary,
 ) -> Shape<'p>
+    requires room { HasRoom to.0 (3 + room (expression_tree pointer.now)) }
     requires taken { IsSound body.old → Takes (world_in scope.now) (names_in scope.now) (expression_tree pointer.now) }
     ensures writes { let w = world_in scope.now in
         let names = names_in scope.now in
@@ -130,6 +136,7 @@ pub fn lower_place<'p>(
     body: &mut Body<'p>,
     to: Temporary,
 ) -> Shape<'p>
+    requires room { HasRoom to.0 (room (expression_tree place.now)) }
     requires taken { IsSound body.old → TakesPlace (world_in scope.now) (names_in scope.now) (expression_tree place.now) }
     ensures writes { let w = world_in scope.now in
         let names = names_in scope.now in
@@ -165,17 +172,18 @@ fn lower_subscript<'p>(
     body: &mut Body<'p>,
     to: Temporary,
 ) -> Temporary
+    requires room { HasRoom to.0 (suffix_room (suffixes_of (suffix_tree suffix.now ∷ []))) }
     requires taken { IsSound body.old → TakesIndices (world_in scope.now) (names_in scope.now) (suffixes_of (suffix_tree suffix.now ∷ [])) }
     ensures writes { let w = world_in scope.now in
         let names = names_in scope.now in
         let ss = suffixes_of (suffix_tree suffix.entry.now ∷ []) in
         Writes body.old body.new (indices_code w names ss to.0 (next_of body.old)) (suffix_values w names ss) }
-    ensures behind { IsSound body.new → result.0 ≡ to.0 + indices_in (suffixes_of (suffix_tree suffix.entry.now ∷ [])) }
+    ensures behind { result.0 ≡ to.0 + indices_in (suffixes_of (suffix_tree suffix.entry.now ∷ [])) }
 {
     match suffix {
         Suffix::Index(index) => {
             lower_expression(scope, index, body, to);
-            body.further(to, 1)
+            behind(to, 1)
         }
         Suffix::Dot(_) | Suffix::Arrow(_) => to,
     }
@@ -190,12 +198,13 @@ fn lower_indices<'p>(
     body: &mut Body<'p>,
     first: Temporary,
 ) -> Temporary
+    requires room { HasRoom first.0 (suffix_room (suffixes_of (map suffix_tree suffixes.now))) }
     requires taken { IsSound body.old → TakesIndices (world_in scope.now) (names_in scope.now) (suffixes_of (map suffix_tree suffixes.now)) }
     ensures writes { let w = world_in scope.now in
         let names = names_in scope.now in
         let ss = suffixes_of (map suffix_tree suffixes.entry.now) in
         Writes body.old body.new (indices_code w names ss first.0 (next_of body.old)) (suffix_values w names ss) }
-    ensures behind { IsSound body.new → result.0 ≡ first.0 + indices_in (suffixes_of (map suffix_tree suffixes.entry.now)) }
+    ensures behind { result.0 ≡ first.0 + indices_in (suffixes_of (map suffix_tree suffixes.entry.now)) }
 {
     let mut to = first;
     'each: for k in 0..suffixes.len() {
@@ -215,6 +224,7 @@ fn lower_first<'p>(
     body: &mut Body<'p>,
     to: Temporary,
 ) -> Reached<'p>
+    requires room { HasRoom to.0 (16 + room (expression_tree primary.now)) }
     requires taken { let w = world_in scope.now in
         let names = names_in scope.now in
         let e = expression_tree primary.now in
@@ -263,6 +273,7 @@ pub fn lower_suffixed<'p>(
     body: &mut Body<'p>,
     to: Temporary,
 ) -> Reached<'p>
+    requires room { HasRoom to.0 (room (expression_tree place.now)) }
     requires taken { IsSound body.old → TakesSuffixed (world_in scope.now) (names_in scope.now) (expression_tree place.now) }
     ensures writes { let w = world_in scope.now in
         let names = names_in scope.now in

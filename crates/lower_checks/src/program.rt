@@ -1,6 +1,6 @@
 // Globals and programs.
 
-ghost use Rattle.std.specs.Prelude.{◌≡◌, ◌++◌, IfOk, map};
+ghost use Rattle.std.specs.Prelude.{◌≡◌, ◌++◌, ◌<◌, ◌^◌, IfOk, map};
 ghost use Rattle.cyc_tree.specs.View.{global_tree};
 ghost use Rattle.cyc_core.specs.Trees.{datum_tree, function_tree, program_tree};
 ghost use Rattle.source_meaning.specs.Shapes.{written, settled};
@@ -8,8 +8,10 @@ ghost use Rattle.source_meaning.specs.Programs.{world_of, functions_of, global_s
 ghost use Rattle.source_meaning.specs.Strings.{program_strings};
 ghost use Rattle.source_lowering.specs.Programs.{function_code, global_datum, data_of, program_code, string_datum};
 ghost use Rattle.source_lowering.specs.Lowerable.{HaveFewMembers, IsLowerable, IsObjectType, TakesGlobal, TakesProgram};
+ghost use Rattle.source_lowering.specs.Room.{program_room};
 ghost use Rattle.lower_checks.specs.Promise.{IsLoweringOf};
 ghost use Rattle.lower_checks.specs.Refusals.{NeverRefused};
+ghost use Rattle.lower_checks.specs.Roomy.{AreRoomy};
 
 use crate::datum::first_datum;
 use crate::fault::LowerFault;
@@ -58,6 +60,7 @@ fn lower_globals(alloc: Global, program: &Table<'_>) -> Result<Vec<Datum>, Lower
 
 /// The functions, in their order.
 fn lower_functions(alloc: Global, program: &Table<'_>) -> Result<Vec<Function>, LowerFault>
+    requires room { AreRoomy program.now }
     requires taken { TakesProgram (world_of program.now) program.now }
     ensures functions { let w = world_of program.now in
         IfOk result (λ functions. map function_tree functions.items ≡ map (function_code w) (functions_of program.now)) }
@@ -86,6 +89,7 @@ fn lower_data(alloc: Global, program: &Table<'_>) -> Result<Vec<Datum>, LowerFau
 
 /// The Core of a program whose names are in tables.
 fn lower_known(alloc: Global, program: &Table<'_>) -> Result<Program, LowerFault>
+    requires room { AreRoomy program.now }
     requires taken { TakesProgram (world_of program.now) program.now }
     ensures code { IfOk result (λ core. program_tree core ≡ program_code program.now) }
     ensures memory { NeverRefused result }
@@ -102,6 +106,7 @@ fn lower_known(alloc: Global, program: &Table<'_>) -> Result<Program, LowerFault
 
 /// The Core of a program's tree.
 fn lower_tree(alloc: Global, program: &Source) -> Result<Program, LowerFault>
+    requires room { AreRoomy program.now }
     requires taken { IsLowerable program.now }
     ensures code { IfOk result (λ core. program_tree core ≡ program_code program.now) }
     ensures memory { NeverRefused result }
@@ -110,9 +115,14 @@ fn lower_tree(alloc: Global, program: &Source) -> Result<Program, LowerFault>
     lower_known(alloc, &table)
 }
 
-/// The Core of a checked program. Fails only where no host memory is left, or a number of temporaries, locals, functions, globals or
-/// members of a union is over the greatest u32.
+/// The Core of a checked program. Fails only where no host memory is left, or a number is over the greatest u32: of a function's
+/// temporaries all in all, the words that it passes, its locals or unnamed values, blocks around each other, functions, globals and
+/// strings, members of a union, or parts or bytes of a struct; where more than 256 pointers that `&`, `new` and `rnew` give stand around
+/// each other; or where a local's type leaves a pointer's region out that has 128 others around it, and its initializer says that it is
+/// unique.
 pub fn lower(alloc: Global, checked: &Checked) -> Result<Program, AllocError>
+    // a word counts the temporaries of each of its functions
+    requires room { program_room checked.now < 2 ^ 32 }
     // it does what the source does, and its frames and its code are within the source's bounds
     ensures promised { IfOk result (λ core. IsLoweringOf checked.now (program_tree core)) }
     // it is the one by the definition

@@ -11,12 +11,13 @@ ghost use Rattle.cyc_core.specs.Trees.{bytes_of, optional_tree};
 ghost use Rattle.lower_checks.specs.declared.shape.Written.TheVariants.{Pointed};
 ghost use Rattle.lower_checks.specs.Given.{owner_given};
 ghost use Rattle.lower_checks.specs.Signs.{around, signs_of};
+ghost use Rattle.lower_checks.specs.Room.{HasRoom};
 ghost use Rattle.lower_checks.specs.Views.{owner_tree, plain_tree, pointee_shape, shape_tree, written_shape, written_tree};
 ghost use Rattle.lower_checks.specs.Refusals.{NeverRefused};
 
 use crate::fault::LowerFault;
 use crate::given::Given;
-use crate::names::further;
+use crate::names::behind;
 use crate::signs::{Pointing, Signs};
 use cyc_core::{Temporary, Width, Words};
 use cyc_tree::{Base, Pointer, RegionName, Sign, TypeName};
@@ -325,14 +326,14 @@ impl<'p> Shape<'p> {
     }
 
     /// Where a result of the shape goes.
-    pub fn result_in(self, to: Temporary) -> Result<Option<Words>, LowerFault>
-        ensures place { IfOk result (λ place. optional_tree place ≡ results_in (shape_tree self.entry) to.0) }
-        ensures taken { NeverRefused result }
+    pub fn result_in(self, to: Temporary) -> Option<Words>
+        requires room { HasRoom to.0 2 }
+        ensures place { optional_tree result ≡ results_in (shape_tree self.entry) to.0 }
     {
         match self {
-            Shape::Void => Ok(None),
-            Shape::Fat(_) => Ok(Some(Words::Three(to, further(to, 1)?, further(to, 2)?))),
-            _ => Ok(Some(Words::One(to))),
+            Shape::Void => None,
+            Shape::Fat(_) => Some(Words::Three(to, behind(to, 1), behind(to, 2))),
+            _ => Some(Words::One(to)),
         }
     }
 }

@@ -4,6 +4,8 @@ ghost use Rattle.std.specs.Prelude.{◌≡◌, true};
 ghost use Rattle.cyc_tree.specs.View.{statement_tree as source_tree};
 ghost use Rattle.source_lowering.specs.Programs.{statement_code, statement_values};
 ghost use Rattle.source_lowering.specs.Lowerable.{TakesStatement};
+ghost use Rattle.source_lowering.specs.Room.{statement_room};
+ghost use Rattle.lower_checks.specs.Room.{HasRoom};
 ghost use Rattle.lower_checks.specs.Scoped.{names_in, world_in};
 ghost use Rattle.lower_checks.specs.Simple.{is_simple};
 ghost use Rattle.lower_checks.specs.Views.{regions_tree, shape_tree};
@@ -29,6 +31,7 @@ pub fn lower_simple<'p>(
     around: RegionsAround,
     opened: &[bool],
 )
+    requires room { HasRoom around.all (statement_room (source_tree statement.now)) }
     requires simple { is_simple (source_tree statement.now) ≡ true }
     requires taken { IsSound body.old → TakesStatement (world_in scope.now) (shape_tree shape.now) (names_in scope.now) (source_tree statement.now) }
     ensures { let w = world_in scope.now in

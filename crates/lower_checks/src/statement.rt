@@ -20,8 +20,11 @@ ghost use Rattle.source_lowering.specs.Programs.{
   statement_values,
 };
 ghost use Rattle.source_lowering.specs.Lowerable.{Takes, TakesDeclaration, TakesItems, TakesStatement};
+ghost use Rattle.lower_checks.specs.Counted.{IsCounted};
+ghost use Rattle.lower_checks.specs.Room.{HasRoom};
 ghost use Rattle.lower_checks.specs.Scoped.{names_in, world_in};
 ghost use Rattle.source_lowering.specs.Objects.{AreVariables};
+ghost use Rattle.source_lowering.specs.Room.{declaration_room, item_room, room, statement_room};
 ghost use Rattle.lower_checks.specs.Views.{regions_tree, shape_tree, stored_tree};
 ghost use Rattle.lower_checks.specs.Visible.{declared as declared_as, left, names_of};
 ghost use Rattle.lower_checks.specs.Writing.{Emits, IsApart, IsSound, Stays, Writes, next_of};
@@ -54,6 +57,8 @@ fn lower_statement<'p>(
     around: RegionsAround,
     opened: &[bool],
 )
+    requires room { HasRoom around.all (statement_room (source_tree statement.now)) }
+    requires counted { IsCounted around }
     requires taken { IsSound body.old → TakesStatement (world_of program.now) (shape_tree shape.now) (names_of locals.old) (source_tree statement.now) }
     ensures writes { let w = world_of program.now in
         let names = names_of locals.old in
@@ -101,6 +106,7 @@ fn lower_test<'p>(
     body: &mut Body<'p>,
     to: Temporary,
 ) -> Vec<Statement>
+    requires room { HasRoom to.0 (room (expression_tree condition.now)) }
     requires taken { IsSound body.old → Takes (world_in scope.now) (names_in scope.now) (expression_tree condition.now) }
     ensures apart { IsSound body.new → IsApart body.old body.new (expression_values (world_in scope.now) (names_in scope.now)
         (expression_tree condition.entry.now)) }
@@ -123,6 +129,8 @@ fn lower_part<'p>(
     around: RegionsAround,
     opened: &[bool],
 ) -> Vec<Statement>
+    requires room { HasRoom around.all (statement_room (source_tree statement.now)) }
+    requires counted { IsCounted around }
     requires taken { IsSound body.old → TakesStatement (world_of program.now) (shape_tree shape.now) (names_of locals.old) (source_tree statement.now) }
     ensures apart { IsSound body.new → IsApart body.old body.new (statement_values (world_of program.now) (names_of locals.old)
         (source_tree statement.entry.now)) }
@@ -174,6 +182,8 @@ pub fn lower_block<'p>(
     around: RegionsAround,
     opened: &[bool],
 )
+    requires room { HasRoom around.all (item_room (items_of (map item_tree items.now))) }
+    requires counted { IsCounted around }
     requires taken { IsSound body.old →
         TakesItems (world_of program.now) (shape_tree shape.now) (outward (names_of locals.old)) 0 (items_of (map item_tree items.now)) }
     ensures writes { let w = world_of program.now in
@@ -258,6 +268,7 @@ fn lower_declared<'p>(
     body: &mut Body<'p>,
     to: Temporary,
 )
+    requires room { HasRoom to.0 (declaration_room (declaration_tree declaration.now)) }
     requires taken { IsSound body.old → TakesDeclaration (world_of program.now) (names_of locals.old) (declaration_tree declaration.now) }
     ensures writes { let w = world_of program.now in
         let names = names_of locals.old in
@@ -304,6 +315,8 @@ pub fn lower_items<'p>(
     around: RegionsAround,
     opened: &[bool],
 )
+    requires room { HasRoom around.all (item_room (items_of (map item_tree items.now))) }
+    requires counted { IsCounted around }
     requires taken { let index = length declared_here.old.items in
         IsSound body.old → TakesItems (world_of program.now) (shape_tree shape.now) (names_of locals.old) index (items_of (map item_tree items.now)) }
     ensures writes { let w = world_of program.now in

@@ -33,6 +33,9 @@ ghost use Rattle.source_lowering.specs.Programs.{
   statement_values,
 };
 ghost use Rattle.source_lowering.specs.Lowerable.{AreValues, IsMember, IsUnionShape, IsVariable, TakesClauses, TakesItems, TakesPlace};
+ghost use Rattle.source_lowering.specs.Room.{clause_room, item_room, room};
+ghost use Rattle.lower_checks.specs.Counted.{IsCounted};
+ghost use Rattle.lower_checks.specs.Room.{HasRoom};
 ghost use Rattle.lower_checks.specs.Scoped.{names_in, world_in};
 ghost use Rattle.lower_checks.specs.Views.{regions_tree, shape_tree};
 ghost use Rattle.lower_checks.specs.Visible.{names_of};
@@ -41,6 +44,7 @@ ghost use Rattle.lower_checks.specs.Writing.{IsApart, IsSound, Stays, Writes, ne
 use crate::body::Body;
 use crate::leaving::RegionsAround;
 use crate::locals::Locals;
+use crate::names::behind;
 use crate::place::lower_place;
 use crate::scope::Scope;
 use crate::shape::Shape;
@@ -61,6 +65,7 @@ fn lower_union_place<'p>(
     body: &mut Body<'p>,
     to: Temporary,
 ) -> Option<&'p [Member]>
+    requires room { HasRoom to.0 (1 + room (expression_tree place.now)) }
     requires taken { let w = world_in scope.now in
         let e = expression_tree place.now in
         IsSound body.old → TakesPlace w (names_in scope.now) e × IsUnionShape w.unions (static_shape w (names_in scope.now) e) }
@@ -75,7 +80,7 @@ fn lower_union_place<'p>(
     ensures found { IsSound body.new → is_some result ≡ true }
 {
     let shape = lower_place(scope, place, body, to);
-    let tag = body.further(to, 1);
+    let tag = behind(to, 1);
     lower_tag(body, tag, to);
     match scope.program.union_at(shape) {
         Some(known) => Some(known.members),
@@ -115,6 +120,8 @@ fn lower_clause<'p>(
     around: RegionsAround,
     opened: &[bool],
 ) -> Vec<Statement>
+    requires room { HasRoom around.all (16 + item_room (items_of (map item_tree items.now))) }
+    requires counted { IsCounted around }
     requires taken { IsSound body.old →
         TakesItems (world_of program.now) (shape_tree shape.now) (named_here (name_tree name.now).text (shape_tree of) 0 ∷ outward (names_of locals.old)) 1
         (items_of (map item_tree items.now)) }
@@ -170,6 +177,8 @@ fn lower_case<'p>(
     around: RegionsAround,
     opened: &[bool],
 )
+    requires room { HasRoom around.all (16 + item_room (items_of (map item_tree items.now))) }
+    requires counted { IsCounted around }
     requires taken { IsSound body.old →
         TakesItems (world_of program.now) (shape_tree shape.now)
         (named_here (name_tree name.now).text (shape_tree chosen.shape) 0 ∷ outward (names_of locals.old)) 1 (items_of (map item_tree items.now)) }
@@ -191,8 +200,8 @@ fn lower_case<'p>(
         (item_values w inner 1 inside) }
     ensures kept { IsSound body.new → locals.new ≡ locals.old }
 {
-    let tag = body.further(around.value(), 1);
-    let test = body.further(around.value(), 2);
+    let tag = behind(around.value(), 1);
+    let test = behind(around.value(), 2);
     body.operation(Operation::Constant(test, chosen.number));
     body.operation(Operation::Apply(Binary::Equal, test, tag, test));
     let clause = lower_clause(
@@ -221,6 +230,8 @@ fn lower_cases<'p>(
     around: RegionsAround,
     opened: &[bool],
 )
+    requires room { HasRoom around.all (clause_room (clauses_of (map clause_tree clauses.now))) }
+    requires counted { IsCounted around }
     requires taken { IsSound body.old →
         TakesClauses (world_of program.now) (shape_tree shape.now) (names_of locals.old) (map part_of (map member_tree members.now))
         (clauses_of (map clause_tree clauses.now)) }
@@ -266,6 +277,8 @@ fn lower_default<'p>(
     around: RegionsAround,
     opened: &[bool],
 )
+    requires room { HasRoom around.all (clause_room (clauses_of (map clause_tree clauses.now))) }
+    requires counted { IsCounted around }
     requires taken { IsSound body.old → (parts : List Part) ×
         TakesClauses (world_of program.now) (shape_tree shape.now) (names_of locals.old) parts (clauses_of (map clause_tree clauses.now)) }
     ensures writes { let w = world_of program.now in
@@ -299,6 +312,8 @@ pub fn lower_switch<'p>(
     around: RegionsAround,
     opened: &[bool],
 )
+    requires room { HasRoom around.all (16 + (room (expression_tree place.now) + clause_room (clauses_of (map clause_tree clauses.now)))) }
+    requires counted { IsCounted around }
     requires taken { let w = world_of program.now in
         let names = names_of locals.old in
         let e = expression_tree place.now in

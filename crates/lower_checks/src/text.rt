@@ -8,6 +8,7 @@ ghost use Rattle.source_meaning.specs.Strings.{program_strings};
 ghost use Rattle.source_lowering.specs.Lowered.{text_code};
 ghost use Rattle.source_lowering.specs.Programs.{string_datum};
 ghost use Rattle.lower_checks.specs.Refusals.{NeverRefused};
+ghost use Rattle.lower_checks.specs.Room.{HasRoom};
 ghost use Rattle.lower_checks.specs.Scoped.{world_in};
 ghost use Rattle.lower_checks.specs.Writing.{Emits};
 
@@ -23,6 +24,7 @@ use std::alloc::Global;
 
 /// Appends what leaves a pointer to the string of a place in a temporary, with its count and 0 behind it.
 pub fn lower_text(scope: &Scope<'_, '_>, body: &mut Body<'_>, at: u32, to: Temporary)
+    requires room { HasRoom to.0 2 }
     ensures { Emits body.old body.new (text_code (string_at (world_in scope.now).strings at) to.0) }
 {
     match scope.program.text_at(at) {

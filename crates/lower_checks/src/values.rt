@@ -6,11 +6,13 @@ ghost use Rattle.source_lowering.specs.Lowered.{check_code, compared_code, conve
 ghost use Rattle.source_lowering.specs.Lowered.{thinned_code};
 ghost use Rattle.source_lowering.specs.Programs.{first_code};
 ghost use Rattle.source_meaning.specs.Programs.{world_of};
+ghost use Rattle.lower_checks.specs.Room.{HasRoom};
 ghost use Rattle.lower_checks.specs.Views.{shape_tree};
 ghost use Rattle.lower_checks.specs.Writing.{Emits};
 
 use crate::body::Body;
 use crate::fat::{lower_fat, lower_to_fat, lower_to_thin};
+use crate::names::behind;
 use crate::operator::applied;
 use crate::shape::Shape;
 use crate::table::Table;
@@ -20,24 +22,27 @@ use cyc_words::Kind;
 
 /// Appends what makes 1 of a word that isn't 0.
 pub fn lower_truth(body: &mut Body<'_>, to: Temporary)
+    requires room { HasRoom to.0 1 }
     ensures { Emits body.old body.new (truth_code to.0) }
 {
-    let zero = body.further(to, 1);
+    let zero = behind(to, 1);
     body.operation(Operation::Constant(zero, 0));
     body.operation(Operation::Apply(Binary::NotEqual, to, to, zero));
 }
 
 /// Appends what makes 0 of 1, and 1 of 0.
 fn lower_turned(body: &mut Body<'_>, to: Temporary)
+    requires room { HasRoom to.0 1 }
     ensures { Emits body.old body.new (turned_code to.0) }
 {
-    let zero = body.further(to, 1);
+    let zero = behind(to, 1);
     body.operation(Operation::Constant(zero, 0));
     body.operation(Operation::Apply(Binary::Equal, to, to, zero));
 }
 
 /// Appends what makes a word of an operand of `&&` and `||`: an integer is one already, and of a pointer it is whether it isn't NULL.
 pub fn lower_word(body: &mut Body<'_>, shape: &Shape<'_>, to: Temporary)
+    requires room { HasRoom to.0 1 }
     ensures { Emits body.old body.new (word_code (shape_tree shape.now) to.0) }
 {
     match shape {
@@ -51,9 +56,10 @@ pub fn lower_word(body: &mut Body<'_>, shape: &Shape<'_>, to: Temporary)
 
 /// Appends whether the value in the next temporary is 0, or NULL.
 pub fn lower_not(body: &mut Body<'_>, shape: &Shape<'_>, to: Temporary)
+    requires room { HasRoom to.0 1 }
     ensures { Emits body.old body.new (not_code (shape_tree shape.now) to.0) }
 {
-    let right = body.further(to, 1);
+    let right = behind(to, 1);
     match shape {
         Shape::Thin(_, _, _) | Shape::Address(_, _, _) | Shape::Fat(_) => {
             body.operation(Operation::IsNull(to, right));
@@ -67,6 +73,7 @@ pub fn lower_not(body: &mut Body<'_>, shape: &Shape<'_>, to: Temporary)
 
 /// Appends what compares pointers by `==` and `!=`, where an operation leaves whether they are the same in a temporary.
 fn lower_compared(body: &mut Body<'_>, operator: Operator, same: Operation, to: Temporary)
+    requires room { HasRoom to.0 1 }
     ensures { Emits body.old body.new (compared_code operator (operation_tree same) to.0) }
 {
     match operator {
@@ -81,14 +88,16 @@ fn lower_compared(body: &mut Body<'_>, operator: Operator, same: Operation, to: 
 
 /// Appends what compares the pointers in a temporary and the next.
 fn lower_pointers(body: &mut Body<'_>, operator: Operator, to: Temporary)
+    requires room { HasRoom to.0 1 }
     ensures { Emits body.old body.new (pointers_code operator to.0) }
 {
-    let operand = body.further(to, 1);
+    let operand = behind(to, 1);
     lower_compared(body, operator, Operation::SamePlace(to, to, operand), to);
 }
 
 /// Appends what compares a pointer with NULL.
 pub fn lower_null(body: &mut Body<'_>, operator: Operator, to: Temporary, pointer: Temporary)
+    requires room { HasRoom to.0 1 }
     ensures { Emits body.old body.new (null_code operator to.0 pointer.0) }
 {
     lower_compared(body, operator, Operation::IsNull(to, pointer), to);
@@ -102,9 +111,10 @@ pub fn lower_operator(
     right: &Shape<'_>,
     to: Temporary,
 )
+    requires room { HasRoom to.0 3 }
     ensures { Emits body.old body.new (operator_code operator (shape_tree left.now) (shape_tree right.now) to.0) }
 {
-    let operand = body.further(to, 1);
+    let operand = behind(to, 1);
     match left {
         Shape::Fat(_) => lower_fat(body, operator, to),
         Shape::Thin(_, _, _) | Shape::Address(_, _, _) => match right {
@@ -135,6 +145,7 @@ fn lower_thinned(
     from: &Shape<'_>,
     value: Temporary,
 )
+    requires room { HasRoom value.0 2 }
     ensures { Emits body.old body.new (thinned_code (world_of program.now) may_be_null (shape_tree element.now) (shape_tree from.now) value.0) }
 {
     match from {
@@ -155,6 +166,7 @@ pub fn lower_conversion(
     from: &Shape<'_>,
     value: Temporary,
 )
+    requires room { HasRoom value.0 2 }
     ensures { Emits body.old body.new (conversion_code (world_of program.now) (shape_tree to.now) (shape_tree from.now) value.0) }
 {
     match to {

@@ -4,6 +4,7 @@ ghost use Rattle.std.specs.Prelude.{◌≡◌};
 ghost use Rattle.source_lowering.specs.Lowered.{address_by, get_code, get_local, load_global, local_named, named_shape};
 ghost use Rattle.source_lowering.specs.Lowered.{put_by, put_local, store_global, stored_code, valued};
 ghost use Rattle.source_meaning.specs.Places.{bound_to};
+ghost use Rattle.lower_checks.specs.Room.{HasRoom};
 ghost use Rattle.lower_checks.specs.Scoped.{names_in, world_in};
 ghost use Rattle.lower_checks.specs.Views.{shape_tree, stored_tree};
 ghost use Rattle.lower_checks.specs.Writing.{Emits};
@@ -11,7 +12,7 @@ ghost use Rattle.lower_checks.specs.Writing.{Emits};
 use crate::body::Body;
 use crate::fat::lower_bounds;
 use crate::member::Reached;
-use crate::names::Named;
+use crate::names::{Named, behind};
 use crate::numbers::number_named;
 use crate::scope::Scope;
 use crate::shape::Shape;
@@ -34,6 +35,7 @@ fn place_of(local: &Named<'_>) -> Variable
 /// Appends what reads a local into a temporary and those behind it: a word by one operation, and a fat pointer part by part. An array's
 /// name is a fat pointer to its first element.
 fn lower_get_local(body: &mut Body<'_>, local: &Named<'_>, to: Temporary)
+    requires room { HasRoom to.0 2 }
     ensures { Emits body.old body.new (get_local (stored_tree local.now.stored) to.0 local.now.out local.now.index) }
 {
     let at = place_of(local);
@@ -52,6 +54,7 @@ fn lower_get_local(body: &mut Body<'_>, local: &Named<'_>, to: Temporary)
 
 /// Appends what reads a global into a temporary and those behind it. An array's name is a fat pointer to its first element.
 fn lower_load_global(body: &mut Body<'_>, global: &Found<'_>, to: Temporary)
+    requires room { HasRoom to.0 2 }
     ensures { Emits body.old body.new (load_global (stored_tree global.now.stored) to.0 global.now.object) }
 {
     body.operation(Operation::DataAddress(to, global.object));
@@ -70,6 +73,7 @@ pub fn lower_get<'p>(
     name: &[u8],
     to: Temporary,
 ) -> Shape<'p>
+    requires room { HasRoom to.0 2 }
     ensures code { Emits body.old body.new (get_code (world_in scope.now) (names_in scope.now) name.now to.0) }
     ensures shape { shape_tree result ≡ valued (named_shape (world_in scope.now) (names_in scope.now) name.now) }
 {
@@ -97,6 +101,7 @@ pub fn lower_store_local(
     address: Temporary,
     from: Temporary,
 )
+    requires room { HasRoom from.0 2 }
     ensures { Emits body.old body.new (stored_code (shape_tree shape.now) address.0 from.0 local.out local.index) }
 {
     match shape {
@@ -110,11 +115,12 @@ pub fn lower_store_local(
 
 /// Appends what stores the value in a temporary and those behind it in a local.
 pub fn lower_put_local(body: &mut Body<'_>, stored: &Stored<'_>, local: Variable, from: Temporary)
+    requires room { HasRoom from.0 3 }
     ensures { Emits body.old body.new (put_local (stored_tree stored.now) from.0 local.out local.index) }
 {
     match stored {
         Stored::One(shape) => {
-            let address = body.further(from, shape.words());
+            let address = behind(from, shape.words());
             lower_store_local(body, shape, local, address, from);
         }
         Stored::Array(_, _) => body.operation(Operation::Put(local, Width::Word, from)),
@@ -124,15 +130,17 @@ pub fn lower_put_local(body: &mut Body<'_>, stored: &Stored<'_>, local: Variable
 /// Appends what stores the value in a temporary and those behind it in a global of a shape and a number, by its address, which comes
 /// behind the value.
 fn lower_store_at(body: &mut Body<'_>, shape: &Shape<'_>, object: u32, from: Temporary)
+    requires room { HasRoom from.0 3 }
     ensures { Emits body.old body.new (store_global (shape_tree shape.now) from.0 object) }
 {
-    let address = body.further(from, shape.words());
+    let address = behind(from, shape.words());
     body.operation(Operation::DataAddress(address, object));
     lower_stores(body, &Reached::at_once(*shape), address, from);
 }
 
 /// Appends what stores the value in a temporary and those behind it in a global: in an array, a word.
 fn lower_store_global(body: &mut Body<'_>, global: &Found<'_>, from: Temporary)
+    requires room { HasRoom from.0 3 }
     ensures { Emits body.old body.new (store_global (stored_tree global.now.stored) from.0 global.now.object) }
 {
     match &global.stored {
@@ -145,6 +153,7 @@ fn lower_store_global(body: &mut Body<'_>, global: &Found<'_>, from: Temporary)
 /// nothing is stored in it.
 #[tactic(auto, using(crate::proofs::Naming::found_first, crate::proofs::Naming::found_behind))]
 pub fn lower_named(scope: &Scope<'_, '_>, body: &mut Body<'_>, name: &[u8], from: Temporary)
+    requires room { HasRoom from.0 3 }
     ensures { Emits body.old body.new (put_by (local_named (names_in scope.now) name.now) (bound_to (world_in scope.now).globals name.now) from.0) }
 {
     if let Some(_) = number_named(scope.numbers, name) {

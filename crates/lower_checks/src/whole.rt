@@ -32,6 +32,8 @@ ghost use Rattle.source_lowering.specs.Lowerable.{
   TakesPlace,
   TakesWhole,
 };
+ghost use Rattle.source_lowering.specs.Room.{argument_room, room as room_of};
+ghost use Rattle.lower_checks.specs.Room as rooms;
 ghost use Rattle.lower_checks.specs.Scoped.{names_in, world_in};
 ghost use Rattle.lower_checks.specs.Structs.{HasRoom, HaveRoom};
 ghost use Rattle.lower_checks.specs.Views.{shape_tree};
@@ -41,6 +43,7 @@ use crate::body::Body;
 use crate::expression::lower_expression;
 use crate::layouts::rounded;
 use crate::member::Reached;
+use crate::names::behind;
 use crate::objects::lower_copy;
 use crate::place::lower_place;
 use crate::scope::Scope;
@@ -71,10 +74,11 @@ fn lower_copied(
     value: u32,
     to: Temporary,
 )
+    requires room { rooms.HasRoom to.0 1 }
     requires taken { IsSound body.old → IsWholeShape (world_of program.now).unions (world_of program.now).structs (shape_tree shape.now) }
     ensures { Emits body.old body.new (copied_code (world_of program.now) (shape_tree shape.now) to.0 value) }
 {
-    let next = body.further(to, 1);
+    let next = behind(to, 1);
     body.operation(Operation::OwnAddress(next, value));
     lower_copy(program, shape, body, next, to);
     body.operation(Operation::OwnAddress(to, value));
@@ -82,11 +86,12 @@ fn lower_copied(
 
 /// Appends what copies a struct or a union to where a member goes, from where the pointer in the next temporary leads.
 fn lower_struct_member(program: &Table<'_>, shape: &Shape<'_>, body: &mut Body<'_>, slot: Slot)
+    requires room { rooms.HasRoom slot.to.0 2 }
     requires taken { IsSound body.old → IsWholeShape (world_of program.now).unions (world_of program.now).structs (shape_tree shape.now) }
     ensures { Emits body.old body.new (struct_member_code (world_of program.now) (shape_tree shape.now) slot.to.0 slot.cells slot.bytes) }
 {
-    let from = body.further(slot.to, 1);
-    let at = body.further(slot.to, 2);
+    let from = behind(slot.to, 1);
+    let at = behind(slot.to, 2);
     body.operation(Operation::Offset(at, slot.to, slot.cells, slot.bytes));
     lower_copy(program, shape, body, at, from);
 }
@@ -99,10 +104,11 @@ fn lower_word_member(
     body: &mut Body<'_>,
     slot: Slot,
 )
+    requires room { rooms.HasRoom slot.to.0 3 }
     ensures { Emits body.old body.new
         (word_member_code (world_of program.now) (shape_tree shape.now) (shape_tree from.now) slot.to.0 slot.cells slot.bytes) }
 {
-    let value = body.further(slot.to, 1);
+    let value = behind(slot.to, 1);
     lower_conversion(program, body, shape, from, value);
     let reached = Reached {
         shape: *shape,
@@ -116,6 +122,7 @@ fn lower_word_member(
 /// temporary; appends the shapes of the unnamed values.
 #[cycle(expression)]
 fn lower_read<'p>(scope: &Scope<'_, 'p>, place: &'p Expression, body: &mut Body<'p>, to: Temporary)
+    requires room { rooms.HasRoom to.0 (room_of (expression_tree place.now)) }
     requires taken { let w = world_in scope.now in
         let names = names_in scope.now in
         let e = expression_tree place.now in
@@ -142,6 +149,7 @@ pub fn lower_whole<'p>(
     body: &mut Body<'p>,
     to: Temporary,
 )
+    requires room { rooms.HasRoom to.0 (room_of (expression_tree expression.now)) }
     requires taken { IsSound body.old → TakesWhole (world_in scope.now) (names_in scope.now) (expression_tree expression.now) }
     ensures writes { let w = world_in scope.now in
         let names = names_in scope.now in
@@ -173,6 +181,7 @@ fn lower_made<'p>(
     body: &mut Body<'p>,
     to: Temporary,
 )
+    requires room { rooms.HasRoom to.0 (16 + argument_room (expressions_of (map expression_tree arguments.now))) }
     requires taken { let w = world_in scope.now in
         IsSound body.old → (makes_struct w tag.now ≡ true) ×
         TakesMade w (names_in scope.now) (parts_of w.structs tag.now) (expressions_of (map expression_tree arguments.now)) }
@@ -204,6 +213,7 @@ fn lower_held(
     body: &mut Body<'_>,
     to: Temporary,
 )
+    requires room { rooms.HasRoom to.0 4 }
     requires taken { IsSound body.old → IsMember (map part_of (map member_tree members.now)) member.now }
     ensures { let parts = map part_of (map member_tree members.now) in
         Emits body.old body.new
@@ -211,8 +221,8 @@ fn lower_held(
 {
     match member_named(members, member) {
         Ok(Some(chosen)) => {
-            let value = body.further(to, 1);
-            let free = body.further(value, chosen.shape.words());
+            let value = behind(to, 1);
+            let free = behind(value, chosen.shape.words());
             lower_conversion(program, body, &chosen.shape, from, value);
             lower_set_tag(body, to, free, chosen.number);
             lower_held_stores(body, &chosen.shape, to, value);
@@ -233,6 +243,7 @@ fn lower_union<'p>(
     body: &mut Body<'p>,
     to: Temporary,
 )
+    requires room { rooms.HasRoom to.0 (16 + room_of (expression_tree value.now)) }
     requires taken { let w = world_in scope.now in
         IsSound body.old → (has_tag w.unions tag.now ≡ true) ×
         (IsMember (parts_of w.unions tag.now) member.now × Takes w (names_in scope.now) (expression_tree value.now)) }
@@ -250,7 +261,7 @@ fn lower_union<'p>(
         Some(known) => {
             let own = body.value(&Shape::Union(tag));
             body.operation(Operation::OwnAddress(to, own));
-            let next = body.further(to, 1);
+            let next = behind(to, 1);
             let from = lower_expression(scope, value, body, next);
             lower_held(scope.program, known.members, member, &from, body, to);
         }
@@ -268,6 +279,7 @@ fn lower_members<'p>(
     body: &mut Body<'p>,
     to: Temporary,
 )
+    requires room { rooms.HasRoom to.0 (16 + argument_room (expressions_of (map expression_tree arguments.now))) }
     requires taken { let w = world_in scope.now in
         let parts = map part_of (map member_tree members.now) in
         IsSound body.old → HaveRoom w.unions w.structs parts × TakesMade w (names_in scope.now) parts (expressions_of (map expression_tree arguments.now)) }
@@ -307,6 +319,7 @@ fn lower_member<'p>(
     body: &mut Body<'p>,
     slot: Slot,
 )
+    requires room { rooms.HasRoom slot.to.0 (16 + room_of (expression_tree argument.now)) }
     requires taken { let w = world_in scope.now in
         let names = names_in scope.now in
         let e = expression_tree argument.now in
@@ -319,7 +332,7 @@ fn lower_member<'p>(
         (whole_code w names e (slot.to.0 + 1) (next_of body.old)) (expression_code w names e (slot.to.0 + 1) (next_of body.old)))
         (values_by (shape_tree shape.now) (whole_values w names e) (expression_values w names e)) }
 {
-    let next = body.further(slot.to, 1);
+    let next = behind(slot.to, 1);
     match shape {
         Shape::Struct(_) | Shape::Union(_) => {
             lower_whole(scope, argument, body, next);

@@ -4,11 +4,13 @@ ghost use Rattle.std.specs.Prelude.{◌≡◌, ◌*◌};
 ghost use Rattle.cyc_core.specs.Trees.{distance_tree};
 ghost use Rattle.source_lowering.specs.Lowered.{distance, held_loads, held_stores, loads_code, stores_code, tag_load, tag_store, width_of};
 ghost use Rattle.source_lowering.specs.Members.{part_at};
+ghost use Rattle.lower_checks.specs.Room.{HasRoom};
 ghost use Rattle.lower_checks.specs.Views.{shape_tree};
 ghost use Rattle.lower_checks.specs.Writing.{Emits, IsSound, Stays};
 
 use crate::body::Body;
 use crate::member::Reached;
+use crate::names::behind;
 use crate::shape::Shape;
 use cyc_core::{Distance, Operation, Temporary, Width};
 
@@ -40,12 +42,13 @@ fn part_of(body: &mut Body<'_>, reached: &Reached<'_>, part: u32, behind: u32) -
 
 /// Appends what reads the value that is reached from where the pointer in a temporary leads, into that temporary and those behind it.
 pub fn lower_loads(body: &mut Body<'_>, reached: &Reached<'_>, to: Temporary)
+    requires room { HasRoom to.0 2 }
     ensures { Emits body.old body.new (loads_code (shape_tree reached.now.shape) to.0 reached.now.cells reached.now.bytes) }
 {
     match &reached.shape {
         Shape::Fat(_) => {
-            let count = body.further(to, 1);
-            let index = body.further(to, 2);
+            let count = behind(to, 1);
+            let index = behind(to, 2);
             let third = part_of(body, reached, 2, 8);
             body.operation(Operation::Load(index, to, third));
             let second = part_of(body, reached, 1, 4);
@@ -59,12 +62,13 @@ pub fn lower_loads(body: &mut Body<'_>, reached: &Reached<'_>, to: Temporary)
 
 /// Appends what stores the value in a temporary and those behind it where it is reached, from where another pointer leads.
 pub fn lower_stores(body: &mut Body<'_>, reached: &Reached<'_>, pointer: Temporary, from: Temporary)
+    requires room { HasRoom from.0 2 }
     ensures { Emits body.old body.new (stores_code (shape_tree reached.now.shape) pointer.0 from.0 reached.now.cells reached.now.bytes) }
 {
     match &reached.shape {
         Shape::Fat(_) => {
-            let count = body.further(from, 1);
-            let index = body.further(from, 2);
+            let count = behind(from, 1);
+            let index = behind(from, 2);
             let first = part_of(body, reached, 0, 0);
             body.operation(Operation::Store(pointer, first, from));
             let second = part_of(body, reached, 1, 4);
@@ -107,12 +111,13 @@ pub fn lower_set_tag(body: &mut Body<'_>, pointer: Temporary, by: Temporary, num
 /// Appends what reads the member of a shape that the union holds to which the pointer in a temporary leads, into that temporary and those
 /// behind it.
 pub fn lower_held_loads(body: &mut Body<'_>, shape: &Shape<'_>, to: Temporary)
+    requires room { HasRoom to.0 2 }
     ensures { Emits body.old body.new (held_loads (shape_tree shape.now) to.0) }
 {
     match shape {
         Shape::Fat(_) => {
-            let count = body.further(to, 1);
-            let index = body.further(to, 2);
+            let count = behind(to, 1);
+            let index = behind(to, 2);
             body.operation(Operation::Load(index, to, held_part(3, 12)));
             body.operation(Operation::Load(count, to, held_part(2, 8)));
             body.operation(Operation::Load(to, to, held_part(1, 4)));
@@ -128,12 +133,13 @@ pub fn lower_held_stores(
     pointer: Temporary,
     from: Temporary,
 )
+    requires room { HasRoom from.0 2 }
     ensures { Emits body.old body.new (held_stores (shape_tree shape.now) pointer.0 from.0) }
 {
     match shape {
         Shape::Fat(_) => {
-            let count = body.further(from, 1);
-            let index = body.further(from, 2);
+            let count = behind(from, 1);
+            let index = behind(from, 2);
             body.operation(Operation::Store(pointer, held_part(1, 4), from));
             body.operation(Operation::Store(pointer, held_part(2, 8), count));
             body.operation(Operation::Store(pointer, held_part(3, 12), index));

@@ -21,3 +21,4 @@ pub mod Kinds
 pub mod Memories
 pub mod Simulation
 pub mod ObjectCells
+pub mod Room

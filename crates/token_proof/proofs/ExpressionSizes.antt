@@ -18,7 +18,7 @@ pub in_parentheses : (count : ℕ) (Is : Tokens → Tokens → Type 0) → ((fro
 in_parentheses count Is takes from to (a, b, opened, is, closed) = omega (arith, sign_taken opened, takes a b is, sign_taken closed)
 
 -- a chain's first operand, and its links, of one level
-chained : (first : Expression) (links : Links) (from to : Tokens) → IsExpression (Expression.Chain first links) from to
+pub chained : (first : Expression) (links : Links) (from to : Tokens) → IsExpression (Expression.Chain first links) from to
     → (a : Tokens) × (level : ℕ) × IsExpression first from a × AreLinks level links a to
 chained first NoLinks from to is = absurd is
 chained first (MoreLinks operator operand others) from to (a, above, leads, are) = (a, level_of operator, leads, are)

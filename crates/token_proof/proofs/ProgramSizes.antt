@@ -102,7 +102,7 @@ global_shorter g from to (a, b, c, typed, named, gives, ends) =
 
 -- ---- programs
 
-parts_length : (ms : List Member) → length (map part_of ms) ≡ length ms
+pub parts_length : (ms : List Member) → length (map part_of ms) ≡ length ms
 parts_length [] = omega arith
 parts_length (m ∷ ms) = let rest = parts_length ms in omega (arith, rest)
 

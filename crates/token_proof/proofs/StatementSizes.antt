@@ -81,7 +81,7 @@ condition_size : (e : Expression) (from to : Tokens) → InParentheses (IsExpres
 condition_size e = in_parentheses (tokens_of e) (IsExpression e) (expression_size e)
 
 -- a `switch`, and its clauses
-switched : (at : ℕ) (place : Expression) (clauses : Clauses) (from to : Tokens) → IsStatement (tree.Switch at place clauses) from to
+pub switched : (at : ℕ) (place : Expression) (clauses : Clauses) (from to : Tokens) → IsStatement (tree.Switch at place clauses) from to
     → (a : Tokens) × (b : Tokens) × (c : Tokens) × (d : Tokens) × KeywordAt word.Switch at from a × InParentheses (IsExpression place) a b
     × IsSign sign.LeftBrace b c × AreClauses clauses c d × IsSign sign.RightBrace d to
 switched at place NoClauses from to is = absurd is

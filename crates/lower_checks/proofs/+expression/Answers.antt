@@ -105,11 +105,17 @@ whole::lower_union-returns-in-Some = Wholes.whole::lower_union-returns-in-Some
 pub place::lower_through-returns : goal.place::lower_through-returns
 place::lower_through-returns = Places.place::lower_through-returns
 
+pub whole::lower_read-lower_copied-requires : goal.whole::lower_read-lower_copied-requires
+whole::lower_read-lower_copied-requires = Wholes.whole::lower_read-lower_copied-requires
+
 pub whole::lower_read-returns : goal.whole::lower_read-returns
 whole::lower_read-returns = Wholes.whole::lower_read-returns
 
 pub operands::lower_apart-returns : goal.operands::lower_apart-returns
 operands::lower_apart-returns = Calls.operands::lower_apart-returns
+
+pub operands::lower_called-lower_call-requires : goal.operands::lower_called-lower_call-requires
+operands::lower_called-lower_call-requires = Calls.operands::lower_called-lower_call-requires
 
 pub operands::lower_called-returns-in-Ok-clause-writes : goal.operands::lower_called-returns-in-Ok-clause-writes
 operands::lower_called-returns-in-Ok-clause-writes = Calls.operands::lower_called-returns-in-Ok-clause-writes

@@ -15,7 +15,9 @@ use Rattle.source_lowering.specs.Lowered.{
   suffix_values,
 }
 use Rattle.source_lowering.specs.Lowerable.{TakesAll, TakesLinks, TakesMade}
+use Rattle.source_lowering.specs.Room.{argument_room, link_room}
 use Rattle.lower_checks.specs.Reaching.{indices_code, indices_in}
+use Rattle.lower_checks.specs.Room.{HasRoom}
 use Rattle.lower_checks.specs.Scoped.{names_in, world_in}
 use Rattle.lower_checks.specs.Structs.{HaveRoom}
 use Rattle.lower_checks.specs.Views.{shape_tree}
@@ -29,11 +31,14 @@ invariant-operands::lower_links-each l =
     let names = names_in l.scope in
     let all = links_of (map link_tree l.links) in
     let others = links_of (map link_tree (drop l.link-index l.links)) in
-    IsSound l.body → record {
-      left : IsLeft l.initial.body l.body (links_code w names all (shape_tree l.fn.first) l.to.0 (next_of l.initial.body))
-          (links_code w names others (shape_tree l.left) l.to.0 (next_of l.body)) (link_values w names all) (link_values w names others);
-      shape : linked_shape w names others (shape_tree l.left) ≡ linked_shape w names all (shape_tree l.fn.first);
-      taken : TakesLinks w names others;
+    record {
+      written : IsSound l.body → record {
+        left : IsLeft l.initial.body l.body (links_code w names all (shape_tree l.fn.first) l.to.0 (next_of l.initial.body))
+            (links_code w names others (shape_tree l.left) l.to.0 (next_of l.body)) (link_values w names all) (link_values w names others);
+        shape : linked_shape w names others (shape_tree l.left) ≡ linked_shape w names all (shape_tree l.fn.first);
+        taken : TakesLinks w names others;
+      };
+      room : HasRoom l.to.0 (16 + link_room others);
     }
 
 -- the same of operands
@@ -43,10 +48,13 @@ invariant-operands::lower_all-each l =
     let names = names_in l.scope in
     let all = expressions_of (map expression_tree l.operands) in
     let others = expressions_of (map expression_tree (drop l.operand-index l.operands)) in
-    IsSound l.body → record {
-      left : IsLeft l.initial.body l.body (all_code w names all l.to.0 (next_of l.initial.body)) (all_code w names others l.to.0 (next_of l.body))
-          (all_values w names all) (all_values w names others);
-      taken : TakesAll w names others;
+    record {
+      written : IsSound l.body → record {
+        left : IsLeft l.initial.body l.body (all_code w names all l.to.0 (next_of l.initial.body)) (all_code w names others l.to.0 (next_of l.body))
+            (all_values w names all) (all_values w names others);
+        taken : TakesAll w names others;
+      };
+      room : HasRoom l.to.0 (16 + argument_room others);
     }
 
 abbrev pub invariant-operands::lower_any-each : goal.invariant-operands::lower_any-each
@@ -55,10 +63,13 @@ invariant-operands::lower_any-each l =
     let names = names_in l.scope in
     let all = expressions_of (map expression_tree l.operands) in
     let others = expressions_of (map expression_tree (drop l.operand-index l.operands)) in
-    IsSound l.body → record {
-      left : IsLeft l.initial.body l.body (any_code w names all l.to.0 (next_of l.initial.body)) (any_code w names others l.to.0 (next_of l.body))
-          (all_values w names all) (all_values w names others);
-      taken : TakesAll w names others;
+    record {
+      written : IsSound l.body → record {
+        left : IsLeft l.initial.body l.body (any_code w names all l.to.0 (next_of l.initial.body)) (any_code w names others l.to.0 (next_of l.body))
+            (all_values w names all) (all_values w names others);
+        taken : TakesAll w names others;
+      };
+      room : HasRoom l.to.0 (16 + argument_room others);
     }
 
 -- and of arguments
@@ -68,11 +79,15 @@ invariant-operands::lower_arguments-each l =
     let names = names_in l.scope in
     let all = expressions_of (map expression_tree l.arguments) in
     let others = expressions_of (map expression_tree (drop l.argument-index l.arguments)) in
-    IsSound l.body → record {
-      left : IsLeft l.initial.body l.body (arguments_code w names (map shape_tree l.shapes) all l.fn.first.0 (next_of l.initial.body))
-          (arguments_code w names (map shape_tree l.left) others (l.fn.first.0 + l.words) (next_of l.body)) (all_values w names all) (all_values w names others);
+    record {
+      written : IsSound l.body → record {
+        left : IsLeft l.initial.body l.body (arguments_code w names (map shape_tree l.shapes) all l.fn.first.0 (next_of l.initial.body))
+            (arguments_code w names (map shape_tree l.left) others (l.fn.first.0 + l.words) (next_of l.body)) (all_values w names all)
+            (all_values w names others);
+        taken : TakesAll w names others;
+      };
       words : l.words + argument_words (map shape_tree l.left) others ≡ argument_words (map shape_tree l.shapes) all;
-      taken : TakesAll w names others;
+      room : HasRoom (l.fn.first.0 + l.words) (16 + argument_room others);
     }
 
 -- the indices behind are written, the last one first
@@ -81,8 +96,9 @@ invariant-place::lower_indices-each l =
     let w = world_in l.scope in
     let names = names_in l.scope in
     let behind = suffixes_of (map suffix_tree (drop (length l.suffixes - l.k) l.suffixes)) in
-    IsSound l.body → record {
-      writes : IsWritten l.initial.body l.body (indices_code w names behind l.fn.first.0 (next_of l.initial.body)) (suffix_values w names behind);
+    record {
+      writes : IsSound l.body → IsWritten l.initial.body l.body (indices_code w names behind l.fn.first.0 (next_of l.initial.body))
+          (suffix_values w names behind);
       behind : l.to.0 ≡ l.fn.first.0 + indices_in behind;
     }
 
@@ -95,11 +111,14 @@ invariant-whole::lower_members-each l =
     let parts_left = map part_of (map member_tree l.left) in
     let all = expressions_of (map expression_tree l.arguments) in
     let others = expressions_of (map expression_tree (drop l.argument-index l.arguments)) in
-    IsSound l.body → record {
+    record {
       to : l.slot.to.0 ≡ l.fn.to.0;
-      left : IsLeft l.initial.body l.body (members_code w names parts all l.fn.to.0 0 0 (next_of l.initial.body))
-          (members_code w names parts_left others l.fn.to.0 l.slot.cells l.slot.bytes (next_of l.body)) (made_values w names parts all)
-          (made_values w names parts_left others);
-      room : HaveRoom w.unions w.structs parts_left;
-      taken : TakesMade w names parts_left others;
+      written : IsSound l.body → record {
+        left : IsLeft l.initial.body l.body (members_code w names parts all l.fn.to.0 0 0 (next_of l.initial.body))
+            (members_code w names parts_left others l.fn.to.0 l.slot.cells l.slot.bytes (next_of l.body)) (made_values w names parts all)
+            (made_values w names parts_left others);
+        room : HaveRoom w.unions w.structs parts_left;
+        taken : TakesMade w names parts_left others;
+      };
+      room : HasRoom l.fn.to.0 (16 + argument_room others);
     }

@@ -1,10 +1,12 @@
 mod Branches
+mod Rooms
 mod Blocks
 mod Clauses
 mod Cases
 mod Switches
 use Rattle.lower_checks.proofs.+statement.Goals as goal
 use Rattle.lower_checks.proofs.+statement.Answers.Branches as Branches
+use Rattle.lower_checks.proofs.+statement.Answers.Rooms as Rooms
 use Rattle.lower_checks.proofs.+statement.Answers.Blocks as Blocks
 use Rattle.lower_checks.proofs.+statement.Answers.Clauses as Clauses
 use Rattle.lower_checks.proofs.+statement.Answers.Cases as Cases
@@ -36,6 +38,9 @@ statement::lower_items-each-init = Blocks.statement::lower_items-each-init
 
 pub statement::lower_items-lower_declared-requires : goal.statement::lower_items-lower_declared-requires
 statement::lower_items-lower_declared-requires = Blocks.statement::lower_items-lower_declared-requires
+
+pub statement::lower_items-with-regions-requires : goal.statement::lower_items-with-regions-requires
+statement::lower_items-with-regions-requires = Blocks.statement::lower_items-with-regions-requires
 
 pub statement::lower_items-lower_statement-requires : goal.statement::lower_items-lower_statement-requires
 statement::lower_items-lower_statement-requires = Blocks.statement::lower_items-lower_statement-requires
@@ -88,6 +93,9 @@ switch::lower_default-returns-in-Default-clause-writes = Switches.switch::lower_
 pub switch::lower_default-returns-clause-writes : goal.switch::lower_default-returns-clause-writes
 switch::lower_default-returns-clause-writes = Switches.switch::lower_default-returns-clause-writes
 
+pub switch::lower_switch-lower_union_place-members-requires : goal.switch::lower_switch-lower_union_place-members-requires
+switch::lower_switch-lower_union_place-members-requires = Switches.switch::lower_switch-lower_union_place-members-requires
+
 pub switch::lower_switch-lower_cases-requires : goal.switch::lower_switch-lower_cases-requires
 switch::lower_switch-lower_cases-requires = Switches.switch::lower_switch-lower_cases-requires
 
@@ -96,3 +104,27 @@ switch::lower_switch-returns-clause-writes = Switches.switch::lower_switch-retur
 
 pub switch::lower_switch-lower_default-requires : goal.switch::lower_switch-lower_default-requires
 switch::lower_switch-lower_default-requires = Switches.switch::lower_switch-lower_default-requires
+
+pub statement::lower_statement-lower_block-requires : goal.statement::lower_statement-lower_block-requires
+statement::lower_statement-lower_block-requires = Rooms.statement::lower_statement-lower_block-requires
+
+pub statement::lower_statement-lower_expression-requires : goal.statement::lower_statement-lower_expression-requires
+statement::lower_statement-lower_expression-requires = Rooms.statement::lower_statement-lower_expression-requires
+
+pub statement::lower_statement-lower_part-these-requires : goal.statement::lower_statement-lower_part-these-requires
+statement::lower_statement-lower_part-these-requires = Rooms.statement::lower_statement-lower_part-these-requires
+
+pub statement::lower_statement-lower_expression-requires-in-IfElse : goal.statement::lower_statement-lower_expression-requires-in-IfElse
+statement::lower_statement-lower_expression-requires-in-IfElse = Rooms.statement::lower_statement-lower_expression-requires-in-IfElse
+
+pub statement::lower_statement-lower_part-these-requires-in-IfElse : goal.statement::lower_statement-lower_part-these-requires-in-IfElse
+statement::lower_statement-lower_part-these-requires-in-IfElse = Rooms.statement::lower_statement-lower_part-these-requires-in-IfElse
+
+pub statement::lower_statement-lower_part-those-requires : goal.statement::lower_statement-lower_part-those-requires
+statement::lower_statement-lower_part-those-requires = Rooms.statement::lower_statement-lower_part-those-requires
+
+pub statement::lower_statement-lower_test-test-requires : goal.statement::lower_statement-lower_test-test-requires
+statement::lower_statement-lower_test-test-requires = Rooms.statement::lower_statement-lower_test-test-requires
+
+pub statement::lower_statement-lower_part-turn-requires : goal.statement::lower_statement-lower_part-turn-requires
+statement::lower_statement-lower_part-turn-requires = Rooms.statement::lower_statement-lower_part-turn-requires

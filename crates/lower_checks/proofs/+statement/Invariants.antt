@@ -4,6 +4,9 @@ use Rattle.source_meaning.specs.Programs.{world_of}
 use Rattle.source_meaning.specs.Shapes.{Part, part_of}
 use Rattle.source_lowering.specs.Programs.{block_shapes, case_values, cases_code, default_code, default_values, item_values, items_code}
 use Rattle.source_lowering.specs.Lowerable.{TakesClauses, TakesItems}
+use Rattle.source_lowering.specs.Room.{clause_room, item_room}
+use Rattle.lower_checks.specs.Counted.{IsCounted}
+use Rattle.lower_checks.specs.Room.{HasRoom}
 use Rattle.lower_checks.specs.Views.{regions_tree, shape_tree, stored_tree}
 use Rattle.lower_checks.specs.Visible.{left, names_of}
 use Rattle.lower_checks.specs.Writing.{IsLeft, IsSound, next_of}
@@ -20,15 +23,20 @@ invariant-statement::lower_items-each l =
     let others = items_of (map item_tree (drop l.item-index l.items)) in
     let first = length l.initial.declared_here.items in
     let index = length l.declared_here.items in
-    IsSound l.body → record {
-      within : l.around.all ≤ l.regions.all;
-      code : IsLeft l.initial.body l.body (items_code w result (names_of l.initial.locals) (regions_tree l.around l.opened) first (next_of l.initial.body) all)
-          (ending_items w result (names_of l.locals) (regions_tree l.regions l.all.items) l.around.all index (next_of l.body) others)
-          (item_values w (names_of l.initial.locals) first all) (item_values w (names_of l.locals) index others);
-      shapes : map stored_tree l.declared_here.items ++ block_shapes w (names_of l.locals) index others
-          ≡ map stored_tree l.initial.declared_here.items ++ block_shapes w (names_of l.initial.locals) first all;
-      left : left l.locals ≡ left l.initial.locals;
-      taken : TakesItems w result (names_of l.locals) index others;
+    record {
+      written : IsSound l.body → record {
+        within : l.around.all ≤ l.regions.all;
+        code : IsLeft l.initial.body l.body
+            (items_code w result (names_of l.initial.locals) (regions_tree l.around l.opened) first (next_of l.initial.body) all)
+            (ending_items w result (names_of l.locals) (regions_tree l.regions l.all.items) l.around.all index (next_of l.body) others)
+            (item_values w (names_of l.initial.locals) first all) (item_values w (names_of l.locals) index others);
+        shapes : map stored_tree l.declared_here.items ++ block_shapes w (names_of l.locals) index others
+            ≡ map stored_tree l.initial.declared_here.items ++ block_shapes w (names_of l.initial.locals) first all;
+        left : left l.locals ≡ left l.initial.locals;
+        taken : TakesItems w result (names_of l.locals) index others;
+      };
+      room : HasRoom l.regions.all (item_room others);
+      counted : IsCounted l.regions;
     }
 
 -- what is written, and the code of the clauses that are left, is the code of all
@@ -41,11 +49,14 @@ invariant-switch::lower_cases-each l =
     let parts = map part_of (map member_tree l.members) in
     let all = clauses_of (map clause_tree l.clauses) in
     let others = clauses_of (map clause_tree (drop l.clause-index l.clauses)) in
-    IsSound l.body → record {
-      locals : l.locals ≡ l.initial.locals;
-      code : IsLeft l.initial.body l.body (cases_code w result names h parts (next_of l.initial.body) all)
-          (cases_code w result names h parts (next_of l.body) others) (case_values w names parts all) (case_values w names parts others);
-      taken : TakesClauses w result names parts others;
+    record {
+      written : IsSound l.body → record {
+        locals : l.locals ≡ l.initial.locals;
+        code : IsLeft l.initial.body l.body (cases_code w result names h parts (next_of l.initial.body) all)
+            (cases_code w result names h parts (next_of l.body) others) (case_values w names parts all) (case_values w names parts others);
+        taken : TakesClauses w result names parts others;
+      };
+      room : HasRoom l.around.all (clause_room others);
     }
 
 -- no clause so far was a `default`
@@ -64,4 +75,5 @@ invariant-switch::lower_default-each l =
       code : default_code w result names h own others ≡ default_code w result names h own all;
       values : default_values w names others ≡ default_values w names all;
       taken : IsSound l.body → (parts : List Part) × TakesClauses w result names parts others;
+      room : HasRoom l.around.all (clause_room others);
     }

@@ -93,24 +93,22 @@ made::lower_one-returns-in-Struct-clause-writes t c sound =
     let own = next_of a in
     let e = expression_tree c.args.value.now in
     let s = static_shape w names e in
-    let g = c.further-next.new.self in
     let k = c.known-shape.new.self in
     let m = c.known-address.new.self in
     let b = c.lower_whole.new.body in
     let z = c.lower_object-in-Struct.new.body in
-    let next = c.further-next.result.0 in
+    let next = c.behind-next.result.0 in
     let shape = shape_tree c.known-shape.result in
     let five = c.lower_object-in-Struct.ensures sound in
     let four = c.lower_whole.ensures.writes five.sound in
     let three = c.known-address.ensures.stays four.sound in
     let two = c.known-shape.ensures.stays three.sound in
-    let one = c.further-next.ensures.stays two.sound in
     let shape_is = subst (λ r. IfOk r (λ x. shape_tree x ≡ s)) (c.known-shape.ensures.known three.sound) c.shape_of.ensures.shape in
-    let next_is : next ≡ d + 1 = c.further-next.ensures.further two.sound in
+    let next_is : next ≡ d + 1 = c.behind-next.ensures in
     let values = whole_values w names e in
     let written =
     subst (λ n. IsWritten a b (whole_code w names e n own) values) next_is
-    (moved a m b (λ n. whole_code w names e next n) values (same_same a g m one (same_same g k m two three)) four) in
+    (moved a m b (λ n. whole_code w names e next n) values (same_same a k m two three) four) in
     let one_whole : IsWholeOne shape = search rules in
     whole_made w names (is_alone (owner_tree c.args.owner)) e a b z d shape one_whole (sym shape_is) written five
 
@@ -121,15 +119,11 @@ made::lower_new-returns-in-Array-clause-writes t c sound =
     let names = names_in c.args.scope.now in
     let a = c.args.body.now in
     let b = c.lower_expression.new.body in
-    let many = c.further-many.result.0 in
     let count = expression_tree c.deref-in-Array.result.now in
     let values = expression_values w names count in
     let three = c.lower_array.ensures.writes sound in
     let two = c.lower_expression.ensures.writes three.sound in
-    let one = c.further-many.ensures.stays two.sound in
-    let counted =
-    subst (λ n. IsWritten a b (expression_code w names count n (next_of a)) values) (c.further-many.ensures.further two.sound)
-    (moved a c.further-many.new.self b (λ n. expression_code w names count many n) values one two) in
+    let counted = subst (λ n. IsWritten a b (expression_code w names count n (next_of a)) values) c.behind-many.ensures two in
     array_written w names (made_tree c.args.made.now) (name_tree c.in-Array.index) (expression_tree c.in-Array.count.value) count
     (expression_tree c.in-Array.element.value) (expression_tree c.deref-in-Array-2.result.now) (is_alone (owner_tree c.args.owner)) a b
     c.lower_array.new.body c.args.to.0
@@ -157,12 +151,11 @@ array::lower_array-lower_elements-requires t c =
     let e = expression_tree c.args.element.now in
     let text = (name_tree c.args.index.now).text in
     let locals = names_of c.args.scope.now.locals.now in
-    let g = c.further-number.new.self in
-    let named = ap (λ (n : List ℕ). number_named n c.further-number.result.0 ∷ names) c.deref.ensures.value in
+    let named = ap (λ (n : List ℕ). number_named n c.behind-number.result.0 ∷ names) c.deref.ensures.value in
     let inside = ap (λ ns. numbers_in ns ++ locals) c.deref-in-Ok.ensures.value ∙ ap (λ ns. ns ++ locals) c.in-Ok.ensures.numbers ∙ named in
-    let taken : IsSound g → TakesElement w (numbers_in c.deref-in-Ok.result.now ++ locals) e = λ sound.
-    subst (λ ns. TakesElement w ns e) (sym (inside ∙ ap (λ n. number_named text n ∷ names) (c.further-number.ensures.further sound)))
-    (c.requires.taken (c.further-number.ensures.stays sound).sound) in
+    let taken : IsSound c.args.body.now → TakesElement w (numbers_in c.deref-in-Ok.result.now ++ locals) e = λ sound.
+    subst (λ ns. TakesElement w ns e) (sym (inside ∙ ap (λ n. number_named text n ∷ names) c.behind-number.ensures))
+    (c.requires.taken sound) in
     search (rules, the_lemmas, taken)
 
 pub array::lower_array-returns-in-Ok-clause-writes : goal.array::lower_array-returns-in-Ok-clause-writes
@@ -171,19 +164,15 @@ array::lower_array-returns-in-Ok-clause-writes t c sound =
     let names = names_in c.args.scope.now in
     let d = c.args.to.0 in
     let a = c.args.body.now in
-    let g = c.further-number.new.self in
     let z = c.lower_elements.new.body in
     let e = expression_tree c.args.element.now in
     let text = (name_tree c.args.index.now).text in
     let locals = names_of c.args.scope.now.locals.now in
     let two = c.lower_elements.ensures.writes sound in
-    let one = c.further-number.ensures.stays two.sound in
     let inside = ap (λ ns. numbers_in ns ++ locals) c.deref-in-Ok.ensures.value ∙ ap (λ ns. ns ++ locals) c.in-Ok.ensures.numbers
-    ∙ ap (λ (n : List ℕ). number_named n c.further-number.result.0 ∷ names) c.deref.ensures.value
-    ∙ ap (λ n. number_named text n ∷ names) (c.further-number.ensures.further two.sound) in
-    let outer = numbers_in c.deref-in-Ok.result.now ++ locals in
-    subst (λ ns. IsWritten a z (made_code w ns e d (next_of a)) (made_shapes w ns e)) inside
-    (moved a g z (made_code w outer e d) (made_shapes w outer e) one two)
+    ∙ ap (λ (n : List ℕ). number_named n c.behind-number.result.0 ∷ names) c.deref.ensures.value
+    ∙ ap (λ n. number_named text n ∷ names) c.behind-number.ensures in
+    subst (λ ns. IsWritten a z (made_code w ns e d (next_of a)) (made_shapes w ns e)) inside two
 
 pub array::lower_array-returns-in-Ok-clause-shape : goal.array::lower_array-returns-in-Ok-clause-shape
 array::lower_array-returns-in-Ok-clause-shape t c sound =
@@ -192,10 +181,9 @@ array::lower_array-returns-in-Ok-clause-shape t c sound =
     let e = expression_tree c.args.element.now in
     let text = (name_tree c.args.index.now).text in
     let locals = names_of c.args.scope.now.locals.now in
-    let two = c.lower_elements.ensures.writes sound in
     let inside = ap (λ ns. numbers_in ns ++ locals) c.deref-in-Ok.ensures.value ∙ ap (λ ns. ns ++ locals) c.in-Ok.ensures.numbers
-    ∙ ap (λ (n : List ℕ). number_named n c.further-number.result.0 ∷ names) c.deref.ensures.value
-    ∙ ap (λ n. number_named text n ∷ names) (c.further-number.ensures.further two.sound) in
+    ∙ ap (λ (n : List ℕ). number_named n c.behind-number.result.0 ∷ names) c.deref.ensures.value
+    ∙ ap (λ n. number_named text n ∷ names) c.behind-number.ensures in
     c.lower_elements.ensures.shape sound ∙ ap (λ ns. FatShape (static_shape w ns e)) inside
 
 -- the elements are made in their turns, behind the block

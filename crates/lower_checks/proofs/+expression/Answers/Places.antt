@@ -23,7 +23,7 @@ use Rattle.lower_checks.specs.Views.{shape_tree}
 use Rattle.lower_checks.specs.Writing.{IsEmitted, IsWritten, next_of}
 use Rattle.lower_checks.proofs.Parts.{assign_code, assign_values, suffixed_place, suffixed_put, suffixed_value}
 use Rattle.lower_checks.proofs.Suffixes.{pointed_left, read_left, stored_left}
-use Rattle.lower_checks.proofs.Writing.{moved, next_is, same_next, same_same, write_emit, write_write}
+use Rattle.lower_checks.proofs.Writing.{moved, next_is, same_next, write_emit, write_write}
 use Rattle.lower_checks.proofs.+expression.Goals as goal
 
 pub expression::lower_expression-returns-in-Assign-clause-writes : goal.expression::lower_expression-returns-in-Assign-clause-writes
@@ -101,24 +101,21 @@ place::lower_put-returns-in-Suffixed t c = record {
       let own = next_of a in
       let e = expression_tree c.args.place.now in
       let k = c.known-shape.new.self in
-      let g = c.further-at.new.self in
       let b = c.lower_suffixed-reached.new.body in
       let p = reached_place c.lower_suffixed-reached.result in
-      let at = c.further-at.result.0 in
+      let at = c.behind-at.result.0 in
       let s = shape_tree c.known-shape.result in
       let left = suffixed_left w names e own in
       let values = expression_values w names e in
       let four = c.lower_stores.ensures sound in
       let three = c.lower_suffixed-reached.ensures.writes four.sound in
-      let two = c.further-at.ensures.stays three.sound in
-      let one = c.known-shape.ensures.stays two.sound in
-      let both = same_same a k g one two in
-      let written = moved a g b (λ n. (suffixed_left w names e n).pointer at) values both three in
+      let one = c.known-shape.ensures.stays three.sound in
+      let written = moved a k b (λ n. (suffixed_left w names e n).pointer at) values one three in
       let place =
-      subst (λ n. IsLeftAt (suffixed_left w names e n) p at) (same_next a g both) (c.lower_suffixed-reached.ensures.place four.sound) in
+      subst (λ n. IsLeftAt (suffixed_left w names e n) p at) (same_next a k one) (c.lower_suffixed-reached.ensures.place four.sound) in
       let shape_is =
-      subst (λ r. IfOk r (λ x. shape_tree x ≡ static_shape w names e)) (c.known-shape.ensures.known two.sound) c.shape_of.ensures.shape in
-      let at_is : at ≡ d + words_in s = c.further-at.ensures.further three.sound ∙ ap (λ x. d + x) c.words.ensures in
+      subst (λ r. IfOk r (λ x. shape_tree x ≡ static_shape w names e)) (c.known-shape.ensures.known three.sound) c.shape_of.ensures.shape in
+      let at_is : at ≡ d + words_in s = c.behind-at.ensures ∙ ap (λ x. d + x) c.words.ensures in
       let code =
       suffixed_put w names d own e (expression_tree c.in-Suffixed.field-0.value) (suffixes_of (map suffix_tree c.in-Suffixed.field-1.items)) s at
       (ap expression_tree c.in-Suffixed.is ∙ suffixed_tree c.in-Suffixed.field-0 c.in-Suffixed.field-1) shape_is at_is in
@@ -138,22 +135,20 @@ place::lower_through-returns t c = record {
       let e = expression_tree c.args.pointer.now in
       let s = static_shape w names e in
       let k = c.known.new.self in
-      let g = c.further-at.new.self in
       let b = c.lower_pointer-shape.new.body in
       let z = c.lower_stores.new.body in
-      let at = c.further-at.result.0 in
+      let at = c.behind-at.result.0 in
       let to = pointee s in
       let up = d + words_in to in
       let values = expression_values w names e in
       let four = c.lower_stores.ensures sound in
       let three = c.lower_pointer-shape.ensures.writes four.sound in
-      let two = c.further-at.ensures.stays three.sound in
-      let one = c.known.ensures.stays two.sound in
-      let known_is = subst (λ r. IfOk r (λ x. shape_tree x ≡ s)) (c.known.ensures.known two.sound) c.shape_of.ensures.shape in
+      let one = c.known.ensures.stays three.sound in
+      let known_is = subst (λ r. IfOk r (λ x. shape_tree x ≡ s)) (c.known.ensures.known three.sound) c.shape_of.ensures.shape in
       let of_is : shape_tree c.pointee-of.result ≡ to = c.pointee-of.ensures ∙ ap pointee known_is in
-      let at_is : at ≡ up = c.further-at.ensures.further three.sound ∙ ap (λ n. d + n) (c.words.ensures ∙ ap words_in of_is) in
+      let at_is : at ≡ up = c.behind-at.ensures ∙ ap (λ n. d + n) (c.words.ensures ∙ ap words_in of_is) in
       let reaching : ℕ → ℕ → List Statement = λ t n. expression_code w names e t n ++ reach_code w s t in
-      let written = subst (λ t. IsWritten a b (reaching t own) values) at_is (moved a g b (reaching at) values (same_same a k g one two) three) in
+      let written = subst (λ t. IsWritten a b (reaching t own) values) at_is (moved a k b (reaching at) values one three) in
       let reached : reached_place c.at_once.result ≡ place_at_once to =
       c.at_once.ensures ∙ ap place_at_once (c.lower_pointer-shape.ensures.shape four.sound) in
       let stored =

@@ -7,12 +7,15 @@ use Rattle.cyc_tree.specs.declared.expression.Expression.TheFolds.{the_lemmas}
 use Rattle.source_lowering.specs.Lowerable.{Takes, TakesMembers, TakesPlace, TakesSuffixes}
 use Rattle.source_lowering.proofs.expressions.Indices.{TakesIndices, indices_taken}
 use Rattle.source_lowering.specs.Lowered.{expression_code, place_code, static_shape, suffix_values}
+use Rattle.source_lowering.specs.Room.{room, suffix_room}
 use Rattle.lower_checks.specs.Reaching.{IsLeftAt, Place, TakesSuffixed, further_place, indices_code, indices_in, place_at_once, reached_place, suffixed_left}
+use Rattle.lower_checks.specs.Room.{HasRoom}
 use Rattle.lower_checks.specs.Scoped.{names_in, world_in}
 use Rattle.lower_checks.specs.Writing.{IsSound, IsWritten, next_of}
 use Rattle.lower_checks.proofs.Parts.{suffixed_is}
 use Rattle.lower_checks.proofs.Following.{index_written, suffixed_written}
 use Rattle.lower_checks.proofs.Suffixes.{begun_place, each_taken, further_taken, indices_count, place_one, place_shape, suffixes_one}
+use Rattle.lower_checks.proofs.Room.{indices_within, suffix_first, suffix_from}
 use Rattle.lower_checks.proofs.Remaining.{left_suffixes}
 use Rattle.lower_checks.proofs.+expression.Goals as goal
 
@@ -28,11 +31,20 @@ place::lower_indices-lower_subscript-to-requires t c =
     let here = left_suffixes ss at item within c.index-suffixes-suffixes.is in
     let taken : IsSound c.each.body → TakesIndices w names (suffixes_of (suffix_tree item ∷ [])) = λ sound.
     (each_taken w names (suffix_tree item) (map suffix_tree (drop (at + 1) ss))
-    (subst (TakesIndices w names) here (further_taken w names ss at (c.requires.taken (c.each.invariant sound).writes.sound)))).0 in
-    search (rules, the_lemmas, taken)
+    (subst (TakesIndices w names) here (further_taken w names ss at (c.requires.taken (c.each.invariant.writes sound).sound)))).0 in
+    let one = suffix_tree item in
+    let rest = map suffix_tree (drop (at + 1) ss) in
+    let begun : length ss - c.each.k ≡ at + 1 = omega (arith, c.each-test.true) in
+    let to_is : c.each.to.0 ≡ c.args.first.0 + indices_in (suffixes_of rest) =
+    c.each.invariant.behind ∙ ap (λ n. c.args.first.0 + indices_in (suffixes_of (map suffix_tree (drop n ss)))) begun in
+    let left_is : suffix_room (suffixes_of (map suffix_tree (drop at ss))) ≡ suffix_room (suffixes_of (one ∷ [])) + suffix_room (suffixes_of rest) =
+    ap suffix_room here ∙ suffix_first one rest in
+    let room : HasRoom c.each.to.0 (suffix_room (suffixes_of (one ∷ []))) =
+    omega (arith, c.requires.room, to_is, left_is, suffix_from ss at, indices_within (suffixes_of rest)) in
+    search (rules, the_lemmas, taken, room)
 
 pub place::lower_indices-each-preserved : goal.place::lower_indices-each-preserved
-place::lower_indices-each-preserved t c sound =
+place::lower_indices-each-preserved t c =
     let w = world_in c.args.scope.now in
     let names = names_in c.args.scope.now in
     let d = c.args.first.0 in
@@ -52,14 +64,15 @@ place::lower_indices-each-preserved t c sound =
     let from : all ≡ suffixes_of rest = ap (λ n. suffixes_of (map suffix_tree (drop n ss))) begun in
     let to : suffixes_of (map suffix_tree (drop (length ss - (k + 1)) ss)) ≡ suffixes_of (one ∷ rest) =
     ap (λ n. suffixes_of (map suffix_tree (drop n ss))) next ∙ left_suffixes ss at item within c.index-suffixes-suffixes.is in
-    let second = c.lower_subscript-to.ensures.writes sound in
-    let invariant = c.each.invariant second.sound in
+    let invariant = c.each.invariant in
     let behind_is : c.each.to.0 ≡ d + indices_in (suffixes_of rest) = invariant.behind ∙ ap (λ x. d + indices_in x) from in
     let to_is : c.lower_subscript-to.result.0 ≡ d + indices_in (suffixes_of (one ∷ rest)) =
-    omega (arith, c.lower_subscript-to.ensures.behind sound, behind_is, indices_count one rest) in
+    omega (arith, c.lower_subscript-to.ensures.behind, behind_is, indices_count one rest) in
     record {
-      writes = subst (λ x. IsWritten a z (indices_code w names x d own) (suffix_values w names x)) (sym to)
-          (index_written w names one rest a c.each.body z d c.each.to.0 all from invariant.behind invariant.writes second);
+      writes = λ sound.
+          let second = c.lower_subscript-to.ensures.writes sound in
+          subst (λ x. IsWritten a z (indices_code w names x d own) (suffix_values w names x)) (sym to)
+          (index_written w names one rest a c.each.body z d c.each.to.0 all from invariant.behind (invariant.writes second.sound) second);
       behind = to_is ∙ ap (λ x. d + indices_in x) (sym to);
     }
 
@@ -72,7 +85,7 @@ place::lower_indices-returns-clause-writes t c sound =
     let all : length ss - c.each.k ≡ 0 = omega (arith, c.each-test.false) in
     let behind : ℕ → Suffixes = λ n. suffixes_of (map suffix_tree (drop n ss)) in
     subst (λ n. IsWritten a c.each.body (indices_code w names (behind n) c.args.first.0 (next_of a)) (suffix_values w names (behind n))) all
-    (c.each.invariant sound).writes
+    (c.each.invariant.writes sound)
 
 -- suffixes: the indices, then the primary, and then what is behind the first suffix
 pub place::lower_suffixed-lower_indices-behind-requires : goal.place::lower_suffixed-lower_indices-behind-requires
@@ -104,10 +117,31 @@ place::lower_suffixed-lower_first-reached-requires t c =
     → TakesSuffixes w names (suffixes_of (one ∷ [])) (static_shape w names a) (Takes w names a) (TakesPlace w names a) = λ sound.
     (suffixes_one w names one rest (static_shape w names a) (Takes w names a) (TakesPlace w names a)
     (subst (TakesSuffixed w names) place_is (c.requires.taken (c.lower_indices-behind.ensures.writes sound).sound))).0 in
-    search (rules, the_lemmas, taken)
+    let behind_is : c.lower_indices-behind.result.0 ≡ c.args.to.0 + indices_in (suffixes_of (one ∷ rest)) =
+    c.lower_indices-behind.ensures.behind
+    ∙ ap (λ x. c.args.to.0 + indices_in x) (ap (λ ss. suffixes_of (map suffix_tree ss)) c.deref-2.ensures.value ∙ sym here) in
+    let place_room : room e ≡ 16 + (room a + suffix_room (suffixes_of (one ∷ rest))) = ap room place_is in
+    let left : HasRoom c.lower_indices-behind.result.0 (16 + room a) =
+    omega (arith, c.requires.room, behind_is, place_room, indices_within (suffixes_of (one ∷ rest))) in
+    search (rules, the_lemmas, taken, left)
 
 pub place::lower_suffixed-follow-requires : goal.place::lower_suffixed-follow-requires
 place::lower_suffixed-follow-requires t c = record {
+  room =
+      let one = suffix_tree c.in-Some.first.now in
+      let rest = map suffix_tree c.in-Some.others.now in
+      let e = expression_tree c.args.place.now in
+      let a = expression_tree c.deref-3.result.now in
+      let items = suffixes_of (map suffix_tree c.in-Suffixed.suffixes.items) in
+      let here = ap (λ ss. suffixes_of (map suffix_tree ss)) (sym c.in-Some.ensures.cases.0 ∙ c.deref.ensures.value) in
+      let place_is = suffixed_is (world_in c.args.scope.now) (names_in c.args.scope.now) c.args.to.0 (next_of c.args.body.now) e
+      (expression_tree c.in-Suffixed.primary.value) a items (suffixes_of (one ∷ rest))
+      (ap expression_tree c.in-Suffixed.is ∙ suffixed_tree c.in-Suffixed.primary c.in-Suffixed.suffixes) (ap expression_tree c.deref-3.ensures) here in
+      let behind_is : c.lower_indices-behind.result.0 ≡ c.args.to.0 + indices_in (suffixes_of (one ∷ rest)) =
+      c.lower_indices-behind.ensures.behind
+      ∙ ap (λ x. c.args.to.0 + indices_in x) (ap (λ ss. suffixes_of (map suffix_tree ss)) c.deref-2.ensures.value ∙ sym here) in
+      let place_room : room e ≡ 16 + (room a + suffix_room (suffixes_of (one ∷ rest))) = ap room place_is in
+      omega (arith, c.requires.room, behind_is, place_room, indices_within (suffixes_of (one ∷ rest)), c.reached_in-pointer.ensures);
   taken = λ sound.
       let w = world_in c.args.scope.now in
       let names = names_in c.args.scope.now in
@@ -147,7 +181,7 @@ place::lower_suffixed-returns-clause-writes t c sound =
     let one_written = c.lower_indices-behind.ensures.writes two.sound in
     suffixed_written w names one rest e a body c.lower_indices-behind.new.body c.lower_first-reached.new.body c.follow.new.body d
     c.lower_indices-behind.result.0 c.reached_in-pointer.result.0 (reached_place c.lower_first-reached.result) all place_is all_is
-    (c.lower_indices-behind.ensures.behind two.sound) c.reached_in-pointer.ensures (c.lower_first-reached.ensures.place three.sound) one_written two three
+    c.lower_indices-behind.ensures.behind c.reached_in-pointer.ensures (c.lower_first-reached.ensures.place three.sound) one_written two three
 
 pub place::lower_suffixed-returns-clause-place : goal.place::lower_suffixed-returns-clause-place
 place::lower_suffixed-returns-clause-place t c sound =

@@ -9,7 +9,7 @@ use Rattle.source_meaning.specs.Conversions.{cells_of}
 use Rattle.source_meaning.specs.Shapes.{Part, Shape, StructShape, UnionShape, part_of, part_shape, parts_of}
 use Rattle.source_meaning.specs.Sizes.{Extent, rounded_up}
 use Rattle.source_lowering.specs.Layouts.{extent_of}
-use Rattle.source_lowering.specs.Lowerable.{IsMember, TakesMade}
+use Rattle.source_lowering.specs.Lowerable.{IsMember, IsWholeShape, TakesMade}
 use Rattle.source_lowering.specs.Lowered.{
   copied_code,
   expression_code,
@@ -25,6 +25,8 @@ use Rattle.source_lowering.specs.Lowered.{
   whole_code,
   whole_values,
 }
+use Rattle.source_lowering.specs.Room.{argument_room}
+use Rattle.lower_checks.specs.Room as rooms
 use Rattle.lower_checks.specs.Scoped.{names_in, world_in}
 use Rattle.lower_checks.specs.Structs.{HaveRoom, room_tree}
 use Rattle.lower_checks.specs.Unions.{union_tree}
@@ -47,12 +49,13 @@ use Rattle.lower_checks.proofs.Writing.{
   write_write,
 }
 use Rattle.lower_checks.proofs.Arguments.{no_members, no_values}
+use Rattle.lower_checks.proofs.Room.{room_least}
 use Rattle.lower_checks.proofs.Remaining.{first_of, left_operands}
 use Rattle.lower_checks.proofs.+expression.Goals as goal
 
 -- one more member of a struct that is made
 pub whole::lower_members-each-preserved : goal.whole::lower_members-each-preserved
-whole::lower_members-each-preserved t c sound =
+whole::lower_members-each-preserved t c =
     let w = world_in c.args.scope.now in
     let names = names_in c.args.scope.now in
     let d = c.args.to.0 in
@@ -75,57 +78,64 @@ whole::lower_members-each-preserved t c sound =
     let more_parts = map part_of (map member_tree (take (length c.each.left.now - 1) (drop 1 c.each.left.now))) in
     let parts_are : parts ≡ part ∷ more_parts =
     ap (λ ms. map part_of (map member_tree ms)) (first_of c.each.left.now c.member-item.result c.in-len1-up.len_at_least c.member-item.is) in
-    let six = c.sum-in-each.ensures.stays sound in
-    let five = c.sum.ensures.stays six.sound in
-    let four = c.number-cells.ensures.stays five.sound in
-    let three = c.lower_member.ensures.writes four.sound in
-    let two = c.number.ensures.stays three.sound in
-    let invariant = c.each.invariant two.sound in
-    let shape_is : shape_tree c.of-shape.result ≡ part.shape = c.of-shape.ensures in
-    let room = extent_of w part.shape in
-    let room_is : room_tree c.extent-room.result ≡ room = c.extent-room.ensures ∙ ap (extent_of w) shape_is in
-    let at = rounded_up c.each.slot.bytes room.align in
-    let at_is : c.number.result ≡ at =
-    subst (λ r. IfOk r (λ x. x ≡ rounded_up c.each.slot.bytes (room_tree c.extent-room.result).align)) (c.number.ensures.number three.sound)
-    c.rounded.ensures.rounded ∙ ap (λ (x : Extent). rounded_up c.each.slot.bytes x.align) room_is in
-    let count_is : c.number-cells.result ≡ length (cells_of w part.shape) =
-    subst (λ r. IfOk r (λ x. x ≡ length (cells_of w (shape_tree c.of-shape.result)))) (c.number-cells.ensures.number five.sound) c.count.ensures.count
-    ∙ ap (λ x. length (cells_of w x)) shape_is in
-    let more_cells = cells + length (cells_of w part.shape) in
-    let cells_are : c.sum.result ≡ more_cells = c.sum.ensures.sum six.sound ∙ ap (λ x. cells + x) count_is in
-    let bytes_are : c.sum-in-each.result ≡ at + room.size =
-    c.sum-in-each.ensures.sum sound ∙ ap (λ x. x + c.extent-room.result.size) at_is ∙ ap (λ (x : Extent). at + x.size) room_is in
-    let values_at : Shape → List Shape = λ x. values_by x (whole_values w names e) (expression_values w names e) in
-    let code_at : Shape → ℕ → ℕ → ℕ → List Statement = λ x to bytes number.
-    member_code w x s to cells bytes (whole_code w names e (to + 1) number) (expression_code w names e (to + 1) number) in
-    let here_code = code_at part.shape d at own in
-    let values = values_at part.shape in
-    let shaped = subst (λ x. IsWritten f m (code_at x c.each.slot.to.0 c.number.result (next_of f)) (values_at x)) shape_is three in
-    let placed = subst (λ x. IsWritten f m (code_at part.shape x c.number.result (next_of f)) values) invariant.to shaped in
-    let aligned = subst (λ x. IsWritten f m (code_at part.shape d x (next_of f)) values) at_is placed in
-    let member = moved b f m (λ x. code_at part.shape d at x) values two aligned in
-    let written = write_same b m z here_code values member (same_same m n z four (same_same n p z five six)) in
-    let all_parts = map part_of (map member_tree c.args.members.now) in
-    let all = expressions_of (map expression_tree c.args.arguments.now) in
-    let code = members_code w names all_parts all d 0 0 (next_of a) in
-    let every = made_values w names all_parts all in
-    let those = made_values w names more_parts others in
-    let rest = members_code w names more_parts others d more_cells (at + room.size) (own + length values) in
-    let left =
-    subst (λ es. IsLeft a b code (members_code w names parts es d cells c.each.slot.bytes own) every (made_values w names parts es)) here invariant.left in
-    let one_left =
-    subst (λ ps. IsLeft a b code (members_code w names ps (MoreExpressions e others) d cells c.each.slot.bytes own) every
-    (made_values w names ps (MoreExpressions e others))) parts_are left in
-    let more = left_more a b z code here_code rest every values those one_left written in
-    let counted =
-    subst (λ x. IsLeft a z code (members_code w names more_parts others d more_cells (at + room.size) x) every those)
-    (sym (next_is b z here_code values written)) more in
+    let room : rooms.HasRoom d (16 + argument_room (MoreExpressions e others)) =
+    subst (λ es. rooms.HasRoom d (16 + argument_room es)) here c.each.invariant.room in
     record {
-      to = invariant.to;
-      left = subst (λ x. IsLeft a z code (members_code w names more_parts others d x c.sum-in-each.result (next_of z)) every those) (sym cells_are)
-          (subst (λ x. IsLeft a z code (members_code w names more_parts others d more_cells x (next_of z)) every those) (sym bytes_are) counted);
-      room = (subst (HaveRoom w.unions w.structs) parts_are invariant.room).1;
-      taken = (subst (λ x. TakesMade w names x (MoreExpressions e others)) parts_are (subst (TakesMade w names parts) here invariant.taken)).1;
+      to = c.each.invariant.to;
+      written = λ sound.
+          let six = c.sum-in-each.ensures.stays sound in
+          let five = c.sum.ensures.stays six.sound in
+          let four = c.number-cells.ensures.stays five.sound in
+          let three = c.lower_member.ensures.writes four.sound in
+          let two = c.number.ensures.stays three.sound in
+          let invariant = c.each.invariant.written two.sound in
+          let shape_is : shape_tree c.of-shape.result ≡ part.shape = c.of-shape.ensures in
+          let room = extent_of w part.shape in
+          let room_is : room_tree c.extent-room.result ≡ room = c.extent-room.ensures ∙ ap (extent_of w) shape_is in
+          let at = rounded_up c.each.slot.bytes room.align in
+          let at_is : c.number.result ≡ at =
+          subst (λ r. IfOk r (λ x. x ≡ rounded_up c.each.slot.bytes (room_tree c.extent-room.result).align)) (c.number.ensures.number three.sound)
+          c.rounded.ensures.rounded ∙ ap (λ (x : Extent). rounded_up c.each.slot.bytes x.align) room_is in
+          let count_is : c.number-cells.result ≡ length (cells_of w part.shape) =
+          subst (λ r. IfOk r (λ x. x ≡ length (cells_of w (shape_tree c.of-shape.result)))) (c.number-cells.ensures.number five.sound) c.count.ensures.count
+          ∙ ap (λ x. length (cells_of w x)) shape_is in
+          let more_cells = cells + length (cells_of w part.shape) in
+          let cells_are : c.sum.result ≡ more_cells = c.sum.ensures.sum six.sound ∙ ap (λ x. cells + x) count_is in
+          let bytes_are : c.sum-in-each.result ≡ at + room.size =
+          c.sum-in-each.ensures.sum sound ∙ ap (λ x. x + c.extent-room.result.size) at_is ∙ ap (λ (x : Extent). at + x.size) room_is in
+          let values_at : Shape → List Shape = λ x. values_by x (whole_values w names e) (expression_values w names e) in
+          let code_at : Shape → ℕ → ℕ → ℕ → List Statement = λ x to bytes number.
+          member_code w x s to cells bytes (whole_code w names e (to + 1) number) (expression_code w names e (to + 1) number) in
+          let here_code = code_at part.shape d at own in
+          let values = values_at part.shape in
+          let shaped = subst (λ x. IsWritten f m (code_at x c.each.slot.to.0 c.number.result (next_of f)) (values_at x)) shape_is three in
+          let placed = subst (λ x. IsWritten f m (code_at part.shape x c.number.result (next_of f)) values) c.each.invariant.to shaped in
+          let aligned = subst (λ x. IsWritten f m (code_at part.shape d x (next_of f)) values) at_is placed in
+          let member = moved b f m (λ x. code_at part.shape d at x) values two aligned in
+          let written = write_same b m z here_code values member (same_same m n z four (same_same n p z five six)) in
+          let all_parts = map part_of (map member_tree c.args.members.now) in
+          let all = expressions_of (map expression_tree c.args.arguments.now) in
+          let code = members_code w names all_parts all d 0 0 (next_of a) in
+          let every = made_values w names all_parts all in
+          let those = made_values w names more_parts others in
+          let rest = members_code w names more_parts others d more_cells (at + room.size) (own + length values) in
+          let left =
+          subst (λ es. IsLeft a b code (members_code w names parts es d cells c.each.slot.bytes own) every (made_values w names parts es)) here
+          invariant.left in
+          let one_left =
+          subst (λ ps. IsLeft a b code (members_code w names ps (MoreExpressions e others) d cells c.each.slot.bytes own) every
+          (made_values w names ps (MoreExpressions e others))) parts_are left in
+          let more = left_more a b z code here_code rest every values those one_left written in
+          let counted =
+          subst (λ x. IsLeft a z code (members_code w names more_parts others d more_cells (at + room.size) x) every those)
+          (sym (next_is b z here_code values written)) more in
+          record {
+            left = subst (λ x. IsLeft a z code (members_code w names more_parts others d x c.sum-in-each.result (next_of z)) every those) (sym cells_are)
+                (subst (λ x. IsLeft a z code (members_code w names more_parts others d more_cells x (next_of z)) every those) (sym bytes_are) counted);
+            room = (subst (HaveRoom w.unions w.structs) parts_are invariant.room).1;
+            taken = (subst (λ x. TakesMade w names x (MoreExpressions e others)) parts_are (subst (TakesMade w names parts) here invariant.taken)).1;
+          };
+      room = omega (arith, room);
     }
 
 -- no argument is left
@@ -148,7 +158,8 @@ whole::lower_members-returns t c = record {
       let code = members_code w names all_parts all d 0 0 (next_of a) in
       let every = made_values w names all_parts all in
       let left =
-      subst (λ es. IsLeft a b code (members_code w names parts es d cells bytes own) every (made_values w names parts es)) none (c.each.invariant sound).left in
+      subst (λ es. IsLeft a b code (members_code w names parts es d cells bytes own) every (made_values w names parts es)) none
+      (c.each.invariant.written sound).left in
       none_left a b code (members_code w names parts NoExpressions d cells bytes own) every (made_values w names parts NoExpressions)
       (no_members w names parts d cells bytes own) (no_values w names parts) left;
 }
@@ -185,11 +196,11 @@ whole::lower_made-returns-in-Some t c = record {
 -- the value of a union's member comes behind the union's address
 pub whole::lower_union-lower_held-requires : goal.whole::lower_union-lower_held-requires
 whole::lower_union-lower_held-requires t c = record {
+  room = omega (arith, c.requires.room);
   taken = λ sound.
       let w = world_in c.args.scope.now in
       let three = c.lower_expression-from.ensures.writes sound in
-      let two = c.further-next.ensures.stays three.sound in
-      let one = c.operation.ensures two.sound in
+      let one = c.operation.ensures three.sound in
       let a = (c.value-own.ensures.writes one.sound).sound in
       let parts_are = parts_known w (UnionShape c.args.tag.now) (union_tree c.in-Some.known) (sym c.in-Some.ensures.found) in
       subst (λ ps. IsMember ps c.args.member.now) (sym parts_are) (c.requires.taken a).1.0;
@@ -208,11 +219,12 @@ whole::lower_union-returns-in-None t c = record {
 -- a member that is a struct or a union, and has room, is one of the program's
 pub whole::lower_member-lower_struct_member-requires : goal.whole::lower_member-lower_struct_member-requires
 whole::lower_member-lower_struct_member-requires t c = record {
+  room = omega (arith, c.requires.room);
   taken = λ sound.
       let w = world_in c.args.scope.now in
       let s = shape_tree c.args.shape.now in
       let one : IsWholeOne s = search rules in
-      let a = (c.further-next.ensures.stays (c.lower_whole.ensures.writes sound).sound).sound in
+      let a = (c.lower_whole.ensures.writes sound).sound in
       room_whole w.unions w.structs s one (c.requires.taken a).0;
 }
 
@@ -230,25 +242,21 @@ whole::lower_union-returns-in-Some t c = record {
       let s = static_shape w names e in
       let v = c.value-own.new.self in
       let o = c.operation.new.self in
-      let g = c.further-next.new.self in
       let x = c.lower_expression-from.new.body in
       let z = c.lower_held.new.body in
-      let next = c.further-next.result.0 in
+      let next = c.behind-next.result.0 in
       let parts = map part_of (map member_tree c.in-Some.known.members.now) in
       let parts_are : parts_of w.unions tag ≡ parts = sym (parts_known w (UnionShape tag) (union_tree c.in-Some.known) (sym c.in-Some.ensures.found)) in
       let five = c.lower_held.ensures sound in
       let four = c.lower_expression-from.ensures.writes five.sound in
-      let three = c.further-next.ensures.stays four.sound in
-      let two = c.operation.ensures three.sound in
+      let two = c.operation.ensures four.sound in
       let one = c.value-own.ensures.writes two.sound in
       let here = Do (OwnAddress d own) ∷ [] in
       let address = subst (λ n. IsEmitted v o (Do (OwnAddress d n) ∷ [])) (c.value-own.ensures.number two.sound) two in
       let number : next_of o ≡ suc own = omega (arith, emitted_next v o here address, next_is a v [] (UnionShape tag ∷ []) one) in
-      let at_is : next ≡ d + 1 = c.further-next.ensures.further four.sound in
+      let at_is : next ≡ d + 1 = c.behind-next.ensures in
       let values = expression_values w names e in
-      let begun =
-      subst (λ n. IsWritten o x (expression_code w names e n (next_of o)) values) at_is (moved o g x (λ n. expression_code w names e next n) values
-      three four) in
+      let begun = subst (λ n. IsWritten o x (expression_code w names e n (next_of o)) values) at_is four in
       let value = expression_code w names e (d + 1) (suc own) in
       let valued = subst (λ n. IsWritten o x (expression_code w names e (d + 1) n) values) number begun in
       let holding : List Part → Shape → List Statement = λ ps from. union_code w (part_shape ps member) from (member_number ps member) d in
@@ -258,6 +266,20 @@ whole::lower_union-returns-in-Some t c = record {
       subst (λ ps. IsWritten a z (here ++ (value ++ holding ps s)) (UnionShape tag ∷ values)) (sym parts_are)
       (write_write a o z here (value ++ holding parts s) (here ++ (value ++ holding parts s)) (UnionShape tag ∷ []) values (UnionShape tag ∷ values) first
       second refl refl);
+}
+
+-- what is copied from a place has room for the temporary behind it
+pub whole::lower_read-lower_copied-requires : goal.whole::lower_read-lower_copied-requires
+whole::lower_read-lower_copied-requires t c = record {
+  room = omega (arith, c.requires.room, room_least (expression_tree c.args.place.now));
+  taken = λ sound.
+      let w = world_in c.args.scope.now in
+      let s = static_shape w (names_in c.args.scope.now) (expression_tree c.args.place.now) in
+      let three = c.lower_place.ensures.writes sound in
+      let two = c.value-value.ensures.writes three.sound in
+      let one = c.known-shape.ensures.stays two.sound in
+      let shape_is = subst (λ r. IfOk r (λ x. shape_tree x ≡ s)) (c.known-shape.ensures.known two.sound) c.shape_of.ensures.shape in
+      subst (IsWholeShape w.unions w.structs) (sym shape_is) (c.requires.taken one.sound).1;
 }
 
 -- a struct that is copied from a place

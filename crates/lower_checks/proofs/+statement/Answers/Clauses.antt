@@ -1,5 +1,5 @@
 -- What a clause of a `switch` does, behind its member's copy.
-use Rattle.std.proofs.Common.{rules, ◌≡◌, ◌∙◌, ◌+◌, ℕ, suc, sym, ap, subst, [], ◌∷◌, ◌++◌, length, map, List}
+use Rattle.std.proofs.Common.{rules, arith, ◌≡◌, ◌∙◌, ◌+◌, ℕ, suc, sym, ap, subst, [], ◌∷◌, ◌++◌, length, map, List}
 use Rattle.cyc_tree.specs.View.{name_tree, item_tree, items_of}
 use Rattle.cyc_tree.specs.declared.statement.BlockItem.TheFolds.{the_lemmas}
 use Rattle.core_meaning.specs.Core as core
@@ -9,6 +9,9 @@ use Rattle.source_lowering.specs.Lowered.{Named, all_of, held_loads, put_local}
 use Rattle.source_lowering.specs.Programs.{block_shapes, item_values, items_code, locals_of, named_here, outward}
 use Rattle.source_lowering.specs.Lowerable.{IsVariable, TakesItems}
 use Rattle.source_lowering.specs.Objects.{AreVariables}
+use Rattle.source_lowering.specs.Room.{item_room}
+use Rattle.lower_checks.specs.Counted.{IsCounted}
+use Rattle.lower_checks.specs.Room.{HasRoom}
 use Rattle.lower_checks.specs.Views.{regions_tree, shape_tree, stored_tree}
 use Rattle.lower_checks.specs.Visible.{names_of, left as left_of}
 use Rattle.lower_checks.specs.Writing.{IsEmitted, IsSound, IsWritten, next_of}
@@ -35,7 +38,9 @@ switch::lower_clause-lower_items-requires t c =
     let index_is : count ≡ 1 = c.declare.ensures.grows four.sound ∙ ap (λ xs. suc (length xs)) c.new-declared_here.ensures.items in
     subst (λ (ns : List Named). TakesItems w result ns count items) (sym names_are)
     (subst (λ (n : ℕ). TakesItems w result inner n items) (sym index_is) (c.requires.taken (sym c.begin-outer.ensures.begun.failed ∙ two.sound))) in
-    search (rules, the_lemmas, taken)
+    let room : HasRoom c.args.around.all (item_room items) = omega (arith, c.requires.room) in
+    let counted : IsCounted c.args.around = c.requires.counted in
+    search (rules, the_lemmas, room, counted, taken)
 
 pub switch::lower_clause-lower_inside-requires : goal.switch::lower_clause-lower_inside-requires
 switch::lower_clause-lower_inside-requires t c = record {
@@ -150,10 +155,12 @@ switch::lower_case-lower_clause-clause-requires t c =
     let s = shape_tree c.args.chosen.shape in
     let inner = named_here (name_tree c.args.name.now).text s 0 ∷ outward (names_of c.args.locals.now) in
     let before : IsSound c.operation-2.new.self → IsSound c.args.body.now = λ sound.
-    (c.further-tag.ensures.stays (c.further-test.ensures.stays (c.operation.ensures (c.operation-2.ensures sound).sound).sound).sound).sound in
+    (c.operation.ensures (c.operation-2.ensures sound).sound).sound in
     let taken : IsSound c.operation-2.new.self → TakesItems w result inner 1 items = λ sound. c.requires.taken (before sound) in
     let variable : IsSound c.operation-2.new.self → IsVariable w.unions w.structs s = λ sound. c.requires.variable (before sound) in
-    search (rules, the_lemmas, taken, variable)
+    let room : HasRoom c.args.around.all (16 + item_room items) = c.requires.room in
+    let counted : IsCounted c.args.around = c.requires.counted in
+    search (rules, the_lemmas, room, counted, taken, variable)
 
 pub switch::lower_case-returns-clause-writes : goal.switch::lower_case-returns-clause-writes
 switch::lower_case-returns-clause-writes t c sound =
@@ -164,15 +171,13 @@ switch::lower_case-returns-clause-writes t c sound =
     let items = items_of (map item_tree c.args.items.now) in
     let inner = named_here (name_tree c.args.name.now).text s 0 ∷ outward (names_of c.args.locals.now) in
     let a = c.args.body.now in
-    let g = c.further-tag.new.self in
-    let b = c.further-test.new.self in
     let x = c.operation.new.self in
     let y = c.operation-2.new.self in
     let e = c.lower_clause-clause.new.body in
     let z = c.branch-body.new.self in
     let number = c.args.chosen.number in
-    let tag = c.further-tag.result.0 in
-    let test = c.further-test.result.0 in
+    let tag = c.behind-tag.result.0 in
+    let test = c.behind-test.result.0 in
     let clause = map statement_tree c.lower_clause-clause.result.items in
     let values = item_values w inner 1 items in
     let block : ℕ → List core.Statement = λ n.
@@ -182,22 +187,19 @@ switch::lower_case-returns-clause-writes t c sound =
     let five = c.lower_clause-clause.ensures.apart six.sound in
     let four = c.operation-2.ensures five.sound in
     let three = c.operation.ensures four.sound in
-    let two = c.further-test.ensures.stays three.sound in
-    let one = c.further-tag.ensures.stays two.sound in
-    let tag_is : tag ≡ h.all + 1 = c.further-tag.ensures.further two.sound ∙ ap (λ (n : ℕ). n + 1) c.value.ensures in
-    let test_is : test ≡ h.all + 2 = c.further-test.ensures.further three.sound ∙ ap (λ (n : ℕ). n + 2) c.value-2.ensures in
-    let same = same_same a g b one two in
-    let first = subst (λ (n : ℕ). IsEmitted b x (core.Do (core.Constant n number) ∷ [])) test_is three in
+    let tag_is : tag ≡ h.all + 1 = c.behind-tag.ensures ∙ ap (λ (n : ℕ). n + 1) c.value.ensures in
+    let test_is : test ≡ h.all + 2 = c.behind-test.ensures ∙ ap (λ (n : ℕ). n + 2) c.value-2.ensures in
+    let first = subst (λ (n : ℕ). IsEmitted a x (core.Do (core.Constant n number) ∷ [])) test_is three in
     let second =
     subst (λ (n : ℕ). IsEmitted x y (core.Do (core.Apply core.Equal (h.all + 2) n (h.all + 2)) ∷ [])) tag_is
     (subst (λ (n : ℕ). IsEmitted x y (core.Do (core.Apply core.Equal n tag n) ∷ [])) test_is four) in
-    let next : next_of y ≡ next_of a = case_next a b x y (core.Do (core.Constant (h.all + 2) number) ∷ [])
-    (core.Do (core.Apply core.Equal (h.all + 2) (h.all + 1) (h.all + 2)) ∷ []) same first second in
+    let next : next_of y ≡ next_of a = case_next a x y (core.Do (core.Constant (h.all + 2) number) ∷ [])
+    (core.Do (core.Apply core.Equal (h.all + 2) (h.all + 1) (h.all + 2)) ∷ []) first second in
     let clause_is : clause ≡ block (next_of a) = ◌∙◌ {b = block (next_of y)} (c.lower_clause-clause.ensures.part six.sound) (ap block next) in
     let plain = subst (λ xs. IsEmitted e z (core.If test (all_of clause) (all_of (map statement_tree xs)) ∷ [])) c.new.ensures.items six in
     let third =
     subst (λ ss. IsEmitted e z (core.If (h.all + 2) (all_of ss) core.NoStatements ∷ [])) clause_is
     (subst (λ (n : ℕ). IsEmitted e z (core.If n (all_of clause) core.NoStatements ∷ [])) test_is plain) in
-    case_written a b x y e z (core.Do (core.Constant (h.all + 2) number) ∷ [])
+    case_written a x y e z (core.Do (core.Constant (h.all + 2) number) ∷ [])
     (core.Do (core.Apply core.Equal (h.all + 2) (h.all + 1) (h.all + 2)) ∷ []) (core.If (h.all + 2) (all_of (block (next_of a))) core.NoStatements ∷ [])
-    values same first second five third
+    values first second five third

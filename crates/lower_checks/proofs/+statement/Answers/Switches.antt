@@ -14,7 +14,7 @@ use Rattle.cyc_tree.specs.View.{
   pattern_tree,
 }
 use Rattle.cyc_tree.specs.Tree as tree
-use Rattle.cyc_tree.specs.Tree.{BlockItems, NoClauses, MoreClauses}
+use Rattle.cyc_tree.specs.Tree.{BlockItems, Clauses, NoClauses, MoreClauses}
 use Rattle.cyc_tree.proofs.StatementForms.{switch_tree}
 use Rattle.cyc_tree.specs.declared.statement.BlockItem.TheFolds.{the_lemmas}
 use Rattle.core_meaning.specs.Core as core
@@ -36,6 +36,9 @@ use Rattle.source_lowering.specs.Programs.{
   outward,
 }
 use Rattle.source_lowering.specs.Lowerable.{AreValues, IsUnionShape, TakesClauses, TakesItems, TakesPlace, TakesStatement}
+use Rattle.source_lowering.specs.Room.{clause_room, item_room, room as room_of, statement_room}
+use Rattle.lower_checks.specs.Counted.{IsCounted}
+use Rattle.lower_checks.specs.Room.{HasRoom}
 use Rattle.lower_checks.specs.Views.{regions_tree, shape_tree}
 use Rattle.lower_checks.specs.Visible.{names_of}
 use Rattle.lower_checks.specs.Writing.{IsEmitted, IsSound, IsWritten, code_of, next_of, values_of}
@@ -49,16 +52,22 @@ statement::lower_statement-lower_switch-requires t c =
     let w = world_of c.args.program.now in
     let result = shape_tree c.args.shape.now in
     let names = names_of c.args.locals.now in
+    let around = c.args.around in
     let e = expression_tree c.in-Switch.place in
+    let clauses = clauses_of (map clause_tree c.in-Switch.clauses.items) in
     let s = static_shape w names e in
+    let is = ap source_tree c.in-Switch.is ∙ switch_tree c.in-Switch.field-0 c.in-Switch.place c.in-Switch.clauses in
     let taken : IsSound c.args.body.now → TakesPlace w names e ×
     (IsUnionShape w.unions s × TakesClauses w result names (union_parts w s) (clauses_of (map clause_tree c.deref-in-Switch.result.now))) = λ sound.
     subst
     (λ cs. TakesPlace w names e × (IsUnionShape w.unions s × TakesClauses w result names (union_parts w s) (clauses_of (map clause_tree cs))))
     (sym c.deref-in-Switch.ensures.value)
-    (subst (TakesStatement w result names)
-    (ap source_tree c.in-Switch.is ∙ switch_tree c.in-Switch.field-0 c.in-Switch.place c.in-Switch.clauses) (c.requires.taken sound)) in
-    search (rules, the_lemmas, taken)
+    (subst (TakesStatement w result names) is (c.requires.taken sound)) in
+    let both : HasRoom around.all (16 + (room_of e + clause_room clauses)) = subst (λ st. HasRoom around.all (statement_room st)) is c.requires.room in
+    let room : HasRoom around.all (16 + (room_of e + clause_room (clauses_of (map clause_tree c.deref-in-Switch.result.now)))) =
+    subst (λ cs. HasRoom around.all (16 + (room_of e + clause_room (clauses_of (map clause_tree cs))))) (sym c.deref-in-Switch.ensures.value) both in
+    let counted : IsCounted around = c.requires.counted in
+    search (rules, the_lemmas, room, counted, taken)
 
 -- a `default` behind clauses for members
 pub switch::lower_default-each-preserved : goal.switch::lower_default-each-preserved
@@ -85,6 +94,10 @@ switch::lower_default-each-preserved t c =
       taken = λ sound.
           let some = invariant.taken sound in
           (some.0, (subst (TakesClauses w result names some.0) is some.1).1.1);
+      room =
+          let both : HasRoom c.args.around.all (16 + (item_room items + clause_room others)) =
+          subst (λ (cs : Clauses). HasRoom c.args.around.all (clause_room cs)) is invariant.room in
+          omega (arith, both);
     }
 
 pub switch::lower_default-lower_block-requires : goal.switch::lower_default-lower_block-requires
@@ -106,7 +119,12 @@ switch::lower_default-lower_block-requires t c =
     let inside = (subst (TakesClauses w result names some.0) is some.1).0 in
     subst (λ (q : BlockItems). TakesItems w result (outward (names_of c.each.locals)) 0 q) items_are
     (subst (λ ms. TakesItems w result (outward (names_of ms)) 0 items) (sym c.each.invariant.locals) inside) in
-    search (rules, the_lemmas, taken)
+    let both : HasRoom c.args.around.all (16 + (item_room items + clause_room others)) =
+    subst (λ (cs : Clauses). HasRoom c.args.around.all (clause_room cs)) is c.each.invariant.room in
+    let room : HasRoom c.args.around.all (item_room its) =
+    subst (λ (q : BlockItems). HasRoom c.args.around.all (item_room q)) items_are (omega (arith, both)) in
+    let counted : IsCounted c.args.around = c.requires.counted in
+    search (rules, the_lemmas, room, counted, taken)
 
 pub switch::lower_default-returns-in-Default-clause-writes : goal.switch::lower_default-returns-in-Default-clause-writes
 switch::lower_default-returns-in-Default-clause-writes t c sound =
@@ -161,6 +179,15 @@ switch::lower_default-returns-clause-writes t c sound =
       values = ap values_of invariant.body ∙ sym (append-nil (values_of a)) ∙ ap (λ ss. values_of a ++ ss) values_are;
     }
 
+-- its place has room for the tag behind it
+pub switch::lower_switch-lower_union_place-members-requires : goal.switch::lower_switch-lower_union_place-members-requires
+switch::lower_switch-lower_union_place-members-requires t c = record {
+  room = omega (arith, c.requires.room, c.value.ensures);
+  taken = λ sound.
+      let taken = c.requires.taken (sym c.begin-outer.ensures.begun.failed ∙ sound) in
+      (taken.0, taken.1.0);
+}
+
 -- the members are those of the union that is switched on
 pub switch::lower_switch-lower_cases-requires : goal.switch::lower_switch-lower_cases-requires
 switch::lower_switch-lower_cases-requires t c =
@@ -177,7 +204,10 @@ switch::lower_switch-lower_cases-requires t c =
     subst (λ (ps : List Part). TakesClauses w result names ps clauses) (sym members_are) (c.requires.taken first).1.1 in
     let values : IsSound c.lower_union_place-members.new.body → AreValues (part_shapes found) = λ sound.
     subst (λ r. IfSome r (λ ms. AreValues (part_shapes (map part_of (map member_tree ms.now))))) c.in-Some.is (place.ensures.values sound) in
-    search (rules, the_lemmas, taken, values)
+    let all_is : c.in_switch-inside.result.all ≡ c.args.around.all = c.in_switch-inside.ensures.all in
+    let room : HasRoom c.in_switch-inside.result.all (clause_room clauses) = omega (arith, all_is, c.requires.room) in
+    let counted : IsCounted c.in_switch-inside.result = c.in_switch-inside.ensures.counted in
+    search (rules, the_lemmas, room, counted, taken, values)
 
 pub switch::lower_switch-returns-clause-writes : goal.switch::lower_switch-returns-clause-writes
 switch::lower_switch-returns-clause-writes t c sound =
@@ -203,7 +233,7 @@ switch::lower_switch-returns-clause-writes t c sound =
     let q = case_values w names parts clauses in
     let r = default_values w names clauses in
     let place = c.lower_union_place-members in
-    let inside_is = c.in_switch-inside.ensures c.args.opened.now in
+    let inside_is = c.in_switch-inside.ensures.regions c.args.opened.now in
     let to_is : c.value.result.0 ≡ d = c.value.ensures in
     let ended = c.end-all.ensures.ended in
     let begun = c.begin-outer.ensures.begun in
@@ -262,4 +292,7 @@ switch::lower_switch-lower_default-requires t c =
     let both = joined sound in
     let first = sym c.begin-outer.ensures.begun.failed ∙ (c.lower_union_place-members.ensures.writes both.1).sound in
     (parts, subst (λ ms. TakesClauses w result (names_of ms) parts clauses) (sym both.0) (c.requires.taken first).1.1) in
-    search (rules, the_lemmas, taken)
+    let all_is : c.in_switch-inside.result.all ≡ c.args.around.all = c.in_switch-inside.ensures.all in
+    let room : HasRoom c.in_switch-inside.result.all (clause_room clauses) = omega (arith, all_is, c.requires.room) in
+    let counted : IsCounted c.in_switch-inside.result = c.in_switch-inside.ensures.counted in
+    search (rules, the_lemmas, room, counted, taken)

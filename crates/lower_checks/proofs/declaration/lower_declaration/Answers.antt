@@ -1,12 +1,14 @@
-use Rattle.std.proofs.Common.{◌≡◌, ◌<◌, ◌^◌, rules, arith, sym, ap, subst}
+use Rattle.std.proofs.Common.{◌≡◌, ◌+◌, ◌<◌, ◌^◌, rules, arith, sym, ap, subst}
 use Rattle.cyc_tree.specs.Tree.{Declaration, Initializer}
 use Rattle.cyc_tree.specs.View.{declaration_tree, expression_tree, initializer_tree, type_tree}
 use Rattle.source_meaning.specs.Shapes.{Shape, settled, settled_by, written}
 use Rattle.source_lowering.specs.Lowered.{static_shape}
 use Rattle.source_lowering.specs.Programs.{object_shape}
 use Rattle.source_lowering.specs.Lowerable.{IsObject, IsVariable, TakesDeclaration, TakesInitializer, TakesValue}
+use Rattle.source_lowering.specs.Room.{declaration_room, initializer_room, room}
 use Rattle.source_lowering.proofs.memory.ObjectShapes.{object_named}
 use Rattle.source_lowering.proofs.statements.WrittenTypes.{object_by, object_settled}
+use Rattle.lower_checks.specs.Room.{HasRoom}
 use Rattle.lower_checks.specs.Scoped.{names_in, world_in}
 use Rattle.lower_checks.specs.Views.{shape_tree}
 use Rattle.lower_checks.proofs.declaration.lower_declaration.Goals as goal
@@ -36,6 +38,14 @@ lower_unset-requires-in-Local-default-default-Array c = record {
 
 pub lower_set-requires : goal.lower_set-requires
 lower_set-requires c = record {
+  room =
+      let to = c.args.to.0 in
+      let e = expression_tree c.in-Local-default-default-Value.value in
+      let asked = subst (λ (d : Declaration). HasRoom to (declaration_room d)) (ap declaration_tree c.in-Local-default-default-Value.is) c.requires.room in
+      let initial = rw c.in-Local-default-default-Value.is at c.in-Local-default-default-Value.field-2-is in
+      let here : HasRoom to (16 + room e) = subst (λ (i : Initializer). HasRoom to (16 + initializer_room i)) (ap initializer_tree initial) asked in
+      let roomy : HasRoom to (3 + room e) = omega (arith, here) in
+      rw c.in-Local-default-default-Value.field-2-is roomy;
   taken = λ sound.
       let w = world_in c.args.scope.now in
       let names = names_in c.args.scope.now in

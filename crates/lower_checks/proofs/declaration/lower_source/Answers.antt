@@ -8,6 +8,7 @@ use Rattle.lower_checks.proofs.declaration.lower_source.Goals as goal
 -- what isn't made is named
 pub lower_place-requires : goal.lower_place-requires
 lower_place-requires c = record {
+  room = c.requires.room;
   taken = λ sound.
       let w = world_in c.args.scope.now in
       let names = names_in c.args.scope.now in

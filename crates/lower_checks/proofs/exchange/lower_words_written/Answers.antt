@@ -8,6 +8,5 @@ each-preserved c sound =
     let t = c.args.from.0 in
     let p = c.args.pointer.0 in
     let done = c.operation.ensures sound in
-    let stays = c.further-at.ensures.stays done.sound in
-    written_more c.args.body.now c.each.body c.further-at.new.self c.operation.new.self (words_written c.args.words 0 p t) c.args.words c.each.word p t
-    c.further-at.result.0 (distance_tree c.held_part.result) c.each-test.true (c.further-at.ensures.further done.sound) c.held_part.ensures (c.each.invariant stays.sound) stays done
+    written_more c.args.body.now c.each.body c.operation.new.self (words_written c.args.words 0 p t) c.args.words c.each.word p t
+    c.behind-at.result.0 (distance_tree c.held_part.result) c.each-test.true c.behind-at.ensures c.held_part.ensures (c.each.invariant done.sound) done

@@ -1,5 +1,6 @@
-use Rattle.std.proofs.Common.{◌≡◌, ◌∙◌, ℕ, sym, ap, subst, ◌++◌, [], List, length, map}
+use Rattle.std.proofs.Common.{◌≡◌, ◌∙◌, ◌+◌, ◌*◌, ℕ, arith, sym, ap, subst, ◌++◌, [], List, length, map}
 use Rattle.std.proofs.lemmas.List.{length-map}
+use Rattle.cyc_tree.specs.Tree.{BlockItems}
 use Rattle.cyc_tree.specs.View.{item_tree, items_of, member_tree, function_tree as source_tree}
 use Rattle.cyc_core.specs.Trees.{statement_tree}
 use Rattle.source_meaning.specs.Shapes.{Shape, part_of, part_shapes}
@@ -8,6 +9,8 @@ use Rattle.source_lowering.specs.Lowered.{Named}
 use Rattle.source_lowering.specs.Programs.{RegionsAround, no_regions, block_shapes, locals_of, parameter_names, parameters_code, item_values, items_code, end_code}
 use Rattle.source_lowering.specs.Lowerable.{TakesItems}
 use Rattle.source_lowering.specs.Objects.{AreVariables}
+use Rattle.source_lowering.specs.Room.{item_room}
+use Rattle.lower_checks.specs.Room.{HasRoom}
 use Rattle.lower_checks.specs.Views.{regions_tree, shape_tree, stored_tree}
 use Rattle.lower_checks.specs.Visible.{names_of}
 use Rattle.lower_checks.specs.Writing.{code_of, next_of, values_of}
@@ -16,9 +19,25 @@ use Rattle.lower_checks.proofs.Taken.{parameter_variables}
 use Rattle.lower_checks.proofs.Bodies.{all_parameters, as_many_shapes, body_shapes, inside_of, body_of}
 use Rattle.lower_checks.proofs.function.lower_body.Goals as goal
 
+-- its parameters have the room that they ask for
+pub lower_parameters-requires : goal.lower_parameters-requires
+lower_parameters-requires c =
+    let f = source_tree c.args.function.now in
+    let room : HasRoom 0 (16 + (3 * length f.parameters + item_room f.body)) = c.requires.room in
+    let as_many : length c.deref.result.now ≡ length f.parameters =
+    ap length c.deref.ensures.value ∙ sym (length-map c.args.function.now.parameters.items member_tree) in
+    record { room = omega (arith, room, as_many) }
+
 -- its items are taken, by what its parameters are
 pub lower_items-requires : goal.lower_items-requires
 lower_items-requires c = record {
+  room =
+      let f = source_tree c.args.function.now in
+      let all_is : c.none.result.all ≡ 0 = ap (λ (h : RegionsAround). h.all) c.none.ensures.none in
+      let items_are : items_of (map item_tree c.deref-2.result.now) ≡ f.body = ap (λ bs. items_of (map item_tree bs)) c.deref-2.ensures.value in
+      let room : HasRoom 0 (16 + (3 * length f.parameters + item_room f.body)) = c.requires.room in
+      subst (λ (is : BlockItems). HasRoom c.none.result.all (item_room is)) (sym items_are) (omega (arith, room, all_is));
+  counted = c.none.ensures.counted;
   taken = λ sound.
       let w = world_of c.args.program.now in
       let f = source_tree c.args.function.now in
@@ -120,7 +139,7 @@ returns-clause-code c sound =
     ∙ ap (λ (k : ℕ). parameters_code f.parameters 0 0 k) c.requires.words in
     let regions = regions_tree c.none.result c.deref-3.result.now in
     let regions_are : regions ≡ no_regions =
-    ap (λ os. regions_tree c.none.result os) (c.deref-3.ensures.value ∙ c.new-opened.ensures.items) ∙ c.none.ensures in
+    ap (λ os. regions_tree c.none.result os) (c.deref-3.ensures.value ∙ c.new-opened.ensures.items) ∙ c.none.ensures.none in
     let none_owned : next_of p ≡ 0 = ap (λ own. length own.items) two.own ∙ ap length c.new-body.ensures.own in
     let inside_is : inside ≡ first ++ items_code w f.result names no_regions (length taken) 0 f.body =
     c.end-inside.ensures.part ∙ three.code

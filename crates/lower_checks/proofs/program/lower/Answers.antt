@@ -4,7 +4,9 @@ use Rattle.cyc_tree.specs.Tree as tree
 use Rattle.source_meaning.specs.Programs.{unions_of}
 use Rattle.source_lowering.specs.Programs.{program_code}
 use Rattle.source_lowering.specs.Lowerable.{HaveFewMembers, IsLowerable}
+use Rattle.lower_checks.specs.Roomy.{AreRoomy}
 use Rattle.accepted_proof.proofs.Joined.{lowerable}
+use Rattle.lower_checks.proofs.Roomy.{are_roomy}
 use Rattle.lower_checks.proofs.Promised.{is_lowering}
 use Rattle.lower_checks.proofs.program.lower.Goals as goal
 
@@ -12,6 +14,7 @@ pub lower_tree-requires : goal.lower_tree-requires
 lower_tree-requires c =
     let few = subst (λ (p : tree.Program). HaveFewMembers (unions_of p)) (c.items.ensures.same ∙ c.program-program.ensures.same) c.in_default.ensures.few in
     record {
+      room = subst AreRoomy (sym c.program-program.ensures.same) (are_roomy c.args.checked.now c.requires.room);
       taken = subst IsLowerable (sym c.program-program.ensures.same) (lowerable c.args.checked.now c.program-program.ensures.accepted few);
     }
 

@@ -1,18 +1,24 @@
-use Rattle.std.proofs.Common.{◌≡◌, ◌∙◌, ◌+◌, sym, ap, subst, [], ◌∷◌, ◌++◌, length, map, append-nil}
+use Rattle.std.proofs.Common.{◌≡◌, ◌∙◌, ◌+◌, arith, sym, ap, subst, [], ◌∷◌, ◌++◌, length, map, append-nil}
 use Rattle.cyc_tree.specs.View.{expression_tree, name_tree, statement_tree as source_tree}
 use Rattle.cyc_tree.proofs.StatementForms.{exchange_tree, free_key_tree, free_unique_tree}
 use Rattle.core_meaning.specs.Core as core
 use Rattle.source_lowering.specs.Lowered.{expression_values, get_code, place_code, static_shape}
 use Rattle.source_lowering.specs.Programs.{exchange_code, statement_code, statement_values, unique_free}
 use Rattle.source_lowering.specs.Lowerable.{TakesStatement}
+use Rattle.source_lowering.specs.Room.{statement_room}
+use Rattle.lower_checks.specs.Room.{HasRoom}
 use Rattle.lower_checks.specs.Scoped.{names_in, world_in}
 use Rattle.lower_checks.specs.Views.{regions_tree, shape_tree}
 use Rattle.lower_checks.specs.Writing.{IsEmitted, IsWritten, next_of, values_of}
+use Rattle.lower_checks.proofs.Phrases.{statement_least}
 use Rattle.lower_checks.proofs.simple.lower_simple.Goals as goal
 
 -- an exchange, whose places are taken
 pub lower_exchange-requires : goal.lower_exchange-requires
 lower_exchange-requires c = record {
+  room = let asked = subst (λ s. HasRoom c.args.around.all (statement_room s))
+      (ap source_tree c.in-Exchange.is ∙ exchange_tree c.in-Exchange.left c.in-Exchange.right) c.requires.room in
+      omega (arith, c.value-to.ensures, asked);
   taken = λ sound.
       subst (TakesStatement (world_in c.args.scope.now) (shape_tree c.args.shape.now) (names_in c.args.scope.now))
       (ap source_tree c.in-Exchange.is ∙ exchange_tree c.in-Exchange.left c.in-Exchange.right) (c.requires.taken sound);
@@ -38,6 +44,12 @@ returns-in-Exchange c sound =
     (expression_values w names left ++ expression_values w names right)) to_is (c.lower_exchange.ensures.writes sound) in
     subst (λ s. IsWritten a z (statement_code w result names h own s) (statement_values w names s))
     (sym (ap source_tree c.in-Exchange.is ∙ exchange_tree c.in-Exchange.left c.in-Exchange.right)) done
+
+pub lower_free-requires : goal.lower_free-requires
+lower_free-requires c = omega (arith, c.value-to.ensures, c.requires.room, statement_least (source_tree c.args.statement.now))
+
+pub lower_free_key-requires : goal.lower_free_key-requires
+lower_free_key-requires c = omega (arith, c.value-to.ensures, c.requires.room, statement_least (source_tree c.args.statement.now))
 
 -- a unique pointer that is freed
 pub returns-in-FreeUnique : goal.returns-in-FreeUnique

@@ -12,8 +12,7 @@ pub returns-in-Some-clause-members : goal.returns-in-Some-clause-members
 returns-in-Some-clause-members c sound =
     let w = world_in c.args.scope.now in
     let s = static_shape w (names_in c.args.scope.now) (expression_tree c.args.place.now) in
-    let three = c.lower_tag.ensures sound in
-    let two = c.further-tag.ensures.stays three.sound in
+    let two = c.lower_tag.ensures sound in
     let shape_is : shape_tree c.lower_place-shape.result ≡ s = c.lower_place-shape.ensures.shape two.sound in
     let found : union_by w.unions s ≡ Some (union_tree c.in-Some.known) =
     ap (union_by w.unions) (sym shape_is) ∙ sym c.union_at.ensures.found ∙ ap (option_map union_tree) c.in-Some.is in
@@ -24,8 +23,7 @@ pub returns-in-None-clause-found : goal.returns-in-None-clause-found
 returns-in-None-clause-found c sound =
     let w = world_in c.args.scope.now in
     let s = static_shape w (names_in c.args.scope.now) (expression_tree c.args.place.now) in
-    let three = c.lower_tag.ensures sound in
-    let two = c.further-tag.ensures.stays three.sound in
+    let two = c.lower_tag.ensures sound in
     let one = c.lower_place-shape.ensures.writes two.sound in
     let shape_is : shape_tree c.lower_place-shape.result ≡ s = c.lower_place-shape.ensures.shape two.sound in
     let none : union_by w.unions s ≡ None = ap (union_by w.unions) (sym shape_is) ∙ sym c.union_at.ensures.found ∙ ap (option_map union_tree) c.in-None.is in

@@ -1,4 +1,4 @@
-use Rattle.std.proofs.Common.{◌∙◌, suc, arith, ap, [], ◌∷◌}
+use Rattle.std.proofs.Common.{◌∙◌, ◌+◌, suc, arith, ap, [], ◌∷◌}
 use Rattle.std.proofs.lemmas.List.{reverse-append}
 use Rattle.std.specs.Prelude.{reverse}
 use Rattle.lower_checks.proofs.Items.{same_regions}
@@ -9,10 +9,6 @@ pub returns-clause-regions : goal.returns-clause-regions
 returns-clause-regions c sound =
     let h = c.args.self in
     let before = c.args.opened.now.items in
-    let four = c.sum-continued.ensures.stays sound in
-    let three = c.sum-broken.ensures.stays four.sound in
-    let two = c.sum-all.ensures.stays three.sound in
-    same_regions c.sum-all.result (suc h.all) c.sum-broken.result (suc h.broken) c.sum-continued.result (suc h.continued)
-    (reverse c.note_opened.new.opened.items) (c.args.by_key ∷ reverse before) (omega (arith, c.sum-all.ensures.sum three.sound))
-    (omega (arith, c.sum-broken.ensures.sum four.sound)) (omega (arith, c.sum-continued.ensures.sum sound))
-    (ap reverse (c.note_opened.ensures.noted two.sound) ∙ reverse-append before (c.args.by_key ∷ []))
+    same_regions (h.all + 1) (suc h.all) (h.broken + 1) (suc h.broken) (h.continued + 1) (suc h.continued)
+    (reverse c.note_opened.new.opened.items) (c.args.by_key ∷ reverse before) (omega arith) (omega arith) (omega arith)
+    (ap reverse (c.note_opened.ensures.noted sound) ∙ reverse-append before (c.args.by_key ∷ []))

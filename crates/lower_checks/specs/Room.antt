@@ -1,0 +1,6 @@
+-- Numbers of temporaries are words: a phrase is lowered where so many are left behind its first one as source_lowering's Room counts for it.
+use Rattle.std.specs.Prelude.{ℕ, ◌+◌, ◌<◌, ◌^◌}
+
+-- so many temporaries are left behind one
+abbrev pub HasRoom : (temporary many : ℕ) → Type 0
+HasRoom temporary many = temporary + many < 2 ^ 32

@@ -9,7 +9,11 @@ use rv32_select::{Labelled, select};
 use std::alloc::{AllocError, Global};
 
 /// Writes the homes of a function in one line: its number, and of each of its locals in the order of the text the register's number, or 0.
-fn write_homes(written: &mut String, labelled: &Labelled, function: u32) -> Result<(), AllocError> {
+fn write_homes(
+    written: &mut String,
+    labelled: &Labelled,
+    function: usize,
+) -> Result<(), AllocError> {
     write!(written, "{function}:")?;
     for home in labelled.homes(function) {
         write!(written, " {home}")?;
@@ -18,7 +22,7 @@ fn write_homes(written: &mut String, labelled: &Labelled, function: u32) -> Resu
 }
 
 /// The homes of so many functions, in a line each.
-fn lines_of(alloc: Global, labelled: &Labelled, functions: u32) -> Result<Found, AllocError> {
+fn lines_of(alloc: Global, labelled: &Labelled, functions: usize) -> Result<Found, AllocError> {
     let mut written = String::new(alloc);
     for function in 0..functions {
         write_homes(&mut written, labelled, function)?;
@@ -30,12 +34,12 @@ fn lines_of(alloc: Global, labelled: &Labelled, functions: u32) -> Result<Found,
 
 /// The homes of each function of a program, and of the one behind them, which there isn't. None where the program has no `main`.
 fn program_homes(alloc: Global, program: &Program) -> Result<Found, AllocError> {
-    if program.functions.len() <= program.main as usize {
+    if program.functions.len() <= program.main {
         return Ok(Found::nothing(alloc, REFUSED));
     }
     let labelled = select(alloc, program)?;
-    let functions = u32::try_from(program.functions.len()).unwrap_or(u32::MAX);
-    lines_of(alloc, &labelled, functions.saturating_add(1))
+    let functions = program.functions.len().saturating_add(1);
+    lines_of(alloc, &labelled, functions)
 }
 
 /// The homes of each function of a source, and of the one behind them. None of a source that is refused, for which `cycc check` has the reason.

@@ -31,7 +31,7 @@ pub fn position_of(blocks: &VecDeque<Block>, number: u64) -> Option<usize>
 }
 
 /// A cell of an object of the one that stands there.
-pub fn slot_at(blocks: &VecDeque<Block>, position: usize, index: u32, cell: u64) -> Option<Slot>
+pub fn slot_at(blocks: &VecDeque<Block>, position: usize, index: usize, cell: u64) -> Option<Slot>
     ensures { result ≡ slot_through (map activation_of blocks.now.items) (Some position) index cell }
 {
     match blocks.get(position) {
@@ -41,7 +41,7 @@ pub fn slot_at(blocks: &VecDeque<Block>, position: usize, index: u32, cell: u64)
 }
 
 /// A cell of an object of the one with this number.
-pub fn slot_by(blocks: &VecDeque<Block>, number: u64, index: u32, cell: u64) -> Option<Slot>
+pub fn slot_by(blocks: &VecDeque<Block>, number: u64, index: usize, cell: u64) -> Option<Slot>
     ensures { (bound : ℕ) → Descends bound (map activation_of blocks.now.items)
         → result ≡ slot_through (map activation_of blocks.now.items) (position_of (map activation_of blocks.now.items) number) index cell }
 {
@@ -56,7 +56,7 @@ pub fn slot_by(blocks: &VecDeque<Block>, number: u64, index: u32, cell: u64) -> 
 pub fn set_at(
     blocks: &mut VecDeque<Block>,
     position: usize,
-    index: u32,
+    index: usize,
     cell: u64,
     byte: u64,
     part: u32,
@@ -78,7 +78,7 @@ pub fn set_at(
 pub fn set_by(
     blocks: &mut VecDeque<Block>,
     number: u64,
-    index: u32,
+    index: usize,
     cell: u64,
     byte: u64,
     part: u32,
@@ -101,7 +101,7 @@ pub fn set_by(
 fn fill_at(
     blocks: &mut VecDeque<Block>,
     position: usize,
-    index: u32,
+    index: usize,
     cell: u64,
     values: &[Held],
 ) -> Result<(), AllocError>
@@ -119,7 +119,7 @@ fn fill_at(
 pub fn fill_by(
     blocks: &mut VecDeque<Block>,
     number: u64,
-    index: u32,
+    index: usize,
     cell: u64,
     values: &[Held],
 ) -> Result<(), AllocError>

@@ -19,11 +19,11 @@ use std::mem;
 
 /// The function with this number.
 #[tactic(auto, using(crate::proofs::Calls::function_at, crate::proofs::Calls::no_function))]
-fn function_at<'p>(functions: &'p [Function], number: u32) -> Option<&'p Function>
+fn function_at<'p>(functions: &'p [Function], number: usize) -> Option<&'p Function>
     ensures some { IfSome result (λ f. slice_get (map function_tree functions.entry.now) number ≡ Some (function_tree f.now)) }
     ensures none { IfNone result (slice_get (map function_tree functions.entry.now) number ≡ None) }
 {
-    functions.get(number as usize)
+    functions.get(number)
 }
 
 /// The move of a call whose unit is paid: the callee's statements are next, and the caller waits.
@@ -31,7 +31,7 @@ pub fn enter_call<'p>(
     alloc: Global,
     functions: &'p [Function],
     to: Option<Words>,
-    function: u32,
+    function: usize,
     arguments: Vec<Value>,
     stack: &mut Vec<Pending<'p>>,
     frame: &mut Frame,

@@ -145,8 +145,8 @@ fn enter_breakable<'p>(
 }
 
 /// The first move of a statement. Fails only where an operation does, no host memory is left, 2^64 - 1 blocks were entered, there would be a
-/// cell with a number over 2^64 - 1, an object would have a cell behind 2^32 - 1 bytes, a region 2^32 blocks and one more, a pointer or a
-/// handle would be a count or an index, or a cell would be copied or cleared that may have a pointer in another part.
+/// cell with a number over 2^64 - 1, an object would have a cell behind 2^32 - 1 bytes, a pointer or a handle would be a count or an index,
+/// or a cell would be copied or cleared that may have a pointer in another part.
 pub fn enter_statement<'p>(
     alloc: Global,
     statement: &'p Statement,

@@ -133,11 +133,11 @@ impl Memory {
     }
 
     /// Where the block so many out stands among the blocks, for a function outside of which there are so many.
-    fn own_position(&self, base: usize, out: u32) -> Option<usize>
+    fn own_position(&self, base: usize, out: usize) -> Option<usize>
         ensures { result ≡ own_position base (map activation_of self.now.blocks.items) out }
     {
         match self.blocks.len().checked_sub(base) {
-            Some(own) if (out as usize) < own => Some(out as usize),
+            Some(own) if out < own => Some(out),
             _ => None,
         }
     }
@@ -176,7 +176,7 @@ impl Memory {
     }
 
     /// A pointer to an unnamed value of the innermost function, if there is one.
-    pub fn own_address(&self, index: u32) -> Option<Value>
+    pub fn own_address(&self, index: usize) -> Option<Value>
         ensures { result ≡ own_address (map activation_of self.now.owns.items) index }
     {
         match self.owns.get(0) {
@@ -191,7 +191,7 @@ impl Memory {
     }
 
     /// A cell of an object of an area, if there is one.
-    pub fn slot(&self, area: Area, object: u32, cell: u64) -> Option<Slot>
+    pub fn slot(&self, area: Area, object: usize, cell: u64) -> Option<Slot>
         ensures { AreOrdered self.now → result ≡ slot_in (stored_of self.now) area object cell }
     {
         match area {

@@ -132,7 +132,7 @@ fn text_cells(alloc: Global, bytes: &[u8]) -> Result<Vec<Slot>, AllocError>
 }
 
 /// A pointer to the first element of the global or string of a number.
-fn first_element(object: u32) -> Value
+fn first_element(object: usize) -> Value
     ensures { result ≡ first_element object }
 {
     Value::Pointer(Place {

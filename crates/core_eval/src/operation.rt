@@ -65,7 +65,11 @@ fn compute<'p>(
 }
 
 /// Gives a temporary a pointer to a global.
-fn global_address<'p>(frame: &mut Frame, to: Temporary, object: u32) -> Result<Due<'p>, AllocError>
+fn global_address<'p>(
+    frame: &mut Frame,
+    to: Temporary,
+    object: usize,
+) -> Result<Due<'p>, AllocError>
     ensures { IfOk result (λ due. (ws : List Wait) (memory : TheMemory) →
         IsMove (Execute (core.Do (core.DataAddress to.0 object))) ws (known_of frame.old memory) (next_of due) ws (known_of frame.new memory)) }
 {
@@ -100,7 +104,7 @@ fn own_address<'p>(
     frame: &mut Frame,
     memory: &Memory,
     to: Temporary,
-    object: u32,
+    object: usize,
 ) -> Result<Due<'p>, AllocError>
     ensures { IfOk result (λ due. (ws : List Wait) →
         IsMove (Execute (core.Do (core.OwnAddress to.0 object))) ws (known_of frame.old memory.now) (next_of due) ws (known_of frame.new memory.now)) }

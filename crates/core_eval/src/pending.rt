@@ -47,7 +47,7 @@ pub enum Pending<'p> {
     /// A statement that a `Break` in its body ends, for the end of that body.
     Breakable,
     /// The caller of the function with this number: the temporaries that get the result, and what the caller had.
-    Caller(Option<Words>, u32, Frame),
+    Caller(Option<Words>, usize, Frame),
 }
 
 /// What a move leads to: another one, a unit of fuel that is due, or the end.
@@ -61,7 +61,7 @@ pub enum Due<'p> {
     /// A unit for a turn of a loop.
     Turn(&'p [Statement], Temporary, &'p [Statement]),
     /// A unit for a call: the temporaries that get the result, the function's number, and what it is passed.
-    Call(Option<Words>, u32, Vec<Value>),
+    Call(Option<Words>, usize, Vec<Value>),
     /// The end of the program, with its status.
     Over(u32),
     /// The end of the program, with an exception.

@@ -73,23 +73,20 @@ pub enum Region {
 }
 
 /// A block more, of so many elements of a layout, which hold nothing as yet: how many there were before. Fails only where no host memory
-/// is left, the block would have a cell behind 2^32 - 1 bytes, or there would be 2^32 blocks and one more.
+/// is left, or the block would have a cell behind 2^32 - 1 bytes.
 pub fn push_block(
     alloc: Global,
     objects: &mut Vec<Object>,
     layout: &Layout,
     count: u32,
-) -> Result<u32, AllocError>
+) -> Result<usize, AllocError>
     ensures number { IfOk result (λ before. before ≡ length objects.old.items) }
     ensures objects { OnOk result (map cells_of objects.new.items ≡ map cells_of objects.old.items ++ block_cells false layout.now count ∷ []) }
 {
     let before = objects.len();
-    if before > u32::MAX as usize {
-        return Err(AllocError);
-    }
     let slots = block_cells(alloc, false, layout, count)?;
     objects.push(Object::Whole(slots))?;
-    Ok(before as u32)
+    Ok(before)
 }
 
 impl Region {
@@ -97,7 +94,7 @@ impl Region {
     /// answers whether there is.
     fn put(
         &mut self,
-        index: u32,
+        index: usize,
         cell: u64,
         byte: u64,
         part: u32,
@@ -117,7 +114,7 @@ impl Region {
 
     /// The cells of a block get these values, from one on, if it isn't freed. Fails only where there would be a cell with a number over
     /// 2^64 - 1.
-    fn fill(&mut self, index: u32, cell: u64, values: &[Held]) -> Result<(), AllocError>
+    fn fill(&mut self, index: usize, cell: u64, values: &[Held]) -> Result<(), AllocError>
         ensures { OnOk result (held_region self.new ≡ fill_held index cell values.now (held_region self.old)) }
     {
         match self {
@@ -152,7 +149,7 @@ impl Region {
         alloc: Global,
         layout: &Layout,
         count: u32,
-    ) -> Result<Option<u32>, AllocError>
+    ) -> Result<Option<usize>, AllocError>
         ensures number { IfOk result (λ before. before ≡ option_map length (open_objects (held_region self.old))) }
         ensures held { OnOk result (held_region self.new ≡ grown_held (block_cells false layout.now count) (held_region self.old)) }
     {
@@ -170,7 +167,7 @@ impl Region {
 }
 
 /// A cell of a block of the region with this number.
-pub fn slot_of(regions: &[Region], number: u64, index: u32, cell: u64) -> Option<Slot>
+pub fn slot_of(regions: &[Region], number: u64, index: usize, cell: u64) -> Option<Slot>
     ensures { result ≡ slot_within (live_at (map held_region regions.now) number) index cell }
 {
     match regions.get(number as usize) {
@@ -196,7 +193,7 @@ pub fn is_held(regions: &[Region], number: u64) -> bool
 pub fn put_to(
     regions: &mut Vec<Region>,
     number: u64,
-    index: u32,
+    index: usize,
     cell: u64,
     byte: u64,
     part: u32,
@@ -218,7 +215,7 @@ pub fn put_to(
 pub fn fill_to(
     regions: &mut Vec<Region>,
     number: u64,
-    index: u32,
+    index: usize,
     cell: u64,
     values: &[Held],
 ) -> Result<(), AllocError>
@@ -250,7 +247,7 @@ pub fn allocate(
     number: u64,
     layout: &Layout,
     count: u32,
-) -> Result<Option<u32>, AllocError>
+) -> Result<Option<usize>, AllocError>
     ensures number { IfOk result (λ before. before ≡ option_map length (live_at (map held_region regions.old.items) number)) }
     ensures regions { OnOk result (map held_region regions.new.items
         ≡ grown_region (map held_region regions.old.items) number (block_cells false layout.now count)) }

@@ -28,7 +28,7 @@ pub struct Place {
     /// What has the object.
     pub area: Area,
     /// The number of the object there.
-    pub object: u32,
+    pub object: usize,
     /// How many bytes of the object lie before.
     pub byte: u32,
     /// The number of the cell in the object.
@@ -173,10 +173,10 @@ fn fitted(width: Width, value: Value) -> Value
 }
 
 /// The cell of the object with this number, if there is one.
-pub fn slot_in(objects: &[Object], index: u32, cell: u64) -> Option<Slot>
+pub fn slot_in(objects: &[Object], index: usize, cell: u64) -> Option<Slot>
     ensures { result ≡ slot_at (map cells_of objects.now) index cell }
 {
-    match objects.get(index as usize) {
+    match objects.get(index) {
         Some(object) => object.slot(cell),
         None => None,
     }
@@ -221,7 +221,7 @@ pub fn value_of(slot: Option<Slot>, byte: u64, part: u32, width: Width) -> Optio
 /// answers whether there is.
 pub fn put_in(
     objects: &mut Vec<Object>,
-    index: u32,
+    index: usize,
     cell: u64,
     byte: u64,
     part: u32,
@@ -232,7 +232,7 @@ pub fn put_in(
         ≡ (if result then Some (map cells_of objects.new.items) else None) }
     ensures kept { result ≡ false → objects.new.items ≡ objects.old.items }
 {
-    match objects.get_mut(index as usize) {
+    match objects.get_mut(index) {
         Some(object) => object.put(cell, byte, part, width, value),
         None => false,
     }
@@ -242,13 +242,13 @@ pub fn put_in(
 /// 2^64 - 1.
 pub fn fill_in(
     objects: &mut Vec<Object>,
-    index: u32,
+    index: usize,
     cell: u64,
     values: &[Held],
 ) -> Result<(), AllocError>
     ensures { OnOk result (map cells_of objects.new.items ≡ fill_in (map cells_of objects.old.items) index cell values.now) }
 {
-    match objects.get_mut(index as usize) {
+    match objects.get_mut(index) {
         Some(object) => object.fill(cell, values),
         None => Ok(()),
     }

@@ -11,9 +11,9 @@ pub struct Temporary(pub u32);
 #[derive(Clone, Copy)]
 pub struct Variable {
     /// How many blocks out the local's block is; 0 is the innermost one.
-    pub out: u32,
+    pub out: usize,
     /// The number of the local in its block, from 0 on.
-    pub index: u32,
+    pub index: usize,
 }
 
 /// How wide a local, a global or a part of an object is.
@@ -169,17 +169,17 @@ pub enum Operation {
     /// The temporary gets a pointer to the local.
     LocalAddress(Temporary, Variable),
     /// The temporary gets a pointer to the function's unnamed value with this number.
-    OwnAddress(Temporary, u32),
+    OwnAddress(Temporary, usize),
     /// The temporary gets a pointer to the global with this number.
-    DataAddress(Temporary, u32),
+    DataAddress(Temporary, usize),
     /// The temporary gets what the local holds.
     Get(Temporary, Variable, Width),
     /// The local gets what the temporary holds, or the lowest byte of its word.
     Put(Variable, Width, Temporary),
     /// The first temporary gets a pointer that leads so many cells and so many bytes further than the second one's.
     Offset(Temporary, Temporary, u32, u32),
-    /// The first temporary gets a pointer to that element which the third's word says, from the element on to which the second one's pointer leads. An element has
-    /// so many cells and so many bytes.
+    /// The first temporary gets a pointer to that element which the third's word says, from the element on to which the second one's pointer leads. An
+    /// element has so many cells and so many bytes.
     Element(Temporary, Temporary, Temporary, u32, u32),
     /// The first temporary gets the part at the distance from where the second points.
     Load(Temporary, Temporary, Distance),

@@ -15,7 +15,7 @@ pub struct Function {
     pub passed: u32,
     /// The numbers of its locals that have a home in a register before others, where they may have one: each block's are numbered before those of
     /// blocks within it. No number need be there.
-    pub order: Vec<u32>,
+    pub order: Vec<usize>,
     /// Its unnamed values, which hold nothing when it is called; `OwnAddress` names one by its number in this list.
     pub own: Vec<Local>,
     /// What it does.
@@ -34,9 +34,9 @@ pub enum Datum {
     /// A string: its bytes, and a final 0 behind them.
     Text(Vec<u8>),
     /// A pointer to the first element of the global or string of a number.
-    Address(u32),
+    Address(usize),
     /// A fat pointer to the first element of the global or string of a number, with so many elements.
-    Bounds(u32, u32),
+    Bounds(usize, u32),
     /// An object of so many elements of a layout, which begins as the layout's cells do: numbers with 0, pointers with NULL.
     Whole(Rc<Layout>, u32),
 }
@@ -47,7 +47,7 @@ pub struct Program {
     /// Its functions; a call names one by its number in this list.
     pub functions: Vec<Function>,
     /// The number of the function that is run.
-    pub main: u32,
+    pub main: usize,
     /// Its globals, and behind them its strings; `DataAddress` names one by its number in this list.
     pub globals: Vec<Datum>,
 }

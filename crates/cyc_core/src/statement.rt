@@ -33,7 +33,7 @@ pub enum Statement {
     /// The innermost loop goes on with its test.
     Continue,
     /// The function with this number is called with what the last temporaries hold, and the first ones get its result, if it has one.
-    Call(Option<Words>, u32, Vec<Temporary>),
+    Call(Option<Words>, usize, Vec<Temporary>),
     /// The function returns, with what the temporaries hold if it has a result.
     Return(Option<Words>),
     /// The program ends with this exception.

@@ -25,7 +25,7 @@ pub fn eval<R: Input, W: Output>(
     writer: &mut W,
     fuel: u64,
 ) -> EvalEnding
-    // a word counts the temporaries of each of its functions
+    // a word counts the temporaries of each of its functions, and the members of each of its unions
     requires room { program_room checked.now < 2 ^ 32 }
     // what is written is the output of the source's run on the bytes that the reader gave, and the ending is that run's
     ensures evaluated { IsEvaluated result checked.now fuel

@@ -1,4 +1,4 @@
--- The program of an accepted text has room for its temporaries.
+-- The program of an accepted text has room for its temporaries, and for the members of its unions.
 use Rattle.std.specs.Prelude.{ℕ, ◌^◌, ◌<◌, List}
 use Rattle.cyc_tree.specs.Tree.{Program}
 use Rattle.source_lowering.specs.Room.{program_room}

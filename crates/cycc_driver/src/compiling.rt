@@ -82,7 +82,7 @@ fn checked(alloc: Global, text: &[u8], program: &Program) -> Result<Checked, Com
 pub fn front(alloc: Global, text: &[u8]) -> Result<Checked, CompileFault>
     // the program that the text spells, in which no rule is broken
     ensures accepted { IfOk result (λ checked. IsAcceptedAs text.now checked) }
-    // a word counts the temporaries of each of its functions
+    // a word counts the temporaries of each of its functions, and the members of each of its unions
     ensures room { IfOk result (λ checked. program_room checked < 2 ^ 32) }
     // its tokens are none, or are no program, at the place; or it spells a program whose first fault is this one, at the place
     ensures refused { IfErr result (λ fault. IsRefusedFor fault text.now) }
@@ -133,7 +133,7 @@ struct Placed {
 
 /// The Core of an accepted program.
 fn core_of(alloc: Global, checked: &Checked) -> Result<Core, CompileFault>
-    // a word counts the temporaries of each of its functions
+    // a word counts the temporaries of each of its functions, and the members of each of its unions
     requires room { program_room checked.now < 2 ^ 32 }
     ensures code { IfOk result (λ core. program_tree core ≡ program_code checked.now) }
     ensures accepted { IfOk result (λ _. IsAccepted checked.now) }
@@ -151,7 +151,7 @@ fn core_of(alloc: Global, checked: &Checked) -> Result<Core, CompileFault>
 
 /// The code and the data of an accepted program.
 fn lay_out(alloc: Global, checked: &Checked) -> Result<Placed, CompileFault>
-    // a word counts the temporaries of each of its functions
+    // a word counts the temporaries of each of its functions, and the members of each of its unions
     requires room { program_room checked.now < 2 ^ 32 }
     ensures code { IfOk result (λ placed. IsCode placed.code.items) }
     ensures data { IfOk result (λ placed. length placed.data.items ≤ data_limit) }

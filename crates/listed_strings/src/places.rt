@@ -1,6 +1,6 @@
 // The strings of a program, by their places.
 
-ghost use Rattle.std.specs.Prelude.{◌≡◌, ℕ, Some, None, IfOk, OnOk, if◌then◌else◌, nat_eq, map, option_map};
+ghost use Rattle.std.specs.Prelude.{◌≡◌, ◌<◌, ◌^◌, ℕ, Some, None, IfOk, IfSome, OnOk, if◌then◌else◌, nat_eq, map, option_map};
 ghost use Rattle.cyc_tree.specs.View.{program_tree};
 ghost use Rattle.source_meaning.specs.Places.{or_else};
 ghost use Rattle.source_meaning.specs.Strings.{program_strings};
@@ -17,8 +17,8 @@ use std::marker::Model;
 /// A string: its number among the program's strings, and how many bytes it has with the final 0.
 #[derive(Clone, Copy)]
 pub struct Numbered {
-    pub number: u32,
-    pub count: u32,
+    pub number: usize,
+    pub count: usize,
 }
 
 /// The first string of each place.
@@ -78,37 +78,29 @@ impl Places {
     }
 }
 
-/// A string of this number. Fails where its bytes are more than a word counts.
-fn number_of<'p>(literal: &Literal<'p>, number: u32) -> Result<Numbered, AllocError>
-    ensures { IfOk result (λ n. n ≡ numbered (literal_of literal.now) number) }
+/// A string of this number.
+fn number_of(literal: &Literal<'_>, number: usize) -> Numbered
+    ensures { result ≡ numbered (literal_of literal.now) number }
 {
-    match u32::try_from(literal.bytes.len()) {
-        Ok(bytes) => match bytes.checked_add(1) {
-            Some(count) => Ok(Numbered { number, count }),
-            None => Err(AllocError),
-        },
-        Err(_) => Err(AllocError),
+    Numbered {
+        number,
+        count: literal.bytes.len() + 1,
     }
 }
 
-/// The first string of each place.
-fn first_places<'p>(alloc: Global, all: &[Literal<'p>]) -> Result<Places, AllocError>
+/// The first string of each place. Fails only where no host memory is left.
+fn first_places(alloc: Global, all: &[Literal<'_>]) -> Result<Places, AllocError>
     ensures { IfOk result (λ places. (at : ℕ) → in_places places at ≡ first_at (map literal_of all.now) 0 at) }
 {
     let mut places = Places::new(alloc);
-    let mut number = 0_u32;
-    'each: for literal in all {
-        places.add(literal.at, number_of(literal, number)?)?;
-        match number.checked_add(1) {
-            Some(next) => number = next,
-            None => return Err(AllocError),
-        }
+    'each: for (number, literal) in all.iter().enumerate() {
+        places.add(literal.at, number_of(literal, number))?;
     }
     Ok(places)
 }
 
 impl<'p> Strings<'p> {
-    /// The strings of a program. Fails where no host memory is left, or there are more than a word counts.
+    /// The strings of a program. Fails only where no host memory is left.
     pub fn of(alloc: Global, items: &'p [Item]) -> Result<Self, AllocError>
         ensures { IfOk result (λ strings. strings ≡ program_strings (program_tree items.entry.now)) }
     {
@@ -126,7 +118,8 @@ impl<'p> Strings<'p> {
 
     /// The first string of a place.
     pub fn at(&self, at: u32) -> Option<Numbered>
-        ensures { result ≡ first_at self.now 0 at }
+        ensures first { result ≡ first_at self.now 0 at }
+        ensures small { IfSome result (λ n. n.number < 2 ^ 63) }
     {
         self.places.of(at)
     }

@@ -30,5 +30,7 @@ mod Taken
 mod Texts
 mod UnionCells
 mod Wholes
+mod Within
+mod Near
 mod Writing
 pub use Rattle.accepted_proof.proofs.Joined

@@ -1,10 +1,11 @@
 -- How locals are linked: where a block begins or is left, and with one local more or less.
-use Rattle.std.proofs.Common.{◌≡◌, ℕ, suc, ◌≤◌, ◌-◌, List, [], ◌∷◌, Bor, Bool, true, false, refl, sym, ap, ◌∙◌, arith}
+use Rattle.std.proofs.Common.{◌≡◌, ℕ, suc, ◌≤◌, ◌-◌, List, [], ◌∷◌, length, Bor, Bool, true, false, refl, sym, ap, ◌∙◌, arith}
+use Rattle.std.proofs.lemmas.List.{length-reverse}
 use Rattle.std.proofs.lemmas.Map.Text.{hash_map_updates_str}
 use Rattle.std.specs.Cmp.Lexicographic.{bytes_decides}
 use Rattle.std.specs.HashMap as hash
 use Rattle.std.specs.HashMap.{HashMap}
-use Rattle.std.specs.Prelude.{Option, Some, None, IsSome, IfSome, is_some, if◌then◌else◌, option_map, unwrap_or, bytes_eq}
+use Rattle.std.specs.Prelude.{Option, Some, None, IsSome, IfSome, is_some, if◌then◌else◌, option_map, reverse, unwrap_or, bytes_eq}
 use Rattle.source_lowering.specs.Lowered.{InBlock, Named, local_named}
 use Rattle.source_lowering.specs.Programs.{one_out, outward}
 use Rattle.lower_checks.specs.Views.{stored_tree}
@@ -29,6 +30,16 @@ pub last_updated : {S V : Type 0} (name : List ℕ) (old new : HashMap (Bor (Lis
 last_updated name old new local updates other =
     ap (λ o. unwrap_or o None) (hash_map_updates_str name old new (Some local) updates other)
     ∙ unwrapped (bytes_eq name other) local (hash.get_by (λ key. bytes_eq other key.now) old)
+
+-- each block that is open has its mark
+depth_within : (marks : List Mark) → depth_of marks ≤ length marks
+depth_within [] = omega arith
+depth_within (Begin ∷ marks) = omega (arith, depth_within marks)
+depth_within (Declare l hidden ∷ marks) = omega (arith, depth_within marks)
+
+-- so no more blocks are open than there are marks, the last of which is the first of those that are linked
+pub depth_few : (marks : List Mark) (last : Lasts Local) (depth : ℕ) → AreLinked (reverse marks) last depth → depth ≤ length marks
+depth_few marks last depth linked = omega (arith, linked.depth_is, depth_within (reverse marks), length-reverse marks)
 
 -- ---- the table and the marks
 

@@ -8,5 +8,5 @@ pub are_roomy : (items : List Item) → program_room items < 2 ^ 32 → AreRoomy
 are_roomy [] room = tt
 are_roomy (FunctionItem f ∷ items) room = (omega (arith, room), are_roomy items (omega (arith, room)))
 are_roomy (StructItem s ∷ items) room = (tt, are_roomy items room)
-are_roomy (UnionItem u ∷ items) room = (tt, are_roomy items room)
+are_roomy (UnionItem u ∷ items) room = (tt, are_roomy items (omega (arith, room)))
 are_roomy (GlobalItem g ∷ items) room = (tt, are_roomy items room)

@@ -3,13 +3,14 @@ use Rattle.std.proofs.Common.{◌≡◌, ◌∙◌, ℕ, suc, ◌+◌, ◌*◌, 
 use Rattle.std.specs.Prelude.{◌==◌}
 use Rattle.std.proofs.Math.Nat.{mul-add-mod_self_right}
 use Rattle.std.proofs.lemmas.Nat.{div-mul-add}
-use Rattle.lower_checks.specs.Signs.{alone_digit, fat_digit, pointing_of, row_signs, signs_from, signs_of}
+use Rattle.lower_checks.specs.Signs.{alone_digit, digits_signs, fat_digit, pointing_of, rows_signs, signs_from, signs_of}
 use Rattle.lower_checks.specs.declared.signs.Pointing.{Pointing}
 use Rattle.lower_checks.specs.declared.signs.Pointing.TheVariants as pointing
+use Rattle.lower_checks.specs.declared.signs.Digits.{Digits}
 use Rattle.lower_checks.specs.declared.signs.Row.{Row}
 use Rattle.lower_checks.specs.declared.signs.Signs.{Signs}
 
--- ---- in one row
+-- ---- in digits
 
 last_pointing : (fat alone : ℕ) (p : Pointing) → pointing_of ((fat * 2 + fat_digit p) % 2 == 1) ((alone * 2 + alone_digit p) % 2 == 1) ≡ p
 last_pointing fat alone pointing.Fat =
@@ -47,15 +48,26 @@ sign_out many less fat alone is =
     let next : many ≡ suc less = omega (arith, is) in
     ap (λ (n : ℕ). signs_from n fat alone) next
 
--- ---- in two rows
+-- ---- in digits, and in the rows within them
 
-pub first_out : (s t : Signs) (p : Pointing) → row_signs s.outer ≡ p ∷ row_signs t.outer → t.inner ≡ s.inner → signs_of s ≡ p ∷ signs_of t
-first_out s t p out same = ap₂ (λ (xs : List Pointing) (r : Row). xs ++ row_signs r) out (sym same)
+-- the outermost one is in the digits
+pub first_digit :
+    (s t : Signs) (p : Pointing) → digits_signs s.digits ≡ p ∷ digits_signs t.digits → t.rows.now ≡ s.rows.now → signs_of s ≡ p ∷ signs_of t
+first_digit s t p out same = ap₂ (λ (xs : List Pointing) (rows : List Row). xs ++ rows_signs rows) out (sym same)
 
-pub second_out : (s t : Signs) (p : Pointing) → row_signs s.outer ≡ [] → row_signs t.outer ≡ [] → row_signs s.inner ≡ p ∷ row_signs t.inner
-    → signs_of s ≡ p ∷ signs_of t
-second_out s t p none empty out =
-    ap₂ (λ (xs ys : List Pointing). xs ++ ys) none out ∙ ap (λ (xs : List Pointing). p ∷ (xs ++ row_signs t.inner)) (sym empty)
+-- it is a row's, where no digit is left of what is around
+pub first_row :
+    (s t : Signs) (r : Row) → digits_signs s.digits ≡ [] → s.rows.now ≡ r ∷ t.rows.now → t.digits ≡ r.others → signs_of s ≡ r.first ∷ signs_of t
+first_row s t r none rows others =
+    ap₂ (λ (xs : List Pointing) (rs : List Row). xs ++ rows_signs rs) none rows
+    ∙ ap (λ (d : Digits). r.first ∷ (digits_signs d ++ rows_signs t.rows.now)) (sym others)
 
-pub none_out : (s : Signs) → row_signs s.outer ≡ [] → row_signs s.inner ≡ [] → signs_of s ≡ []
-none_out s outer inner = ap₂ (λ (xs ys : List Pointing). xs ++ ys) outer inner
+-- the digits became a row, with one more pointer around them
+pub full_row :
+    (s t : Signs) (r : Row) (p : Pointing) → digits_signs t.digits ≡ [] → t.rows.now ≡ r ∷ s.rows.now → r.first ≡ p → r.others ≡ s.digits
+    → signs_of t ≡ p ∷ signs_of s
+full_row s t r p none rows first others =
+    first_row t s r none rows (sym others) ∙ ap (λ (q : Pointing). q ∷ signs_of s) first
+
+pub none_out : (s : Signs) → digits_signs s.digits ≡ [] → s.rows.now ≡ [] → signs_of s ≡ []
+none_out s digits rows = ap₂ (λ (xs : List Pointing) (rs : List Row). xs ++ rows_signs rs) digits rows

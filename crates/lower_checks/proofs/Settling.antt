@@ -4,9 +4,6 @@ use Rattle.std.proofs.Common.{
   ◌∙◌,
   ◌<◌,
   ◌+◌,
-  ◌*◌,
-  ◌/◌,
-  ◌%◌,
   ℕ,
   Bool,
   true,
@@ -18,7 +15,6 @@ use Rattle.std.proofs.Common.{
   sym,
   ap,
   ap₂,
-  arith,
   List,
   [],
   ◌∷◌,
@@ -29,8 +25,6 @@ use Rattle.std.proofs.Common.{
   get_or,
   reverse,
 }
-use Rattle.std.specs.Prelude.{◌==◌}
-use Rattle.std.proofs.Math.Nat.{mul-add, mul_assoc}
 use Rattle.std.proofs.lemmas.Grind.{reverse_onto}
 use Rattle.std.proofs.lemmas.List.{reverse-append, reverse-reverse}
 use Rattle.cyc_tree.specs.Tree as tree
@@ -57,7 +51,7 @@ use Rattle.source_meaning.specs.Shapes.{
   shared_owner,
   signed_shape,
 }
-use Rattle.lower_checks.specs.Given.{bit_of, given_by, given_inwards, given_to, is_given, is_unique, owner_given, pointed_given}
+use Rattle.lower_checks.specs.Given.{given_by, given_inwards, given_to, is_given, is_unique, owner_given, pointed_given}
 use Rattle.lower_checks.proofs.Pointers.{last_apart, outer_given, outer_pointed}
 use Rattle.accepted_proof.proofs.Owners.{by_void}
 
@@ -123,19 +117,7 @@ pointer_settles NotNull region by x y is =
     thin_settles false (owner_of region) (owner_given (given_to NotNull region by) (owner_of region)) by x y (not_null_owner region by) is
 pointer_settles Fat region by x y is = fat_settles by x y is
 
--- ---- digits
-
-last_digit : (b : Bool) (n : ℕ) → ((bit_of b + 2 * n) % 2 == 1) ≡ b
-last_digit true n =
-    let one : (1 + 2 * n) % 2 ≡ 1 = omega arith in
-    ap (λ (r : ℕ). r == 1) one
-last_digit false n =
-    let none : (0 + 2 * n) % 2 ≡ 0 = omega arith in
-    ap (λ (r : ℕ). r == 1) none
-
-other_digits : (b : Bool) (n : ℕ) → (bit_of b + 2 * n) / 2 ≡ n
-other_digits true n = omega arith
-other_digits false n = omega arith
+-- ---- which pointers are unique by that
 
 inwards_settle :
     (s : Shape) (ps : List Pointer) (by : Shape) → ((other : Shape) → settled s ≡ settled_by s other) →
@@ -143,17 +125,15 @@ inwards_settle :
 inwards_settle s [] by base = base by
 inwards_settle s (p ∷ ps) by base =
     let others = given_inwards ps (pointee by) in
-    let given = bit_of (is_given p by) + 2 * others in
+    let given = is_given p by ∷ others in
     let inner = reverse ps in
     let back : reverse (p ∷ ps) ≡ inner ++ p ∷ [] = reverse_onto ps p [] in
     ap (λ (qs : List Pointer). settled (pointed_given given qs s)) back ∙ ap settled (outer_given given inner p s)
-    ∙ ap₂ (λ (b : Bool) (g : ℕ). settled (signed_shape p.sign (owner_given b (owner_of p.region)) (pointed_given g inner s)))
-    (last_digit (is_given p by) others) (other_digits (is_given p by) others)
     ∙ pointer_settles p.sign p.region by (pointed_given others inner s) (pointed inner s) (inwards_settle s ps (pointee by) base)
     ∙ ap (λ (whole : Shape). settled_by whole by) (sym (outer_pointed inner p s))
     ∙ ap (λ (qs : List Pointer). settled_by (pointed qs s) by) (sym back)
 
--- the digits that a shape gives make a type what it is by that shape
+-- what a shape gives makes a type what it is by that shape
 pub given_settles :
     (ps : List Pointer) (b : Base) (by : Shape) → settled (pointed_given (given_by ps by) ps (base_shape b)) ≡ settled_by (pointed ps (base_shape b)) by
 given_settles ps b by =
@@ -167,16 +147,7 @@ given_settles ps b by =
 pub one_inwards :
     (ps : List code_pointer.Pointer) (n : ℕ) (p : code_pointer.Pointer) (by : Shape) → n < length ps → p ≡ get_or ps n p →
     given_inwards (reverse (map pointer_tree (take (n + 1) ps))) by ≡
-    bit_of (is_given (pointer_tree p) by) + 2 * given_inwards (reverse (map pointer_tree (take n ps))) (pointee by)
+    is_given (pointer_tree p) by ∷ given_inwards (reverse (map pointer_tree (take n ps))) (pointee by)
 one_inwards ps n p by within is =
     ap (λ (qs : List Pointer). given_inwards qs by)
     (ap reverse (last_apart ps n p within is) ∙ reverse-append (map pointer_tree (take n ps)) (pointer_tree p ∷ []))
-
-pub one_summed :
-    (sum more weight double bit others all : ℕ) → sum + weight * (bit + 2 * others) ≡ all → more ≡ sum + weight * bit → double ≡ weight * 2 →
-    more + double * others ≡ all
-one_summed sum more weight double bit others all is more_is double_is =
-    let parts = mul-add weight bit (2 * others) in
-    let turned = mul_assoc weight 2 others in
-    let doubled : double * others ≡ weight * 2 * others = ap (λ (d : ℕ). d * others) double_is in
-    omega (arith, is, more_is, parts, turned, doubled)

@@ -3,8 +3,8 @@ use Rattle.std.proofs.Common.{Bor, ◌≡◌, ◌∙◌, ℕ, ◌+◌, Bool, tru
 use Rattle.std.proofs.Common.{Option, Some, None, if◌then◌else◌}
 use Rattle.std.proofs.lemmas.List.{map-append, length-map}
 use Rattle.std.specs.Prelude.{bytes_eq, is_some, option_map}
-use Rattle.source_meaning.specs.Shapes.{Shape, IntShape, UnsignedShape, CharShape, VoidShape, ThinShape, FatShape, HandleShape, KeyShape, StructShape, UnionShape, ArrayShape}
-use Rattle.source_meaning.specs.Shapes.{Part, Layout, has_tag, part_of, part_shapes, parts_of}
+use Rattle.source_meaning.specs.Shapes.{Shape, IntShape, UnsignedShape, CharShape, VoidShape, ThinShape, FatShape, HandleShape}
+use Rattle.source_meaning.specs.Shapes.{KeyShape, StructShape, UnionShape, ArrayShape, Part, Layout, has_tag, part_of, part_shapes, parts_of}
 use Rattle.source_meaning.specs.Sizes.{Extent, all_cells, cells_by, extent_by, laid_out, no_extent, rounded_up, struct_cells, struct_extent, union_extent}
 use Rattle.source_meaning.specs.Placing.{Placed, all_placed, moved, placed_by, struct_placed}
 use Rattle.source_meaning.specs.Programs.{layout_of, structs_from}
@@ -20,7 +20,8 @@ use Rattle.lower_checks.specs.declared.layouts.Known.{Known}
 use Rattle.lower_checks.specs.declared.layouts.Laying.{Laying}
 use Rattle.lower_checks.specs.declared.layouts.Structs.{Structs}
 use Rattle.lower_checks.specs.Structs.{AreLaid, HasRoom, HaveRoom, IsFound, IsKnown, IsLaid, Knows, all_filled, bytes_and, cell_in, cells_if}
-use Rattle.lower_checks.specs.Structs.{cells_in, filled, known_room, laid_cell, laid_cells, member_parts, moved_cell, next_cell, placed_cell, room_if, room_in, struct_in, table_cell}
+use Rattle.lower_checks.specs.Structs.{cells_in, filled, known_room, laid_cell, laid_cells, member_parts, moved_cell, next_cell}
+use Rattle.lower_checks.specs.Structs.{placed_cell, room_if, room_in, struct_in, table_cell}
 use Rattle.lower_checks.specs.Unions.{AreUnionsLaid, KnowsUnions, Union, first_union, union_in, union_room}
 use Rattle.lower_checks.specs.declared.unions.Union as code
 use Rattle.lower_checks.specs.declared.first.Firsts.{Firsts}
@@ -224,23 +225,25 @@ module _ (table : Structs) (unions structs : List Layout) (knows : Knows table u
       ap (λ (e : Extent).
       laid_out (extent_by (struct_extent unions structs) (union_extent unions))
       (record { size = rounded_up so_far.size e.align + e.size; align = max so_far.align e.align }) ps) (room_same p.shape laid.0)
-      ∙ rooms_same
-      (record { size = rounded_up so_far.size (room_in table p.shape).align + (room_in table p.shape).size; align = max so_far.align (room_in table p.shape).align })
-      ps laid.1
+      ∙ (let e : Extent = room_in table p.shape in
+      rooms_same (record { size = rounded_up so_far.size e.align + e.size; align = max so_far.align e.align }) ps laid.1)
 
   pub all_same : (so_far : ℕ) (ps : List Part) → AreLaid table ps
-      → map (placed_cell unions) (all_placed (placed_by (struct_placed unions structs)) (extent_by (struct_extent unions structs) (union_extent unions)) so_far ps)
+      → map (placed_cell unions) (all_placed (placed_by (struct_placed unions structs)) (extent_by (struct_extent unions structs) (union_extent unions))
+      so_far ps)
       ≡ laid_cells table so_far ps
   all_same so_far [] laid = refl
   all_same so_far (p ∷ ps) laid =
       let placed = placed_by (struct_placed unions structs) in
       let extent = extent_by (struct_extent unions structs) (union_extent unions) in
       let next = λ (e : Extent). rounded_up so_far e.align + e.size in
-      map-append (placed_cell unions) (map (moved (rounded_up so_far (extent p.shape).align)) (placed p.shape)) (all_placed placed extent (next (extent p.shape)) ps)
+      map-append (placed_cell unions) (map (moved (rounded_up so_far (extent p.shape).align)) (placed p.shape))
+      (all_placed placed extent (next (extent p.shape)) ps)
       ∙ ap (λ cs. cs ++ map (placed_cell unions) (all_placed placed extent (next (extent p.shape)) ps))
       (sym (moved_same unions (rounded_up so_far (extent p.shape).align) (placed p.shape))
       ∙ ap (map (moved_cell (rounded_up so_far (extent p.shape).align))) (cells_same p.shape laid.0))
-      ∙ ap (λ (e : Extent). map (moved_cell (rounded_up so_far e.align)) (cells_in table p.shape) ++ map (placed_cell unions) (all_placed placed extent (next e) ps))
+      ∙ ap (λ (e : Extent). map (moved_cell (rounded_up so_far e.align)) (cells_in table p.shape)
+      ++ map (placed_cell unions) (all_placed placed extent (next e) ps))
       (room_same p.shape laid.0)
       ∙ ap (λ cs. map (moved_cell (rounded_up so_far (room_in table p.shape).align)) (cells_in table p.shape) ++ cs)
       (all_same (next (room_in table p.shape)) ps laid.1)
@@ -308,7 +311,8 @@ made_known table l k unions structs tag knows made own = record {
       ap (λ b. length (if b then all_cells (cells_by (struct_cells structs)) l.parts else struct_cells structs tag)) own
       ∙ counts_same table unions structs knows 0 l.parts made.laid ∙ ap length (sym made.cells) ∙ length-map k.layout.value.cells.items laid_cell;
   room =
-      ap (λ b. if b then laid_out (extent_by (struct_extent unions structs) (union_extent unions)) (no_extent tag) l.parts else struct_extent unions structs tag)
+      ap (λ b. if b then laid_out (extent_by (struct_extent unions structs) (union_extent unions)) (no_extent tag) l.parts
+      else struct_extent unions structs tag)
       own
       ∙ rooms_same table unions structs knows (bytes_and 0 1) l.parts made.laid ∙ sym made.room;
   cells =
@@ -331,7 +335,8 @@ found_kept l unions structs tag (Some k) other is = record {
   count =
       ap (λ b. length (if b then all_cells (cells_by (struct_cells structs)) l.parts else struct_cells structs tag)) other ∙ is.count;
   room =
-      ap (λ b. if b then laid_out (extent_by (struct_extent unions structs) (union_extent unions)) (no_extent tag) l.parts else struct_extent unions structs tag)
+      ap (λ b. if b then laid_out (extent_by (struct_extent unions structs) (union_extent unions)) (no_extent tag) l.parts
+      else struct_extent unions structs tag)
       other
       ∙ is.room;
   cells =
@@ -369,7 +374,7 @@ knows_none table given unions same first laid none = record {
 -- ---- structs one after the other
 
 -- the earlier ones are structs where all are
-earlier_are : (unions : List Layout) (items : List Item) (found : List Layout) → AreStructs unions (structs_from items found) → AreStructs unions found
+pub earlier_are : (unions : List Layout) (items : List Item) (found : List Layout) → AreStructs unions (structs_from items found) → AreStructs unions found
 earlier_are unions [] found h = h
 earlier_are unions (tree.StructItem s ∷ items) found h = (earlier_are unions items (layout_of s ∷ found) h).1
 earlier_are unions (tree.UnionItem u ∷ items) found h = earlier_are unions items found h

@@ -16,6 +16,7 @@ pub mod Tables
 pub mod Unions
 pub mod Views
 pub mod Visible
+pub mod Within
 pub mod Writing
 pub mod Bytes
 pub mod Room

@@ -3,6 +3,7 @@ use Rattle.std.specs.Prelude.{ℕ, zero, suc, ◌==◌, ◌%◌, ◌/◌, Bool, 
 use Rattle.source_meaning.specs.Shapes.{Shape, Shared, Alone, ThinShape, FatShape}
 use Rattle.lower_checks.specs.declared.signs.Pointing.{Pointing}
 use Rattle.lower_checks.specs.declared.signs.Pointing.TheVariants as pointing
+use Rattle.lower_checks.specs.declared.signs.Digits.{Digits}
 use Rattle.lower_checks.specs.declared.signs.Row.{Row}
 use Rattle.lower_checks.specs.declared.signs.Signs.{Signs}
 
@@ -27,11 +28,17 @@ alone_digit pointing.Fat = 0
 alone_digit pointing.Shared = 0
 alone_digit pointing.Alone = 1
 
-abbrev pub row_signs : Row → List Pointing
-row_signs r = signs_from r.many r.fat r.alone
+abbrev pub digits_signs : Digits → List Pointing
+digits_signs d = signs_from d.many d.fat d.alone
 
+-- those of rows, one within the other
+abbrev pub rows_signs : List Row → List Pointing
+rows_signs [] = []
+rows_signs (r ∷ rs) = r.first ∷ (digits_signs r.others ++ rows_signs rs)
+
+-- those in digits, and those of the rows within them
 abbrev pub signs_of : Signs → List Pointing
-signs_of s = row_signs s.outer ++ row_signs s.inner
+signs_of s = digits_signs s.digits ++ rows_signs s.rows.now
 
 -- pointers around a shape: a fat one, or one that is never NULL
 abbrev pub around : List Pointing → Shape → Shape

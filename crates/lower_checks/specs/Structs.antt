@@ -1,10 +1,12 @@
 -- What the code knows of a program's structs: their members, and where their cells lie, by its unions.
-use Rattle.std.specs.Prelude.{◌≡◌, ℕ, ◌+◌, ◌-◌, false, true, List, [], ◌∷◌, ◌++◌, length, map, Option, Some, None, bytes_eq, is_some, option_map}
+use Rattle.std.specs.Prelude.{◌≡◌, ℕ, ◌+◌, ◌-◌, ◌≤◌, false, true, List, [], ◌∷◌, ◌++◌, length, map, Option, Some, None, bytes_eq, is_some, option_map}
+use Rattle.std.specs.Prelude.{All, IfSome}
 use Rattle.indexmap.specs.IndexMap.{get_by}
 use Rattle.cyc_tree.specs.View.{member_tree}
 use Rattle.source_meaning.specs.Shapes.{Shape, CharShape, FatShape, StructShape, UnionShape, Part, Layout, part_of, parts_of, has_tag}
 use Rattle.source_meaning.specs.Sizes.{Extent, rounded_up, struct_cells, struct_extent}
 use Rattle.source_meaning.specs.Placing.{Placed, struct_placed}
+use Rattle.source_lowering.specs.Lowerable.{AreStructs, AreUnions, IsStruct}
 use Rattle.cyc_core.specs.Trees.{bytes_of, cell_bytes}
 use Rattle.cyc_core.specs.declared.layout.CellLayout.{CellLayout}
 use Rattle.cyc_core.specs.declared.operation.Cell.{Cell}
@@ -139,3 +141,22 @@ laid_cells table so_far [] = []
 laid_cells table so_far (p ∷ ps) =
     let at = rounded_up so_far (room_in table p.shape).align in
     map (moved_cell at) (cells_in table p.shape) ++ laid_cells table (at + (room_in table p.shape).size) ps
+
+-- ---- how far cells lie
+
+-- none begins further on than 4,096 bytes
+abbrev pub AreNear : List CellLayout → Type 0
+AreNear cells = All (λ c. c.offset ≤ 4096) cells
+
+-- none of any struct of a table
+abbrev pub IsNear : Structs → Type 0
+IsNear table = (tag : List ℕ) → IfSome (struct_in table tag) (λ k. AreNear k.layout.value.cells.items)
+
+-- a struct comes behind those that a table knows, and is one as they are, by the rules
+pub record IsNext (table : Structs) (l : Layout) : Type 0 where
+  pub unions : List Layout
+  pub structs : List Layout
+  pub knows : Knows table unions structs
+  pub values : AreUnions unions
+  pub earlier : AreStructs unions structs
+  pub next : IsStruct unions structs l

@@ -52,7 +52,7 @@ owner_tree owner_is.Alone = Alone
 -- what a pointer leads to, as it is written
 abbrev pub written_tree : code_written.Written → Shape
 written_tree written.Nothing = VoidShape
-written_tree (written.Pointed pointers base given) = pointed_given given.alone (map pointer_tree pointers.now) (base_shape (base_tree base.now))
+written_tree (written.Pointed pointers base given) = pointed_given given.alone.now (map pointer_tree pointers.now) (base_shape (base_tree base.now))
 
 -- the shape of what a pointer leads to
 abbrev pub written_shape : code_written.Written → Shape

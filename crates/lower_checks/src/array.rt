@@ -71,7 +71,7 @@ fn lower_stored(program: &Table<'_>, shape: &Shape<'_>, body: &mut Body<'_>, to:
     let number = behind(to, 2);
     let value = behind(to, 3);
     let at = behind(value, shape.words());
-    let cells = body.number(count(program, *shape));
+    let cells = count(program, *shape);
     let size = extent(program, *shape).size;
     body.operation(Operation::Element(at, to, number, cells, size));
     match shape {
@@ -173,7 +173,7 @@ fn lower_elements<'p>(
         shape_tree result ≡ FatShape (static_shape (world_in scope.now) (names_in scope.now) (expression_tree element.entry.now)) }
 {
     let shape = body.known(shape_of(scope, element));
-    let elements = body.known(shape.elements());
+    let elements = body.known(shape.elements(scope.alloc, scope.program.arena()));
     lower_block(scope.program, &shape, body, to);
     let outer = body.begin();
     lower_each(scope, element, &shape, body, to);

@@ -1,6 +1,6 @@
 // What is written of a function's body, step after step; whether a step failed is known at the end.
 
-ghost use Rattle.std.specs.Prelude.{◌≡◌, ◌+◌, [], ◌∷◌, true, map, Ok};
+ghost use Rattle.std.specs.Prelude.{◌≡◌, [], ◌∷◌, true, map, Ok};
 ghost use Rattle.core_meaning.specs.Core as core;
 ghost use Rattle.cyc_core.specs.Trees.{local_tree, operation_tree, statements_of, statement_tree};
 ghost use Rattle.source_lowering.specs.Lowered.{all_of};
@@ -11,7 +11,6 @@ ghost use Rattle.lower_checks.specs.Writing.{Emits, IsBegun, IsEnded, IsSound, S
 ghost use Rattle.lower_checks.specs.declared.fault.LowerFault.TheVariants.{Memory};
 
 use crate::fault::LowerFault;
-use crate::names::number;
 use crate::shape::Shape;
 use crate::vectors::append;
 use cyc_core::{Local, Operation, Statement, Temporary};
@@ -183,13 +182,13 @@ impl<'p> Body<'p> {
     }
 
     /// Appends the shape of a further unnamed value, and gives the value's number.
-    pub fn value(&mut self, shape: &Shape<'p>) -> u32
+    pub fn value(&mut self, shape: &Shape<'p>) -> usize
         ensures writes { Writes self.old self.new [] (shape_tree shape.now ∷ []) }
         ensures number { IsSound self.new → result ≡ next_of self.old }
     {
-        let length = self.own.len();
+        let number = self.own.len();
         self.add(shape);
-        self.number(number(length))
+        number
     }
 
     /// Appends what raises an exception where a temporary has NULL, or 0.
@@ -211,35 +210,6 @@ impl<'p> Body<'p> {
             Err(_) => {
                 self.failed = true;
                 Shape::Void
-            }
-        }
-    }
-
-    /// The number that is found, or any other where that failed.
-    pub fn number(&mut self, found: Result<u32, LowerFault>) -> u32
-        requires { NeverRefused found }
-        ensures stays { Stays self.old self.new }
-        ensures number { IsSound self.new → found ≡ Ok result }
-    {
-        match found {
-            Ok(number) => number,
-            Err(_) => {
-                self.failed = true;
-                0
-            }
-        }
-    }
-
-    /// The sum, or any other number where that is over the greatest u32.
-    pub fn sum(&mut self, a: u32, b: u32) -> u32
-        ensures stays { Stays self.old self.new }
-        ensures sum { IsSound self.new → result ≡ a + b }
-    {
-        match a.checked_add(b) {
-            Some(sum) => sum,
-            None => {
-                self.failed = true;
-                a
             }
         }
     }

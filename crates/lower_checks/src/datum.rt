@@ -78,7 +78,7 @@ fn constant_pointer(program: &Table<'_>, constant: &Constant) -> Result<Datum, L
 {
     match constant {
         Constant::Null(_) => Ok(Datum::Null),
-        Constant::Text(at, _) => Ok(string_pointer(program.text_at(*at)?)),
+        Constant::Text(at, _) => Ok(string_pointer(program.text_at(*at))),
         _ => Err(LowerFault::NotTaken),
     }
 }
@@ -96,7 +96,7 @@ fn pointer_datum(program: &Table<'_>, initial: &Initial) -> Result<Datum, LowerF
     }
 }
 
-/// A fat pointer to a string's characters; NULL where there is no string.
+/// A fat pointer to a string's characters; NULL where there is no string. Fails only where no host memory is left.
 fn string_bounds(alloc: Global, found: Option<Text>) -> Result<Datum, LowerFault>
     ensures datum { (w : World) (to : SourceShape) → IfOk result (λ datum. datum_tree datum ≡ text_datum w (FatShape to) (option_map text_value found)) }
     ensures taken { NeverRefused result }
@@ -108,11 +108,9 @@ fn string_bounds(alloc: Global, found: Option<Text>) -> Result<Datum, LowerFault
 }
 
 /// The string that a global begins with; none where it begins with something else, or with none of the program's.
-fn initial_text(program: &Table<'_>, initial: &Initial) -> Result<Option<Text>, LowerFault>
-    ensures text { let w = world_of program.now in
-        IfOk result (λ found. (to : SourceShape) →
-        global_datum w (initial_tree initial.now) (FatShape to) ≡ text_datum w (FatShape to) (option_map text_value found)) }
-    ensures taken { NeverRefused result }
+fn initial_text(program: &Table<'_>, initial: &Initial) -> Option<Text>
+    ensures { let w = world_of program.now in
+        (to : SourceShape) → global_datum w (initial_tree initial.now) (FatShape to) ≡ text_datum w (FatShape to) (option_map text_value result) }
 {
     match initial {
         Initial::Constant(Constant::Text(at, _)) => program.text_at(*at),
@@ -121,17 +119,17 @@ fn initial_text(program: &Table<'_>, initial: &Initial) -> Result<Option<Text>, 
         | Initial::Constant(Constant::Number(_, _, _))
         | Initial::Constant(Constant::Negative(_, _, _))
         | Initial::Constant(Constant::Character(_, _))
-        | Initial::Constant(Constant::Null(_)) => Ok(None),
+        | Initial::Constant(Constant::Null(_)) => None,
     }
 }
 
-/// A fat pointer, which is a string at first where it is given one, and else NULL.
+/// A fat pointer, which is a string at first where it is given one, and else NULL. Fails only where no host memory is left.
 fn fat_datum(alloc: Global, program: &Table<'_>, initial: &Initial) -> Result<Datum, LowerFault>
     ensures datum { (to : SourceShape) →
         IfOk result (λ datum. datum_tree datum ≡ global_datum (world_of program.now) (initial_tree initial.now) (FatShape to)) }
     ensures taken { NeverRefused result }
 {
-    string_bounds(alloc, initial_text(program, initial)?)
+    string_bounds(alloc, initial_text(program, initial))
 }
 
 /// A global of a shape, with what it begins with. Refuses what is no integer, no pointer and no struct of the program.

@@ -46,7 +46,7 @@ fn initial_shape<'p>(
         settled_by (written (type_tree of.entry.now)) (static_shape (world_in scope.now) (names_in scope.now) (expression_tree value.entry.now)) }
 {
     let by = body.known(shape_of(scope, value));
-    body.known(settled_by(of, by))
+    body.known(settled_by(scope.alloc, scope.program.arena(), of, by))
 }
 
 /// The shape of an alias of a type for a pointer.
@@ -61,7 +61,7 @@ fn alias_shape<'p>(
         settled_by (written (type_tree of.entry.now)) (static_shape (world_in scope.now) (names_in scope.now) (tree.Variable (name_tree pointer.entry.now))) }
 {
     let by = named_shape(scope, &pointer.text);
-    body.known(settled_by(of, by))
+    body.known(settled_by(scope.alloc, scope.program.arena(), of, by))
 }
 
 /// What a local is, as it is declared.
@@ -108,7 +108,7 @@ fn lower_clear(
     stored: &Stored<'_>,
     body: &mut Body<'_>,
     to: Temporary,
-    index: u32,
+    index: usize,
 )
     requires taken { IsSound body.old → IsVariable (world_of program.now).unions (world_of program.now).structs (stored_tree stored.now) }
     ensures { let l = local_of (world_of program.now) (stored_tree stored.now) in
@@ -128,7 +128,7 @@ fn lower_unset(
     stored: &Stored<'_>,
     body: &mut Body<'_>,
     to: Temporary,
-    index: u32,
+    index: usize,
 )
     requires taken { IsSound body.old → IsVariable (world_of program.now).unions (world_of program.now).structs (stored_tree stored.now) }
     ensures { Emits body.old body.new (unset_code (world_of program.now) (stored_tree stored.now) to.0 index) }
@@ -176,7 +176,7 @@ fn lower_copied_in<'p>(
     value: &'p Expression,
     body: &mut Body<'p>,
     to: Temporary,
-    index: u32,
+    index: usize,
 )
     requires room { HasRoom to.0 (1 + room (expression_tree value.now)) }
     requires taken { let w = world_in scope.now in
@@ -203,7 +203,7 @@ fn lower_set<'p>(
     value: &'p Expression,
     body: &mut Body<'p>,
     to: Temporary,
-    index: u32,
+    index: usize,
 )
     requires room { HasRoom to.0 (3 + room (expression_tree value.now)) }
     requires taken { let w = world_in scope.now in
@@ -229,7 +229,7 @@ fn lower_set<'p>(
 }
 
 /// Appends what makes a region, whose handle stays in a temporary and goes to the local of a number.
-fn lower_region(body: &mut Body<'_>, to: Temporary, index: u32)
+fn lower_region(body: &mut Body<'_>, to: Temporary, index: usize)
     ensures { Emits body.old body.new (core.Do (core.RegionNew to.0) ∷ core.Do (core.Put 0 index 4 to.0) ∷ []) }
 {
     let local = Variable { out: 0, index };
@@ -238,7 +238,7 @@ fn lower_region(body: &mut Body<'_>, to: Temporary, index: u32)
 }
 
 /// Appends what makes a key, which goes to the local of a number by way of a temporary.
-fn lower_new_key(body: &mut Body<'_>, to: Temporary, index: u32)
+fn lower_new_key(body: &mut Body<'_>, to: Temporary, index: usize)
     ensures { Emits body.old body.new (core.Do (core.KeyNew to.0) ∷ core.Do (core.Put 0 index 4 to.0) ∷ []) }
 {
     let local = Variable { out: 0, index };
@@ -247,7 +247,7 @@ fn lower_new_key(body: &mut Body<'_>, to: Temporary, index: u32)
 }
 
 /// Appends what opens a region with the key of a name, which stays in a temporary and goes to the local of a number.
-fn lower_open(scope: &Scope<'_, '_>, key: &Name, body: &mut Body<'_>, to: Temporary, index: u32)
+fn lower_open(scope: &Scope<'_, '_>, key: &Name, body: &mut Body<'_>, to: Temporary, index: usize)
     requires room { HasRoom to.0 2 }
     ensures { let names = names_in scope.now in
         Emits body.old body.new
@@ -266,7 +266,7 @@ fn lower_alias<'p>(
     pointer: &'p Name,
     body: &mut Body<'p>,
     to: Temporary,
-    index: u32,
+    index: usize,
 )
     requires room { HasRoom to.0 3 }
     requires taken { let s = static_shape (world_in scope.now) (names_in scope.now) (tree.Variable (name_tree pointer.now)) in
@@ -274,7 +274,8 @@ fn lower_alias<'p>(
     ensures writes { let w = world_in scope.now in
         let names = names_in scope.now in
         let p = tree.Variable (name_tree pointer.entry.now) in
-        Writes body.old body.new (value_code w names (settled_by (written (type_tree of.entry.now)) (static_shape w names p)) p to.0 index (next_of body.old)) [] }
+        Writes body.old body.new (value_code w names (settled_by (written (type_tree of.entry.now)) (static_shape w names p)) p to.0 index
+        (next_of body.old)) [] }
 {
     let shape = alias_shape(scope, of, pointer, body);
     let from = lower_get(scope, body, &pointer.text, to);
@@ -290,7 +291,7 @@ pub fn lower_declaration<'p>(
     declaration: &'p Declaration,
     body: &mut Body<'p>,
     to: Temporary,
-    index: u32,
+    index: usize,
 )
     requires room { HasRoom to.0 (declaration_room (declaration_tree declaration.now)) }
     requires taken { IsSound body.old → TakesDeclaration (world_in scope.now) (names_in scope.now) (declaration_tree declaration.now) }

@@ -180,7 +180,7 @@ fn lower_prefixed<'p>(
         }
         Prefix::AddressOf => {
             let shape = lower_place(scope, operand, body, to);
-            body.known(shape.address(Owner::Shared))
+            body.known(shape.address(scope.alloc, scope.program.arena(), Owner::Shared))
         }
     }
 }

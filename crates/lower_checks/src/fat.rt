@@ -48,7 +48,7 @@ fn lower_reached(
 {
     let below = behind(pointer, 1);
     let index = behind(pointer, 2);
-    let cells = body.number(count(program, *element));
+    let cells = count(program, *element);
     let size = extent(program, *element).size;
     body.branch(below, Vec::new(body.alloc), otherwise);
     body.operation(Operation::Element(to, pointer, index, cells, size));

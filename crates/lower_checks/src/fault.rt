@@ -10,7 +10,7 @@ use std::alloc::AllocError;
 pub enum LowerFault {
     /// It has something that isn't taken.
     NotTaken,
-    /// No host memory is left, or a number of something is over the greatest u32.
+    /// No host memory is left.
     Memory,
 }
 

@@ -1,6 +1,6 @@
 // Functions.
 
-ghost use Rattle.std.specs.Prelude.{◌≡◌, ◌+◌, ◌*◌, ◌++◌, IfOk, length, map};
+ghost use Rattle.std.specs.Prelude.{◌≡◌, ◌+◌, ◌*◌, ◌++◌, ◌<◌, ◌^◌, IfOk, length, map};
 ghost use Rattle.cyc_tree.specs.View.{member_tree, function_tree as source_tree};
 ghost use Rattle.cyc_core.specs.Trees.{body_tree, function_tree};
 ghost use Rattle.source_meaning.specs.Shapes.{part_of, part_shapes};
@@ -19,7 +19,6 @@ use crate::body::Body;
 use crate::fault::LowerFault;
 use crate::leaving::RegionsAround;
 use crate::locals::Locals;
-use crate::names::number;
 use crate::objects::values_of;
 use crate::order::locals_order;
 use crate::shape::Shape;
@@ -132,15 +131,12 @@ fn lower_body<'p>(
     body
 }
 
-/// A number of temporaries as a u32. Refuses what is over the greatest u32.
-fn count(temporaries: u64) -> Result<u32, LowerFault>
-    ensures count { IfOk result (λ n. n ≡ temporaries) }
-    ensures taken { NeverRefused result }
+/// A number that fits a word.
+fn word(number: u64) -> u32
+    requires fits { number < 2 ^ 32 }
+    ensures { result ≡ number }
 {
-    match u32::try_from(temporaries) {
-        Ok(count) => Ok(count),
-        Err(_) => Err(LowerFault::Memory),
-    }
+    number as u32
 }
 
 /// A function, with as many temporaries as its parameters take or its code uses.
@@ -165,8 +161,8 @@ pub fn lower_function<'p>(
     if failed {
         return Err(LowerFault::Memory);
     }
-    let temporaries = count(u64::max(u64::from(parameters), temporaries(&code)))?;
-    let passed = number(passed(&code))?;
+    let temporaries = word(u64::max(u64::from(parameters), temporaries(&code)));
+    let passed = word(passed(&code) as u64);
     let own = values_of(alloc, program, &own)?;
     Ok(Function {
         parameters,

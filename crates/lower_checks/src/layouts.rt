@@ -1,17 +1,21 @@
 // The structs and the tagged unions of a program by their tags: members, and where cells lie.
 
-ghost use Rattle.std.specs.Prelude.{◌≡◌, ◌+◌, ◌++◌, ◌∷◌, [], List, ℕ, IfOk, OnOk, None, Some, true, is_some, map, max, option_copied, option_map};
+ghost use Rattle.std.specs.Prelude.{◌≡◌, ◌≤◌, ◌+◌, ◌++◌, ◌∷◌, [], List, ℕ, IfOk, OnOk, None, Some, true, is_some, map, max, option_copied, option_map};
 ghost use Rattle.cyc_core.specs.Trees.{bytes_of};
 ghost use Rattle.cyc_tree.specs.View.{member_tree, structure_tree};
 ghost use Rattle.source_meaning.specs.Shapes.{Layout as Rules, part_of};
 ghost use Rattle.source_meaning.specs.Programs.{layout_of};
 ghost use Rattle.source_meaning.specs.Sizes.{laid_out, rounded_up};
+ghost use Rattle.source_lowering.specs.Layouts.{bytes_through};
 ghost use Rattle.source_lowering.specs.Lowerable.{IsStruct};
 ghost use Rattle.lower_checks.specs.Cells.{cell_for};
 ghost use Rattle.lower_checks.specs.Unions.{KnowsUnions, union_in, union_tree};
 ghost use Rattle.lower_checks.specs.Structs.{
   AreLaid,
+  AreNear,
   IsLaid,
+  IsNear,
+  IsNext,
   Knows,
   all_filled,
   bytes_and,
@@ -93,25 +97,15 @@ pub fn cell_of(shape: Shape<'_>) -> Result<Cell, LowerFault>
     }
 }
 
-/// The sum of two numbers. Refuses what is over the greatest u32.
-pub fn sum(a: u32, b: u32) -> Result<u32, LowerFault>
-    ensures sum { IfOk result (λ sum. sum ≡ a + b) }
-    ensures taken { NeverRefused result }
-{
-    match a.checked_add(b) {
-        Some(sum) => Ok(sum),
-        None => Err(LowerFault::Memory),
-    }
-}
-
-/// How many bytes there are with those that follow for an alignment. Refuses what is over the greatest u32.
-pub fn rounded(size: u32, align: Width) -> Result<u32, LowerFault>
-    ensures rounded { IfOk result (λ next. next ≡ rounded_up size (bytes_of align)) }
-    ensures taken { NeverRefused result }
+/// How many bytes there are with those that follow for an alignment.
+pub fn rounded(size: u32, align: Width) -> u32
+    requires small { size ≤ 4096 }
+    ensures rounded { result ≡ rounded_up size (bytes_of align) }
+    ensures small { result ≤ 4096 }
 {
     match align {
-        Width::Byte => Ok(size),
-        Width::Word => Ok(sum(size, 3)? / 4 * 4),
+        Width::Byte => size,
+        Width::Word => (size + 3) / 4 * 4,
     }
 }
 
@@ -125,14 +119,16 @@ fn wider(a: Width, b: Width) -> Width
     }
 }
 
-/// Appends cells, each so many bytes further on.
+/// Appends cells, each so many bytes further on. Fails only where no host memory is left.
 fn push_moved(cells: &mut Vec<CellLayout>, by: u32, more: &[CellLayout]) -> Result<(), LowerFault>
+    requires by { by ≤ 4096 }
+    requires near { AreNear more.now }
     ensures added { OnOk result (map laid_cell cells.new.items ≡ map laid_cell cells.old.items ++ map (moved_cell by) (map laid_cell more.now)) }
     ensures taken { NeverRefused result }
 {
     'each: for cell in more {
         let moved = CellLayout {
-            offset: sum(by, cell.offset)?,
+            offset: by + cell.offset,
             cell: cell.cell,
             padding: 0,
         };
@@ -178,12 +174,13 @@ fn fill_all(alloc: Global, cells: &[CellLayout], bytes: u32) -> Result<Vec<CellL
     Ok(all)
 }
 
-/// A struct with these members, whose cells and bytes are these.
+/// A struct with these members, whose cells and bytes are these. Fails only where no host memory is left.
 fn known_of<'p>(
     alloc: Global,
     members: &'p [Member],
     laying: Laying,
 ) -> Result<Known<'p>, LowerFault>
+    requires small { laying.room.size ≤ 4096 }
     ensures members { IfOk result (λ known. known.members ≡ members.entry) }
     ensures size { IfOk result (λ known. known.layout.value.bytes ≡ rounded_up laying.room.size (bytes_of laying.room.align)) }
     ensures align { IfOk result (λ known. known.align ≡ laying.room.align) }
@@ -191,7 +188,7 @@ fn known_of<'p>(
     ensures taken { NeverRefused result }
 {
     let align = laying.room.align;
-    let bytes = rounded(laying.room.size, align)?;
+    let bytes = rounded(laying.room.size, align);
     let cells = fill_all(alloc, &laying.cells, bytes)?;
     match Rc::new(alloc, Layout { cells, bytes }) {
         Ok(layout) => Ok(Known {
@@ -272,6 +269,8 @@ impl<'p> Structs<'p> {
         at: u32,
         shape: Shape<'_>,
     ) -> Result<(), LowerFault>
+        requires at { at ≤ 4096 }
+        requires near { IsNear self.now }
         ensures cells { OnOk result
             (map laid_cell cells.new.items ≡ map laid_cell cells.old.items ++ map (moved_cell at) (cells_in self.now (shape_tree shape.entry))) }
         ensures taken { IsLaid self.now (shape_tree shape.entry) → NeverRefused result }
@@ -295,6 +294,8 @@ impl<'p> Structs<'p> {
 
     /// Lays one more member. Refuses what is no integer, no pointer, no handle, no key and no union or struct that is known.
     fn lay(&self, laying: &mut Laying, shape: Shape<'_>) -> Result<(), LowerFault>
+        requires small { let room = room_in self.now (shape_tree shape) in rounded_up laying.old.room.size room.align + room.size ≤ 4096 }
+        requires near { IsNear self.now }
         ensures size { let room = room_in self.now (shape_tree shape.entry) in
             OnOk result (laying.new.room.size ≡ rounded_up laying.old.room.size room.align + room.size) }
         ensures align { let room = room_in self.now (shape_tree shape.entry) in
@@ -308,11 +309,10 @@ impl<'p> Structs<'p> {
         ensures taken { IsLaid self.now (shape_tree shape.entry) → NeverRefused result }
     {
         let room = self.room(shape)?;
-        let at = rounded(laying.room.size, room.align)?;
-        let size = sum(at, room.size)?;
+        let at = rounded(laying.room.size, room.align);
         self.push_shape(&mut laying.cells, at, shape)?;
         laying.room = Room {
-            size,
+            size: at + room.size,
             align: wider(laying.room.align, room.align),
         };
         Ok(())
@@ -320,6 +320,8 @@ impl<'p> Structs<'p> {
 
     /// Lays members. Refuses what is no integer, no pointer, no handle, no key and no union or struct that is known.
     fn lay_all(&self, alloc: Global, members: &[Member]) -> Result<Laying, LowerFault>
+        requires small { bytes_through (room_in self.now) 0 (map part_of (map member_tree members.now)) ≤ 4096 }
+        requires near { IsNear self.now }
         ensures room { let parts = map part_of (map member_tree members.now) in
             IfOk result (λ laying.
             bytes_and (rounded_up laying.room.size (bytes_of laying.room.align)) (bytes_of laying.room.align) ≡
@@ -327,6 +329,7 @@ impl<'p> Structs<'p> {
         ensures cells { let parts = map part_of (map member_tree members.now) in
             IfOk result (λ laying. map laid_cell laying.cells.items ≡ laid_cells self.now 0 parts) }
         ensures laid { OnOk result (AreLaid self.now (map part_of (map member_tree members.now))) }
+        ensures small { IfOk result (λ laying. laying.room.size ≤ 4096) }
         ensures taken { AreLaid self.now (map part_of (map member_tree members.now)) → NeverRefused result }
     {
         let mut laying = Laying {
@@ -346,6 +349,7 @@ impl<'p> Structs<'p> {
     /// pointer, no handle, no key, no union and no earlier struct.
     #[tactic(auto, using(crate::proofs::Structs::new_tag, crate::proofs::Structs::members_laid))]
     pub fn add(&mut self, alloc: Global, structure: &'p Structure) -> Result<(), LowerFault>
+        requires next { IsNext self.old (layout_of (structure_tree structure.now)) }
         ensures added { OnOk result
             ((unions structs : List Rules) → Knows self.old unions structs →
             Knows self.new unions (layout_of (structure_tree structure.entry.now) ∷ structs)) }

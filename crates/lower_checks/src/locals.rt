@@ -10,7 +10,7 @@ ghost use Rattle.lower_checks.specs.Refusals.{NeverRefused};
 use crate::fault::LowerFault;
 use crate::last::Lasts;
 use crate::mark::{Local, Mark};
-use crate::names::{Named, after};
+use crate::names::Named;
 use crate::stored::Stored;
 use cyc_tree::Name;
 use std::alloc::Global;
@@ -21,7 +21,7 @@ use std::marker::Model;
 pub struct Locals<'p> {
     marks: Vec<Mark<'p>>,
     last: Lasts<'p, Local<'p>>,
-    depth: u32,
+    depth: usize,
 }
 
 impl<'p> Model for Locals<'p> {
@@ -63,12 +63,12 @@ impl<'p> Locals<'p> {
         }
     }
 
-    /// Declares a local of the innermost block, which has this number in it.
+    /// Declares a local of the innermost block, which has this number in it. Fails only where no host memory is left.
     pub fn declare(
         &mut self,
         name: &'p Name,
         stored: Stored<'p>,
-        index: u32,
+        index: usize,
     ) -> Result<(), LowerFault>
         ensures declared { OnOk result (self.new ≡ Some (declared (name_tree name.entry.now).text stored.entry index) ∷ self.old) }
         ensures taken { NeverRefused result }
@@ -92,16 +92,15 @@ impl<'p> Locals<'p> {
         }
     }
 
-    /// Begins a block.
+    /// Begins a block. Fails only where no host memory is left.
     pub fn enter(&mut self) -> Result<(), LowerFault>
         ensures entered { OnOk result (self.new ≡ None ∷ self.old) }
         ensures taken { NeverRefused result }
     {
-        let depth = after(self.depth)?;
         if let Err(_) = self.marks.push(Mark::Begin) {
             return Err(LowerFault::Memory);
         }
-        self.depth = depth;
+        self.depth += 1;
         Ok(())
     }
 

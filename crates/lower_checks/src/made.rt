@@ -103,20 +103,22 @@ fn lower_one<'p>(
     requires taken { let w = world_in scope.now in
         let names = names_in scope.now in
         let e = expression_tree value.now in
-        IsSound body.old → IsObject w.unions w.structs (static_shape w names e) × TakesMember (static_shape w names e) (TakesWhole w names e) (Takes w names e) }
+        IsSound body.old → IsObject w.unions w.structs (static_shape w names e) ×
+        TakesMember (static_shape w names e) (TakesWhole w names e) (Takes w names e) }
     ensures writes { let w = world_in scope.now in
         let names = names_in scope.now in
         let e = expression_tree value.entry.now in
         let number = next_of body.old in
         Writes body.old body.new
-        (new_code_by w (is_alone (owner_tree owner)) (static_shape w names e) to.0 (whole_code w names e (to.0 + 1) number) (expression_code w names e (to.0 + 1) number))
+        (new_code_by w (is_alone (owner_tree owner)) (static_shape w names e) to.0 (whole_code w names e (to.0 + 1) number)
+        (expression_code w names e (to.0 + 1) number))
         (values_by (static_shape w names e) (whole_values w names e) (expression_values w names e)) }
     ensures shape { IsSound body.new →
         shape_tree result ≡ ThinShape false (owner_tree owner) (static_shape (world_in scope.now) (names_in scope.now) (expression_tree value.entry.now)) }
 {
     let next = behind(to, 1);
     let shape = body.known(shape_of(scope, value));
-    let address = body.known(shape.address(owner));
+    let address = body.known(shape.address(scope.alloc, scope.program.arena(), owner));
     match &shape {
         Shape::Struct(_) | Shape::Union(_) => {
             lower_whole(scope, value, body, next);

@@ -1,12 +1,13 @@
 // Members and elements: where they lie, and how they are reached.
 
-ghost use Rattle.std.specs.Prelude.{◌≡◌, ◌-◌, ◌∷◌, [], IfOk, Ok, map};
+ghost use Rattle.std.specs.Prelude.{◌≡◌, ◌≤◌, ◌-◌, ◌∷◌, [], IfOk, Ok, OnOk, map};
 ghost use Rattle.cyc_tree.specs.View.{member_tree, suffix_tree, suffixes_of};
 ghost use Rattle.source_meaning.specs.Shapes.{part_of, part_shape, pointee};
 ghost use Rattle.source_meaning.specs.Sizes.{cells_before};
 ghost use Rattle.source_meaning.specs.Conversions.{cells_of};
 ghost use Rattle.source_meaning.specs.Places.{struct_parts};
 ghost use Rattle.source_meaning.specs.Programs.{world_of};
+ghost use Rattle.source_meaning.specs.Steps.{World};
 ghost use Rattle.source_lowering.specs.Layouts.{bytes_before, extent_of};
 ghost use Rattle.source_lowering.specs.Lowered.{member_shape, offset_code, reach_code};
 ghost use Rattle.source_lowering.specs.Lowerable.{IsObject, TakesMembers};
@@ -15,12 +16,13 @@ ghost use Rattle.lower_checks.specs.Reaching.{further_code, further_place, indic
 ghost use Rattle.lower_checks.specs.Room.{HasRoom};
 ghost use Rattle.lower_checks.specs.Scoped.{names_in, world_in};
 ghost use Rattle.lower_checks.specs.Views.{shape_tree};
+ghost use Rattle.lower_checks.specs.Within.{AreSmall, AreWithin, IsWithin};
 ghost use Rattle.lower_checks.specs.Writing.{Emits, IsSound, Stays};
 
 use crate::body::Body;
 use crate::fat::{lower_index, lower_reach};
 use crate::fault::LowerFault;
-use crate::layouts::{rounded, sum};
+use crate::layouts::rounded;
 use crate::scope::Scope;
 use crate::shape::Shape;
 use crate::sizes::{count, extent};
@@ -40,7 +42,9 @@ pub struct Reached<'p> {
 impl<'p> Reached<'p> {
     /// What lies right where a pointer leads.
     pub fn at_once(shape: Shape<'p>) -> Reached<'p>
-        ensures { reached_place result ≡ place_at_once (shape_tree shape.entry) }
+        ensures place { reached_place result ≡ place_at_once (shape_tree shape.entry) }
+        ensures within { (w : World) → IsWithin w (reached_place result) }
+        ensures near { result.bytes ≤ 4096 }
     {
         Reached {
             shape,
@@ -51,39 +55,33 @@ impl<'p> Reached<'p> {
 }
 
 /// Where the first member of a name lies among members, with `void` for its shape where there is none.
-fn among<'p>(
-    program: &Table<'p>,
-    members: &'p [Member],
-    name: &[u8],
-) -> Result<Reached<'p>, LowerFault>
-    ensures shape { IfOk result (λ reached. shape_tree reached.shape ≡ part_shape (map part_of (map member_tree members.entry.now)) name.now) }
-    ensures cells { IfOk result
-        (λ reached. reached.cells ≡ cells_before (cells_of (world_of program.now)) (map part_of (map member_tree members.entry.now)) name.now) }
-    ensures bytes { IfOk result
-        (λ reached. reached.bytes ≡ bytes_before (extent_of (world_of program.now)) 0 (map part_of (map member_tree members.entry.now)) name.now) }
-    ensures taken { NeverRefused result }
+fn among<'p>(program: &Table<'p>, members: &'p [Member], name: &[u8]) -> Reached<'p>
+    requires within { AreWithin (world_of program.now) 0 0 (map part_of (map member_tree members.now)) }
+    ensures shape { shape_tree result.shape ≡ part_shape (map part_of (map member_tree members.entry.now)) name.now }
+    ensures cells { result.cells ≡ cells_before (cells_of (world_of program.now)) (map part_of (map member_tree members.entry.now)) name.now }
+    ensures bytes { result.bytes ≡ bytes_before (extent_of (world_of program.now)) 0 (map part_of (map member_tree members.entry.now)) name.now }
 {
     let mut cells = 0;
     let mut bytes = 0;
     'each: for member in members {
         let shape = Shape::of(&member.of);
         let room = extent(program, shape);
-        let at = rounded(bytes, room.align)?;
+        let at = rounded(bytes, room.align);
         if member.name.text.as_slice() == name {
-            return Ok(Reached {
+            return Reached {
                 shape,
                 cells,
                 bytes: at,
-            });
+            };
         }
-        cells = sum(cells, count(program, shape)?)?;
-        bytes = sum(at, room.size)?;
+        cells += count(program, shape);
+        bytes = at + room.size;
     }
-    Ok(Reached {
+    Reached {
         shape: Shape::Void,
         cells,
         bytes,
-    })
+    }
 }
 
 /// Where a member of a struct of a shape lies from the struct's beginning on. Refuses what is no struct.
@@ -98,33 +96,36 @@ fn member<'p>(
         IfOk result (λ reached. reached.cells ≡ cells_before (cells_of w) (struct_parts w (shape_tree shape.now)) name.now) }
     ensures bytes { let w = world_of program.now in
         IfOk result (λ reached. reached.bytes ≡ bytes_before (extent_of w) 0 (struct_parts w (shape_tree shape.now)) name.now) }
+    ensures small { OnOk result (AreSmall (world_of program.now)) }
     ensures taken { let w = world_of program.now in IsObject w.unions w.structs (member_shape w (shape_tree shape.now) name.now) → NeverRefused result }
 {
     match shape {
         Shape::Struct(tag) => match program.struct_of(tag) {
-            Some(known) => among(program, known.members, name),
+            Some(known) => Ok(among(program, known.members, name)),
             None => Err(LowerFault::NotTaken),
         },
         _ => Err(LowerFault::NotTaken),
     }
 }
 
-/// A member of the struct that is reached.
+/// A member of the struct that is reached. Refuses what is no struct.
 #[tactic(auto, using(crate::proofs::Reaching::reached_member))]
 fn dot<'p>(
     program: &Table<'p>,
     reached: &Reached<'p>,
     name: &[u8],
 ) -> Result<Reached<'p>, LowerFault>
+    requires within { IsWithin (world_of program.now) (reached_place reached.now) }
     ensures place { let w = world_of program.now in
         IfOk result (λ further. reached_place further ≡ member_place w (reached_place reached.now) name.now) }
+    ensures within { IfOk result (λ further. IsWithin (world_of program.now) (reached_place further)) }
     ensures taken { let w = world_of program.now in IsObject w.unions w.structs (member_shape w (shape_tree reached.now.shape) name.now) → NeverRefused result }
 {
     let further = member(program, &reached.shape, name)?;
     Ok(Reached {
         shape: further.shape,
-        cells: sum(reached.cells, further.cells)?,
-        bytes: sum(reached.bytes, further.bytes)?,
+        cells: reached.cells + further.cells,
+        bytes: reached.bytes + further.bytes,
     })
 }
 
@@ -133,6 +134,7 @@ fn known_member<'p>(body: &mut Body<'_>, found: Result<Reached<'p>, LowerFault>)
     requires { IsSound body.old → NeverRefused found }
     ensures stays { Stays body.old body.new }
     ensures known { IsSound body.new → found.entry ≡ Ok result }
+    ensures within { (w : World) → IfOk found.entry (λ reached. IsWithin w (reached_place reached)) → IsWithin w (reached_place result) }
 {
     match found {
         Ok(reached) => reached,
@@ -150,9 +152,11 @@ pub fn lower_dot<'p>(
     name: &[u8],
     body: &mut Body<'_>,
 ) -> Reached<'p>
+    requires within { IsWithin (world_of program.now) (reached_place reached.now) }
     requires taken { let w = world_of program.now in IsSound body.old → IsObject w.unions w.structs (member_shape w (shape_tree reached.now.shape) name.now) }
     ensures stays { Stays body.old body.new }
     ensures place { IsSound body.new → reached_place result ≡ member_place (world_of program.now) (reached_place reached.now) name.now }
+    ensures within { IsWithin (world_of program.now) (reached_place result) }
 {
     known_member(body, dot(program, reached, name))
 }
@@ -171,6 +175,7 @@ pub fn lower_arrow<'p>(
     ensures code { Emits body.old body.new (reach_code (world_of program.now) (shape_tree shape.now) to.0) }
     ensures place { IsSound body.new →
         reached_place result ≡ member_place (world_of program.now) (place_at_once (pointee (shape_tree shape.now))) name.now }
+    ensures within { IsWithin (world_of program.now) (reached_place result) }
 {
     lower_reach(program, shape, body, to);
     lower_dot(program, &Reached::at_once(shape.pointee()), name, body)
@@ -196,12 +201,14 @@ fn follow_one<'p>(
     pointer: Temporary,
 ) -> Reached<'p>
     requires room { HasRoom pointer.0 2 }
+    requires within { IsWithin (world_in scope.now) (reached_place reached.now) }
     requires taken { IsSound body.old →
         TakesMembers (world_in scope.now) (names_in scope.now) (suffixes_of (suffix_tree suffix.now ∷ [])) (shape_tree reached.now.shape) }
     ensures code { Emits body.old body.new
         (further_code (world_in scope.now) (suffixes_of (suffix_tree suffix.now ∷ [])) (reached_place reached.now) pointer.0) }
     ensures place { IsSound body.new →
         reached_place result ≡ further_place (world_in scope.now) (suffixes_of (suffix_tree suffix.now ∷ [])) (reached_place reached.now) }
+    ensures within { IsWithin (world_in scope.now) (reached_place result) }
 {
     match suffix {
         Suffix::Dot(name) => lower_dot(scope.program, reached, &name.text, body),
@@ -232,12 +239,14 @@ pub fn follow<'p>(
     pointer: Temporary,
 ) -> Reached<'p>
     requires room { HasRoom pointer.0 2 }
+    requires within { IsWithin (world_in scope.now) (reached_place start) }
     requires taken { IsSound body.old →
         TakesMembers (world_in scope.now) (names_in scope.now) (suffixes_of (map suffix_tree suffixes.now)) (shape_tree start.shape) }
     ensures code { Emits body.old body.new
         (further_code (world_in scope.now) (suffixes_of (map suffix_tree suffixes.now)) (reached_place start.entry) pointer.0) }
     ensures place { IsSound body.new →
         reached_place result ≡ further_place (world_in scope.now) (suffixes_of (map suffix_tree suffixes.now)) (reached_place start.entry) }
+    ensures near { result.bytes ≤ 4096 }
 {
     let mut reached = start;
     let mut to = pointer;

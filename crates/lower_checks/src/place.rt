@@ -1,6 +1,6 @@
 // Places: variables, members, and what pointers lead to.
 
-ghost use Rattle.std.specs.Prelude.{◌≡◌, ◌+◌, ◌++◌, ◌∷◌, [], map};
+ghost use Rattle.std.specs.Prelude.{◌≡◌, ◌≤◌, ◌+◌, ◌++◌, ◌∷◌, [], map};
 ghost use Rattle.cyc_tree.specs.View.{expression_tree, suffix_tree, suffixes_of};
 ghost use Rattle.source_meaning.specs.Shapes.{pointee};
 ghost use Rattle.source_lowering.specs.Lowered.{
@@ -32,6 +32,7 @@ ghost use Rattle.lower_checks.specs.Reaching.{
 ghost use Rattle.lower_checks.specs.Room.{HasRoom};
 ghost use Rattle.lower_checks.specs.Scoped.{names_in, world_in};
 ghost use Rattle.lower_checks.specs.Views.{shape_tree};
+ghost use Rattle.lower_checks.specs.Within.{IsWithin};
 ghost use Rattle.lower_checks.specs.Writing.{IsSound, Writes, next_of};
 
 use crate::body::Body;
@@ -240,6 +241,7 @@ fn lower_first<'p>(
     ensures place { let w = world_in scope.now in
         IsSound body.new → reached_place result ≡
         further_place w (suffixes_of (suffix_tree first.now ∷ [])) (place_at_once (static_shape w (names_in scope.now) (expression_tree primary.entry.now))) }
+    ensures within { IsWithin (world_in scope.now) (reached_place result) }
 {
     match first {
         Suffix::Dot(name) => {
@@ -283,6 +285,7 @@ pub fn lower_suffixed<'p>(
         IsLeftAt (suffixed_left (world_in scope.now) (names_in scope.now) (expression_tree place.entry.now) (next_of body.old)) (reached_place result) to.0 }
     ensures shape { IsSound body.new →
         shape_tree result.shape ≡ static_shape (world_in scope.now) (names_in scope.now) (expression_tree place.entry.now) }
+    ensures near { result.bytes ≤ 4096 }
 {
     let Expression::Suffixed(primary, suffixes) = place else {
         body.never();

@@ -20,9 +20,9 @@ use crate::objects::object_layout;
 use crate::stored::Stored;
 use crate::table::{Table, function_number, global_stored};
 use crate::text::lower_strings;
-use crate::unions::few_members;
 use crate::vectors::append;
 use accepted_programs::Checked;
+use bumpalo::Bump;
 use cyc_core::{Datum, Function, Program};
 use cyc_tree::{Global as Declared, Item, Program as Source};
 use std::alloc::{AllocError, Global};
@@ -94,7 +94,7 @@ fn lower_known(alloc: Global, program: &Table<'_>) -> Result<Program, LowerFault
     ensures code { IfOk result (λ core. program_tree core ≡ program_code program.now) }
     ensures memory { NeverRefused result }
 {
-    let main = function_number(program.items(), b"main".as_slice())?;
+    let main = function_number(program.items(), b"main".as_slice());
     let globals = lower_data(alloc, program)?;
     let functions = lower_functions(alloc, program)?;
     Ok(Program {
@@ -111,17 +111,14 @@ fn lower_tree(alloc: Global, program: &Source) -> Result<Program, LowerFault>
     ensures code { IfOk result (λ core. program_tree core ≡ program_code program.now) }
     ensures memory { NeverRefused result }
 {
-    let table = Table::new(alloc, program.items())?;
+    let arena = Bump::new(alloc);
+    let table = Table::new(alloc, &arena, program.items())?;
     lower_known(alloc, &table)
 }
 
-/// The Core of a checked program. Fails only where no host memory is left, or a number is over the greatest u32: of a function's
-/// temporaries all in all, the words that it passes, its locals or unnamed values, blocks around each other, functions, globals and
-/// strings, members of a union, or parts or bytes of a struct; where more than 256 pointers that `&`, `new` and `rnew` give stand around
-/// each other; or where a local's type leaves a pointer's region out that has 128 others around it, and its initializer says that it is
-/// unique.
+/// The Core of a checked program. Fails only where no host memory is left.
 pub fn lower(alloc: Global, checked: &Checked) -> Result<Program, AllocError>
-    // a word counts the temporaries of each of its functions
+    // a word counts the temporaries of each of its functions, and the members of each of its unions
     requires room { program_room checked.now < 2 ^ 32 }
     // it does what the source does, and its frames and its code are within the source's bounds
     ensures promised { IfOk result (λ core. IsLoweringOf checked.now (program_tree core)) }
@@ -131,9 +128,6 @@ pub fn lower(alloc: Global, checked: &Checked) -> Result<Program, AllocError>
     ensures few { IfOk result (λ _. HaveFewMembers (unions_of checked.now)) }
 {
     let program = checked.program();
-    if let Err(_) = few_members(program.items()) {
-        return Err(AllocError);
-    }
     match lower_tree(alloc, program) {
         Ok(core) => Ok(core),
         Err(LowerFault::Memory) => Err(AllocError),

@@ -19,8 +19,10 @@ use crate::fault::LowerFault;
 use crate::given::Given;
 use crate::names::behind;
 use crate::signs::{Pointing, Signs};
+use bumpalo::Bump;
 use cyc_core::{Temporary, Width, Words};
 use cyc_tree::{Base, Pointer, RegionName, Sign, TypeName};
+use std::alloc::Global;
 
 /// Whether what a pointer leads to is owned by it alone.
 #[derive(Clone, Copy)]
@@ -49,7 +51,7 @@ pub enum Written<'p> {
     /// Nothing: so `NULL` has it.
     Nothing,
     /// A type as it is written: the pointers, from the base outwards, the base, and which pointers are unique though that isn't written.
-    Pointed(&'p [Pointer], &'p Base, Given),
+    Pointed(&'p [Pointer], &'p Base, Given<'p>),
 }
 
 /// A shape that neither `&` nor `new` gives: that of a type as it is written, or of a value that has no type in the text.
@@ -73,7 +75,7 @@ pub enum Pointee<'p> {
     /// What a type as it is written leads to.
     Written(Written<'p>),
     /// What `new` and `rnew` made the elements of: such pointers around each other, and what the innermost one leads to.
-    Made(Signs, Plain<'p>),
+    Made(Signs<'p>, Plain<'p>),
 }
 
 /// What a type means at run time. A struct and a union go by their tags.
@@ -91,7 +93,7 @@ pub enum Shape<'p> {
     Thin(bool, Owner, Written<'p>),
     /// A pointer to one object as `&`, `new` and `rnew` give it, never NULL: whether it is unique, the pointers that it leads to, one after
     /// the other, and what the last one leads to.
-    Address(Owner, Signs, Plain<'p>),
+    Address(Owner, Signs<'p>, Plain<'p>),
     /// A pointer that carries bounds, by what it leads to.
     Fat(Pointee<'p>),
     /// A region's handle.
@@ -145,8 +147,8 @@ fn pointer_shape<'p>(pointer: &Pointer, given: bool, to: Written<'p>) -> Shape<'
 }
 
 /// The shape of a base with pointers to it, some of which are unique though that isn't written.
-pub fn type_shape<'p>(pointers: &'p [Pointer], base: &'p Base, given: Given) -> Shape<'p>
-    ensures { shape_tree result ≡ written_shape (Pointed pointers.entry base.entry given) }
+pub fn type_shape<'p>(pointers: &'p [Pointer], base: &'p Base, given: Given<'p>) -> Shape<'p>
+    ensures { shape_tree result ≡ written_shape (Pointed pointers.entry base.entry given.entry) }
 {
     if let [others @ .., outer] = pointers {
         let to = Written::Pointed(others, base, given.within());
@@ -188,8 +190,8 @@ impl<'p> Plain<'p> {
 }
 
 /// The shape of pointers around each other, and of what the innermost one leads to.
-fn pointers_shape<'p>(signs: Signs, to: Plain<'p>) -> Shape<'p>
-    ensures { shape_tree result ≡ around (signs_of signs) (plain_tree to.entry) }
+fn pointers_shape<'p>(signs: Signs<'p>, to: Plain<'p>) -> Shape<'p>
+    ensures { shape_tree result ≡ around (signs_of signs.entry) (plain_tree to.entry) }
 {
     match signs.outermost() {
         Some((Pointing::Fat, others)) => Shape::Fat(Pointee::Made(others, to)),
@@ -214,7 +216,7 @@ impl<'p> Pointee<'p> {
 /// A shape as pointers around each other, which `&`, `new` and `rnew` gave, and what the innermost one leads to.
 #[derive(Clone, Copy)]
 struct Pointers<'p> {
-    signs: Signs,
+    signs: Signs<'p>,
     to: Plain<'p>,
 }
 
@@ -253,20 +255,20 @@ impl<'p> Shape<'p> {
     }
 
     /// It as pointers around each other.
-    fn pointers(self) -> Result<Pointers<'p>, LowerFault>
+    fn pointers(self, alloc: Global, arena: &'p Bump) -> Result<Pointers<'p>, LowerFault>
         ensures pointers { IfOk result (λ found. shape_tree self.entry ≡ around (signs_of found.signs) (plain_tree found.to)) }
         ensures taken { NeverRefused result }
     {
         let to = match self {
             Shape::Address(owner, signs, to) => {
                 return Ok(Pointers {
-                    signs: signs.within(owner.pointing())?,
+                    signs: signs.within(alloc, arena, owner.pointing())?,
                     to,
                 });
             }
             Shape::Fat(Pointee::Made(signs, to)) => {
                 return Ok(Pointers {
-                    signs: signs.within(Pointing::Fat)?,
+                    signs: signs.within(alloc, arena, Pointing::Fat)?,
                     to,
                 });
             }
@@ -288,20 +290,25 @@ impl<'p> Shape<'p> {
     }
 
     /// The shape of a pointer to an object of the shape, as `&`, `new` and `rnew` give it: never NULL.
-    pub fn address(self, owner: Owner) -> Result<Shape<'p>, LowerFault>
+    pub fn address(
+        self,
+        alloc: Global,
+        arena: &'p Bump,
+        owner: Owner,
+    ) -> Result<Shape<'p>, LowerFault>
         ensures address { IfOk result (λ shape. shape_tree shape ≡ ThinShape false (owner_tree owner) (shape_tree self.entry)) }
         ensures taken { NeverRefused result }
     {
-        let pointers = self.pointers()?;
+        let pointers = self.pointers(alloc, arena)?;
         Ok(Shape::Address(owner, pointers.signs, pointers.to))
     }
 
     /// The shape of a fat pointer to objects of the shape, as `new` and `rnew` give it.
-    pub fn elements(self) -> Result<Shape<'p>, LowerFault>
+    pub fn elements(self, alloc: Global, arena: &'p Bump) -> Result<Shape<'p>, LowerFault>
         ensures elements { IfOk result (λ shape. shape_tree shape ≡ FatShape (shape_tree self.entry)) }
         ensures taken { NeverRefused result }
     {
-        let pointers = self.pointers()?;
+        let pointers = self.pointers(alloc, arena)?;
         Ok(Shape::Fat(Pointee::Made(pointers.signs, pointers.to)))
     }
 

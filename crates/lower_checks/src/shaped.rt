@@ -140,7 +140,11 @@ fn suffixed_shape<'p>(program: &Table<'p>, suffixes: &[Suffix], first: Shape<'p>
 }
 
 /// The shape of what a prefix operator gives, by that of its operand.
-fn prefix_shape<'p>(operator: Prefix, operand: Shape<'p>) -> Result<Shape<'p>, LowerFault>
+fn prefix_shape<'p>(
+    scope: &Scope<'_, 'p>,
+    operator: Prefix,
+    operand: Shape<'p>,
+) -> Result<Shape<'p>, LowerFault>
     ensures shape { IfOk result (λ shape. shape_tree shape ≡ prefix_shape operator (shape_tree operand.entry)) }
     ensures taken { NeverRefused result }
 {
@@ -149,7 +153,7 @@ fn prefix_shape<'p>(operator: Prefix, operand: Shape<'p>) -> Result<Shape<'p>, L
         Prefix::Complement => Ok(operator_shape(Operator::BitXor, Shape::Int, operand)),
         Prefix::Not => Ok(Shape::Int),
         Prefix::Dereference => Ok(operand.pointee()),
-        Prefix::AddressOf => operand.address(Owner::Shared),
+        Prefix::AddressOf => operand.address(scope.alloc, scope.program.arena(), Owner::Shared),
     }
 }
 
@@ -194,7 +198,7 @@ fn elements_shape<'p>(
         locals: scope.locals,
         numbers: &numbers,
     };
-    shape_of(&inside, element)?.elements()
+    shape_of(&inside, element)?.elements(scope.alloc, scope.program.arena())
 }
 
 /// The shape of a pointer to what `new` and `rnew` make: a fat one to the elements of an array.
@@ -209,12 +213,16 @@ fn new_shape<'p>(
     ensures taken { NeverRefused result }
 {
     match made {
-        Made::One(value) => shape_of(scope, value)?.address(owner),
+        Made::One(value) => shape_of(scope, value)?.address(
+            scope.alloc,
+            scope.program.arena(),
+            owner,
+        ),
         Made::Array(index, _, element) => elements_shape(scope, index, element),
     }
 }
 
-/// The shape of an expression's type. Fails only where more pointers than the greatest u32 are around each other.
+/// The shape of an expression's type. Fails only where no host memory is left.
 #[cycle(shape)]
 pub fn shape_of<'p>(
     scope: &Scope<'_, 'p>,
@@ -236,7 +244,7 @@ pub fn shape_of<'p>(
             Ok(suffixed_shape(scope.program, suffixes, left))
         }
         Expression::Prefixed(_, operator, operand) => {
-            prefix_shape(*operator, shape_of(scope, operand)?)
+            prefix_shape(scope, *operator, shape_of(scope, operand)?)
         }
         Expression::New(_, made) => new_shape(scope, Owner::Shared, made),
         Expression::NewIn(_, handle, made) => new_shape(scope, owner_for(handle), made),

@@ -2,10 +2,12 @@
 
 ghost use Rattle.std.specs.Prelude.{◌≡◌, ◌+◌, ◌*◌, ◌∷◌, [], None, IfOk, IfSome};
 ghost use Rattle.lower_checks.specs.Refusals.{NeverRefused};
-ghost use Rattle.lower_checks.specs.Signs.{alone_digit, fat_digit, pointing_of, row_signs, signs_of};
+ghost use Rattle.lower_checks.specs.Signs.{alone_digit, digits_signs, fat_digit, pointing_of, signs_of};
 
 use crate::fault::LowerFault;
-use crate::names::after;
+use crate::vectors::append;
+use bumpalo::Bump;
+use std::alloc::Global;
 
 /// A pointer as `&`, `new` and `rnew` give it.
 #[derive(Clone, Copy)]
@@ -53,35 +55,29 @@ impl Pointing {
     }
 }
 
-/// Digits with one more behind them. Refuses more than 128 digits.
-fn followed(digits: u128, last: u128) -> Result<u128, LowerFault>
-    ensures followed { IfOk result (λ more. more ≡ digits * 2 + last) }
-    ensures taken { NeverRefused result }
+/// Digits with one more behind them; `None` where that is over the greatest u128.
+fn followed(digits: u128, last: u128) -> Option<u128>
+    ensures { IfSome result (λ more. more ≡ digits * 2 + last) }
 {
-    let Some(doubled) = digits.checked_mul(2) else {
-        return Err(LowerFault::Memory);
-    };
-    match doubled.checked_add(last) {
-        Some(more) => Ok(more),
-        None => Err(LowerFault::Memory),
-    }
+    let doubled = digits.checked_mul(2)?;
+    doubled.checked_add(last)
 }
 
-/// Some pointers in a row, the outermost one first: how many there are, the sum of 2^k for each one that is fat, and for each one that is
-/// unique, which has k others around it.
+/// Some pointers around each other, the outermost one first: how many there are, the sum of 2^k for each one that is fat, and for each one
+/// that is unique, which has k others around it. So 128 pointers always fit.
 #[derive(Clone, Copy)]
-pub struct Row {
+pub struct Digits {
     pub many: u32,
     pub fat: u128,
     pub alone: u128,
 }
 
-impl Row {
+impl Digits {
     /// No pointers.
-    fn none() -> Row
-        ensures { row_signs result ≡ [] }
+    fn none() -> Digits
+        ensures { digits_signs result ≡ [] }
     {
-        Row {
+        Digits {
             many: 0,
             fat: 0,
             alone: 0,
@@ -90,14 +86,14 @@ impl Row {
 
     /// The outermost pointer, and those in it; `None` of no pointers.
     #[tactic(auto, using(crate::proofs::Rows::sign_out))]
-    fn outermost(self) -> Option<(Pointing, Row)>
-        ensures some { IfSome result (λ found. row_signs self ≡ found.0 ∷ row_signs found.1) }
-        ensures none { result ≡ None → row_signs self ≡ [] }
+    fn outermost(self) -> Option<(Pointing, Digits)>
+        ensures some { IfSome result (λ found. digits_signs self ≡ found.0 ∷ digits_signs found.1) }
+        ensures none { result ≡ None → digits_signs self ≡ [] }
     {
         if self.many == 0 {
             return None;
         }
-        let others = Row {
+        let others = Digits {
             many: self.many - 1,
             fat: self.fat / 2,
             alone: self.alone / 2,
@@ -106,78 +102,98 @@ impl Row {
         Some((first, others))
     }
 
-    /// A further pointer around these. Refuses more than a row holds.
+    /// A further pointer around these; `None` where no digit is left.
     #[tactic(auto, using(crate::proofs::Rows::sign_within))]
-    fn within(self, pointing: Pointing) -> Result<Row, LowerFault>
-        ensures within { IfOk result (λ row. row_signs row ≡ pointing ∷ row_signs self) }
-        ensures taken { NeverRefused result }
+    fn within(self, pointing: Pointing) -> Option<Digits>
+        ensures { IfSome result (λ digits. digits_signs digits ≡ pointing ∷ digits_signs self) }
     {
-        Ok(Row {
-            many: after(self.many)?,
+        Some(Digits {
+            many: self.many.checked_add(1)?,
             fat: followed(self.fat, pointing.fat())?,
             alone: followed(self.alone, pointing.alone())?,
         })
     }
 }
 
-/// Pointers around each other, as `&`, `new` and `rnew` give them, from the outside inwards. Two rows hold 256 of them, and no text has
-/// more.
+/// Pointers around each other: the outermost one, and those in it.
 #[derive(Clone, Copy)]
-pub struct Signs {
-    pub outer: Row,
-    pub inner: Row,
+pub struct Row {
+    pub first: Pointing,
+    pub others: Digits,
 }
 
-impl Signs {
+/// Pointers around each other, as `&`, `new` and `rnew` give them, from the outside inwards: as many of the outermost ones as digits hold,
+/// and rows of those within them, the outer one first.
+#[derive(Clone, Copy)]
+pub struct Signs<'p> {
+    pub digits: Digits,
+    pub rows: &'p [Row],
+}
+
+impl<'p> Signs<'p> {
     /// No pointer.
-    pub fn none() -> Signs
+    pub fn none() -> Signs<'p>
         ensures { signs_of result ≡ [] }
     {
         Signs {
-            outer: Row::none(),
-            inner: Row::none(),
+            digits: Digits::none(),
+            rows: &[],
         }
     }
 
     /// The outermost pointer, and those in it; `None` of no pointer.
-    #[tactic(auto, using(crate::proofs::Rows::first_out, crate::proofs::Rows::second_out, crate::proofs::Rows::none_out))]
-    pub fn outermost(self) -> Option<(Pointing, Signs)>
-        ensures some { IfSome result (λ found. signs_of self ≡ found.0 ∷ signs_of found.1) }
-        ensures none { result ≡ None → signs_of self ≡ [] }
+    #[tactic(auto, using(crate::proofs::Rows::first_digit, crate::proofs::Rows::first_row, crate::proofs::Rows::none_out))]
+    pub fn outermost(self) -> Option<(Pointing, Signs<'p>)>
+        ensures some { IfSome result (λ found. signs_of self.entry ≡ found.0 ∷ signs_of found.1) }
+        ensures none { result ≡ None → signs_of self.entry ≡ [] }
     {
-        if let Some((first, outer)) = self.outer.outermost() {
+        if let Some((first, digits)) = self.digits.outermost() {
             let others = Signs {
-                outer,
-                inner: self.inner,
+                digits,
+                rows: self.rows,
             };
             return Some((first, others));
         }
-        let (first, inner) = self.inner.outermost()?;
-        let others = Signs {
-            outer: Row::none(),
-            inner,
-        };
-        Some((first, others))
+        match self.rows {
+            [row, others @ ..] => {
+                let others = Signs {
+                    digits: row.others,
+                    rows: others,
+                };
+                Some((row.first, others))
+            }
+            [] => None,
+        }
     }
 
-    /// A further pointer around these. Refuses more than two rows hold.
-    #[tactic(auto, using(crate::proofs::Rows::first_out, crate::proofs::Rows::second_out))]
-    pub fn within(self, pointing: Pointing) -> Result<Signs, LowerFault>
-        ensures within { IfOk result (λ signs. signs_of signs ≡ pointing ∷ signs_of self) }
+    /// A further pointer around these: where no digit is left, the digits become a row. Fails only where no host memory is left.
+    #[tactic(auto, using(crate::proofs::Rows::first_digit, crate::proofs::Rows::full_row))]
+    pub fn within(
+        self,
+        alloc: Global,
+        arena: &'p Bump,
+        pointing: Pointing,
+    ) -> Result<Signs<'p>, LowerFault>
+        ensures within { IfOk result (λ signs. signs_of signs ≡ pointing ∷ signs_of self.entry) }
         ensures taken { NeverRefused result }
     {
-        if self.outer.many == 0 {
-            if let Ok(inner) = self.inner.within(pointing) {
-                return Ok(Signs {
-                    outer: Row::none(),
-                    inner,
-                });
-            }
+        if let Some(digits) = self.digits.within(pointing) {
+            return Ok(Signs {
+                digits,
+                rows: self.rows,
+            });
         }
-        let outer = self.outer.within(pointing)?;
+        let full = Row {
+            first: pointing,
+            others: self.digits,
+        };
+        let mut rows = Vec::new(alloc);
+        append(&mut rows, full)?;
+        rows.extend_from_slice(self.rows)?;
+        let rows = arena.try_alloc_slice_copy(rows.as_slice())?;
         Ok(Signs {
-            outer,
-            inner: self.inner,
+            digits: Digits::none(),
+            rows,
         })
     }
 }

@@ -1,17 +1,14 @@
 // Bytes and cells of shapes.
 
-ghost use Rattle.std.specs.Prelude.{◌≡◌, ◌≤◌, ◌*◌, IfOk, length};
+ghost use Rattle.std.specs.Prelude.{◌≡◌, ◌≤◌, ◌*◌, length};
 ghost use Rattle.source_meaning.specs.Conversions.{cells_of};
 ghost use Rattle.source_meaning.specs.Shapes.{StructShape};
 ghost use Rattle.source_meaning.specs.Programs.{world_of};
 ghost use Rattle.source_lowering.specs.Layouts.{extent_of};
-ghost use Rattle.lower_checks.specs.Refusals.{NeverRefused};
 ghost use Rattle.lower_checks.specs.Structs.{bytes_and, room_tree};
 ghost use Rattle.lower_checks.specs.Views.{shape_tree};
 
-use crate::fault::LowerFault;
 use crate::layouts::Room;
-use crate::names::number;
 use crate::shape::Shape;
 use crate::table::Table;
 use cyc_core::Width;
@@ -73,18 +70,17 @@ pub fn extent(program: &Table<'_>, shape: Shape<'_>) -> Room
     }
 }
 
-/// How many cells a shape has. Fails only where there are more than the greatest u32.
+/// How many cells a shape has.
 #[tactic(auto, using(crate::proofs::Structs::no_cells))]
-pub fn count(program: &Table<'_>, shape: Shape<'_>) -> Result<u32, LowerFault>
-    ensures count { IfOk result (λ count. count ≡ length (cells_of (world_of program.now) (shape_tree shape.entry))) }
-    ensures taken { NeverRefused result }
+pub fn count(program: &Table<'_>, shape: Shape<'_>) -> u32
+    ensures { result ≡ length (cells_of (world_of program.now) (shape_tree shape.entry)) }
 {
     match shape {
-        Shape::Void => Ok(0),
+        Shape::Void => 0,
         Shape::Struct(tag) => match program.struct_of(tag) {
-            Some(known) => number(known.layout.cells.len()),
-            None => Ok(0),
+            Some(known) => known.layout.cells.len() as u32,
+            None => 0,
         },
-        _ => Ok(1),
+        _ => 1,
     }
 }

@@ -34,7 +34,6 @@ use crate::declaration::{declared, lower_declaration};
 use crate::expression::lower_expression;
 use crate::leaving::{RegionsAround, lower_leaving, opened_outside};
 use crate::locals::Locals;
-use crate::names::number;
 use crate::objects::locals_of;
 use crate::scope::Scope;
 use crate::shape::Shape;
@@ -229,7 +228,7 @@ fn bind<'p>(
     locals: &mut Locals<'p>,
     name: &'p Name,
     stored: Stored<'p>,
-    index: u32,
+    index: usize,
     body: &mut Body<'_>,
 )
     ensures stays { Stays body.old body.new }
@@ -246,7 +245,7 @@ pub fn declare<'p>(
     declared_here: &mut Vec<Stored<'p>>,
     name: &'p Name,
     stored: Stored<'p>,
-    index: u32,
+    index: usize,
     body: &mut Body<'_>,
 )
     ensures stays { Stays body.old body.new }
@@ -283,7 +282,7 @@ fn lower_declared<'p>(
         map stored_tree declared_here.old.items ++ local_shape (world_of program.now) (names_of locals.old) (declaration_tree declaration.entry.now) ∷ [] }
     ensures grows { IsSound body.new → length declared_here.new.items ≡ suc (length declared_here.old.items) }
 {
-    let index = body.number(number(declared_here.len()));
+    let index = declared_here.len();
     let scope = Scope {
         alloc: body.alloc,
         program,

@@ -1,6 +1,6 @@
 // `switch`: a clause for each member of a union.
 
-ghost use Rattle.std.specs.Prelude.{◌≡◌, ◌+◌, ◌∷◌, ◌++◌, [], IfSome, List, is_some, map, true};
+ghost use Rattle.std.specs.Prelude.{◌≡◌, ◌+◌, ◌<◌, ◌^◌, ◌∷◌, ◌++◌, [], IfSome, List, is_some, length, map, true};
 ghost use Rattle.core_meaning.specs.Core as core;
 ghost use Rattle.cyc_core.specs.Trees.{statement_tree};
 ghost use Rattle.cyc_tree.specs.Tree as tree;
@@ -39,7 +39,7 @@ ghost use Rattle.lower_checks.specs.Room.{HasRoom};
 ghost use Rattle.lower_checks.specs.Scoped.{names_in, world_in};
 ghost use Rattle.lower_checks.specs.Views.{regions_tree, shape_tree};
 ghost use Rattle.lower_checks.specs.Visible.{names_of};
-ghost use Rattle.lower_checks.specs.Writing.{IsApart, IsSound, Stays, Writes, next_of};
+ghost use Rattle.lower_checks.specs.Writing.{IsApart, IsSound, Writes, next_of};
 
 use crate::body::Body;
 use crate::leaving::RegionsAround;
@@ -76,6 +76,7 @@ fn lower_union_place<'p>(
     ensures members { let w = world_in scope.now in
         let parts = union_parts w (static_shape w (names_in scope.now) (expression_tree place.entry.now)) in
         IsSound body.new → IfSome result (λ ms. map part_of (map member_tree ms.now) ≡ parts) }
+    ensures few { IfSome result (λ ms. length ms.now < 2 ^ 32) }
     ensures values { IsSound body.new → IfSome result (λ ms. AreValues (part_shapes (map part_of (map member_tree ms.now)))) }
     ensures found { IsSound body.new → is_some result ≡ true }
 {
@@ -89,20 +90,21 @@ fn lower_union_place<'p>(
 }
 
 /// The member of a name among these.
-fn chosen_of<'p>(members: &'p [Member], name: &[u8], body: &mut Body<'_>) -> Chosen<'p>
-    requires taken { IsSound body.old → IsMember (map part_of (map member_tree members.now)) name.now }
-    ensures stays { Stays body.old body.new }
-    ensures number { let parts = map part_of (map member_tree members.entry.now) in IsSound body.new → result.number ≡ member_number parts name.now }
-    ensures shape { let parts = map part_of (map member_tree members.entry.now) in IsSound body.new → shape_tree result.shape ≡ part_shape parts name.now }
+fn chosen_of<'p>(members: &'p [Member], name: &[u8], body: &Body<'_>) -> Chosen<'p>
+    requires few { length members.now < 2 ^ 32 }
+    requires taken { IsSound body.now → IsMember (map part_of (map member_tree members.now)) name.now }
+    ensures number { let parts = map part_of (map member_tree members.entry.now) in IsSound body.now → result.number ≡ member_number parts name.now }
+    ensures shape { let parts = map part_of (map member_tree members.entry.now) in IsSound body.now → shape_tree result.shape ≡ part_shape parts name.now }
 {
     match member_named(members, name) {
-        Ok(Some(chosen)) => return chosen,
-        Ok(None) => body.never(),
-        Err(fault) => body.note(fault),
-    }
-    Chosen {
-        number: 0,
-        shape: Shape::Void,
+        Some(chosen) => chosen,
+        None => {
+            body.never();
+            Chosen {
+                number: 0,
+                shape: Shape::Void,
+            }
+        }
     }
 }
 
@@ -235,6 +237,7 @@ fn lower_cases<'p>(
     requires taken { IsSound body.old →
         TakesClauses (world_of program.now) (shape_tree shape.now) (names_of locals.old) (map part_of (map member_tree members.now))
         (clauses_of (map clause_tree clauses.now)) }
+    requires few { length members.now < 2 ^ 32 }
     requires values { IsSound body.old → AreValues (part_shapes (map part_of (map member_tree members.now))) }
     ensures writes { let w = world_of program.now in
         let names = names_of locals.old in

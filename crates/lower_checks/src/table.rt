@@ -1,6 +1,6 @@
 // The functions, globals and structs of a program, by their names.
 
-ghost use Rattle.std.specs.Prelude.{◌≡◌, ℕ, suc, List, ◌∷◌, [], IfOk, OnOk, IfSome, length, map, option_copied, option_map};
+ghost use Rattle.std.specs.Prelude.{◌≡◌, ◌<◌, ◌^◌, ℕ, suc, List, ◌∷◌, [], IfOk, OnOk, IfSome, length, map, option_copied, option_map};
 ghost use Rattle.cyc_tree.specs.Tree as tree;
 ghost use Rattle.cyc_tree.specs.View.{program_tree, function_tree, global_tree, member_tree};
 ghost use Rattle.source_meaning.specs.Shapes.{StructShape, UnionShape, part_of, part_shapes, written, settled};
@@ -15,18 +15,19 @@ ghost use Rattle.lower_checks.specs.Structs.{IsFound, Knows, room_tree};
 ghost use Rattle.lower_checks.specs.Views.{found_entity, shape_tree, stored_tree, text_value};
 ghost use Rattle.lower_checks.specs.Tables.{first_function, function_in, global_in};
 ghost use Rattle.lower_checks.specs.Unions.{first_union, union_by, union_tree};
+ghost use Rattle.lower_checks.specs.Within.{AreSmall};
 ghost use Rattle.cyc_core.specs.Trees.{layout_tree, part_layout};
 ghost use Rattle.source_lowering.specs.Layouts.{layout_of};
-ghost use Rattle.source_lowering.specs.Lowerable.{AreStructs, AreUnions, AreValues};
+ghost use Rattle.source_lowering.specs.Lowerable.{AreStrings, AreStructs, AreUnions, AreValues};
 ghost use Rattle.lower_checks.specs.Refusals.{NeverRefused};
 
 use crate::fault::LowerFault;
 use crate::first::Firsts;
-use crate::layouts::{Known, Room, Structs, sum};
-use crate::names::after;
+use crate::layouts::{Known, Room, Structs};
 use crate::shape::Shape;
 use crate::stored::Stored;
 use crate::unions::{Union, first_unions};
+use bumpalo::Bump;
 use cyc_core::Width;
 use cyc_tree::{Function, Global as Declared, Initial, Item};
 use listed_strings::{Literal, Strings};
@@ -37,34 +38,35 @@ use std::marker::Model;
 #[derive(Clone, Copy)]
 pub struct Found<'p> {
     pub stored: Stored<'p>,
-    pub object: u32,
+    pub object: usize,
 }
 
 /// A function, with its number among the functions.
 #[derive(Clone, Copy)]
 pub struct Callee<'p> {
     pub function: &'p Function,
-    pub number: u32,
+    pub number: usize,
 }
 
 /// A string: the number of its object in the data, and how many bytes it has with the final 0.
 #[derive(Clone, Copy)]
 pub struct Text {
-    pub object: u32,
+    pub object: usize,
     pub count: u32,
 }
 
-/// A program, with its functions, globals and structs by their names, and its strings by their places. A contract sees it as the
-/// program's tree.
+/// A program, with its functions, globals and structs by their names, its strings by their places, and an arena for what shapes hold beside
+/// the text. A contract sees it as the program's tree.
 #[derive(Drop)]
 pub struct Table<'p> {
     items: &'p [Item],
+    arena: &'p Bump,
     functions: Firsts<'p, Callee<'p>>,
     globals: Firsts<'p, Found<'p>>,
     structs: Structs<'p>,
     strings: Strings<'p>,
     // how many globals there are, behind which the strings lie
-    behind: u32,
+    behind: usize,
 }
 
 impl<'p> Model for Table<'p> {
@@ -83,7 +85,7 @@ impl<'p> Model for Table<'p> {
     ghost invariant = { λ t. AreTables (program_tree t.items.now) t.functions t.globals t.structs t.strings t.behind };
 }
 
-/// The first function of each name.
+/// The first function of each name. Fails only where no host memory is left.
 fn first_functions<'p>(
     alloc: Global,
     items: &'p [Item],
@@ -96,7 +98,7 @@ fn first_functions<'p>(
     'each: for item in items {
         if let Item::Function(function) = item {
             functions.add(&function.name.text, Callee { function, number })?;
-            number = after(number)?;
+            number += 1;
         }
     }
     Ok(functions)
@@ -113,24 +115,23 @@ pub fn global_stored<'p>(global: &'p Declared) -> Stored<'p>
 }
 
 /// How many globals there are.
-fn globals_many(items: &[Item]) -> Result<u32, LowerFault>
-    ensures many { IfOk result (λ many. many ≡ length (globals_from (program_tree items.now) 0)) }
-    ensures taken { NeverRefused result }
+fn globals_many(items: &[Item]) -> usize
+    ensures { result ≡ length (globals_from (program_tree items.now) 0) }
 {
     let mut many = 0;
     'each: for item in items {
         if let Item::Global(_) = item {
-            many = after(many)?;
+            many += 1;
         }
     }
-    Ok(many)
+    many
 }
 
 /// Adds a global of this number, which is the first of its name where there is none. Fails only where no host memory is left.
 fn add_global<'p>(
     globals: &mut Firsts<'p, Found<'p>>,
     global: &'p Declared,
-    object: u32,
+    object: usize,
 ) -> Result<(), LowerFault>
     ensures added { OnOk result ((items : List tree.Item) (name : List ℕ) →
         or_else (global_in globals.new name) (bound_to (globals_from items (suc object)) name) ≡
@@ -142,7 +143,7 @@ fn add_global<'p>(
     Ok(())
 }
 
-/// The first global of each name.
+/// The first global of each name. Fails only where no host memory is left.
 fn first_globals<'p>(alloc: Global, items: &'p [Item]) -> Result<Firsts<'p, Found<'p>>, LowerFault>
     ensures first { IfOk result (λ globals. (name : List ℕ) → global_in globals name ≡ bound_to (globals_from (program_tree items.entry.now) 0) name) }
     ensures taken { NeverRefused result }
@@ -152,7 +153,7 @@ fn first_globals<'p>(alloc: Global, items: &'p [Item]) -> Result<Firsts<'p, Foun
     'each: for item in items {
         if let Item::Global(global) = item {
             add_global(&mut globals, global, object)?;
-            object = after(object)?;
+            object += 1;
         }
     }
     Ok(globals)
@@ -161,6 +162,8 @@ fn first_globals<'p>(alloc: Global, items: &'p [Item]) -> Result<Firsts<'p, Foun
 /// The unions, and the structs, each behind those that its members are. Refuses unions with other members than integers, pointers,
 /// handles and keys, two structs of one tag, and structs with other members than these, unions and earlier structs.
 fn all_structs<'p>(alloc: Global, items: &'p [Item]) -> Result<Structs<'p>, LowerFault>
+    requires unions { AreUnions (unions_of (program_tree items.now)) }
+    requires structs { let w = world_of (program_tree items.now) in AreStructs w.unions w.structs }
     ensures structs { let p = program_tree items.entry.now in IfOk result (λ structs. Knows structs (unions_of p) (structs_from p [])) }
     ensures taken { let w = world_of (program_tree items.entry.now) in AreUnions w.unions → AreStructs w.unions w.structs → NeverRefused result }
 {
@@ -176,18 +179,21 @@ fn all_structs<'p>(alloc: Global, items: &'p [Item]) -> Result<Structs<'p>, Lowe
 impl<'p> Table<'p> {
     /// The tables of a program. Refuses a union with a member that is no integer, no pointer, no handle and no key, two structs of one tag, and a
     /// struct with a member that is none of these, no union and no earlier struct.
-    pub fn new(alloc: Global, items: &'p [Item]) -> Result<Self, LowerFault>
+    pub fn new(alloc: Global, arena: &'p Bump, items: &'p [Item]) -> Result<Self, LowerFault>
         requires unions { AreUnions (unions_of (program_tree items.now)) }
+        requires structs { let w = world_of (program_tree items.now) in AreStructs w.unions w.structs }
+        requires strings { AreStrings (program_strings (program_tree items.now)) }
         ensures program { IfOk result (λ table. table ≡ program_tree items.entry.now) }
         ensures taken { let w = world_of (program_tree items.entry.now) in AreUnions w.unions → AreStructs w.unions w.structs → NeverRefused result }
     {
-        let behind = globals_many(items)?;
+        let behind = globals_many(items);
         let functions = first_functions(alloc, items)?;
         let globals = first_globals(alloc, items)?;
         let structs = all_structs(alloc, items)?;
         let strings = Strings::of(alloc, items)?;
         Ok(Table {
             items,
+            arena,
             functions,
             globals,
             structs,
@@ -203,10 +209,16 @@ impl<'p> Table<'p> {
         self.items
     }
 
-    /// The struct of a tag.
+    /// The arena for what shapes hold beside the text.
+    pub fn arena(&self) -> &'p Bump {
+        self.arena
+    }
+
+    /// The struct of a tag. Each of the structs takes at most 4,096 bytes.
     pub fn struct_of(&self, tag: &[u8]) -> Option<&Known<'p>>
         ensures found { IsFound (unions_of self.now) (structs_from self.now []) tag.now (option_copied result) }
         ensures layout { IfSome (option_copied result) (λ k. layout_tree k.layout.value ≡ layout_of (world_of self.now) (StructShape tag.now)) }
+        ensures small { AreSmall (world_of self.now) }
     {
         self.structs.of(tag)
     }
@@ -215,6 +227,7 @@ impl<'p> Table<'p> {
     pub fn union_of(&self, tag: &[u8]) -> Option<Union<'p>>
         ensures found { option_map union_tree result ≡ first_union (unions_of self.now) tag.now }
         ensures layout { IfSome result (λ u. part_layout u.cell ≡ layout_of (world_of self.now) (UnionShape tag.now)) }
+        ensures few { IfSome result (λ u. length u.members.now < 2 ^ 32) }
     {
         self.structs.union_of(tag)
     }
@@ -223,6 +236,7 @@ impl<'p> Table<'p> {
     pub fn union_at(&self, shape: Shape<'_>) -> Option<Union<'p>>
         ensures found { option_map union_tree result ≡ union_by (unions_of self.now) (shape_tree shape.entry) }
         ensures values { IfSome result (λ u. AreValues (part_shapes (map part_of (map member_tree u.members.now)))) }
+        ensures few { IfSome result (λ u. length u.members.now < 2 ^ 32) }
     {
         match shape {
             Shape::Union(tag) => self.structs.union_of(tag),
@@ -252,16 +266,19 @@ impl<'p> Table<'p> {
     }
 
     /// The string of a place.
-    pub fn text_at(&self, at: u32) -> Result<Option<Text>, LowerFault>
-        ensures text { IfOk result (λ text. option_map text_value text ≡ string_at (world_of self.now).strings at) }
-        ensures taken { NeverRefused result }
+    pub fn text_at(&self, at: u32) -> Option<Text>
+        ensures { option_map text_value result ≡ string_at (world_of self.now).strings at }
     {
         match self.strings.at(at) {
-            Some(found) => Ok(Some(Text {
-                object: sum(self.behind, found.number)?,
-                count: found.count,
-            })),
-            None => Ok(None),
+            Some(found) => {
+                // each global is an item
+                prove!(self.behind <= self.items.len());
+                Some(Text {
+                    object: self.behind + found.number,
+                    count: found.count as u32,
+                })
+            }
+            None => None,
         }
     }
 
@@ -282,18 +299,17 @@ impl<'p> Table<'p> {
 }
 
 /// The number of the first function of a name, from 0 on; where there is none, how many functions there are.
-pub fn function_number(items: &[Item], name: &[u8]) -> Result<u32, LowerFault>
-    ensures number { IfOk result (λ n. n ≡ number_of (functions_of (program_tree items.now)) name.now) }
-    ensures taken { NeverRefused result }
+pub fn function_number(items: &[Item], name: &[u8]) -> usize
+    ensures { result ≡ number_of (functions_of (program_tree items.now)) name.now }
 {
     let mut number = 0;
     'each: for item in items {
         if let Item::Function(function) = item {
             if function.name.text.as_slice() == name {
-                return Ok(number);
+                return number;
             }
-            number = after(number)?;
+            number += 1;
         }
     }
-    Ok(number)
+    number
 }

@@ -28,13 +28,12 @@ pub fn lower_text(scope: &Scope<'_, '_>, body: &mut Body<'_>, at: u32, to: Tempo
     ensures { Emits body.old body.new (text_code (string_at (world_in scope.now).strings at) to.0) }
 {
     match scope.program.text_at(at) {
-        Ok(Some(text)) => {
+        Some(text) => {
             body.operation(Operation::DataAddress(to, text.object));
             lower_bounds(body, to, text.count);
         }
         // no literal of the program stands there
-        Ok(None) => {}
-        Err(_) => body.fail(),
+        None => {}
     }
 }
 

@@ -1,11 +1,11 @@
 // The tagged unions of a program by their tags: their members, and what their cells are made for.
 
-ghost use Rattle.std.specs.Prelude.{◌≡◌, ℕ, List, IfOk, IfSome, Some, map, option_map};
+ghost use Rattle.std.specs.Prelude.{◌≡◌, ◌<◌, ◌^◌, ℕ, List, IfOk, IfSome, Some, length, map, option_map};
 ghost use Rattle.cyc_tree.specs.View.{member_tree, program_tree};
 ghost use Rattle.source_meaning.specs.Shapes.{part_of, part_position, part_shape, part_shapes};
-ghost use Rattle.source_meaning.specs.Programs.{unions_of, world_of};
+ghost use Rattle.source_meaning.specs.Programs.{unions_of};
 ghost use Rattle.source_lowering.specs.Layouts.{has_fat};
-ghost use Rattle.source_lowering.specs.Lowerable.{AreUnions, AreValues, HasMember, HaveFewMembers};
+ghost use Rattle.source_lowering.specs.Lowerable.{AreUnions, AreValues, HasMember};
 ghost use Rattle.lower_checks.specs.Refusals.{NeverRefused};
 ghost use Rattle.lower_checks.specs.Unions.{AreUnionsLaid, HaveCells, cell_by, first_union, union_in};
 ghost use Rattle.lower_checks.specs.Views.{shape_tree};
@@ -13,7 +13,6 @@ ghost use Rattle.lower_checks.specs.Views.{shape_tree};
 use crate::fault::LowerFault;
 use crate::first::Firsts;
 use crate::layouts::cell_of;
-use crate::names::{after, number};
 use crate::shape::Shape;
 use cyc_core::Cell;
 use cyc_tree::{Item, Member};
@@ -71,39 +70,23 @@ pub fn first_unions<'p>(
     Ok(unions)
 }
 
-/// Fails where a union has more members than a u32 counts.
-pub fn few_members(items: &[Item]) -> Result<(), LowerFault>
-    ensures few { IfOk result (λ _. HaveFewMembers (unions_of (program_tree items.now))) }
-    ensures taken { NeverRefused result }
-{
-    'each: for item in items {
-        if let Item::Union(union) = item {
-            number(union.members.len())?;
-        }
-    }
-    Ok(())
-}
-
-/// The member of a name among these, if there is one. Fails only where its number is over the greatest u32.
-pub fn member_named<'p>(
-    members: &'p [Member],
-    name: &[u8],
-) -> Result<Option<Chosen<'p>>, LowerFault>
+/// The member of a name among these, if there is one.
+pub fn member_named<'p>(members: &'p [Member], name: &[u8]) -> Option<Chosen<'p>>
+    requires few { length members.now < 2 ^ 32 }
     ensures number { let parts = map part_of (map member_tree members.entry.now) in
-        IfOk result (λ found. option_map (λ m. m.number) found ≡ part_position parts name.now) }
+        option_map (λ m. m.number) result ≡ part_position parts name.now }
     ensures shape { let parts = map part_of (map member_tree members.entry.now) in
-        IfOk result (λ found. IfSome found (λ m. shape_tree m.shape ≡ part_shape parts name.now)) }
-    ensures taken { NeverRefused result }
+        IfSome result (λ m. shape_tree m.shape ≡ part_shape parts name.now) }
 {
     let mut number = 0;
     'each: for member in members {
         if member.name.text.as_slice() == name {
-            return Ok(Some(Chosen {
+            return Some(Chosen {
                 number,
                 shape: Shape::of(&member.of),
-            }));
+            });
         }
-        number = after(number)?;
+        number += 1;
     }
-    Ok(None)
+    None
 }

@@ -129,7 +129,7 @@ pub fn lower_put_local(body: &mut Body<'_>, stored: &Stored<'_>, local: Variable
 
 /// Appends what stores the value in a temporary and those behind it in a global of a shape and a number, by its address, which comes
 /// behind the value.
-fn lower_store_at(body: &mut Body<'_>, shape: &Shape<'_>, object: u32, from: Temporary)
+fn lower_store_at(body: &mut Body<'_>, shape: &Shape<'_>, object: usize, from: Temporary)
     requires room { HasRoom from.0 3 }
     ensures { Emits body.old body.new (store_global (shape_tree shape.now) from.0 object) }
 {

@@ -1,6 +1,6 @@
 // Structs and tagged unions as values: made of their members, or copied from a place.
 
-ghost use Rattle.std.specs.Prelude.{◌≡◌, ◌+◌, ◌++◌, ◌∷◌, suc, true, map};
+ghost use Rattle.std.specs.Prelude.{◌≡◌, ◌≤◌, ◌+◌, ◌++◌, ◌<◌, ◌^◌, ◌∷◌, length, suc, true, map};
 ghost use Rattle.core_meaning.specs.Core as core;
 ghost use Rattle.cyc_tree.specs.View.{member_tree, expression_tree, expressions_of};
 ghost use Rattle.source_meaning.specs.Shapes.{StructShape, UnionShape, has_tag, part_of, part_shape, parts_of};
@@ -37,6 +37,7 @@ ghost use Rattle.lower_checks.specs.Room as rooms;
 ghost use Rattle.lower_checks.specs.Scoped.{names_in, world_in};
 ghost use Rattle.lower_checks.specs.Structs.{HasRoom, HaveRoom};
 ghost use Rattle.lower_checks.specs.Views.{shape_tree};
+ghost use Rattle.lower_checks.specs.Within.{AreWithin};
 ghost use Rattle.lower_checks.specs.Writing.{Emits, IsSound, Writes, next_of};
 
 use crate::body::Body;
@@ -71,7 +72,7 @@ fn lower_copied(
     program: &Table<'_>,
     shape: &Shape<'_>,
     body: &mut Body<'_>,
-    value: u32,
+    value: usize,
     to: Temporary,
 )
     requires room { rooms.HasRoom to.0 1 }
@@ -105,6 +106,7 @@ fn lower_word_member(
     slot: Slot,
 )
     requires room { rooms.HasRoom slot.to.0 3 }
+    requires near { slot.bytes ≤ 4096 }
     ensures { Emits body.old body.new
         (word_member_code (world_of program.now) (shape_tree shape.now) (shape_tree from.now) slot.to.0 slot.cells slot.bytes) }
 {
@@ -214,21 +216,21 @@ fn lower_held(
     to: Temporary,
 )
     requires room { rooms.HasRoom to.0 4 }
+    requires few { length members.now < 2 ^ 32 }
     requires taken { IsSound body.old → IsMember (map part_of (map member_tree members.now)) member.now }
     ensures { let parts = map part_of (map member_tree members.now) in
         Emits body.old body.new
         (union_code (world_of program.now) (part_shape parts member.now) (shape_tree from.now) (member_number parts member.now) to.0) }
 {
     match member_named(members, member) {
-        Ok(Some(chosen)) => {
+        Some(chosen) => {
             let value = behind(to, 1);
             let free = behind(value, chosen.shape.words());
             lower_conversion(program, body, &chosen.shape, from, value);
             lower_set_tag(body, to, free, chosen.number);
             lower_held_stores(body, &chosen.shape, to, value);
         }
-        Ok(None) => body.never(),
-        Err(fault) => body.note(fault),
+        None => body.never(),
     }
 }
 
@@ -283,6 +285,7 @@ fn lower_members<'p>(
     requires taken { let w = world_in scope.now in
         let parts = map part_of (map member_tree members.now) in
         IsSound body.old → HaveRoom w.unions w.structs parts × TakesMade w (names_in scope.now) parts (expressions_of (map expression_tree arguments.now)) }
+    requires within { AreWithin (world_in scope.now) 0 0 (map part_of (map member_tree members.now)) }
     ensures writes { let w = world_in scope.now in
         let names = names_in scope.now in
         let parts = map part_of (map member_tree members.now) in
@@ -301,11 +304,10 @@ fn lower_members<'p>(
         };
         let shape = Shape::of(&member.of);
         let room = extent(scope.program, shape);
-        slot.bytes = body.number(rounded(slot.bytes, room.align));
+        slot.bytes = rounded(slot.bytes, room.align);
         lower_member(scope, &shape, argument, body, slot);
-        let cells = body.number(count(scope.program, shape));
-        slot.cells = body.sum(slot.cells, cells);
-        slot.bytes = body.sum(slot.bytes, room.size);
+        slot.cells += count(scope.program, shape);
+        slot.bytes += room.size;
         left = others;
     }
 }
@@ -324,6 +326,7 @@ fn lower_member<'p>(
         let names = names_in scope.now in
         let e = expression_tree argument.now in
         IsSound body.old → HasRoom w.unions w.structs (shape_tree shape.now) × TakesMember (shape_tree shape.now) (TakesWhole w names e) (Takes w names e) }
+    requires near { slot.bytes ≤ 4096 }
     ensures writes { let w = world_in scope.now in
         let names = names_in scope.now in
         let e = expression_tree argument.entry.now in

@@ -1,12 +1,12 @@
 // Values that are read and written where a pointer leads: a word at once, a fat pointer part by part.
 
-ghost use Rattle.std.specs.Prelude.{◌≡◌, ◌*◌};
+ghost use Rattle.std.specs.Prelude.{◌≡◌, ◌≤◌, ◌*◌};
 ghost use Rattle.cyc_core.specs.Trees.{distance_tree};
 ghost use Rattle.source_lowering.specs.Lowered.{distance, held_loads, held_stores, loads_code, stores_code, tag_load, tag_store, width_of};
 ghost use Rattle.source_lowering.specs.Members.{part_at};
 ghost use Rattle.lower_checks.specs.Room.{HasRoom};
 ghost use Rattle.lower_checks.specs.Views.{shape_tree};
-ghost use Rattle.lower_checks.specs.Writing.{Emits, IsSound, Stays};
+ghost use Rattle.lower_checks.specs.Writing.{Emits};
 
 use crate::body::Body;
 use crate::member::Reached;
@@ -26,15 +26,15 @@ fn distance_of(reached: &Reached<'_>) -> Distance
     }
 }
 
-/// How far it is to a part of a fat pointer that is reached, which lies so many bytes behind its first one.
-fn part_of(body: &mut Body<'_>, reached: &Reached<'_>, part: u32, behind: u32) -> Distance
-    requires { behind ≡ 4 * part }
-    ensures stays { Stays body.old body.new }
-    ensures part { IsSound body.new → distance_tree result ≡ part_at reached.now.cells reached.now.bytes part }
+/// How far it is to a part of a fat pointer that is reached.
+fn part_of(reached: &Reached<'_>, part: u32) -> Distance
+    requires near { reached.now.bytes ≤ 4096 }
+    requires few { part ≤ 2 }
+    ensures { distance_tree result ≡ part_at reached.now.cells reached.now.bytes part }
 {
     Distance {
         cells: reached.cells,
-        bytes: body.sum(reached.bytes, behind),
+        bytes: reached.bytes + 4 * part,
         part,
         width: Width::Word,
     }
@@ -43,18 +43,16 @@ fn part_of(body: &mut Body<'_>, reached: &Reached<'_>, part: u32, behind: u32) -
 /// Appends what reads the value that is reached from where the pointer in a temporary leads, into that temporary and those behind it.
 pub fn lower_loads(body: &mut Body<'_>, reached: &Reached<'_>, to: Temporary)
     requires room { HasRoom to.0 2 }
+    requires near { reached.now.bytes ≤ 4096 }
     ensures { Emits body.old body.new (loads_code (shape_tree reached.now.shape) to.0 reached.now.cells reached.now.bytes) }
 {
     match &reached.shape {
         Shape::Fat(_) => {
             let count = behind(to, 1);
             let index = behind(to, 2);
-            let third = part_of(body, reached, 2, 8);
-            body.operation(Operation::Load(index, to, third));
-            let second = part_of(body, reached, 1, 4);
-            body.operation(Operation::Load(count, to, second));
-            let first = part_of(body, reached, 0, 0);
-            body.operation(Operation::Load(to, to, first));
+            body.operation(Operation::Load(index, to, part_of(reached, 2)));
+            body.operation(Operation::Load(count, to, part_of(reached, 1)));
+            body.operation(Operation::Load(to, to, part_of(reached, 0)));
         }
         _ => body.operation(Operation::Load(to, to, distance_of(reached))),
     }
@@ -63,18 +61,16 @@ pub fn lower_loads(body: &mut Body<'_>, reached: &Reached<'_>, to: Temporary)
 /// Appends what stores the value in a temporary and those behind it where it is reached, from where another pointer leads.
 pub fn lower_stores(body: &mut Body<'_>, reached: &Reached<'_>, pointer: Temporary, from: Temporary)
     requires room { HasRoom from.0 2 }
+    requires near { reached.now.bytes ≤ 4096 }
     ensures { Emits body.old body.new (stores_code (shape_tree reached.now.shape) pointer.0 from.0 reached.now.cells reached.now.bytes) }
 {
     match &reached.shape {
         Shape::Fat(_) => {
             let count = behind(from, 1);
             let index = behind(from, 2);
-            let first = part_of(body, reached, 0, 0);
-            body.operation(Operation::Store(pointer, first, from));
-            let second = part_of(body, reached, 1, 4);
-            body.operation(Operation::Store(pointer, second, count));
-            let third = part_of(body, reached, 2, 8);
-            body.operation(Operation::Store(pointer, third, index));
+            body.operation(Operation::Store(pointer, part_of(reached, 0), from));
+            body.operation(Operation::Store(pointer, part_of(reached, 1), count));
+            body.operation(Operation::Store(pointer, part_of(reached, 2), index));
         }
         _ => body.operation(Operation::Store(pointer, distance_of(reached), from)),
     }

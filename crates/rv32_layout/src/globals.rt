@@ -136,16 +136,16 @@ fn put_text(bytes: &mut Vec<u8>, text: &[u8]) -> Result<(), AllocError>
 }
 
 /// The address of the global or string of a number, to which a pointer is plain.
-fn address(offsets: &[u64], object: u32) -> u32
+fn address(offsets: &[u64], object: usize) -> u32
     requires { IsPlain offsets.now 4 (first_element object) }
     ensures { IsAddress offsets.now object result }
 {
-    (DATA_BASE + offsets[object as usize]) as u32
+    (DATA_BASE + offsets[object]) as u32
 }
 
 /// Appends a pointer to the global or string of a number.
 #[tactic(auto, using(crate::proofs::Strings::address_bytes))]
-fn put_address(bytes: &mut Vec<u8>, offsets: &[u64], object: u32) -> Result<(), AllocError>
+fn put_address(bytes: &mut Vec<u8>, offsets: &[u64], object: usize) -> Result<(), AllocError>
     requires { IsPlain offsets.now 4 (first_element object) }
     ensures { OnOk result (bytes.new.items ≡ bytes.old.items ++ datum_bytes offsets.now (datum_tree (datum.Address object))) }
 {
@@ -157,7 +157,7 @@ fn put_address(bytes: &mut Vec<u8>, offsets: &[u64], object: u32) -> Result<(), 
 fn put_bounds(
     bytes: &mut Vec<u8>,
     offsets: &[u64],
-    object: u32,
+    object: usize,
     count: u32,
 ) -> Result<(), AllocError>
     requires { IsPlain offsets.now 4 (first_element object) }

@@ -91,7 +91,7 @@ pub fn put_call(
     lines: &mut Vec<Line>,
     place: &mut Place,
     to: Option<Words>,
-    function: u32,
+    function: usize,
     arguments: &[Temporary],
 ) -> Result<(), AllocError>
     ensures code { OnOk result (lines.new.items ≡ lines.old.items ++ call_code (saves_left place.old) place.old.passed place.old.held
@@ -100,7 +100,7 @@ pub fn put_call(
     ensures same { surroundings place.new ≡ surroundings place.old }
 {
     put_arguments(lines, place, arguments)?;
-    put_lines(lines, &[Line::CallTo(function as usize)])?;
+    put_lines(lines, &[Line::CallTo(function)])?;
     put_results(lines, place, to)
 }
 

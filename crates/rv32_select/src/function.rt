@@ -273,7 +273,7 @@ fn program_lines(alloc: Global, program: &Program) -> Result<Vec<Line>, AllocErr
     ensures { IfOk result (λ lines. lines.items ≡ program_code far (program_tree program.now)) }
 {
     let mut lines = Vec::new(alloc);
-    put_lines(&mut lines, &[Line::CallTo(program.main as usize)])?;
+    put_lines(&mut lines, &[Line::CallTo(program.main)])?;
     put_environment(&mut lines, EXIT)?;
     let mut place = Place::new(alloc, statics(alloc, &program.globals)?);
     put_functions(&mut lines, &mut place, &program.functions)?;

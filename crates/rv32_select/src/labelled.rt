@@ -56,10 +56,10 @@ impl Labelled {
     /// Where the locals of a function live, which is counted from 0 in the order of the text: the number of each one's register, or 0 for
     /// one that has no home. They come as the text declares them: the parameters, and then each local, the name of a clause among them.
     /// None for a function that there isn't.
-    pub fn homes(&self, function: u32) -> &[u8]
+    pub fn homes(&self, function: usize) -> &[u8]
         ensures { result.now ≡ slice_index_or self.now.homes function [] }
     {
-        match self.homes.get(function as usize) {
+        match self.homes.get(function) {
             Some(homes) => homes,
             None => &[],
         }

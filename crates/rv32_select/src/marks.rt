@@ -74,8 +74,8 @@ fn unmark_around(around: &mut Vec<Vec<bool>>, variable: Variable)
     ensures { map (λ marks. marks.items) around.new.items
         ≡ marked (λ o n. nat_eq variable.out o && nat_eq variable.index n) 0 (map (λ marks. marks.items) around.old.items) }
 {
-    match around.get_mut(variable.out as usize) {
-        Some(marks) => unmark(marks, variable.index as usize),
+    match around.get_mut(variable.out) {
+        Some(marks) => unmark(marks, variable.index),
         None => {}
     }
 }

@@ -180,7 +180,7 @@ pub fn put_data_address(
     place: &Place,
     keeps: bool,
     to: Temporary,
-    object: u32,
+    object: usize,
 ) -> Result<(), AllocError>
     ensures { let u = surroundings place.now in OnOk result (lines.new.items ≡ lines.old.items
         ++ number_kept keeps u.passed to.0 (data_base + nth u.statics object)) }

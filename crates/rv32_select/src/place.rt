@@ -244,24 +244,24 @@ impl Place {
         ensures offset { result.0 ≡ local_offset (surroundings self.now) variable.out variable.index }
         ensures home { result.1 ≡ local_home (surroundings self.now) variable.out variable.index }
     {
-        match self.blocks.get(variable.out as usize) {
+        match self.blocks.get(variable.out) {
             Some(scope) => {
                 let offset = nth(&scope.offsets, variable.index);
-                (offset, home_at(&scope.homes, variable.index as usize))
+                (offset, home_at(&scope.homes, variable.index))
             }
             None => (0, Register::ZERO),
         }
     }
 
     /// The offset of an unnamed value in the frame.
-    pub fn own_offset(&self, object: u32) -> u64
+    pub fn own_offset(&self, object: usize) -> u64
         ensures { result ≡ nth (surroundings self.now).own object }
     {
         nth(&self.own, object)
     }
 
     /// The address of a global. Fails where that is over the greatest u64: no memory has so many globals.
-    pub fn data_address(&self, object: u32) -> Result<u64, AllocError>
+    pub fn data_address(&self, object: usize) -> Result<u64, AllocError>
         ensures { IfOk result (λ n. n ≡ data_base + nth (surroundings self.now).statics object) }
     {
         sum(DATA_BASE, nth(&self.statics, object))
@@ -304,10 +304,10 @@ impl Place {
 
 /// A number of a list, or 0 behind its end.
 #[tactic(auto, using(crate::proofs::Numbers::nth_some, crate::proofs::Numbers::nth_none))]
-fn nth(numbers: &[u64], index: u32) -> u64
+fn nth(numbers: &[u64], index: usize) -> u64
     ensures { result ≡ nth numbers.now index }
 {
-    match numbers.get(index as usize) {
+    match numbers.get(index) {
         Some(number) => *number,
         None => 0,
     }

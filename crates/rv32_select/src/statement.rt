@@ -124,7 +124,7 @@ fn put_called(
     lines: &mut Vec<Line>,
     place: &mut Place,
     to: Option<Words>,
-    function: u32,
+    function: usize,
     arguments: &[Temporary],
 ) -> Result<(), AllocError>
     ensures code { let u = surroundings place.old in OnOk result (lines.new.items ≡ lines.old.items

@@ -1,5 +1,6 @@
 pub mod UnionSizes
 pub mod Structs
+pub mod Sizes
 pub mod memory
 pub mod Runs
 pub mod values

@@ -128,7 +128,8 @@ int_written t e b =
     ap (λ z. settled (written (record { at = t.at; base = t.base; pointers = z }))) e ∙ ap (λ z. settled (written
     (record { at = t.at; base = z; pointers = [] }))) b
 
-routine_is : (w : World) (f : Function) → TakesFunction w f → IsRoutine w (routine_of f)
+-- of a function that is taken
+pub routine_is : (w : World) (f : Function) → TakesFunction w f → IsRoutine w (routine_of f)
 routine_is w f h = record {
   result = result_taken f.result h.result;
   main = λ e. int_written f.result (h.main e).pointers (h.main e).base;

@@ -16,6 +16,8 @@ pub mod DeclarationCosts
 pub mod WholeObjects
 pub mod NodesPaid
 pub mod StatementsPaid
+pub mod RegionsPaid
 pub mod ExchangeCosts
 pub mod StatementCosts
 pub mod Bounded
+pub mod Rooms

@@ -98,3 +98,8 @@ bytes_before extent so_far [] name = so_far
 bytes_before extent so_far (p ∷ ps) name =
     let at = rounded_up so_far (extent p.shape).align in
     (if bytes_eq p.name name then at else bytes_before extent (at + (extent p.shape).size) ps name)
+
+-- where parts end that begin behind so many bytes
+abbrev pub bytes_through : (Shape → Extent) → ℕ → List Part → ℕ
+bytes_through extent so_far [] = so_far
+bytes_through extent so_far (p ∷ ps) = bytes_through extent (rounded_up so_far (extent p.shape).align + (extent p.shape).size) ps

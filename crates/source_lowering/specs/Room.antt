@@ -29,6 +29,7 @@ use Rattle.cyc_tree.specs.Tree.{
   MoreClauses,
   Item,
   FunctionItem,
+  UnionItem,
 }
 use Rattle.cyc_tree.specs.Tree as tree
 
@@ -103,8 +104,9 @@ abbrev mutual
 abbrev pub function_room : tree.Function → ℕ
 function_room f = 16 + (3 * length f.parameters + item_room f.body)
 
--- of all functions of a program
+-- of all functions of a program; and a word counts the members of each union, so these are counted too
 abbrev pub program_room : List Item → ℕ
 program_room [] = 0
 program_room (FunctionItem f ∷ items) = function_room f + program_room items
+program_room (UnionItem u ∷ items) = length u.members + program_room items
 program_room (_ ∷ items) = program_room items

@@ -1,4 +1,4 @@
--- A program has at least the tokens that its functions are large.
+-- A program has at least the tokens that its functions are large, and each struct and union at least those of its members.
 use Rattle.std.proofs.Common.{◌≡◌, ◌+◌, ◌≤◌, List, [], ◌∷◌, length, map, Option, Some, None, ⊎_elim, arith}
 use Rattle.cyc_lexer.specs.declared.token.Sign.TheVariants as sign
 use Rattle.cyc_tree.specs.Tree as tree
@@ -10,8 +10,8 @@ use Rattle.source_grammar.specs.Grammar.{IsItem, IsProgram}
 use Rattle.source_meaning.specs.Shapes.{part_of}
 use Rattle.source_meaning.specs.Programs.{functions_of, world_of}
 use Rattle.source_lowering.specs.Bounds.{item_size, routines_size}
-use Rattle.token_proof.proofs.Shorter.{one_taken, keyword_taken, sign_taken, name_taken, string_taken, none_taken, region_shorter, each_shorter}
-use Rattle.token_proof.proofs.Shorter.{listed_shorter, regions_shorter, type_shorter, typed_shorter}
+use Rattle.token_proof.proofs.Shorter.{one_taken, keyword_taken, sign_taken, name_taken, string_taken, none_taken, region_shorter}
+use Rattle.token_proof.proofs.Shorter.{listed_shorter, regions_shorter, type_shorter}
 use Rattle.token_proof.proofs.ExpressionSizes.{Takes}
 use Rattle.token_proof.proofs.StatementSizes.{count_shorter, items_sized}
 
@@ -49,7 +49,7 @@ bounds_shorter (bound ∷ bounds) from to (a, colon, are) = omega (arith, sign_t
 -- ---- items
 
 -- the name, and the four signs around the parameters and the body
-function_size : (f : tree.Function) (from to : Tokens) → IsItem (tree.FunctionItem f) from to
+pub function_size : (f : tree.Function) (from to : Tokens) → IsItem (tree.FunctionItem f) from to
     → Takes (5 + (length f.parameters + item_size f.body)) from to
 function_size f from to (z, a, typed, named, (b, c, d, e, g, h, i, opened, takes, has, within, closed, begins, does, ends)) =
     omega (
@@ -66,16 +66,18 @@ function_size f from to (z, a, typed, named, (b, c, d, e, g, h, i, opened, takes
       one_taken ends,
     )
 
-member_shorter : (m : Member) (from to : Tokens) → IsMember m from to → length to ≤ length from
-member_shorter m from to (a, is, ends) = omega (arith, typed_shorter m from a is, sign_taken ends)
+-- each member has its name
+each_member_size : (ms : List Member) (from to : Tokens) → Each IsMember ms from to → Takes (length ms) from to
+each_member_size [] from to is = omega (arith, none_taken is)
+each_member_size (m ∷ ms) from to (a, (b, is, ends), are) = omega (arith, typed_size m from b is, sign_taken ends, each_member_size ms a to are)
 
-members_shorter : (ms : List Member) (from to : Tokens) → AreMembers ms from to → length to ≤ length from
-members_shorter [] from to is = absurd is
-members_shorter (m ∷ ms) from to (a, b, c, opened, are, closed, ends) =
-    omega (arith, sign_taken opened, each_shorter IsMember member_shorter (m ∷ ms) a b are, sign_taken closed, sign_taken ends)
+members_size : (ms : List Member) (from to : Tokens) → AreMembers ms from to → Takes (length ms) from to
+members_size [] from to is = absurd is
+members_size (m ∷ ms) from to (a, b, c, opened, are, closed, ends) =
+    omega (arith, sign_taken opened, each_member_size (m ∷ ms) a b are, sign_taken closed, sign_taken ends)
 
-structure_shorter : (s : tree.Structure) (from to : Tokens) → IsStructure s from to → length to ≤ length from
-structure_shorter s from to (a, b, named, of, are) = omega (arith, name_taken named, regions_shorter s.regions a b of, members_shorter s.members b to are)
+structure_size : (s : tree.Structure) (from to : Tokens) → IsStructure s from to → Takes (length s.members) from to
+structure_size s from to (a, b, named, of, are) = omega (arith, name_taken named, regions_shorter s.regions a b of, members_size s.members b to are)
 
 constant_shorter : (c : tree.Constant) (from to : Tokens) → IsConstant c from to → length to ≤ length from
 constant_shorter (tree.Constant.Number at value suffix) from to is = omega (arith, one_taken is)
@@ -89,27 +91,27 @@ initial_shorter Initial.Unset from to is = none_taken is
 initial_shorter (Initial.Elements count) from to is = count_shorter count from to is
 initial_shorter (Initial.Given constant) from to (a, begins, is) = omega (arith, sign_taken begins, constant_shorter constant a to is)
 
--- an item that isn't a function
-struct_shorter : (s : tree.Structure) (from to : Tokens) → IsItem (tree.StructItem s) from to → length to ≤ length from
-struct_shorter s from to (a, word, is) = omega (arith, one_taken word, structure_shorter s a to is)
+-- an item that isn't a function: a struct and a union have their members
+pub struct_size : (s : tree.Structure) (from to : Tokens) → IsItem (tree.StructItem s) from to → Takes (length s.members) from to
+struct_size s from to (a, word, is) = omega (arith, one_taken word, structure_size s a to is)
 
-union_shorter : (s : tree.Structure) (from to : Tokens) → IsItem (tree.UnionItem s) from to → length to ≤ length from
-union_shorter s from to (a, b, tagged, word, is) = omega (arith, one_taken tagged, keyword_taken word, structure_shorter s b to is)
+pub union_size : (s : tree.Structure) (from to : Tokens) → IsItem (tree.UnionItem s) from to → Takes (length s.members) from to
+union_size s from to (a, b, tagged, word, is) = omega (arith, one_taken tagged, keyword_taken word, structure_size s b to is)
 
-global_shorter : (g : tree.Global) (from to : Tokens) → IsItem (tree.GlobalItem g) from to → length to ≤ length from
+pub global_shorter : (g : tree.Global) (from to : Tokens) → IsItem (tree.GlobalItem g) from to → length to ≤ length from
 global_shorter g from to (a, b, c, typed, named, gives, ends) =
     omega (arith, type_shorter g.of from a typed, name_taken named, initial_shorter g.initial b c gives, sign_taken ends)
 
 -- ---- programs
 
-pub parts_length : (ms : List Member) → length (map part_of ms) ≡ length ms
+parts_length : (ms : List Member) → length (map part_of ms) ≡ length ms
 parts_length [] = omega arith
 parts_length (m ∷ ms) = let rest = parts_length ms in omega (arith, rest)
 
 items_size : (items : List Item) (from to : Tokens) → Each IsItem items from to → Takes (routines_size (functions_of items)) from to
 items_size [] from to is = omega (arith, none_taken is)
-items_size (tree.StructItem s ∷ items) from to (a, is, are) = omega (arith, struct_shorter s from a is, items_size items a to are)
-items_size (tree.UnionItem u ∷ items) from to (a, is, are) = omega (arith, union_shorter u from a is, items_size items a to are)
+items_size (tree.StructItem s ∷ items) from to (a, is, are) = omega (arith, struct_size s from a is, items_size items a to are)
+items_size (tree.UnionItem u ∷ items) from to (a, is, are) = omega (arith, union_size u from a is, items_size items a to are)
 items_size (tree.GlobalItem g ∷ items) from to (a, is, are) = omega (arith, global_shorter g from a is, items_size items a to are)
 items_size (tree.FunctionItem f ∷ items) from to (a, is, are) =
     omega (arith, function_size f from a is, parts_length f.parameters, items_size items a to are)

@@ -1,4 +1,4 @@
--- Sixteen temporaries for each token are as many as a phrase goes on to, and a program.
+-- Sixteen temporaries for each token are as many as a phrase goes on to, and a program, with the members of its unions.
 use Rattle.std.proofs.Common.{ℕ, ◌+◌, ◌*◌, ◌^◌, ◌<◌, ◌≤◌, List, [], ◌∷◌, length, length-append, Some, None, arith}
 use Rattle.cyc_lexer.specs.Lexing.{Token, IsToken, Lexing, AreTokens, stays, gap, token, text_limit}
 use Rattle.cyc_lexer.specs.declared.token.Sign.{Sign}
@@ -11,7 +11,6 @@ use Rattle.source_grammar.specs.Phrases.{Tokens, InParentheses, Each}
 use Rattle.source_grammar.specs.ExpressionGrammar.{IsExpression, AreArguments, AreOperands, AreLinks, AreSuffixes, IsMade}
 use Rattle.source_grammar.specs.StatementGrammar.{IsDeclaration, IsStatement, AreItems, AreClauses}
 use Rattle.source_grammar.specs.Grammar.{IsItem, IsProgram}
-use Rattle.source_meaning.specs.Programs.{functions_of}
 use Rattle.source_lowering.specs.Bounds.{
   tokens_of,
   made_tokens,
@@ -23,13 +22,13 @@ use Rattle.source_lowering.specs.Bounds.{
   statement_size,
   item_size,
   clauses_size,
-  routines_size,
 }
 use Rattle.source_lowering.specs.Room.{room, argument_room, link_room, suffix_room, made_room, declaration_room, statement_room, item_room, clause_room}
-use Rattle.source_lowering.specs.Room.{program_room}
+use Rattle.source_lowering.specs.Room.{function_room, program_room}
+use Rattle.token_proof.proofs.Shorter.{none_taken}
 use Rattle.token_proof.proofs.ExpressionSizes.{chained}
 use Rattle.token_proof.proofs.StatementSizes.{switched}
-use Rattle.token_proof.proofs.ProgramSizes.{parts_length, tokens_pay}
+use Rattle.token_proof.proofs.ProgramSizes.{function_size, struct_size, union_size, global_shorter}
 
 -- operands and arguments count alike
 joined_all : (es : Expressions) → joined_tokens es ≤ argument_tokens es
@@ -146,21 +145,26 @@ mutual
   clauses_room (MoreClauses at tree.Default body others) from to (a, b, c, is, colon, are, follow) =
       omega (arith, items_room body b c are, clauses_room others c to follow)
 
-functions_room : (items : List Item) (from to : Tokens) → Each IsItem items from to → program_room items ≤ 16 * routines_size (functions_of items)
-functions_room [] from to is = omega arith
-functions_room (tree.StructItem s ∷ items) from to (a, is, are) = functions_room items a to are
-functions_room (tree.UnionItem u ∷ items) from to (a, is, are) = functions_room items a to are
-functions_room (tree.GlobalItem g ∷ items) from to (a, is, are) = functions_room items a to are
-functions_room (tree.FunctionItem f ∷ items) from to (a, (z, y, _, _, (b, c, d, e, g, h, i, opened, takes, has, within, closed, begins, does, ends)), are) =
-    omega (arith, items_room f.body h i does, parts_length f.parameters, functions_room items a to are)
+-- a function's body has room in sixteen words a token
+body_room : (f : tree.Function) (from to : Tokens) → IsItem (tree.FunctionItem f) from to → item_room f.body ≤ 16 * item_size f.body
+body_room f from to (z, y, _, _, (b, c, d, e, g, h, i, opened, takes, has, within, closed, begins, does, ends)) = items_room f.body h i does
 
--- a program that is spelled has room for each of its functions in sixteen words a token
+-- and so has the function
+function_is_paid : (f : tree.Function) (from to : Tokens) → IsItem (tree.FunctionItem f) from to → function_room f + 16 * length to ≤ 16 * length from
+function_is_paid f from to is = omega (arith, function_size f from to is, body_room f from to is)
+
+-- items have it, and a union's members are fewer than its tokens
+items_are_paid : (items : List Item) (from to : Tokens) → Each IsItem items from to → program_room items + 16 * length to ≤ 16 * length from
+items_are_paid [] from to is = omega (arith, none_taken is)
+items_are_paid (tree.StructItem s ∷ items) from to (a, is, are) = omega (arith, struct_size s from a is, items_are_paid items a to are)
+items_are_paid (tree.UnionItem u ∷ items) from to (a, is, are) = omega (arith, union_size u from a is, items_are_paid items a to are)
+items_are_paid (tree.GlobalItem g ∷ items) from to (a, is, are) = omega (arith, global_shorter g from a is, items_are_paid items a to are)
+items_are_paid (tree.FunctionItem f ∷ items) from to (a, is, are) = omega (arith, function_is_paid f from a is, items_are_paid items a to are)
+
+-- a program that is spelled has room for each of its functions, and for the members of each of its unions, in sixteen words a token
 pub room_is_paid : (p : Program) (tokens : Tokens) → IsProgram p tokens → program_room p ≤ 16 * length tokens
 room_is_paid [] tokens is = absurd is
-room_is_paid (item ∷ items) tokens are =
-    let all = functions_room (item ∷ items) tokens [] are in
-    let paid = tokens_pay (item ∷ items) tokens are in
-    omega (arith, all, paid)
+room_is_paid (item ∷ items) tokens are = let paid = items_are_paid (item ∷ items) tokens [] are in omega (arith, paid)
 
 -- ---- the tokens of a text
 
@@ -176,7 +180,7 @@ bytes_pay at text tokens end rest (gap _ s others _ _ _ is more) =
 bytes_pay at text tokens end rest (token _ k s others those _ _ is more) =
     omega (arith, length-append s others, some_bytes k s others is, bytes_pay (at + length s) others those end rest more)
 
--- so the numbers of temporaries of a text's program are words
+-- so the numbers of temporaries of a text's program are words, and a word counts the members of each of its unions
 pub room_is_there : (text : List ℕ) (tokens : List Token) (p : Program) → length text ≤ text_limit → AreTokens text tokens → IsProgram p tokens
     → program_room p < 2 ^ 32
 room_is_there text tokens p within lexed parsed =

@@ -6,9 +6,9 @@ use Rattle.cyc_lexer.specs.declared.token.Sign.TheVariants as sign
 use Rattle.cyc_lexer.specs.declared.token.TokenKind.{TokenKind}
 use Rattle.cyc_tree.specs.declared.name.Sign as tree_sign
 use Rattle.cyc_tree.specs.declared.name.Sign.TheVariants as pointer_sign
-use Rattle.cyc_tree.specs.Tree.{Name, RegionName, Heap, Unique, Named, Base, Int, Unsigned, Char, Void, Struct, Union, Handle, Key, Pointer, TypeName, Member}
+use Rattle.cyc_tree.specs.Tree.{Name, RegionName, Heap, Unique, Named, Base, Int, Unsigned, Char, Void, Struct, Union, Handle, Key, Pointer, TypeName}
 use Rattle.source_grammar.specs.Phrases.{Tokens, IsOne, IsKeyword, IsSign, IsName, IsString, IsRegion, Each, Behind, Listed}
-use Rattle.source_grammar.specs.TypeGrammar.{AreRegions, IsOneRegion, IsBase, AreSigns, IsPointerSign, MayBeRegion, IsPointer, IsType, IsTyped}
+use Rattle.source_grammar.specs.TypeGrammar.{AreRegions, IsOneRegion, IsBase, AreSigns, IsPointerSign, MayBeRegion, IsPointer, IsType}
 
 -- ---- single tokens
 
@@ -43,7 +43,7 @@ none_taken is = omega (arith, ap length is)
 -- ---- lists of phrases
 
 -- phrases each of which takes tokens, or none
-pub each_shorter : {A : Type 0} (Is : A → Tokens → Tokens → Type 0) → ((x : A) (from to : Tokens) → Is x from to → length to ≤ length from)
+each_shorter : {A : Type 0} (Is : A → Tokens → Tokens → Type 0) → ((x : A) (from to : Tokens) → Is x from to → length to ≤ length from)
     → (xs : List A) (from to : Tokens) → Each Is xs from to → length to ≤ length from
 each_shorter Is shorter [] from to is = none_taken is
 each_shorter Is shorter (x ∷ xs) from to (a, first, others) =
@@ -103,6 +103,3 @@ pointer_shorter p from to (a, s, r) = omega (arith, pointer_sign_shorter p.sign 
 pub type_shorter : (t : TypeName) (from to : Tokens) → IsType t from to → length to ≤ length from
 type_shorter t from to (a, starts, base, pointers) =
     omega (arith, base_shorter t.base from a base, each_shorter IsPointer pointer_shorter t.pointers a to pointers)
-
-pub typed_shorter : (m : Member) (from to : Tokens) → IsTyped m from to → length to ≤ length from
-typed_shorter m from to (a, of, name) = omega (arith, type_shorter m.of from a of, name_taken name)

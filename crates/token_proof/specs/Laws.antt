@@ -17,7 +17,7 @@ TokensPay = (p : Program) (tokens : Tokens) → IsProgram p tokens → routines_
 abbrev pub SpelledHasOperands : Type 0
 SpelledHasOperands = (p : Program) (tokens : Tokens) → IsProgram p tokens → HasOperands p
 
--- a text's program has room for the temporaries of all phrases of its functions, in as many words as a word counts
+-- a text's program has room for the temporaries of all phrases of its functions and for the members of its unions, in as many words as a word counts
 abbrev pub TextsHaveRoom : Type 0
 TextsHaveRoom = (text : List ℕ) (tokens : Tokens) (p : Program) → length text ≤ text_limit → AreTokens text tokens → IsProgram p tokens
     → program_room p < 2 ^ 32

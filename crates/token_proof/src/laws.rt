@@ -15,8 +15,8 @@ pub fn spelled_has_operands()
     ensures { SpelledHasOperands }
 {}
 
-/// A law, with nothing to run: the phrases of a text's functions name fewer temporaries than a word counts,
-/// by a bound of sixteen for each node.
+/// A law, with nothing to run: a word counts the temporaries that the phrases of a text's functions name,
+/// by a bound of sixteen for each node, and the members of its unions.
 pub fn texts_have_room()
     ensures { TextsHaveRoom }
 {}

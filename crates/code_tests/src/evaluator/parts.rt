@@ -37,8 +37,8 @@ pub fn datum_of(alloc: Global, row: Row) -> Option<Datum> {
     match row.word {
         Word::GlobalByte => Some(Datum::Byte(0)),
         Word::GlobalNull => Some(Datum::Null),
-        Word::GlobalAddress => Some(Datum::Address(first)),
-        Word::GlobalBounds => Some(Datum::Bounds(first, second)),
+        Word::GlobalAddress => Some(Datum::Address(first as usize)),
+        Word::GlobalBounds => Some(Datum::Bounds(first as usize, second)),
         Word::GlobalText => Some(Datum::Text(b"ab".to_vec(alloc).ok()?)),
         Word::GlobalPairs => Some(Datum::Whole(layout_of(alloc, Shape::Pair)?, first)),
         _ => None,

@@ -115,7 +115,7 @@ impl Reader {
         let [function, first, second, third, _] = row.numbers;
         let results = words_of([first, second, third], row.count.saturating_sub(1));
         let passed = mem::replace(&mut self.passed, Vec::new(self.alloc));
-        self.add(Statement::Call(results, function, passed))
+        self.add(Statement::Call(results, function as usize, passed))
     }
 
     fn part(&mut self, row: Row) -> Option<()> {

@@ -37,7 +37,10 @@ pub fn row_of(text: &str) -> Option<Row> {
 
 // a local of the innermost block
 fn local(index: u32) -> Variable {
-    Variable { out: 0, index }
+    Variable {
+        out: 0,
+        index: index as usize,
+    }
 }
 
 // so many cells and bytes on, the part of this number
@@ -70,8 +73,8 @@ fn pointer_operation(row: Row) -> Option<Operation> {
     match row.word {
         Word::NullPointer => Some(Operation::NullPointer(to)),
         Word::LocalAddress => Some(Operation::LocalAddress(to, local(second))),
-        Word::OwnAddress => Some(Operation::OwnAddress(to, second)),
-        Word::DataAddress => Some(Operation::DataAddress(to, second)),
+        Word::OwnAddress => Some(Operation::OwnAddress(to, second as usize)),
+        Word::DataAddress => Some(Operation::DataAddress(to, second as usize)),
         Word::Offset => Some(Operation::Offset(to, from, third, fourth)),
         Word::Element => Some(Operation::Element(to, from, other, fourth, fifth)),
         Word::IsNull => Some(Operation::IsNull(to, from)),

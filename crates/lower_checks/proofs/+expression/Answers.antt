@@ -78,6 +78,15 @@ place::lower_suffixed-returns-clause-shape = Suffixed.place::lower_suffixed-retu
 pub operands::lower_arguments-each-preserved : goal.operands::lower_arguments-each-preserved
 operands::lower_arguments-each-preserved = Calls.operands::lower_arguments-each-preserved
 
+pub whole::lower_members-rounded-requires : goal.whole::lower_members-rounded-requires
+whole::lower_members-rounded-requires = Wholes.whole::lower_members-rounded-requires
+
+pub whole::lower_members-overflow_add-slot-in-each : goal.whole::lower_members-overflow_add-slot-in-each
+whole::lower_members-overflow_add-slot-in-each = Wholes.whole::lower_members-overflow_add-slot-in-each
+
+pub whole::lower_made-lower_members-requires : goal.whole::lower_made-lower_members-requires
+whole::lower_made-lower_members-requires = Wholes.whole::lower_made-lower_members-requires
+
 pub whole::lower_members-each-preserved : goal.whole::lower_members-each-preserved
 whole::lower_members-each-preserved = Wholes.whole::lower_members-each-preserved
 

@@ -21,6 +21,7 @@ use Rattle.lower_checks.specs.Room.{HasRoom}
 use Rattle.lower_checks.specs.Scoped.{names_in, world_in}
 use Rattle.lower_checks.specs.Structs.{HaveRoom}
 use Rattle.lower_checks.specs.Views.{shape_tree}
+use Rattle.lower_checks.specs.Within.{AreWithin}
 use Rattle.lower_checks.specs.Writing.{IsLeft, IsSound, IsWritten, next_of}
 use Rattle.lower_checks.proofs.+expression.Given as goal
 
@@ -121,4 +122,5 @@ invariant-whole::lower_members-each l =
         taken : TakesMade w names parts_left others;
       };
       room : HasRoom l.fn.to.0 (16 + argument_room others);
+      within : AreWithin w l.slot.bytes l.slot.cells parts_left;
     }

@@ -27,13 +27,14 @@ use Rattle.source_lowering.specs.Bounds.{
   routines_size,
   code_bound,
 }
-use Rattle.source_lowering.proofs.bounds.Nodes.{item_count}
+use Rattle.source_lowering.proofs.bounds.Nodes.{item_count, item_regions}
 use Rattle.source_lowering.proofs.expressions.Names.{AreParameters, IsRoutine, AreRoutines}
 use Rattle.source_lowering.proofs.bounds.LocalWords.{shapes_words, many_words, words_same}
 use Rattle.source_lowering.proofs.bounds.Costs.{Costs, no_costs, one_costs, both_cost, more_costs, at_most, does_one, block_costs}
 use Rattle.source_lowering.proofs.bounds.ValueCosts.{words_few, stored_costs}
 use Rattle.source_lowering.proofs.bounds.StatementCosts.{items_bounded}
 use Rattle.source_lowering.proofs.bounds.StatementsPaid.{items_paid}
+use Rattle.source_lowering.proofs.bounds.RegionsPaid.{item_regions_paid}
 use Rattle.source_lowering.proofs.Programs.{routines_are}
 use Rattle.source_lowering.proofs.bounds.Taken.{taken_parameters}
 
@@ -69,26 +70,27 @@ all_shapes w (p ∷ ps) shapes h =
     let b = all_shapes w ps shapes h.1 in
     omega (arith, a, b)
 
-words_many : (ps : List Part) → all_words (part_shapes ps) ≤ 3 * length ps
+-- and three words at most
+pub words_many : (ps : List Part) → all_words (part_shapes ps) ≤ 3 * length ps
 words_many [] = omega arith
 words_many (p ∷ ps) = let a = words_few p.shape in let b = words_many ps in omega (arith, a, b)
 
 -- the words of the locals of a function's body, and of the blocks within it
-abbrev body_locals : World → Routine → ℕ
+abbrev pub body_locals : World → Routine → ℕ
 body_locals w f = item_locals w (parameter_names f.parameters 0 []) (length f.parameters) f.body
 
 -- what a function's body takes
-record BodyBounded (w : World) (f : Routine) : Type 0 where
-  code : List core.Statement
-  is : body_code w f ≡ all_of code
-  costs : Costs (all_words (part_shapes f.parameters) + (body_locals w f + 4 * item_count w f.body + 2)) (3 * item_count w f.body)
+pub record BodyBounded (w : World) (f : Routine) : Type 0 where
+  pub code : List core.Statement
+  pub is : body_code w f ≡ all_of code
+  pub costs : Costs (all_words (part_shapes f.parameters) + (item_regions f.body + 4 * item_count w f.body + 2)) (3 * item_count w f.body)
       (all_words (part_shapes f.parameters) + body_locals w f)
       (1 + (4 * length f.parameters + 8 * (item_size f.body + items_left no_regions f.body)) + 3) code
 
-body_bounded : (w : World) (f : Routine) → IsRoutine w f → BodyBounded w f
+pub body_bounded : (w : World) (f : Routine) → IsRoutine w f → BodyBounded w f
 body_bounded w f r =
     let words = all_words (part_shapes f.parameters) in
-    let t = words + (body_locals w f + 4 * item_count w f.body + 2) in
+    let t = words + (item_regions f.body + 4 * item_count w f.body + 2) in
     let p = 3 * item_count w f.body in
     let l = words + body_locals w f in
     let o = 1 + (4 * length f.parameters + 8 * (item_size f.body + items_left no_regions f.body)) in
@@ -118,12 +120,13 @@ pub frame_bounded : (w : World) (f : Routine) → IsRoutine w f → core_bound (
 frame_bounded w f r =
     let b = body_bounded w f r in
     let words = all_words (part_shapes f.parameters) in
-    let t = subst (λ z. temporaries_of z ≤ words + (body_locals w f + 4 * item_count w f.body + 2)) (sym b.is) b.costs.temporaries in
+    let t = subst (λ z. temporaries_of z ≤ words + (item_regions f.body + 4 * item_count w f.body + 2)) (sym b.is) b.costs.temporaries in
     let p = subst (λ z. passed_by z ≤ 3 * item_count w f.body) (sym b.is) b.costs.passes in
     let l = subst (λ z. block_words z ≤ words + body_locals w f) (sym b.is) b.costs.locals in
     let o = many_words w (routine_values w f) in
     let paid = (items_paid w f.result (parameter_names f.parameters 0 []) (length f.parameters) f.body r.body).less in
-    omega (arith, t, p, l, o, paid)
+    let regions = item_regions_paid w (parameter_names f.parameters 0 []) (length f.parameters) f.body in
+    omega (arith, t, p, l, o, paid, regions)
 
 operations_bounded : (w : World) (fs : List Routine) → AreRoutines w fs → all_operations (map (function_code w) fs) ≤ 8 * (routines_size fs + regions_left fs)
 operations_bounded w [] h = omega arith

@@ -1,22 +1,21 @@
 -- What the code of declarations takes, and of the ends and ways out of regions.
-use Rattle.std.proofs.Common.{ℕ, zero, suc, ◌+◌, ◌*◌, ◌≤◌, List, [], ◌∷◌, ◌++◌, Bool, true, false, arith, max}
+use Rattle.std.proofs.Common.{◌≡◌, ℕ, zero, suc, ◌+◌, ◌*◌, ◌≤◌, List, [], ◌∷◌, ◌++◌, Bool, true, false, arith, max}
 use Rattle.cyc_tree.specs.Tree as tree
 use Rattle.cyc_tree.specs.Tree.{Expression, Initializer, Declaration}
-use Rattle.source_meaning.specs.Shapes.{Shape, ThinShape, FatShape, ArrayShape, HandleShape, StructShape, UnionShape, written, settled, settled_by}
+use Rattle.source_meaning.specs.Shapes.{Shape, ThinShape, FatShape, ArrayShape, StructShape, UnionShape, written, settled, settled_by}
 use Rattle.source_meaning.specs.Steps.{World}
 use Rattle.core_meaning.specs.Core as core
 use Rattle.core_meaning.specs.Core.{Do, Clear, Copy, KeyClose, KeyNew, KeyOpen, LocalAddress, Put, RegionFree, RegionNew}
 use Rattle.source_lowering.specs.Layouts.{layout_of, local_of}
 use Rattle.source_lowering.specs.Lowered.{Named, width_of, put_local, static_shape, conversion_code, expression_code, get_code, local_named}
-use Rattle.source_lowering.specs.Programs.{local_shape, first_code, begun_code, unset_code, value_code, declaration_code, ending_code, regions_behind}
+use Rattle.source_lowering.specs.Programs.{first_code, begun_code, unset_code, value_code, declaration_code, ending_code, regions_behind}
 use Rattle.source_lowering.specs.Programs.{leaving_code, left_by, source_code}
 use Rattle.source_lowering.specs.Whole.{is_made}
 use Rattle.source_lowering.specs.Lowerable.{Takes, TakesValue, TakesWhole, TakesDeclaration}
-use Rattle.source_lowering.specs.Bounds.{tokens_of, declaration_tokens, shape_words}
+use Rattle.source_lowering.specs.Bounds.{tokens_of, declaration_tokens}
 use Rattle.source_meaning.specs.Places.{bound_to}
 use Rattle.source_lowering.proofs.values.Integers.{key_moved}
-use Rattle.source_lowering.proofs.bounds.Nodes.{expression_count, declaration_count}
-use Rattle.source_lowering.proofs.bounds.LocalWords.{word_words}
+use Rattle.source_lowering.proofs.bounds.Nodes.{expression_count, declaration_count, region_count}
 use Rattle.source_lowering.proofs.bounds.Costs.{Costs, no_costs, both_cost, at_most, does_one, does_then}
 use Rattle.source_lowering.proofs.bounds.ValueCosts.{put_local_costs}
 use Rattle.source_lowering.proofs.bounds.PartCosts.{conversion_costs}
@@ -134,14 +133,13 @@ ending_costs (tree.Open at region handle key) d t p h = does_one t p (KeyClose d
 ending_costs (tree.Alias at region of alias pointer) d t p h = at_most t p 0 1 [] (omega arith) (no_costs t p)
 ending_costs (tree.NewKey at region key) d t p h = at_most t p 0 1 [] (omega arith) (no_costs t p)
 
--- a region has its handle in a temporary, for which its local's word stands
-pub regions_paid : (w : World) (names : List Named) (declared : Declaration) (n : ℕ)
-    → regions_behind declared n ≤ n + shape_words w (local_shape w names declared)
-regions_paid w names (tree.Region at region handle) n = let one = word_words w HandleShape tt in omega (arith, one)
-regions_paid w names (tree.Local of name initializer) n = omega arith
-regions_paid w names (tree.Open at region handle key) n = let one = word_words w HandleShape tt in omega (arith, one)
-regions_paid w names (tree.Alias at region of alias pointer) n = omega arith
-regions_paid w names (tree.NewKey at region key) n = omega arith
+-- a region that is opened has its handle in a temporary
+pub regions_counted : (declared : Declaration) (n : ℕ) → regions_behind declared n ≡ n + region_count declared
+regions_counted (tree.Region at region handle) n = omega arith
+regions_counted (tree.Local of name initializer) n = omega arith
+regions_counted (tree.Open at region handle key) n = omega arith
+regions_counted (tree.Alias at region of alias pointer) n = omega arith
+regions_counted (tree.NewKey at region key) n = omega arith
 
 -- regions are left, an operation each
 left_costs : (opened : Bool) (d t p : ℕ) → suc d ≤ t → Costs t p 0 1 (Do (left_by opened d) ∷ [])

@@ -1,4 +1,5 @@
 -- How many nodes expressions have, whatever their values: each takes four temporaries, and passes three words, at most. An assignment takes none of its own.
+-- And how many regions a statement opens, each of which takes one.
 use Rattle.std.proofs.Common.{ℕ, ◌+◌, Some}
 use Rattle.cyc_tree.specs.Tree as tree
 use Rattle.cyc_tree.specs.Tree.{Expression, Expressions, NoExpressions, MoreExpressions, Links, NoLinks, MoreLinks, Suffixes, NoSuffixes, Index, Dot, Arrow}
@@ -90,3 +91,30 @@ abbrev mutual
   pub clause_count : World → Clauses → ℕ
   clause_count w NoClauses = 0
   clause_count w (MoreClauses at label body others) = item_count w body + clause_count w others
+
+-- ---- regions: the handle of each that is open is in a temporary
+
+-- how many regions a declaration opens: one, or none
+abbrev pub region_count : Declaration → ℕ
+region_count (tree.Region at region handle) = 1
+region_count (tree.Open at region handle key) = 1
+region_count _ = 0
+
+-- those that the declarations in a statement open
+abbrev mutual
+  pub statement_regions : Statement → ℕ
+  statement_regions (Statement.Block at items) = item_regions items
+  statement_regions (Statement.If at condition body) = statement_regions body
+  statement_regions (Statement.IfElse at condition body otherwise) = statement_regions body + statement_regions otherwise
+  statement_regions (Statement.While at condition body) = statement_regions body
+  statement_regions (Statement.Switch at place clauses) = clause_regions clauses
+  statement_regions _ = 0
+
+  pub item_regions : BlockItems → ℕ
+  item_regions NoItems = 0
+  item_regions (Declare d others) = region_count d + item_regions others
+  item_regions (Execute s others) = statement_regions s + item_regions others
+
+  pub clause_regions : Clauses → ℕ
+  clause_regions NoClauses = 0
+  clause_regions (MoreClauses at label body others) = item_regions body + clause_regions others

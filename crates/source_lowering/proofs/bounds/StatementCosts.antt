@@ -23,7 +23,7 @@ use Rattle.source_lowering.specs.Bounds.{
   items_left,
   clauses_left,
 }
-use Rattle.source_lowering.proofs.bounds.Nodes.{statement_count, item_count, clause_count}
+use Rattle.source_lowering.proofs.bounds.Nodes.{statement_count, item_count, clause_count, statement_regions, item_regions, clause_regions}
 use Rattle.source_lowering.proofs.bounds.LocalWords.{shapes_words}
 use Rattle.source_lowering.proofs.bounds.Costs.{Costs, no_costs, one_costs, both_cost, more_costs, if_costs, while_costs, does_one, does_then, leave_costs}
 use Rattle.source_lowering.proofs.bounds.Costs.{block_costs}
@@ -32,7 +32,7 @@ use Rattle.source_lowering.proofs.bounds.ValueCosts.{put_local_costs, tag_load_c
 use Rattle.source_lowering.proofs.bounds.PartCosts.{results_few, results_last, results_many, conversion_costs}
 use Rattle.source_lowering.proofs.bounds.ExpressionCosts.{place_costs, expression_costs}
 use Rattle.source_lowering.proofs.bounds.WholeCosts.{run_costs}
-use Rattle.source_lowering.proofs.bounds.DeclarationCosts.{declaration_bounded, ending_costs, regions_paid, leaving_costs}
+use Rattle.source_lowering.proofs.bounds.DeclarationCosts.{declaration_bounded, ending_costs, regions_counted, leaving_costs}
 use Rattle.source_lowering.proofs.bounds.Taken.{taken_by, taken_outward, found_less}
 use Rattle.source_lowering.proofs.bounds.ExchangeCosts.{exchange_costs}
 use Rattle.source_lowering.proofs.bounds.NameCosts.{moved_costs}
@@ -83,9 +83,11 @@ abbrev case_code : World → List Named → Shape → (number d : ℕ) → Block
 case_code w names s number d body items =
     Do (Constant (d + 2) number) ∷ Do (Apply Equal (d + 2) (d + 1) (d + 2)) ∷
     If (d + 2)
-    (all_of (Block (locals_of w (s ∷ block_shapes w names 1 body)) (all_of (held_loads s d ++ (put_local s d 0 0 ++ items))) ∷ core.Break ∷ [])) NoStatements ∷ []
+    (all_of (Block (locals_of w (s ∷ block_shapes w names 1 body)) (all_of (held_loads s d ++ (put_local s d 0 0 ++ items))) ∷ core.Break ∷ []))
+    NoStatements ∷ []
 
-case_bounded : (w : World) (names : List Named) (s : Shape) (number t p l n d : ℕ) (body : BlockItems) (items : List core.Statement) → d + 4 ≤ t → ItemsBounded w names 1 t p l n body items
+case_bounded : (w : World) (names : List Named) (s : Shape) (number t p l n d : ℕ) (body : BlockItems) (items : List core.Statement)
+    → d + 4 ≤ t → ItemsBounded w names 1 t p l n body items
     → IsBounded t p (shape_words w s + l) (8 + n) (case_code w names s number d body items)
 case_bounded w names s number t p l n d body items h a =
     let all = shape_words w s + l in
@@ -109,7 +111,7 @@ case_bounded w names s number t p l n d body items h a =
 
 mutual
   statement_bounded : (w : World) (result : Shape) (names : List Named) (r : RegionsAround) (own : ℕ) (s : Statement) (t p : ℕ)
-      → TakesStatement w result names s → max (taken_by names) (r.all + (statement_locals w names s + 4 * statement_count w s) + 2) ≤ t
+      → TakesStatement w result names s → max (taken_by names) (r.all + (statement_regions s + 4 * statement_count w s) + 2) ≤ t
       → 3 * statement_count w s ≤ p
       → IsBounded t p (statement_locals w names s) (statement_size s + statement_left r s) (statement_code w result names r own s)
   statement_bounded w result names r own (Statement.Empty at) t p h f g = record { operations = 0; costs = no_costs t p; less = omega arith }
@@ -119,7 +121,8 @@ mutual
       let b = one.bounded.less in let l = one.locals in
       record {
         operations = 1 + one.bounded.operations;
-        costs = block_costs t p (item_locals w (outward names) 0 items) one.inner one.bounded.operations w (block_shapes w (outward names) 0 items) _ l one.bounded.costs;
+        costs = block_costs t p (item_locals w (outward names) 0 items) one.inner one.bounded.operations w (block_shapes w (outward names) 0 items)
+            _ l one.bounded.costs;
         less = omega (arith, b);
       }
   statement_bounded w result names r own (Statement.Run e) t p h f g =
@@ -241,18 +244,19 @@ mutual
 
   pub items_bounded : (w : World) (result : Shape) (names : List Named) (r : RegionsAround) (index own : ℕ) (items : BlockItems) (t p : ℕ)
       → TakesItems w result names index items
-      → max (taken_by names) (r.all + (item_locals w names index items + 4 * item_count w items) + 2) ≤ t → 3 * item_count w items ≤ p
-      → ItemsBounded w names index t p (item_locals w names index items) (item_size items + items_left r items) items (items_code w result names r index own items)
+      → max (taken_by names) (r.all + (item_regions items + 4 * item_count w items) + 2) ≤ t → 3 * item_count w items ≤ p
+      → ItemsBounded w names index t p (item_locals w names index items) (item_size items + items_left r items) items
+      (items_code w result names r index own items)
   items_bounded w result names r index own NoItems t p h f g = record {
     inner = 0;
     bounded = record { operations = 0; costs = no_costs t p; less = omega arith };
     locals = omega arith;
   }
   items_bounded w result names r index own (Declare d others) t p h f g =
-      let paid = regions_paid w names d r.all in
+      let counted = regions_counted d r.all in
       let a = declaration_bounded w names d r.all index own t p h.0 (omega (arith, f)) (omega (arith, g)) in
       let b = items_bounded w result (names_behind w names index d) (regions_with d r) (suc index)
-      (own + length (declaration_values w names d)) others t p h.1 (omega (arith, f, paid)) (omega (arith, g)) in
+      (own + length (declaration_values w names d)) others t p h.1 (omega (arith, f, counted)) (omega (arith, g)) in
       let l = a.less in let k = b.bounded.less in let m = b.locals in
       record {
         inner = b.inner;
@@ -282,7 +286,7 @@ mutual
   -- the pointer to the union and its tag are in the first free temporaries, with two behind them
   clauses_bounded : (w : World) (result : Shape) (names : List Named) (r : RegionsAround) (parts : List Part) (own last : ℕ) (clauses : Clauses) (t p : ℕ)
       → TakesClauses w result names parts clauses → r.all + 4 ≤ t
-      → max (taken_by names) (r.all + (clause_locals w names parts clauses + 4 * clause_count w clauses) + 2) ≤ t → 3 * clause_count w clauses ≤ p
+      → max (taken_by names) (r.all + (clause_regions clauses + 4 * clause_count w clauses) + 2) ≤ t → 3 * clause_count w clauses ≤ p
       → ClausesBounded t p (clause_locals w names parts clauses) (clauses_size clauses + clauses_left r clauses)
       (cases_code w result names r parts own clauses) (default_code w result names r last clauses)
   clauses_bounded w result names r parts own last NoClauses t p h e f g = record {
@@ -327,7 +331,8 @@ mutual
         case_operations = b.case_operations;
         default_operations = 1 + a.bounded.operations;
         cases = b.cases;
-        otherwise = block_costs t p (item_locals w (outward names) 0 body) a.inner a.bounded.operations w (block_shapes w (outward names) 0 body) _ m a.bounded.costs;
+        otherwise = block_costs t p (item_locals w (outward names) 0 body) a.inner a.bounded.operations w (block_shapes w (outward names) 0 body)
+            _ m a.bounded.costs;
         locals = omega (arith, l);
         less = omega (arith, j, k);
       }

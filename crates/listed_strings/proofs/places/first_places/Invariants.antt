@@ -7,4 +7,4 @@ use Rattle.listed_strings.proofs.places.first_places.Given as goal
 -- what the table has, or else the first of the rest, is the first of all
 abbrev pub invariant-each : goal.invariant-each
 invariant-each l = (at : ℕ) →
-    or_else (in_places l.places at) (first_at (map literal_of (drop l.literal-index l.all)) l.number at) ≡ first_at (map literal_of l.all) 0 at
+    or_else (in_places l.places at) (first_at (map literal_of (drop l.number l.all)) l.number at) ≡ first_at (map literal_of l.all) 0 at

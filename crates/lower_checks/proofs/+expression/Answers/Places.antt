@@ -150,7 +150,7 @@ place::lower_through-returns t c = record {
       let reaching : ℕ → ℕ → List Statement = λ t n. expression_code w names e t n ++ reach_code w s t in
       let written = subst (λ t. IsWritten a b (reaching t own) values) at_is (moved a k b (reaching at) values one three) in
       let reached : reached_place c.at_once.result ≡ place_at_once to =
-      c.at_once.ensures ∙ ap place_at_once (c.lower_pointer-shape.ensures.shape four.sound) in
+      c.at_once.ensures.place ∙ ap place_at_once (c.lower_pointer-shape.ensures.shape four.sound) in
       let stored =
       subst (λ t. IsEmitted b z (stores_code to t d 0 0)) at_is
       (subst (λ (p : Place). IsEmitted b z (stores_code p.shape at d p.cells p.bytes)) reached four) in

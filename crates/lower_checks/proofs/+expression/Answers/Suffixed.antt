@@ -158,6 +158,7 @@ place::lower_suffixed-follow-requires t c = record {
       let takes = subst (TakesSuffixed w names) place_is (c.requires.taken (c.lower_indices-behind.ensures.writes first.sound).sound) in
       subst (λ (x : Place). TakesMembers w names (suffixes_of rest) x.shape) (sym (c.lower_first-reached.ensures.place sound))
       (suffixes_one w names one rest (static_shape w names a) (Takes w names a) (TakesPlace w names a) takes).1;
+  within = c.lower_first-reached.ensures.within;
 }
 
 pub place::lower_suffixed-returns-clause-writes : goal.place::lower_suffixed-returns-clause-writes

@@ -5,6 +5,7 @@ use Rattle.cyc_tree.specs.View.{expression_tree, expressions_of, member_tree}
 use Rattle.core_meaning.specs.Core.{Do, OwnAddress, Statement}
 use Rattle.cyc_tree.specs.Tree.{MoreExpressions, NoExpressions}
 use Rattle.cyc_tree.specs.declared.expression.Expression as code_expression
+use Rattle.cyc_tree.specs.declared.expression.Expression.TheFolds.{the_lemmas}
 use Rattle.source_meaning.specs.Conversions.{cells_of}
 use Rattle.source_meaning.specs.Shapes.{Part, Shape, StructShape, UnionShape, part_of, part_shape, parts_of}
 use Rattle.source_meaning.specs.Sizes.{Extent, rounded_up}
@@ -31,6 +32,7 @@ use Rattle.lower_checks.specs.Scoped.{names_in, world_in}
 use Rattle.lower_checks.specs.Structs.{HaveRoom, room_tree}
 use Rattle.lower_checks.specs.Unions.{union_tree}
 use Rattle.lower_checks.specs.Views.{shape_tree}
+use Rattle.lower_checks.specs.Within.{AreWithin}
 use Rattle.lower_checks.specs.Writing.{IsEmitted, IsLeft, IsWritten, next_of}
 use Rattle.lower_checks.proofs.Making.{IsWholeOne, room_whole}
 use Rattle.lower_checks.proofs.Clauses.{parts_known}
@@ -38,20 +40,38 @@ use Rattle.lower_checks.proofs.UnionCells.{none_has}
 use Rattle.lower_checks.proofs.Writing.{
   emitted_next,
   left_more,
-  moved,
   next_is,
   none_left,
   same_next,
-  same_same,
   same_write,
   write_emit,
-  write_same,
   write_write,
 }
 use Rattle.lower_checks.proofs.Arguments.{no_members, no_values}
 use Rattle.lower_checks.proofs.Room.{room_least}
-use Rattle.lower_checks.proofs.Remaining.{first_of, left_operands}
+use Rattle.lower_checks.proofs.Remaining.{first_part, left_operands}
+use Rattle.lower_checks.proofs.Within.{members_within, next_within}
 use Rattle.lower_checks.proofs.+expression.Goals as goal
+
+-- the next member lies where it is taken for
+pub whole::lower_members-rounded-requires : goal.whole::lower_members-rounded-requires
+whole::lower_members-rounded-requires t c =
+    let w = world_in c.args.scope.now in
+    let parts_are = first_part c.each.left.now c.member-item.result c.in-len1-up.len_at_least c.member-item.is in
+    let left = subst (AreWithin w c.each.slot.bytes c.each.slot.cells) parts_are c.each.invariant.within in
+    record { small = (next_within w c.each.slot.bytes c.each.slot.cells (part_of (member_tree c.member-item.result)) _ left).before }
+
+-- it ends where its number fits
+pub whole::lower_members-overflow_add-slot-in-each : goal.whole::lower_members-overflow_add-slot-in-each
+whole::lower_members-overflow_add-slot-in-each t c =
+    let w = world_in c.args.scope.now in
+    let bytes = c.each.slot.bytes in
+    let part = part_of (member_tree c.member-item.result) in
+    let parts_are = first_part c.each.left.now c.member-item.result c.in-len1-up.len_at_least c.member-item.is in
+    let next = next_within w bytes c.each.slot.cells part _ (subst (AreWithin w bytes c.each.slot.cells) parts_are c.each.invariant.within) in
+    let extent_is : room_tree c.extent-room.result ≡ extent_of w part.shape = c.extent-room.ensures ∙ ap (extent_of w) c.of-shape.ensures in
+    let ends = ap (λ n. n + c.extent-room.result.size) c.rounded.ensures.rounded ∙ ap (λ (x : Extent). rounded_up bytes x.align + x.size) extent_is in
+    omega (arith, next.behind, ends)
 
 -- one more member of a struct that is made
 pub whole::lower_members-each-preserved : goal.whole::lower_members-each-preserved
@@ -62,13 +82,10 @@ whole::lower_members-each-preserved t c =
     let k = c.each.argument-index in
     let a = c.args.body.now in
     let b = c.each.body in
-    let f = c.number.new.self in
-    let m = c.lower_member.new.body in
-    let n = c.number-cells.new.self in
-    let p = c.sum.new.self in
-    let z = c.sum-in-each.new.self in
+    let z = c.lower_member.new.body in
     let own = next_of b in
     let cells = c.each.slot.cells in
+    let bytes = c.each.slot.bytes in
     let e = expression_tree c.argument-item.result in
     let s = static_shape w names e in
     let others = expressions_of (map expression_tree (drop (k + 1) c.args.arguments.now)) in
@@ -76,66 +93,57 @@ whole::lower_members-each-preserved t c =
     let parts = map part_of (map member_tree c.each.left.now) in
     let part = part_of (member_tree c.member-item.result) in
     let more_parts = map part_of (map member_tree (take (length c.each.left.now - 1) (drop 1 c.each.left.now))) in
-    let parts_are : parts ≡ part ∷ more_parts =
-    ap (λ ms. map part_of (map member_tree ms)) (first_of c.each.left.now c.member-item.result c.in-len1-up.len_at_least c.member-item.is) in
+    let parts_are : parts ≡ part ∷ more_parts = first_part c.each.left.now c.member-item.result c.in-len1-up.len_at_least c.member-item.is in
     let room : rooms.HasRoom d (16 + argument_room (MoreExpressions e others)) =
     subst (λ es. rooms.HasRoom d (16 + argument_room es)) here c.each.invariant.room in
+    let shape_is : shape_tree c.of-shape.result ≡ part.shape = c.of-shape.ensures in
+    let extent = extent_of w part.shape in
+    let extent_is : room_tree c.extent-room.result ≡ extent = c.extent-room.ensures ∙ ap (extent_of w) shape_is in
+    let at = rounded_up bytes extent.align in
+    let at_is : c.rounded.result ≡ at = c.rounded.ensures.rounded ∙ ap (λ (x : Extent). rounded_up bytes x.align) extent_is in
+    let more_cells = cells + length (cells_of w part.shape) in
+    let cells_are : cells + c.count.result ≡ more_cells = ap (λ x. cells + x) (c.count.ensures ∙ ap (λ x. length (cells_of w x)) shape_is) in
+    let bytes_are : c.rounded.result + c.extent-room.result.size ≡ at + extent.size =
+    ap (λ x. x + c.extent-room.result.size) at_is ∙ ap (λ (x : Extent). at + x.size) extent_is in
+    let next = next_within w bytes cells part more_parts (subst (AreWithin w bytes cells) parts_are c.each.invariant.within) in
     record {
       to = c.each.invariant.to;
       written = λ sound.
-          let six = c.sum-in-each.ensures.stays sound in
-          let five = c.sum.ensures.stays six.sound in
-          let four = c.number-cells.ensures.stays five.sound in
-          let three = c.lower_member.ensures.writes four.sound in
-          let two = c.number.ensures.stays three.sound in
+          let two = c.lower_member.ensures.writes sound in
           let invariant = c.each.invariant.written two.sound in
-          let shape_is : shape_tree c.of-shape.result ≡ part.shape = c.of-shape.ensures in
-          let room = extent_of w part.shape in
-          let room_is : room_tree c.extent-room.result ≡ room = c.extent-room.ensures ∙ ap (extent_of w) shape_is in
-          let at = rounded_up c.each.slot.bytes room.align in
-          let at_is : c.number.result ≡ at =
-          subst (λ r. IfOk r (λ x. x ≡ rounded_up c.each.slot.bytes (room_tree c.extent-room.result).align)) (c.number.ensures.number three.sound)
-          c.rounded.ensures.rounded ∙ ap (λ (x : Extent). rounded_up c.each.slot.bytes x.align) room_is in
-          let count_is : c.number-cells.result ≡ length (cells_of w part.shape) =
-          subst (λ r. IfOk r (λ x. x ≡ length (cells_of w (shape_tree c.of-shape.result)))) (c.number-cells.ensures.number five.sound) c.count.ensures.count
-          ∙ ap (λ x. length (cells_of w x)) shape_is in
-          let more_cells = cells + length (cells_of w part.shape) in
-          let cells_are : c.sum.result ≡ more_cells = c.sum.ensures.sum six.sound ∙ ap (λ x. cells + x) count_is in
-          let bytes_are : c.sum-in-each.result ≡ at + room.size =
-          c.sum-in-each.ensures.sum sound ∙ ap (λ x. x + c.extent-room.result.size) at_is ∙ ap (λ (x : Extent). at + x.size) room_is in
           let values_at : Shape → List Shape = λ x. values_by x (whole_values w names e) (expression_values w names e) in
-          let code_at : Shape → ℕ → ℕ → ℕ → List Statement = λ x to bytes number.
-          member_code w x s to cells bytes (whole_code w names e (to + 1) number) (expression_code w names e (to + 1) number) in
-          let here_code = code_at part.shape d at own in
+          let code_at : Shape → ℕ → ℕ → List Statement = λ x to from.
+          member_code w x s to cells from (whole_code w names e (to + 1) own) (expression_code w names e (to + 1) own) in
+          let here_code = code_at part.shape d at in
           let values = values_at part.shape in
-          let shaped = subst (λ x. IsWritten f m (code_at x c.each.slot.to.0 c.number.result (next_of f)) (values_at x)) shape_is three in
-          let placed = subst (λ x. IsWritten f m (code_at part.shape x c.number.result (next_of f)) values) c.each.invariant.to shaped in
-          let aligned = subst (λ x. IsWritten f m (code_at part.shape d x (next_of f)) values) at_is placed in
-          let member = moved b f m (λ x. code_at part.shape d at x) values two aligned in
-          let written = write_same b m z here_code values member (same_same m n z four (same_same n p z five six)) in
+          let shaped = subst (λ x. IsWritten b z (code_at x c.each.slot.to.0 c.rounded.result) (values_at x)) shape_is two in
+          let placed = subst (λ x. IsWritten b z (code_at part.shape x c.rounded.result) values) c.each.invariant.to shaped in
+          let written = subst (λ x. IsWritten b z (code_at part.shape d x) values) at_is placed in
           let all_parts = map part_of (map member_tree c.args.members.now) in
           let all = expressions_of (map expression_tree c.args.arguments.now) in
           let code = members_code w names all_parts all d 0 0 (next_of a) in
           let every = made_values w names all_parts all in
           let those = made_values w names more_parts others in
-          let rest = members_code w names more_parts others d more_cells (at + room.size) (own + length values) in
-          let left =
-          subst (λ es. IsLeft a b code (members_code w names parts es d cells c.each.slot.bytes own) every (made_values w names parts es)) here
-          invariant.left in
+          let rest = members_code w names more_parts others d more_cells (at + extent.size) (own + length values) in
+          let left = subst (λ es. IsLeft a b code (members_code w names parts es d cells bytes own) every (made_values w names parts es)) here invariant.left in
           let one_left =
-          subst (λ ps. IsLeft a b code (members_code w names ps (MoreExpressions e others) d cells c.each.slot.bytes own) every
+          subst (λ ps. IsLeft a b code (members_code w names ps (MoreExpressions e others) d cells bytes own) every
           (made_values w names ps (MoreExpressions e others))) parts_are left in
           let more = left_more a b z code here_code rest every values those one_left written in
           let counted =
-          subst (λ x. IsLeft a z code (members_code w names more_parts others d more_cells (at + room.size) x) every those)
+          subst (λ x. IsLeft a z code (members_code w names more_parts others d more_cells (at + extent.size) x) every those)
           (sym (next_is b z here_code values written)) more in
           record {
-            left = subst (λ x. IsLeft a z code (members_code w names more_parts others d x c.sum-in-each.result (next_of z)) every those) (sym cells_are)
+            left =
+                subst (λ x. IsLeft a z code (members_code w names more_parts others d x (c.rounded.result + c.extent-room.result.size) (next_of z)) every those)
+                (sym cells_are)
                 (subst (λ x. IsLeft a z code (members_code w names more_parts others d more_cells x (next_of z)) every those) (sym bytes_are) counted);
             room = (subst (HaveRoom w.unions w.structs) parts_are invariant.room).1;
             taken = (subst (λ x. TakesMade w names x (MoreExpressions e others)) parts_are (subst (TakesMade w names parts) here invariant.taken)).1;
           };
       room = omega (arith, room);
+      within = subst (λ x. AreWithin w x (cells + c.count.result) more_parts) (sym bytes_are)
+          (subst (λ x. AreWithin w (at + extent.size) x more_parts) (sym cells_are) next.others);
     }
 
 -- no argument is left
@@ -163,6 +171,12 @@ whole::lower_members-returns t c = record {
       none_left a b code (members_code w names parts NoExpressions d cells bytes own) every (made_values w names parts NoExpressions)
       (no_members w names parts d cells bytes own) (no_values w names parts) left;
 }
+
+-- the members of a struct end within 4,096 bytes and cells
+pub whole::lower_made-lower_members-requires : goal.whole::lower_made-lower_members-requires
+whole::lower_made-lower_members-requires t c =
+    let within = members_within (world_in c.args.scope.now) c.args.tag.now c.in-Some.known.now c.struct_of.ensures.small c.in-Some.ensures.found in
+    search (rules, the_lemmas, within)
 
 -- a struct that is made: its members behind its address
 pub whole::lower_made-returns-in-Some : goal.whole::lower_made-returns-in-Some
@@ -197,6 +211,7 @@ whole::lower_made-returns-in-Some t c = record {
 pub whole::lower_union-lower_held-requires : goal.whole::lower_union-lower_held-requires
 whole::lower_union-lower_held-requires t c = record {
   room = omega (arith, c.requires.room);
+  few = c.in-Some.ensures.few;
   taken = λ sound.
       let w = world_in c.args.scope.now in
       let three = c.lower_expression-from.ensures.writes sound in

@@ -18,13 +18,14 @@ use Rattle.lower_checks.specs.Views.{regions_tree, shape_tree}
 use Rattle.lower_checks.specs.Visible.{names_of}
 use Rattle.lower_checks.specs.Writing.{IsLeft, IsSound, IsWritten, next_of}
 use Rattle.lower_checks.proofs.Clauses.{left_clauses, member_variable}
-use Rattle.lower_checks.proofs.Writing.{left_more, moved, next_is, none_left}
+use Rattle.lower_checks.proofs.Writing.{left_more, next_is, none_left}
 use Rattle.lower_checks.proofs.+statement.Goals as goal
 use Rattle.lower_checks.proofs.+statement.Goals.{switch::lower_cases-in-Case, switch::lower_cases-in-Default}
 
 -- a clause of those that are left
 pub switch::lower_cases-chosen_of-chosen-requires : goal.switch::lower_cases-chosen_of-chosen-requires
 switch::lower_cases-chosen_of-chosen-requires t c = record {
+  few = c.requires.few;
   taken = λ sound.
       let w = world_of c.args.program.now in
       let result = shape_tree c.args.shape.now in
@@ -59,18 +60,17 @@ switch::lower_cases-lower_case-requires t c =
     let inside : IsSound c.each.body → TakesClauses w result names parts (MoreClauses clause.at pattern items others) = λ sound.
     subst (λ (p : tree.Pattern). TakesClauses w result names parts (MoreClauses clause.at p items others)) (ap pattern_tree c.in-Case.is)
     (subst (TakesClauses w result names parts) here (c.each.invariant.written sound).taken) in
-    let before : IsSound c.chosen_of-chosen.new.body → IsSound c.each.body = λ sound. (c.chosen_of-chosen.ensures.stays sound).sound in
-    let shape_is : IsSound c.chosen_of-chosen.new.body → s ≡ part_shape parts member = λ sound.
+    let shape_is : IsSound c.each.body → s ≡ part_shape parts member = λ sound.
     c.chosen_of-chosen.ensures.shape sound ∙ ap (part_shape parts) c.deref.ensures.value in
-    let taken : IsSound c.chosen_of-chosen.new.body → TakesItems w result (named_here text s 0 ∷ outward (names_of c.each.locals)) 1 its = λ sound.
+    let taken : IsSound c.each.body → TakesItems w result (named_here text s 0 ∷ outward (names_of c.each.locals)) 1 its = λ sound.
     let named =
-    subst (λ (x : Shape). TakesItems w result (named_here text x 0 ∷ outward names) 1 items) (sym (shape_is sound)) (inside (before sound)).1.0 in
+    subst (λ (x : Shape). TakesItems w result (named_here text x 0 ∷ outward names) 1 items) (sym (shape_is sound)) (inside sound).1.0 in
     let body_is : items ≡ its = ap (λ is. items_of (map item_tree is)) (sym c.deref-in-Case.ensures.value) in
     subst (λ (is : BlockItems). TakesItems w result (named_here text s 0 ∷ outward (names_of c.each.locals)) 1 is) body_is
-    (subst (λ ms. TakesItems w result (named_here text s 0 ∷ outward (names_of ms)) 1 items) (sym (c.each.invariant.written (before sound)).locals) named) in
-    let variable : IsSound c.chosen_of-chosen.new.body → IsVariable w.unions w.structs s = λ sound.
-    let one = (inside (before sound)).0 in
-    let first = (c.each.invariant.written (before sound)).code.sound in
+    (subst (λ ms. TakesItems w result (named_here text s 0 ∷ outward (names_of ms)) 1 items) (sym (c.each.invariant.written sound).locals) named) in
+    let variable : IsSound c.each.body → IsVariable w.unions w.structs s = λ sound.
+    let one = (inside sound).0 in
+    let first = (c.each.invariant.written sound).code.sound in
     subst (IsVariable w.unions w.structs) (sym (shape_is sound))
     (member_variable w.unions w.structs parts member one.number (c.requires.values first) one.is) in
     let both : HasRoom c.args.around.all (16 + (item_room items + clause_room others)) =
@@ -105,7 +105,6 @@ switch::lower_cases-each-preserved t c =
       written = λ sound.
           elim c.match-pattern.branch [
             | switch::lower_cases-in-Case v ↦
-                let g = v.chosen_of-chosen.new.body in
                 let y = v.lower_case.new.body in
                 let f = (name_tree v.in-Case.member).text in
                 let text = (name_tree v.in-Case.name).text in
@@ -114,8 +113,7 @@ switch::lower_cases-each-preserved t c =
                 let inner = named_here text s 0 ∷ outward names in
                 let own = next_of b in
                 let two = v.lower_case.ensures.writes (subst IsSound v.body-is sound) in
-                let one = v.chosen_of-chosen.ensures.stays two.sound in
-                let invariant = c.each.invariant.written one.sound in
+                let invariant = c.each.invariant.written two.sound in
                 let is : clauses_of (map clause_tree (drop k c.args.clauses.now)) ≡ MoreClauses clause.at pattern items others =
                 here ∙ ap (λ (p : tree.Pattern). MoreClauses clause.at p items others) (ap pattern_tree v.in-Case.is) in
                 let items_are : items_of (map item_tree v.deref-in-Case.result.now) ≡ items =
@@ -138,17 +136,16 @@ switch::lower_cases-each-preserved t c =
                 let given = v.chosen_of-chosen.result in
                 let its = items_of (map item_tree v.deref-in-Case.result.now) in
                 let at_names =
-                subst (λ (ns : List Named). IsWritten g y (chosen_code given.number (shape_tree given.shape) ns its (next_of g))
+                subst (λ (ns : List Named). IsWritten b y (chosen_code given.number (shape_tree given.shape) ns its own)
                 (item_values w (named_here text (shape_tree given.shape) 0 ∷ outward ns) 1 its)) names_are two in
                 let at_items =
-                subst (λ (is : BlockItems). IsWritten g y (chosen_code given.number (shape_tree given.shape) names is (next_of g))
+                subst (λ (is : BlockItems). IsWritten b y (chosen_code given.number (shape_tree given.shape) names is own)
                 (item_values w (named_here text (shape_tree given.shape) 0 ∷ outward names) 1 is)) items_are at_names in
                 let at_shape =
-                subst (λ (of : Shape). IsWritten g y (chosen_code given.number of names items (next_of g))
+                subst (λ (of : Shape). IsWritten b y (chosen_code given.number of names items own)
                 (item_values w (named_here text of 0 ∷ outward names) 1 items)) shape_is at_items in
-                let at_number = subst (λ (n : ℕ). IsWritten g y (chosen_code n s names items (next_of g)) these) number_is at_shape in
-                let written = subst (λ q. IsWritten b q (chosen_code (member_number parts f) s names items own) these) (sym v.body-is)
-                (moved b g y (chosen_code (member_number parts f) s names items) these one at_number) in
+                let at_number = subst (λ (n : ℕ). IsWritten b y (chosen_code n s names items own) these) number_is at_shape in
+                let written = subst (λ q. IsWritten b q (chosen_code (member_number parts f) s names items own) these) (sym v.body-is) at_number in
                 let left =
                 subst (λ (cs : Clauses). IsLeft a b code (cases_code w result names h parts own cs) values (case_values w names parts cs)) is invariant.code in
                 let more =

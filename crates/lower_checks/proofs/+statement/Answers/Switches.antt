@@ -1,5 +1,5 @@
 -- A `switch`: its place, its clauses, and what is done by default.
-use Rattle.std.proofs.Common.{rules, ◌≡◌, ◌∙◌, ◌+◌, ℕ, arith, sym, ap, subst, [], ◌∷◌, ◌++◌, length, map, drop, List, append-nil}
+use Rattle.std.proofs.Common.{rules, ◌≡◌, ◌∙◌, ◌+◌, ◌<◌, ◌^◌, ℕ, arith, sym, ap, subst, [], ◌∷◌, ◌++◌, length, map, drop, List, append-nil}
 use Rattle.std.proofs.lemmas.List.{drop_all}
 use Rattle.std.specs.Prelude.{IfSome, is_some, true}
 use Rattle.cyc_tree.specs.View.{
@@ -204,10 +204,11 @@ switch::lower_switch-lower_cases-requires t c =
     subst (λ (ps : List Part). TakesClauses w result names ps clauses) (sym members_are) (c.requires.taken first).1.1 in
     let values : IsSound c.lower_union_place-members.new.body → AreValues (part_shapes found) = λ sound.
     subst (λ r. IfSome r (λ ms. AreValues (part_shapes (map part_of (map member_tree ms.now))))) c.in-Some.is (place.ensures.values sound) in
+    let few : length c.in-Some.members.now < 2 ^ 32 = subst (λ r. IfSome r (λ ms. length ms.now < 2 ^ 32)) c.in-Some.is place.ensures.few in
     let all_is : c.in_switch-inside.result.all ≡ c.args.around.all = c.in_switch-inside.ensures.all in
     let room : HasRoom c.in_switch-inside.result.all (clause_room clauses) = omega (arith, all_is, c.requires.room) in
     let counted : IsCounted c.in_switch-inside.result = c.in_switch-inside.ensures.counted in
-    search (rules, the_lemmas, room, counted, taken, values)
+    search (rules, the_lemmas, room, counted, taken, few, values)
 
 pub switch::lower_switch-returns-clause-writes : goal.switch::lower_switch-returns-clause-writes
 switch::lower_switch-returns-clause-writes t c sound =

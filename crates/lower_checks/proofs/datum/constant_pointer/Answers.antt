@@ -5,10 +5,10 @@ use Rattle.source_meaning.specs.Programs.{world_of}
 use Rattle.source_lowering.specs.Programs.{constant_content, datum_of, text_content}
 use Rattle.lower_checks.proofs.datum.constant_pointer.Goals as goal
 
-pub returns-in_ok-text_at-in-Text-clause-datum : goal.returns-in_ok-text_at-in-Text-clause-datum
-returns-in_ok-text_at-in-Text-clause-datum c =
+pub returns-in-Text-clause-datum : goal.returns-in-Text-clause-datum
+returns-in-Text-clause-datum c =
     λ may_be_null owner to.
     let w = world_of c.args.program.now in
     let s = ThinShape may_be_null owner to in
-    c.string_pointer.ensures w may_be_null owner to ∙ ap (λ z. datum_of w s (text_content z 0)) c.in_ok-text_at-in-Text.ensures.text ∙
+    c.string_pointer.ensures w may_be_null owner to ∙ ap (λ z. datum_of w s (text_content z 0)) c.text_at.ensures ∙
     ap (λ k. datum_of w s (constant_content w (constant_tree k) s)) (sym c.in-Text.is)

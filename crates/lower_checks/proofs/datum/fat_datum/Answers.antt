@@ -6,5 +6,5 @@ use Rattle.lower_checks.proofs.datum.fat_datum.Goals as goal
 pub returns-clause-datum : goal.returns-clause-datum
 returns-clause-datum c =
     λ to.
-    subst (λ d. IfOk c.string_bounds.result (λ x. datum_tree x ≡ d)) (sym (c.in_ok-initial_text.ensures.text to))
+    subst (λ d. IfOk c.string_bounds.result (λ x. datum_tree x ≡ d)) (sym (c.initial_text.ensures to))
     (c.string_bounds.ensures.datum (world_of c.args.program.now) to)

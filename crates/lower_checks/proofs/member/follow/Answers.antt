@@ -13,6 +13,7 @@ use Rattle.lower_checks.proofs.member.follow.Goals as goal
 pub follow_one-reached-requires : goal.follow_one-reached-requires
 follow_one-reached-requires c = record {
   room = c.each.invariant.room;
+  within = c.each.invariant.within;
   taken = λ sound.
       let w = world_in c.args.scope.now in
       let names = names_in c.args.scope.now in
@@ -27,6 +28,7 @@ follow_one-reached-requires c = record {
 pub each-preserved : goal.each-preserved
 each-preserved c = record {
   room = omega (arith, c.reached_in-to.ensures, c.each.invariant.room);
+  within = c.follow_one-reached.ensures.within;
   way = λ sound.
       let w = world_in c.args.scope.now in
       let names = names_in c.args.scope.now in

@@ -9,7 +9,14 @@ use Rattle.lower_checks.specs.Views.{shape_tree}
 use Rattle.lower_checks.specs.declared.layouts.Known.{Known}
 use Rattle.lower_checks.specs.declared.shape.Shape.{Shape}
 use Rattle.lower_checks.proofs.Reaching.{no_members}
+use Rattle.lower_checks.proofs.Within.{members_within}
 use Rattle.lower_checks.proofs.member.member.Goals as goal
+
+-- a struct's members end within 4,096 bytes and cells
+pub among-requires : goal.among-requires
+among-requires c = record {
+  within = members_within (world_of c.args.program.now) c.in-Struct.tag.now c.in-Some.known.now c.struct_of.ensures.small c.in-Some.ensures.found;
+}
 
 pub returns-in-None-clause-taken : goal.returns-in-None-clause-taken
 returns-in-None-clause-taken c =

@@ -1,4 +1,4 @@
-use Rattle.std.proofs.Common.{◌≡◌, ◌∙◌, IfOk, arith, ap, subst, [], ◌∷◌, ◌++◌, length, map}
+use Rattle.std.proofs.Common.{◌≡◌, ◌∙◌, arith, ap, subst, [], ◌∷◌, ◌++◌, length, map}
 use Rattle.cyc_tree.specs.Tree.{Name, local_of}
 use Rattle.cyc_tree.specs.View.{declaration_tree, name_tree}
 use Rattle.source_meaning.specs.Shapes.{Shape}
@@ -8,7 +8,7 @@ use Rattle.lower_checks.specs.Views.{stored_tree}
 use Rattle.lower_checks.specs.Visible.{names_of}
 use Rattle.lower_checks.specs.Writing.{IsWritten, next_of}
 use Rattle.lower_checks.proofs.Items.{same_name}
-use Rattle.lower_checks.proofs.Writing.{moved, same_same, write_same}
+use Rattle.lower_checks.proofs.Writing.{moved, write_same}
 use Rattle.lower_checks.proofs.statement.lower_declared.Goals as goal
 
 -- the local's first value, behind its number
@@ -24,10 +24,8 @@ returns-clause-writes c sound =
     let index = length c.args.declared_here.now.items in
     let four = c.declare.ensures.stays sound in
     let three = c.lower_declaration.ensures.writes four.sound in
-    let settled = c.declared-stored.ensures.stays three.sound in
-    let two = same_same b c.number-index.new.self m (c.number-index.ensures.stays settled.sound) settled in
-    let counted = subst (λ r. IfOk r (λ i. i ≡ c.len.result)) (c.number-index.ensures.number settled.sound) c.number.ensures.number in
-    let index_is : c.number-index.result ≡ index = omega (arith, counted, c.len.ensures, c.args.declared_here.now.ok.0) in
+    let two = c.declared-stored.ensures.stays three.sound in
+    let index_is : c.len-index.result ≡ index = omega (arith, c.len-index.ensures, c.args.declared_here.now.ok.0) in
     let these = declaration_values w names d in
     let placed = subst (λ i. IsWritten m x (declaration_code w names d to i (next_of m)) these) index_is three in
     let begun = moved b m x (λ k. declaration_code w names d to index k) these two placed in
@@ -41,11 +39,9 @@ returns-clause-names c sound =
     let d = declaration_tree c.args.declaration.now in
     let index = length c.args.declared_here.now.items in
     let three = c.lower_declaration.ensures.writes (c.declare.ensures.stays sound).sound in
-    let settled = c.declared-stored.ensures.stays three.sound in
-    let counted = subst (λ r. IfOk r (λ i. i ≡ c.len.result)) (c.number-index.ensures.number settled.sound) c.number.ensures.number in
-    let index_is : c.number-index.result ≡ index = omega (arith, counted, c.len.ensures, c.args.declared_here.now.ok.0) in
+    let index_is : c.len-index.result ≡ index = omega (arith, c.len-index.ensures, c.args.declared_here.now.ok.0) in
     ap names_of (c.declare.ensures.declared sound)
-    ∙ same_name (name_tree c.local.result.now).text (local_of d).text (stored_tree c.declared-stored.result) (local_shape w names d) c.number-index.result
+    ∙ same_name (name_tree c.local.result.now).text (local_of d).text (stored_tree c.declared-stored.result) (local_shape w names d) c.len-index.result
     index names (ap (λ (q : Name). q.text) c.local.ensures) (c.declared-stored.ensures.declared three.sound) index_is
 
 pub returns-clause-shapes : goal.returns-clause-shapes

@@ -5,9 +5,11 @@ use Rattle.cyc_tree.specs.Tree as tree
 use Rattle.cyc_tree.specs.View.{program_item_tree, program_tree, structure_tree}
 use Rattle.cyc_tree.specs.declared.item.Item.{Item}
 use Rattle.source_meaning.specs.Programs.{layout_of, structs_from, unions_of}
+use Rattle.source_meaning.specs.Shapes.{Layout}
+use Rattle.source_lowering.specs.Lowerable.{AreStructs}
 use Rattle.lower_checks.specs.Structs.{Knows}
 use Rattle.lower_checks.specs.declared.layouts.Structs.{Structs}
-use Rattle.lower_checks.proofs.Structs.{knows_none, next_struct}
+use Rattle.lower_checks.proofs.Structs.{earlier_are, knows_none, next_struct}
 use Rattle.lower_checks.proofs.table.all_structs.Goals as goal
 use Rattle.lower_checks.proofs.table.all_structs.Goals.{in-Struct+in_ok-add, in_default}
 
@@ -47,6 +49,26 @@ each-preserved c =
         all_are = grind (arith, common_steps, here);
       }
     ]
+
+-- the struct comes behind those that are found
+pub add-requires : goal.add-requires
+add-requires c =
+    let p = program_tree c.args.items.now in
+    let s = structure_tree c.in-Struct.structure in
+    let found = c.each.invariant.found in
+    let rest = program_tree (drop (c.each.item-index + 1) c.args.items.now) in
+    let all : structs_from (tree.StructItem s ∷ rest) found ≡ structs_from p [] = grind (arith, common_steps, c.each.invariant.all_are) in
+    record {
+      next = record {
+        unions = unions_of p;
+        structs = found;
+        knows = c.each.invariant.knows;
+        values = c.requires.unions;
+        earlier =
+            (earlier_are (unions_of p) rest (layout_of s ∷ found) (subst (λ (ls : List Layout). AreStructs (unions_of p) ls) (sym all) c.requires.structs)).1;
+        next = next_struct (unions_of p) rest found (structs_from p []) s all c.requires.structs;
+      };
+    }
 
 pub returns-in_err-add-clause-taken : goal.returns-in_err-add-clause-taken
 returns-in_err-add-clause-taken c =

@@ -17,4 +17,4 @@ returns-clause-first c =
     let done : drop c.each.item-index items ≡ [] = drop_all c.each.item-index items (omega (arith, c.each-test.false)) in
     sym (nothing_more all)
     ∙ ap (λ (rest : List code_item.Item). or_else all (bound_to (globals_from (program_tree rest) c.each.object) name)) (sym done)
-    ∙ c.each.invariant name
+    ∙ c.each.invariant.first name

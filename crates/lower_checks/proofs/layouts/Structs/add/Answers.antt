@@ -1,13 +1,26 @@
-use Rattle.std.proofs.Common.{◌∙◌, ◌≡◌, ℕ, List, Some, if◌then◌else◌, ap, refl, rules, subst, sym}
+use Rattle.std.proofs.Common.{◌∙◌, ◌≡◌, ◌≤◌, ℕ, List, Some, if◌then◌else◌, ap, refl, rules, subst, sym}
 use Rattle.std.proofs.lemmas.Map.Text.{hash_map_updates_str}
 use Rattle.std.specs.Prelude.{bytes_eq}
 use Rattle.cyc_tree.specs.View.{structure_tree}
 use Rattle.source_meaning.specs.Programs.{layout_of}
 use Rattle.cyc_tree.specs.declared.item.Member.{Member}
-use Rattle.lower_checks.specs.Structs.{AreLaid, struct_in}
+use Rattle.source_lowering.specs.Layouts.{bytes_through}
+use Rattle.lower_checks.specs.Structs.{AreLaid, room_in, struct_in}
 use Rattle.lower_checks.specs.declared.layouts.Structs.{Structs}
+use Rattle.lower_checks.proofs.Near.{next_near, next_small}
 use Rattle.lower_checks.proofs.Structs.{knows_more, made_of, members_laid, parts_in}
 use Rattle.lower_checks.proofs.layouts.Structs.add.Goals as goal
+
+-- the members end within 4,096 bytes
+pub lay_all-requires : goal.lay_all-requires
+lay_all-requires c =
+    let table = c.args.self.now in
+    let l = layout_of (structure_tree c.args.structure.now) in
+    record {
+      small = subst (λ (ms : List Member). bytes_through (room_in table) 0 (parts_in ms) ≤ 4096) (sym c.deref-2.ensures.value)
+          (next_small table l c.requires.next);
+      near = next_near table l c.requires.next;
+    }
 
 pub returns-in-Ok-clause-added : goal.returns-in-Ok-clause-added
 returns-in-Ok-clause-added c =

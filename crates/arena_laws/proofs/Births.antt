@@ -6,7 +6,7 @@ use Rattle.arena_laws.specs.declared.refusal.StoreRefusal.{StoreRefusal}
 use Rattle.arena_laws.specs.declared.refusal.StoreRefusal.TheVariants.{Full, BadHandle, BadKey, Open, NotOpen}
 use Rattle.arena_laws.specs.declared.standing.Standing.{Standing}
 use Rattle.arena_laws.specs.declared.standing.Standing.TheVariants.{Lexical, Opened, Closed}
-use Rattle.arena_laws.specs.Counts.{put, without_region, is_full}
+use Rattle.arena_laws.specs.Counts.{put, one_less, without_region, is_full}
 use Rattle.arena_laws.specs.Holdings.{Holdings, is_none, is_some}
 use Rattle.arena_laws.specs.Lawful.{Grants, Refuses, refuses, with_number, is_new_number, without_number, is_of, standing_as, frees_region, frees_key, opens, closes}
 use Rattle.arena_laws.specs.Laws.{Does, made}
@@ -39,6 +39,16 @@ made_left standing n s after d = by_full (is_full s.counts) refl
     by_full : (b : Bool) → is_full s.counts ≡ b → IsMade standing n s after
     by_full true e = absurd (let x = (rw e at d).says in cc)
     by_full false e = by_new (is_new_number s n) refl (rw e at d)
+
+-- ---- a single page is taken
+
+pub one_less_agrees : (names : Names) (b : ByBirth) (s : Holdings) → Agree names b s →
+    ((one_less s.counts).fresh ≡ (one_less b.counts).fresh) × ((one_less s.counts).given ≡ (one_less b.counts).given)
+one_less_agrees names b s a = (
+  ap (λ g. if nat_eq g 0 then s.counts.fresh - 1 else s.counts.fresh) a.given
+      ∙ ap (λ f. if nat_eq b.counts.given 0 then f - 1 else f) a.fresh,
+  ap (λ g. g - 1) a.given,
+)
 
 -- ---- a region or a key is born
 
@@ -73,7 +83,8 @@ module _ (names : Names) (b : ByBirth) (s : Holdings) (h : ℕ) (standing : Stan
 
   pub born_agrees : Agree born_names (born b) (with_number h standing s)
   born_agrees = record {
-    free = ap (λ n. n - 1) a.free;
+    fresh = (one_less_agrees names b s a).0;
+    given = (one_less_agrees names b s a).1;
     taken = λ d k e. let t = a.taken d k in let o = other d k in grind (arith, nat_tests);
     left = λ d k e. let t = a.left d k in let o = other d k in grind (arith, nat_tests);
     class_pages = a.class_pages;
@@ -193,7 +204,8 @@ module _ (names : Names) (b : ByBirth) (s : Holdings) (d h : ℕ) (is : names.nu
 
   pub freed_agrees : Agree (record names { number = put d None names.number }) (record b { counts = without_region d b.counts }) (without_number h s)
   freed_agrees = record {
-    free = (let t = a.taken d h is in let f = a.free in omega (arith, t, f));
+    fresh = a.fresh;
+    given = (let t = a.taken d h is in let f = a.given in omega (arith, t, f));
     taken = λ e k x. let n = kept_name e k x in let o = other_number e k n.0 n.1 in let t = a.taken e k n.1 in let g = n.0 in grind (arith, nat_tests);
     left = λ e k x. let n = kept_name e k x in let o = other_number e k n.0 n.1 in let t = a.left e k n.1 in let g = n.0 in grind (arith, nat_tests);
     class_pages = a.class_pages;
@@ -217,7 +229,8 @@ module _ (names : Names) (b : ByBirth) (s : Holdings) (d h : ℕ) (is : names.nu
 pub turned_agrees : (names : Names) (b : ByBirth) (s : Holdings) (k : ℕ) (now : Standing) → is_some (s.standing k) ≡ true → Agree names b s →
     Agree names b (standing_as k now s)
 turned_agrees names b s k now was a = record {
-  free = a.free;
+  fresh = a.fresh;
+  given = a.given;
   taken = a.taken;
   left = a.left;
   class_pages = a.class_pages;

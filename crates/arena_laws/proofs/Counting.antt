@@ -13,7 +13,7 @@ use Rattle.arena_laws.specs.Laws.{Does, answer_of, is_refused_full, made, region
 use Rattle.arena_laws.specs.Pages.{Request, NewRegion, BlockIn, FreeRegion, NewAlone, FreeAlone, NewKey, OpenKey, CloseKey, FreeKey, ByBirth, unborn, born, is_refused, counted, said, refusals}
 use Rattle.arena_laws.specs.Calls.{Names, no_names, Agree, Answers, is_granted_or_full, named, Run, Done, Call, IsRun, refused_in, RefusedByCount}
 use Rattle.arena_laws.proofs.Births.{Gives, out_of_order, full_left, made_left, born_agrees, region_freed, key_freed, key_opened, key_closed, freed_agrees, turned_agrees}
-use Rattle.arena_laws.proofs.Rooms.{block_full, alone_full, block_placed, alone_placed, block_agrees, same_block_full, alone_agrees, same_slot_full, alone_freed, alone_freed_agrees}
+use Rattle.arena_laws.proofs.Rooms.{full_same, block_full, alone_full, block_placed, alone_placed, block_agrees, same_block_full, alone_agrees, same_slot_full, alone_freed, alone_freed_agrees}
 use Rattle.arena_laws.proofs.Classes.{class_is}
 
 -- a call's answer is the count's, and the counts agree after it
@@ -44,7 +44,7 @@ gave names q b n left r after short g a = record {
 
 module _ (names : Names) (b : ByBirth) (s after : Holdings) (a : Agree names b s) where
   is_full_same : is_full s.counts ≡ is_full b.counts
-  is_full_same = ap (λ n. nat_eq n 0) a.free
+  is_full_same = full_same names b s a
 
   kept : after ≡ s → Agree names b after
   kept e = subst (Agree names b) (sym e) a
@@ -145,7 +145,8 @@ only_heap d h e = by_zero (nat_eq d 0) refl
 
 fresh_agrees : (pages : ℕ) → Agree no_names (unborn pages) (fresh pages)
 fresh_agrees pages = record {
-  free = refl;
+  fresh = refl;
+  given = refl;
   taken = λ d h e. refl;
   left = λ d h e. refl;
   class_pages = λ c. refl;

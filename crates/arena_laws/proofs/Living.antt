@@ -7,7 +7,7 @@ use Rattle.arena_laws.specs.declared.refusal.StoreRefusal.{StoreRefusal}
 use Rattle.arena_laws.specs.declared.refusal.StoreRefusal.TheVariants.{Full, BadHandle, NotABlock, BadKey, Open, NotOpen, Memory}
 use Rattle.arena_laws.specs.declared.standing.Standing.{Standing}
 use Rattle.arena_laws.specs.declared.standing.Standing.TheVariants.{Lexical, Opened, Closed}
-use Rattle.arena_laws.specs.Counts.{room_of, class_of, is_full, is_full_for_slot, is_too_long}
+use Rattle.arena_laws.specs.Counts.{room_of, class_of, is_full, is_full_for_slot, is_too_long, is_too_long_alone}
 use Rattle.arena_laws.specs.Holdings.{Holdings, fresh}
 use Rattle.arena_laws.specs.Lawful.{Answer, Grants, Refuses, Lacks, Done, refuses, makes, with_number, is_new_number, takes_blocks, is_lawful_room, is_in_room, owns, gives_block, gives_alone, frees_region, frees_key, frees_alone, opens, closes, is_of, is_alone}
 use Rattle.arena_laws.specs.Lawful as lawful
@@ -60,7 +60,7 @@ keeps_alone room Lacks s = keeps_refused s Memory
 keeps_unique_alloc : (bytes : ℕ) (a : Answer) (s : Holdings) → Keeps s (unique_alloc bytes a s)
 keeps_unique_alloc bytes a s =
     keeps_if s (is_full_for_slot bytes s.counts) (refuses Full s) (lawful.unique_alloc bytes a s) (keeps_refused s Full)
-    (keeps_if s (is_too_long bytes) (refuses Full s) (gives_alone (class_of bytes) a s) (keeps_refused s Full) (keeps_alone (class_of bytes) a s))
+    (keeps_if s (is_too_long_alone bytes) (refuses Full s) (gives_alone (class_of bytes) a s) (keeps_refused s Full) (keeps_alone (class_of bytes) a s))
 
 keeps_region_free : (h : ℕ) (o : Option Standing) (s : Holdings) → Keeps s (frees_region h o s)
 keeps_region_free h (Some Lexical) s = keeps_ok s _ 0

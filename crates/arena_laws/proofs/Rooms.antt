@@ -3,16 +3,16 @@ use Rattle.std.proofs.Common.{◌≡◌, ℕ, zero, suc, ◌+◌, ◌-◌, ◌*�
 use Rattle.std.specs.Prelude.{◌&&◌, ◌||◌, if◌then◌else◌}
 use Rattle.std.proofs.lemmas.Bool.Decides.{nat_tests}
 use Rattle.arena_laws.specs.declared.owner.Owner.{Owner}
-use Rattle.arena_laws.specs.declared.owner.Owner.TheVariants.{Alone}
+use Rattle.arena_laws.specs.declared.owner.Owner.TheVariants.{Region, Alone}
 use Rattle.arena_laws.specs.declared.refusal.StoreRefusal.{StoreRefusal}
 use Rattle.arena_laws.specs.declared.refusal.StoreRefusal.TheVariants.{Full, BadHandle, NotABlock}
-use Rattle.arena_laws.specs.Counts.{put, room_of, class_of, with_block, with_slot, without_slot, block_needs_page, slot_needs_page, is_too_long, is_full, is_full_for_block, is_full_for_slot}
+use Rattle.arena_laws.specs.Counts.{Counts, put, room_of, class_of, with_block, with_slot, without_slot, block_needs_page, slot_needs_page, is_too_long, is_too_long_alone, is_large, run_of, with_run, with_single, is_full, is_full_for_block, is_full_for_slot}
 use Rattle.arena_laws.specs.Holdings.{Holdings, arena_base, is_none}
 use Rattle.arena_laws.specs.Lawful.{Grants, Refuses, refuses, gives_block, gives_alone, takes_blocks, is_lawful_room, is_clear, is_in_room, owns, with_region_block, with_alone, without_alone, is_alone, frees_alone, unique_free}
 use Rattle.arena_laws.specs.Laws.{Does, is_block_refused, region_alloc, unique_alloc}
 use Rattle.arena_laws.specs.Pages.{ByBirth}
 use Rattle.arena_laws.specs.Calls.{Names, Agree}
-use Rattle.arena_laws.proofs.Births.{Gives}
+use Rattle.arena_laws.proofs.Births.{Gives, one_less_agrees}
 
 -- ---- what is in a clear room isn't live
 
@@ -77,7 +77,7 @@ alone_full bytes s after d = by_short (is_full_for_slot bytes s.counts) refl
 
     by_short : (t : Bool) → is_full_for_slot bytes s.counts ≡ t → after ≡ s
     by_short true e = (rw e at d).holds
-    by_short false e = by_long (is_too_long bytes) (rw e at d)
+    by_short false e = by_long (is_too_long_alone bytes) (rw e at d)
 
 pub record IsPlaced (h room at : ℕ) (s after : Holdings) : Type 0 where
   pub lawful : is_lawful_room s at room ≡ true
@@ -127,7 +127,7 @@ alone_placed bytes at s after d = by_short (is_full_for_slot bytes s.counts) ref
 
     by_short : (t : Bool) → is_full_for_slot bytes s.counts ≡ t → IsAlonePlaced (class_of bytes) at s after
     by_short true e = absurd (let x = (rw e at d).says in cc)
-    by_short false e = by_long (is_too_long bytes) (rw e at d)
+    by_short false e = by_long (is_too_long_alone bytes) (rw e at d)
 
 -- ---- a block of a region
 
@@ -146,10 +146,14 @@ module _ (names : Names) (b : ByBirth) (s : Holdings) (d h room at : ℕ) (is : 
               let same : e ≡ d = grind (arith, nat_tests) in
               let y : Some k ≡ Some h = sym f ∙ ap names.number same ∙ is in let z : k ≡ h = cc in absurd (grind (arith, nat_tests))
 
-  block_by : (t : Bool) → block_needs_page h room s.counts ≡ t → block_needs_page d room b.counts ≡ t →
-      Agree names (record b { counts = with_block d room b.counts }) (with_region_block h at room s)
-  block_by true x y = rw (x, y) (record {
-    free = ap (λ n. n - 1) a.free;
+  abbrev roomed : (ℕ → Counts → Counts) → Holdings
+  roomed f = record s { owner = owns at room (Region h) s.owner; counts = f h s.counts }
+
+  single_by : (t : Bool) → block_needs_page h room s.counts ≡ t → block_needs_page d room b.counts ≡ t →
+      Agree names (record b { counts = with_single d room b.counts }) (roomed (λ h c. with_single h room c))
+  single_by true x y = rw (x, y) (record {
+    fresh = (one_less_agrees names b s a).0;
+    given = (one_less_agrees names b s a).1;
     taken = λ e k f. let t = a.taken e k f in let o = same_test e k f in let u = a.taken d h is in grind (arith, nat_tests);
     left = λ e k f. let t = a.left e k f in let o = same_test e k f in grind (arith, nat_tests);
     class_pages = a.class_pages;
@@ -163,8 +167,9 @@ module _ (names : Names) (b : ByBirth) (s : Holdings) (d h room at : ℕ) (is : 
     unborn = a.unborn;
     unborn_blocks = a.unborn_blocks;
   })
-  block_by false x y = rw (x, y) (record {
-    free = a.free;
+  single_by false x y = rw (x, y) (record {
+    fresh = a.fresh;
+    given = a.given;
     taken = a.taken;
     left = λ e k f. let t = a.left e k f in let o = same_test e k f in let u = a.left d h is in grind (arith, nat_tests);
     class_pages = a.class_pages;
@@ -179,26 +184,56 @@ module _ (names : Names) (b : ByBirth) (s : Holdings) (d h room at : ℕ) (is : 
     unborn_blocks = a.unborn_blocks;
   })
 
-  pub block_agrees : Agree names (record b { counts = with_block d room b.counts }) (with_region_block h at room s)
-  block_agrees = block_by (block_needs_page h room s.counts) refl (ap (λ n. nat_lt n room) (sym (a.left d h is)))
+  run_agrees : Agree names (record b { counts = with_run d (run_of room) b.counts }) (roomed (λ h c. with_run h (run_of room) c))
+  run_agrees = record {
+    fresh = ap (λ n. n - run_of room) a.fresh;
+    given = a.given;
+    taken = λ e k f. let t = a.taken e k f in let o = same_test e k f in let u = a.taken d h is in grind (arith, nat_tests);
+    left = a.left;
+    class_pages = a.class_pages;
+    slots = a.slots;
+    apart = a.apart;
+    apart_blocks = a.apart_blocks;
+    heap = a.heap;
+    no_heap = a.no_heap;
+    live = a.live;
+    blocks = λ e q f. rw (outside s at room q (Alone q (b.class e)) law (a.blocks e q f)) (a.blocks e q f);
+    unborn = a.unborn;
+    unborn_blocks = a.unborn_blocks;
+  }
 
--- the count by births needs a page for a block where the store's does
+  block_by : (large : Bool) → is_large room ≡ large → Agree names (record b { counts = with_block d room b.counts }) (with_region_block h at room s)
+  block_by true x = rw x run_agrees
+  block_by false x = rw x (single_by (block_needs_page h room s.counts) refl (ap (λ n. nat_lt n room) (sym (a.left d h is))))
+
+  pub block_agrees : Agree names (record b { counts = with_block d room b.counts }) (with_region_block h at room s)
+  block_agrees = block_by (is_large room) refl
+
+-- no page is free in the count by births where none is in the store's
+pub full_same : (names : Names) (b : ByBirth) (s : Holdings) → Agree names b s → is_full s.counts ≡ is_full b.counts
+full_same names b s a = ap (λ n. nat_eq n 0 && nat_eq s.counts.given 0) a.fresh ∙ ap (λ n. nat_eq b.counts.fresh 0 && nat_eq n 0) a.given
+
+-- the count by births needs a page or a run for a block where the store's does
 pub same_block_full : (names : Names) (b : ByBirth) (s : Holdings) (d h bytes : ℕ) → names.number d ≡ Some h → Agree names b s →
     is_full_for_block h bytes s.counts ≡ is_full_for_block d bytes b.counts
 same_block_full names b s d h bytes is a =
-    ap (λ n. is_too_long bytes || (nat_lt n (room_of bytes) && is_full s.counts)) (a.left d h is)
-    ∙ ap (λ n. is_too_long bytes || (nat_lt (b.counts.left d) (room_of bytes) && nat_eq n 0)) a.free
+    ap (λ n. is_too_long bytes || (if is_large (room_of bytes) then nat_lt n (run_of (room_of bytes)) else block_needs_page h (room_of bytes) s.counts &&
+    is_full s.counts)) a.fresh
+    ∙ ap (λ n. is_too_long bytes || (if is_large (room_of bytes) then nat_lt b.counts.fresh (run_of (room_of bytes)) else nat_lt n (room_of bytes) &&
+    is_full s.counts)) (a.left d h is)
+    ∙ ap (λ t. is_too_long bytes || (if is_large (room_of bytes) then nat_lt b.counts.fresh (run_of (room_of bytes)) else nat_lt (b.counts.left d)
+    (room_of bytes) && t)) (full_same names b s a)
 
 -- ---- a unique block is born
 
 pub same_slot_full : (names : Names) (b : ByBirth) (s : Holdings) (bytes : ℕ) → Agree names b s →
     is_full_for_slot bytes s.counts ≡ is_full_for_slot bytes b.counts
 same_slot_full names b s bytes a =
-    ap (λ n. is_too_long bytes || (nat_eq n (s.counts.class_pages (class_of bytes) * (4096 / class_of bytes)) && is_full s.counts)) (a.slots (class_of bytes))
-    ∙ ap (λ n. is_too_long bytes || (nat_eq (b.counts.slots (class_of bytes)) (n * (4096 / class_of bytes)) && is_full s.counts)) (a.class_pages
+    ap (λ n. is_too_long_alone bytes || (nat_eq n (s.counts.class_pages (class_of bytes) * (4096 / class_of bytes)) && is_full s.counts)) (a.slots (class_of bytes))
+    ∙ ap (λ n. is_too_long_alone bytes || (nat_eq (b.counts.slots (class_of bytes)) (n * (4096 / class_of bytes)) && is_full s.counts)) (a.class_pages
     (class_of bytes))
-    ∙ ap (λ n. is_too_long bytes || (nat_eq (b.counts.slots (class_of bytes)) (b.counts.class_pages (class_of bytes) *
-    (4096 / class_of bytes)) && nat_eq n 0)) a.free
+    ∙ ap (λ t. is_too_long_alone bytes || (nat_eq (b.counts.slots (class_of bytes)) (b.counts.class_pages (class_of bytes) *
+    (4096 / class_of bytes)) && t)) (full_same names b s a)
 
 module _ (names : Names) (b : ByBirth) (s : Holdings) (c at : ℕ) (some : 0 < c) (law : is_lawful_room s at c ≡ true) (a : Agree names b s) where
   abbrev pub alone_names : Names
@@ -251,7 +286,8 @@ module _ (names : Names) (b : ByBirth) (s : Holdings) (c at : ℕ) (some : 0 < c
 
   alone_by : (t : Bool) → slot_needs_page c s.counts ≡ t → slot_needs_page c b.counts ≡ t → Agree alone_names alone_born (with_alone at c s)
   alone_by true x y = rw (x, y) (record {
-    free = ap (λ n. n - 1) a.free;
+    fresh = (one_less_agrees names b s a).0;
+    given = (one_less_agrees names b s a).1;
     taken = a.taken;
     left = a.left;
     class_pages = λ k. let f = a.class_pages k in let g = a.class_pages c in grind (arith, nat_tests);
@@ -266,7 +302,8 @@ module _ (names : Names) (b : ByBirth) (s : Holdings) (c at : ℕ) (some : 0 < c
     unborn_blocks = unborn_born;
   })
   alone_by false x y = rw (x, y) (record {
-    free = a.free;
+    fresh = a.fresh;
+    given = a.given;
     taken = a.taken;
     left = a.left;
     class_pages = a.class_pages;
@@ -318,7 +355,8 @@ module _ (names : Names) (b : ByBirth) (s : Holdings) (d at : ℕ) (is : names.a
   pub alone_freed_agrees : Agree (record names { address = put d None names.address }) (record b { counts = without_slot (b.class d) b.counts })
       (without_alone at (b.class d) s)
   alone_freed_agrees = record {
-    free = a.free;
+    fresh = a.fresh;
+    given = a.given;
     taken = a.taken;
     left = a.left;
     class_pages = a.class_pages;

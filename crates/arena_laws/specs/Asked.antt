@@ -53,7 +53,7 @@ gives_number (KeyOpen k) = true
 gives_number (KeyClose k) = false
 gives_number (KeyFree k) = false
 
--- the counts refuse the call: its block is longer than a page, or a page is needed and none is free
+-- the counts refuse the call: its block is too long, or a page or a run is needed and there is none
 abbrev pub is_short : Asked → Holdings → Bool
 is_short RegionNew s = is_full s.counts
 is_short (RegionAlloc h bytes) s = is_block_refused h bytes s

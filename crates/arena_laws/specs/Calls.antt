@@ -87,7 +87,8 @@ RefusedByCount = (pages : ℕ) (qs : List Request) (run : Run) → IsRun no_name
 
 -- The counts by births are the store's by its own numbers.
 pub record Agree (names : Names) (b : ByBirth) (s : Holdings) : Type 0 where
-  pub free : s.counts.free ≡ b.counts.free
+  pub fresh : s.counts.fresh ≡ b.counts.fresh
+  pub given : s.counts.given ≡ b.counts.given
   pub taken : (d h : ℕ) → names.number d ≡ Some h → s.counts.taken h ≡ b.counts.taken d
   pub left : (d h : ℕ) → names.number d ≡ Some h → s.counts.left h ≡ b.counts.left d
   pub class_pages : (c : ℕ) → s.counts.class_pages c ≡ b.counts.class_pages c

@@ -6,7 +6,7 @@ use Rattle.arena_laws.specs.declared.refusal.StoreRefusal.{StoreRefusal}
 use Rattle.arena_laws.specs.declared.refusal.StoreRefusal.TheVariants.{Full, BadHandle, NotABlock, BadKey, Open, NotOpen, Memory}
 use Rattle.arena_laws.specs.declared.standing.Standing.{Standing}
 use Rattle.arena_laws.specs.declared.standing.Standing.TheVariants.{Lexical, Opened, Closed}
-use Rattle.arena_laws.specs.Counts.{put, is_too_long, room_of, class_of, with_block, with_slot, without_slot}
+use Rattle.arena_laws.specs.Counts.{put, is_too_long, is_too_long_alone, room_of, class_of, with_block, with_slot, without_slot}
 use Rattle.arena_laws.specs.Counts as counts
 use Rattle.arena_laws.specs.declared.owner.Owner.{Owner}
 use Rattle.arena_laws.specs.declared.owner.Owner.TheVariants.{Region, Alone}
@@ -84,7 +84,7 @@ takes_blocks h (Some Lexical) = true
 takes_blocks h (Some Opened) = true
 takes_blocks h (Some Closed) = false
 
--- a bad handle is looked for first; a block longer than a page is always refused
+-- a bad handle is looked for first; a block longer than a region's may be is always refused
 abbrev pub region_alloc : ℕ → ℕ → Answer → Holdings → Done
 region_alloc h bytes answer s =
     (if takes_blocks h (s.standing h) then (if is_too_long bytes then refuses Full s else gives_block h (room_of bytes) answer s)
@@ -124,7 +124,7 @@ gives_alone room Refuses s = refuses Full s
 gives_alone room Lacks s = refuses Memory s
 
 abbrev pub unique_alloc : ℕ → Answer → Holdings → Done
-unique_alloc bytes answer s = (if is_too_long bytes then refuses Full s else gives_alone (class_of bytes) answer s)
+unique_alloc bytes answer s = (if is_too_long_alone bytes then refuses Full s else gives_alone (class_of bytes) answer s)
 
 abbrev pub is_alone : ℕ → Option Owner → Bool
 is_alone at None = false

@@ -34,7 +34,8 @@ is_refused_full (Ok n) = false
 is_refused_full (Err Full) = true
 is_refused_full (Err _) = false
 
--- ---- the growing calls: Full where a page is needed and none is free or the block is too long, else as any lawful store
+-- ---- the growing calls: Full where a page is needed and none is free, a run and too few pages were never used, or the block is too long; else as
+-- any lawful store
 
 -- a region or a key, as its standing says
 abbrev pub made : Standing → Answer → Holdings → Done

@@ -1,5 +1,5 @@
 -- Which requests are refused by a store of so many pages: a count over the requests alone, with no store in it. Regions, keys and unique blocks
--- are named by one count of births from 1 on; the heap is 0. Pages are all free at first. Requests are in order: they name what is live, and
+-- are named by one count of births from 1 on; the heap is 0. No page was used at first. Requests are in order: they name what is live, and
 -- a key is open where a block is asked of it.
 use Rattle.std.specs.Prelude.{ℕ, suc, Bool, false, List, [], ◌∷◌, if◌then◌else◌}
 use Rattle.arena_laws.specs.Counts.{Counts, fresh_counts, put, room_of, class_of, with_region, without_region, with_block, with_slot, without_slot, is_full, is_full_for_block, is_full_for_slot}

@@ -17,5 +17,5 @@ mod standing;
 pub use laws::{live_blocks, refused_by_count};
 pub use owner::Owner;
 pub use refusal::StoreRefusal;
-pub use sizes::{BASE, PAGE, class_for, room_for};
+pub use sizes::{BASE, LIMIT, PAGE, class_for, room_for, run_for};
 pub use standing::Standing;

@@ -5,7 +5,8 @@ use thiserror::Error;
 /// Why a call was refused. After a refusal the store is as it was.
 #[derive(Clone, Copy, Debug, Drop, Error)]
 pub enum StoreRefusal {
-    /// The block is above 4,096 bytes, or a page is needed and none is free.
+    /// The block is too long (a region's above 1,048,576 bytes, a unique one above 4,096), a page is
+    /// needed and none is free, or a run of pages and too few were never used.
     #[error("Full")]
     Full,
     /// The number is no handle: of no live region, nor of an open key where a block is asked for.

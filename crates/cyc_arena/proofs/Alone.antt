@@ -122,10 +122,10 @@ module _ (s : Plain) (from c : ℕ) (sound : IsSound s) (alone : owner_at s.owne
   abbrev pub after : Plain
   after = record s { slots = slice_set s.slots place (2 * c + 2) }
 
-  freed_counts : counts_of s.owner s.used s.last after.slots ≡ without_slot c (counts_of s.owner s.used s.last s.slots)
+  freed_counts : counts_of s.ever_used s.owner s.used s.last after.slots ≡ without_slot c (counts_of s.ever_used s.owner s.used s.last s.slots)
   unfolding counts_of
   freed_counts =
-      let k = counts_of s.owner s.used s.last s.slots in
+      let k = counts_of s.ever_used s.owner s.used s.last s.slots in
       let each : (d : ℕ) → count_of (2 * d + 1) after.slots ≡ put c (count_of (2 * c + 1) s.slots - 1) (λ d. count_of (2 * d + 1) s.slots) d =
       (λ d. let n = count_set (2 * d + 1) s.slots place (2 * c + 2) place_in in let v = here.live.slot in grind (arith, nat_tests)) in
       λ i. record k { slots = λ d. each d i }
@@ -236,6 +236,8 @@ module _ (s : Plain) (from c : ℕ) (sound : IsSound s) (alone : owner_at s.owne
     standing_long = sound.standing_long;
     slots_long = length-set s.slots place (2 * c + 2) ∙ sound.slots_long;
     few = sound.few;
+    begun = sound.begun;
+    unused = sound.unused;
     rounded = sound.rounded;
     within = sound.within;
     heap = sound.heap;

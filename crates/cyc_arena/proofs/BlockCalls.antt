@@ -5,7 +5,7 @@ use Rattle.arena_laws.specs.Counts.{room_of}
 use Rattle.arena_laws.specs.Holdings.{arena_base}
 use Rattle.arena_laws.specs.Lawful.{Grants, takes_blocks}
 use Rattle.arena_laws.specs.Laws.{Does, is_block_refused, region_alloc}
-use Rattle.cyc_arena.specs.Plain.{Plain, IsSound, Finds, standing_at, left_of, holdings_of}
+use Rattle.cyc_arena.specs.Plain.{Plain, IsSound, Finds, IsLowest, used_up, standing_at, left_of, holdings_of}
 use Rattle.region_runtime.proofs.Placed.{IsRoom, is_room, is_short}
 use Rattle.cyc_arena.proofs.Placed.{last_read, last_in, last_has, page_in, last_sound, last_does, last_not_refused}
 use Rattle.cyc_arena.proofs.Placed.{new_sound, new_does, new_not_refused, none_refused}
@@ -54,14 +54,27 @@ module _ (s : Plain) (h bytes room r left : ℕ) (sound : IsSound s) (takes : ta
   needs : left ≡ left_of s.used r → left < room → left_of s.used (slice_index s.last h) < room
   needs d l = subst (λ k. left_of s.used k < room) (sym read_is) (subst (λ n. n < room) d l)
 
-  pub taken : (p : ℕ) → left ≡ left_of s.used r → left < room → Finds 0 s.owner (Some p) →
-      IsTakenFor s (record s { owner = slice_set s.owner p (2 * h + 1); used = slice_set s.used p room; last = slice_set s.last h (p + 1) }) h bytes
+  pub taken : (p : ℕ) → left ≡ left_of s.used r → left < room → Finds 0 s.owner (Some p) → IsLowest 0 s.owner (Some p) →
+      IsTakenFor s (record s { owner = slice_set s.owner p (2 * h + 1); used = slice_set s.used p room; last = slice_set s.last h (p + 1); ever_used = used_up p s.ever_used }) h bytes
       (arena_base + 4096 * p)
-  taken p d l f = record {
-    sound = new_sound s h room sound takes room_is.eights room_is.most (needs d l) p f;
-    does = new_does s h room sound takes room_is.eights room_is.most (needs d l) p f bytes rounded (is_short bytes short);
-    free = sym (new_not_refused s h room sound takes room_is.eights room_is.most (needs d l) p f bytes rounded (is_short bytes short));
+  taken p d l f w = record {
+    sound = new_sound s h room sound takes room_is.eights room_is.most (needs d l) p f w;
+    does = new_does s h room sound takes room_is.eights room_is.most (needs d l) p f w bytes rounded (is_short bytes short);
+    free = sym (new_not_refused s h room sound takes room_is.eights room_is.most (needs d l) p f w bytes rounded (is_short bytes short));
   }
+
+  -- with the count as it was read
+  pub taken_as : (p : ℕ) → left ≡ left_of s.used r → left < room → Finds 0 s.owner (Some p) → IsLowest 0 s.owner (Some p) → (n : ℕ) →
+      n ≡ used_up p s.ever_used →
+      IsTakenFor s (record s { owner = slice_set s.owner p (2 * h + 1); used = slice_set s.used p room; last = slice_set s.last h (p + 1); ever_used = n }) h
+      bytes (arena_base + 4096 * p)
+  taken_as p d l f w n e =
+      subst (λ n. IsTakenFor s (record s {
+        owner = slice_set s.owner p (2 * h + 1);
+        used = slice_set s.used p room;
+        last = slice_set s.last h (p + 1);
+        ever_used = n;
+      }) h bytes (arena_base + 4096 * p)) (sym e) (taken p d l f w)
 
   pub refused : left ≡ left_of s.used r → left < room → Finds 0 s.owner None → true ≡ is_block_refused h bytes (holdings_of s)
   refused d l f = sym (none_refused s h room sound takes room_is.eights room_is.most (needs d l) f bytes rounded)

@@ -33,9 +33,10 @@ use Rattle.std.proofs.lemmas.Bool.Decides.{nat_tests}
 use Rattle.std.proofs.lemmas.Grind.{common_steps}
 use Rattle.arena_laws.specs.declared.owner.Owner.TheVariants.{Alone}
 use Rattle.arena_laws.specs.Classes.{IsClass}
-use Rattle.arena_laws.specs.Counts.{put, slot_needs_page}
+use Rattle.arena_laws.specs.Counts.{put, slot_needs_page, one_less}
 use Rattle.arena_laws.specs.Holdings.{arena_base}
-use Rattle.cyc_arena.specs.Plain.{Plain, IsSound, IsInPage, Finds, count_of, filled, address_of, owner_in, owner_at, page_at, place_at, counts_of, holdings_of}
+use Rattle.cyc_arena.specs.Plain.{Plain, IsSound, IsInPage, Finds, IsLowest, used_up, count_of, filled, address_of, owner_in, owner_at, page_at, place_at, counts_of, holdings_of}
+use Rattle.cyc_arena.proofs.Pages.{free_less}
 use Rattle.region_runtime.proofs.Words.{index_at, index_else, index_set}
 use Rattle.cyc_arena.proofs.Words.{count_set, none_found}
 use Rattle.cyc_arena.proofs.Owners.{owner_nobody, owner_class, owner_below, owner_here, owner_there}
@@ -78,12 +79,12 @@ filled_count (suc n) from x k xs b z p =
 
 -- ---- a page that is cut
 
-module _ (s : Plain) (p c : ℕ) (sound : IsSound s) (class : IsClass c) (found : Finds 0 s.owner (Some p)) where
+module _ (s : Plain) (p c : ℕ) (sound : IsSound s) (class : IsClass c) (found : Finds 0 s.owner (Some p)) (lowest : IsLowest 0 s.owner (Some p)) where
   abbrev n : ℕ
   n = 4096 / c
 
   abbrev pub cut : Plain
-  cut = record s { owner = slice_set s.owner p (2 * c + 2); slots = filled n (128 * p) (2 * c + 2) s.slots }
+  cut = record s { owner = slice_set s.owner p (2 * c + 2); slots = filled n (128 * p) (2 * c + 2) s.slots; ever_used = used_up p s.ever_used }
 
   pub room : 128 * p + n ≤ length s.slots
   room = let l = found.0 in let m = sound.slots_long in let f = class.few in omega (arith, l, m, f)
@@ -159,18 +160,18 @@ module _ (s : Plain) (p c : ℕ) (sound : IsSound s) (class : IsClass c) (found 
   vacant_are : (d : ℕ) → count_of (2 * d + 2) cut.slots ≡ count_of (2 * d + 2) s.slots + (if nat_eq d c then n else 0)
   vacant_are d = let m = filled_count n (128 * p) (2 * c + 2) (2 * d + 2) s.slots room zeros (omega arith) in grind (arith, nat_tests)
 
-  pub cut_counts : counts_of cut.owner s.used s.last cut.slots
-      ≡ (let k = counts_of s.owner s.used s.last s.slots in record k { free = k.free - 1; class_pages = put c (k.class_pages c + 1) k.class_pages })
+  pub cut_counts : counts_of cut.ever_used cut.owner s.used s.last cut.slots
+      ≡ (let k = counts_of s.ever_used s.owner s.used s.last s.slots in record (one_less k) { class_pages = put c (k.class_pages c + 1) k.class_pages })
   unfolding counts_of
   cut_counts =
-      let free : count_of 0 cut.owner ≡ count_of 0 s.owner - 1 = (let m = count_set 0 s.owner p (2 * c + 2) found.0 in let e = found.1 in
-      grind (arith, nat_tests)) in
+      let f = free_less s p (2 * c + 2) sound found lowest (omega arith) in
       let pages : (d : ℕ) → count_of (2 * d + 2) cut.owner ≡ put c (count_of (2 * c + 2) s.owner + 1) (λ d. count_of (2 * d + 2) s.owner) d =
       (λ d. let m = classes_are d in grind (arith, nat_tests)) in
       λ i. record {
-        free = free i;
+        fresh = f.fresh i;
+        given = f.given i;
         taken = λ h. regions_kept h i;
-        left = (counts_of s.owner s.used s.last s.slots).left;
+        left = (counts_of s.ever_used s.owner s.used s.last s.slots).left;
         class_pages = λ d. pages d i;
         slots = λ d. live_kept d i;
       }
@@ -220,12 +221,14 @@ module _ (s : Plain) (p c : ℕ) (sound : IsSound s) (class : IsClass c) (found 
     standing_long = sound.standing_long ∙ ap (λ n. n + 1) (sym (length-set s.owner p (2 * c + 2)));
     slots_long = filled_long n (128 * p) (2 * c + 2) s.slots ∙ sound.slots_long ∙ ap (λ n. 128 * n) (sym (length-set s.owner p (2 * c + 2)));
     few = subst (λ n. n ≤ 4096) (sym (length-set s.owner p (2 * c + 2))) sound.few;
+    begun = (free_less s p (2 * c + 2) sound found lowest (omega arith)).begun;
+    unused = (free_less s p (2 * c + 2) sound found lowest (omega arith)).unused;
     rounded = sound.rounded;
     within = sound.within;
     heap = sound.heap;
     known = sound.known;
     headed = λ k l. let m = sound.headed k l in let i = index_set s.owner p (2 * c + 2) k found.0 in let z = found.1 in grind (arith, nat_tests);
-    lived = λ h q l. let m = sound.lived h q l in let i = index_set s.owner p (2 * c + 2) q found.0 in grind (arith, nat_tests);
+    lived = λ h q b l. let m = sound.lived h q b l in let i = index_set s.owner p (2 * c + 2) q found.0 in grind (arith, nat_tests);
     ended = λ h q l. let m = sound.ended h q l in let i = index_set s.owner p (2 * c + 2) q found.0 in let z = found.1 in grind (arith, nat_tests);
     classes = λ q d l. classes_by (nat_eq q p) q d refl l;
     live = λ u d l. live_by (nat_eq (u / 128) p) u d refl l;

@@ -1,5 +1,6 @@
 -- A store that was just made.
-use Rattle.std.proofs.Common.{◌≡◌, ℕ, zero, suc, ◌+◌, ◌*◌, ◌/◌, ◌<◌, ◌≤◌, Bool, true, false, Option, None, nat_lt, refl, sym, ap, subst, ◌∙◌, arith}
+use Rattle.cyc_arena.proofs.Pages.{below_zero}
+use Rattle.std.proofs.Common.{◌≡◌, ℕ, zero, suc, ◌+◌, ◌*◌, ◌/◌, ◌<◌, ◌≤◌, Bool, true, false, Option, None, nat_lt, refl, sym, ap, subst, ◌∙◌, arith, length, ◌-◌}
 use Rattle.std.specs.Prelude.{slice_index}
 use Rattle.std.proofs.Math.ListN.{replicate}
 use Rattle.std.proofs.lemmas.List.{length-replicate}
@@ -21,10 +22,6 @@ none_at zero h = refl
 none_at (suc n) zero = refl
 none_at (suc n) (suc h) = none_at n h
 
-count_zeros : (n : ℕ) → count_of 0 (replicate n 0) ≡ n
-count_zeros zero = refl
-count_zeros (suc n) = ap suc (count_zeros n)
-
 count_others : (k n : ℕ) → 0 < k → count_of k (replicate n 0) ≡ 0
 count_others k n l = count_none k (replicate n 0) (λ q m. let z = zero_at n q in grind (arith, nat_tests))
 
@@ -37,6 +34,7 @@ module _ (n : ℕ) where
     last = replicate (n + 1) 0;
     standing = replicate (n + 1) None;
     slots = replicate (n * 128) 0;
+    ever_used = 0;
   }
 
   byte_by : (b : Bool) (q : ℕ) → nat_lt q arena_base ≡ b → byte_at made.bytes q ≡ 0
@@ -53,10 +51,11 @@ module _ (n : ℕ) where
   left_zero : (h : ℕ) → left_of made.used (slice_index made.last h) ≡ 0
   left_zero h = ap (left_of made.used) (zero_at (n + 1) h)
 
-  counted : counts_of made.owner made.used made.last made.slots ≡ fresh_counts n
+  counted : counts_of made.ever_used made.owner made.used made.last made.slots ≡ fresh_counts n
   unfolding counts_of
   counted = λ i. record {
-    free = count_zeros n i;
+    fresh = (let l = length-replicate {A = ℕ} n 0 in let e : length {A = ℕ} (replicate n 0) - 0 ≡ n = omega (arith, l) in e) i;
+    given = below_zero (replicate n 0) i;
     taken = λ h. count_others (2 * h + 1) n (omega arith) i;
     left = λ h. left_zero h i;
     class_pages = λ c. count_others (2 * c + 2) n (omega arith) i;
@@ -82,12 +81,14 @@ module _ (n : ℕ) where
     standing_long = (let a = length-replicate {A = Option Standing} (n + 1) None in let b = length-replicate {A = ℕ} n 0 in omega (arith, a, b));
     slots_long = (let a = length-replicate {A = ℕ} (n * 128) 0 in let b = length-replicate {A = ℕ} n 0 in omega (arith, a, b));
     few = (let b = length-replicate {A = ℕ} n 0 in omega (arith, b, few));
+    begun = omega arith;
+    unused = λ p l. zero_at n p;
     rounded = λ p. let z = zero_at n p in omega (arith, z);
     within = λ p. let z = zero_at n p in omega (arith, z);
     heap = none_at (n + 1) 0;
     known = λ h l. let z = zero_at (n + 1) h in ap is_none (none_at (n + 1) h) ∙ grind (arith, nat_tests);
     headed = λ p l. absurd (let z = zero_at (n + 1) (p + 1) in omega (arith, z, l));
-    lived = λ h q l. let z = zero_at n q in grind (arith, nat_tests);
+    lived = λ h q b l. let z = zero_at n q in grind (arith, nat_tests);
     ended = λ h q l. absurd (let z = zero_at (n + 1) h in omega (arith, z, l));
     classes = λ q c l. absurd (let z = zero_at n q in omega (arith, z, l));
     live = λ u c l. absurd (let z = zero_at (n * 128) u in omega (arith, z, l));
@@ -107,9 +108,10 @@ pub record AreFresh (n : ℕ) (s : Plain) : Type 0 where
   pub last : s.last ≡ replicate (n + 1) 0
   pub standing : s.standing ≡ replicate (n + 1) None
   pub slots : s.slots ≡ replicate (n * 128) 0
+  pub ever_used : s.ever_used ≡ 0
 
 pub fresh_is : (n : ℕ) (s : Plain) → AreFresh n s → s ≡ made n
-fresh_is n s f = λ i. record { bytes = f.bytes i; owner = f.owner i; used = f.used i; last = f.last i; standing = f.standing i; slots = f.slots i }
+fresh_is n s f = λ i. record { bytes = f.bytes i; owner = f.owner i; used = f.used i; last = f.last i; standing = f.standing i; slots = f.slots i; ever_used = f.ever_used i }
 
 pub fresh_holds : (n : ℕ) (s : Plain) → AreFresh n s → holdings_of s ≡ fresh n
 fresh_holds n s f = ap holdings_of (fresh_is n s f) ∙ made_holds n

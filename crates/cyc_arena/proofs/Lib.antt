@@ -1,4 +1,5 @@
 pub mod Words
+pub mod Pages
 pub mod Owners
 pub mod Along
 pub mod Fresh
@@ -7,6 +8,7 @@ pub mod Released
 pub mod Bytes
 pub mod Keys
 pub mod Placed
+pub mod Extended
 pub mod BlockCalls
 pub mod Seen
 pub mod Slots

@@ -1,33 +1,5 @@
 -- A region or a key is made: the table's first free page becomes its own.
-use Rattle.std.proofs.Common.{
-  ◌≡◌,
-  ℕ,
-  zero,
-  suc,
-  ◌+◌,
-  ◌-◌,
-  ◌*◌,
-  ◌/◌,
-  ◌<◌,
-  ◌≤◌,
-  Bool,
-  true,
-  false,
-  length,
-  Some,
-  None,
-  Ok,
-  nat_eq,
-  nat_lt,
-  refl,
-  sym,
-  ap,
-  subst,
-  ◌∙◌,
-  arith,
-  eq-eqb,
-  length-set,
-}
+use Rattle.std.proofs.Common.{◌≡◌, ℕ, zero, suc, ◌+◌, ◌-◌, ◌*◌, ◌/◌, ◌<◌, ◌≤◌, Bool, true, false, length, Some, None, Ok, nat_eq, nat_lt, refl, sym, ap, subst, ◌∙◌, arith, length-set}
 use Rattle.std.specs.Prelude.{slice_index, slice_set, if◌then◌else◌}
 use Rattle.std.proofs.lemmas.Bool.Decides.{nat_tests}
 use Rattle.std.proofs.lemmas.Grind.{common_steps}
@@ -37,18 +9,20 @@ use Rattle.arena_laws.specs.Counts.{put, with_region, is_full}
 use Rattle.arena_laws.specs.Holdings.{is_none, arena_base}
 use Rattle.arena_laws.specs.Lawful.{Grants, makes, refuses, with_number, is_new_number}
 use Rattle.arena_laws.specs.Laws.{Does, made}
-use Rattle.cyc_arena.specs.Plain.{Plain, IsSound, IsInPage, Finds, count_of, owner_at, page_at, place_at, standing_at, left_of, counts_of, holdings_of}
+use Rattle.cyc_arena.specs.Plain.{Plain, IsSound, IsInPage, Finds, IsLowest, used_up, count_of, owner_at, page_at, place_at, standing_at, left_of, counts_of, holdings_of}
 use Rattle.region_runtime.proofs.Words.{index_at, index_else, index_set}
-use Rattle.cyc_arena.proofs.Words.{standing_set, count_none, count_set, none_found, some_found}
+use Rattle.cyc_arena.proofs.Words.{standing_set, count_none, count_set}
+use Rattle.cyc_arena.proofs.Pages.{free_less, page_found, none_free}
 use Rattle.cyc_arena.proofs.Owners.{owner_nobody, owner_region, owner_below, owner_there, owner_elsewhere}
 
-module _ (s : Plain) (p : ℕ) (standing : Standing) (sound : IsSound s) (found : Finds 0 s.owner (Some p)) where
+module _ (s : Plain) (p : ℕ) (standing : Standing) (sound : IsSound s) (found : Finds 0 s.owner (Some p)) (lowest : IsLowest 0 s.owner (Some p)) where
   abbrev pub after : Plain
   after = record s {
     owner = slice_set s.owner p (2 * (p + 1) + 1);
     used = slice_set s.used p 0;
     last = slice_set s.last (p + 1) (p + 1);
     standing = slice_set s.standing (p + 1) (Some standing);
+    ever_used = used_up p s.ever_used;
   }
 
   not_headed : slice_index s.last (p + 1) ≡ 0
@@ -99,19 +73,19 @@ module _ (s : Plain) (p : ℕ) (standing : Standing) (sound : IsSound s) (found 
       left_other zero e = refl
       left_other (suc k) e = ap (λ n. 4096 - n) (index_else s.used p 0 k (grind (arith, nat_tests)))
 
-  counted : counts_of after.owner after.used after.last s.slots ≡ with_region (p + 1) (counts_of s.owner s.used s.last s.slots)
+  counted : counts_of after.ever_used after.owner after.used after.last s.slots ≡ with_region (p + 1) (counts_of s.ever_used s.owner s.used s.last s.slots)
   unfolding counts_of
   counted =
       let word = 2 * (p + 1) + 1 in
-      let fresh : count_of word s.owner ≡ 0 = count_none word s.owner (λ q l. sound.lived (p + 1) q not_headed) in
-      let free : count_of 0 after.owner ≡ count_of 0 s.owner - 1 = (let h = count_set 0 s.owner p word found.0 in let e = found.1 in
-      grind (arith, nat_tests)) in
+      let fresh : count_of word s.owner ≡ 0 = count_none word s.owner (λ q l. sound.lived (p + 1) q (omega arith) not_headed) in
+      let f = free_less s p word sound found lowest (omega arith) in
       let taken : (h : ℕ) → count_of (2 * h + 1) after.owner ≡ put (p + 1) 1 (λ h. count_of (2 * h + 1) s.owner) h =
       (λ h. let n = count_set (2 * h + 1) s.owner p word found.0 in let e = found.1 in grind (arith, nat_tests)) in
       let class : (c : ℕ) → count_of (2 * c + 2) after.owner ≡ count_of (2 * c + 2) s.owner =
       (λ c. let n = count_set (2 * c + 2) s.owner p word found.0 in let e = found.1 in grind (arith, nat_tests)) in
       λ i. record {
-        free = free i;
+        fresh = f.fresh i;
+        given = f.given i;
         taken = λ h. taken h i;
         left = λ h. left_by (nat_eq h (p + 1)) h refl i;
         class_pages = λ c. class c i;
@@ -138,13 +112,15 @@ module _ (s : Plain) (p : ℕ) (standing : Standing) (sound : IsSound s) (found 
     standing_long = length-set s.standing (p + 1) (Some standing) ∙ sound.standing_long ∙ ap (λ n. n + 1) (sym (length-set s.owner p (2 * (p + 1) + 1)));
     slots_long = sound.slots_long ∙ ap (λ n. 128 * n) (sym (length-set s.owner p (2 * (p + 1) + 1)));
     few = subst (λ n. n ≤ 4096) (sym (length-set s.owner p (2 * (p + 1) + 1))) sound.few;
+    begun = (free_less s p (2 * (p + 1) + 1) sound found lowest (omega arith)).begun;
+    unused = (free_less s p (2 * (p + 1) + 1) sound found lowest (omega arith)).unused;
     rounded = λ k. let n = sound.rounded k in let i = index_set s.used p 0 k page_in in grind (arith, nat_tests);
     within = λ k. let n = sound.within k in let i = index_set s.used p 0 k page_in in grind (arith, nat_tests);
     heap = standing_set s.standing (p + 1) (Some standing) 0 standing_in ∙ (let n : nat_eq 0 (p + 1) ≡ false = grind (arith, nat_tests) in rw n sound.heap);
     known = λ h b. known_by (nat_eq h (p + 1)) h b refl;
     headed = λ k l. let n = sound.headed k in let i = index_set s.last (p + 1) (p + 1) (k + 1) number_in in
         let o = index_set s.owner p (2 * (p + 1) + 1) k found.0 in let z = found.1 in grind (arith, nat_tests);
-    lived = λ h q l. let n = sound.lived h q in let i = index_set s.last (p + 1) (p + 1) h number_in in
+    lived = λ h q b l. let n = sound.lived h q in let i = index_set s.last (p + 1) (p + 1) h number_in in
         let o = index_set s.owner p (2 * (p + 1) + 1) q found.0 in grind (arith, nat_tests);
     ended = λ h q l. let n = sound.ended h q in let i = index_set s.last (p + 1) (p + 1) h number_in in
         let o = index_set s.owner p (2 * (p + 1) + 1) q found.0 in let z = found.1 in grind (arith, nat_tests);
@@ -181,7 +157,7 @@ module _ (s : Plain) (p : ℕ) (standing : Standing) (sound : IsSound s) (found 
 
   pub not_full : is_full (holdings_of s).counts ≡ false
   unfolding counts_of
-  not_full = some_found 0 s.owner p found
+  not_full = page_found s p sound found
 
   pub made_does : Does (Ok (p + 1)) (holdings_of after) (made standing (Grants (p + 1)) (holdings_of s))
   made_does =
@@ -194,7 +170,16 @@ module _ (s : Plain) (p : ℕ) (standing : Standing) (sound : IsSound s) (found 
       } else refuses Full (holdings_of s)))
       (sym is_new) (record { says = refl; holds = made_holds }))
 
+  -- with the count as it was read
+  pub made_sound_as : (n : ℕ) → n ≡ used_up p s.ever_used → IsSound (record after { ever_used = n })
+  made_sound_as n e = subst (λ n. IsSound (record after { ever_used = n })) (sym e) made_sound
+
+  pub made_does_as : (n : ℕ) → n ≡ used_up p s.ever_used →
+      Does (Ok (p + 1)) (holdings_of (record after { ever_used = n })) (made standing (Grants (p + 1)) (holdings_of s))
+  made_does_as n e =
+      subst (λ n. Does (Ok (p + 1)) (holdings_of (record after { ever_used = n })) (made standing (Grants (p + 1)) (holdings_of s))) (sym e) made_does
+
 -- no page is free
 pub all_taken : (s : Plain) → IsSound s → Finds 0 s.owner None → is_full (holdings_of s).counts ≡ true
 unfolding counts_of
-all_taken s sound f = eq-eqb _ _ (none_found 0 s.owner f)
+all_taken s sound f = none_free s sound f

@@ -35,29 +35,30 @@ use Rattle.std.specs.Prelude.{slice_index, slice_set, ◌&&◌, ◌||◌, if◌t
 use Rattle.std.proofs.lemmas.Bool.Decides.{nat_tests}
 use Rattle.std.proofs.lemmas.Grind.{common_steps}
 use Rattle.arena_laws.specs.declared.standing.Standing.{Standing}
-use Rattle.arena_laws.specs.Counts.{put, room_of, with_block, block_needs_page, is_full, is_too_long}
+use Rattle.arena_laws.specs.Counts.{put, room_of, with_block, block_needs_page, is_full, is_too_long, is_full_for_room, is_large, one_less}
 use Rattle.arena_laws.specs.declared.owner.Owner.TheVariants.{Region}
 use Rattle.arena_laws.specs.Holdings.{is_none, arena_base}
 use Rattle.arena_laws.specs.Lawful.{Grants, owns, is_in_room, is_lawful_room, with_region_block, takes_blocks}
 use Rattle.arena_laws.specs.Laws.{Does, is_block_refused, region_alloc}
-use Rattle.cyc_arena.specs.Plain.{Plain, IsSound, IsInPage, Finds, count_of, owner_at, page_at, place_at, standing_at, left_of, counts_of, holdings_of}
+use Rattle.cyc_arena.specs.Plain.{Plain, IsSound, IsInPage, Finds, IsLowest, used_up, count_of, owner_at, page_at, place_at, standing_at, left_of, counts_of, holdings_of}
 use Rattle.region_runtime.proofs.Owners.{is_lawful}
-use Rattle.region_runtime.proofs.Placed.{granted}
+use Rattle.region_runtime.proofs.Placed.{granted, not_large}
+use Rattle.cyc_arena.proofs.Pages.{free_less, page_found}
 use Rattle.region_runtime.proofs.Words.{index_at, index_else, index_set}
-use Rattle.cyc_arena.proofs.Words.{is_place, count_set, some_found}
+use Rattle.cyc_arena.proofs.Words.{is_place, count_set}
 use Rattle.cyc_arena.proofs.Made.{all_taken}
 use Rattle.cyc_arena.proofs.Owners.{owner_nobody, owner_region, owner_below, owner_there, owner_same, owner_elsewhere}
 
 module _ (s : Plain) (h room : ℕ) (sound : IsSound s) (takes : takes_blocks h (standing_at s.standing h) ≡ true) (eights : room % 8 ≡ 0)
     (most : room ≤ 4096) where
-  by_number : (k : ℕ) → takes_blocks k (standing_at s.standing k) ≡ true → 0 < k → is_none (standing_at s.standing k) ≡ false
+  pub by_number : (k : ℕ) → takes_blocks k (standing_at s.standing k) ≡ true → 0 < k → is_none (standing_at s.standing k) ≡ false
   by_number k t l = by_standing (standing_at s.standing k) t
     where
       by_standing : (o : Option Standing) → takes_blocks k o ≡ true → is_none o ≡ false
       by_standing None e = grind (arith, nat_tests)
       by_standing (Some x) e = refl
 
-  live_number : 0 < h → 0 < slice_index s.last h
+  pub live_number : 0 < h → 0 < slice_index s.last h
   live_number l = let n = by_number h takes l in let k = sound.known h l in grind (arith, nat_tests)
 
   pub has_place : h < length s.last
@@ -159,13 +160,13 @@ module _ (s : Plain) (h room : ℕ) (sound : IsSound s) (takes : takes_blocks h 
         other zero d = refl
         other (suc r) d = ap (λ n. 4096 - n) (index_else s.used p (u + room) r (grind (arith, nat_tests)))
 
-    counted_last : counts_of s.owner after_last.used s.last s.slots ≡ with_block h room (counts_of s.owner s.used s.last s.slots)
+    counted_last : counts_of s.ever_used s.owner after_last.used s.last s.slots ≡ with_block h room (counts_of s.ever_used s.owner s.used s.last s.slots)
     unfolding counts_of
     counted_last =
-        let c = counts_of s.owner s.used s.last s.slots in
-        let lefts : counts_of s.owner after_last.used s.last s.slots ≡ record c { left = put h (c.left h - room) c.left } =
+        let c = counts_of s.ever_used s.owner s.used s.last s.slots in
+        let lefts : counts_of s.ever_used s.owner after_last.used s.last s.slots ≡ record c { left = put h (c.left h - room) c.left } =
         (λ i. record c { left = λ k. left_by (nat_eq k h) k refl i }) in
-        rw (no_page) lefts
+        rw (not_large room most, no_page) lefts
 
     pub last_holds : holdings_of after_last ≡ with_region_block h (arena_base + 4096 * p + u) room (holdings_of s)
     last_holds = λ i. record (holdings_of s) { owner = λ q. in_last_by (nat_lt q arena_base) (nat_eq (page_at q) p) q refl refl i; counts = counted_last i }
@@ -178,6 +179,8 @@ module _ (s : Plain) (h room : ℕ) (sound : IsSound s) (takes : takes_blocks h 
       standing_long = sound.standing_long;
       slots_long = sound.slots_long;
       few = sound.few;
+      begun = sound.begun;
+      unused = sound.unused;
       rounded = λ k. let n = sound.rounded k in let m = sound.rounded p in let i = index_set s.used p (u + room) k used_in in grind (arith, nat_tests);
       within = λ k. let n = sound.within k in let i = index_set s.used p (u + room) k used_in in grind (arith, nat_tests);
       heap = sound.heap;
@@ -196,15 +199,15 @@ module _ (s : Plain) (h room : ℕ) (sound : IsSound s) (takes : takes_blocks h 
     last_does bytes e long =
         let at = arena_base + 4096 * p + u in
         granted (holdings_of s) h bytes at takes long
-        (subst (λ r. (block_needs_page h r (holdings_of s).counts && is_full (holdings_of s).counts) ≡ false) e (ap (λ t. t && is_full
-        (holdings_of s).counts) no_page))
+        (subst (λ r. is_full_for_room h r (holdings_of s).counts ≡ false) e (rw (not_large room most) (ap (λ t. t && is_full
+        (holdings_of s).counts) no_page)))
         (subst (λ r. is_lawful_room (holdings_of s) at r ≡ true) e lawful_last) (holdings_of after_last)
         (subst (λ r. holdings_of after_last ≡ with_region_block h at r (holdings_of s)) e last_holds)
 
     pub last_not_refused : (bytes : ℕ) → room ≡ room_of bytes → is_too_long bytes ≡ false → is_block_refused h bytes (holdings_of s) ≡ false
     last_not_refused bytes e long =
-        rw (takes, long) (subst (λ r. (block_needs_page h r (holdings_of s).counts && is_full (holdings_of s).counts) ≡ false) e (ap (λ t. t && is_full
-        (holdings_of s).counts) no_page))
+        rw (takes, long) (subst (λ r. is_full_for_room h r (holdings_of s).counts ≡ false) e (rw (not_large room most) (ap (λ t. t && is_full
+        (holdings_of s).counts) no_page)))
 
   -- ---- in a page that is taken
   module _ (needs : left_of s.used (slice_index s.last h) < room) where
@@ -212,9 +215,9 @@ module _ (s : Plain) (h room : ℕ) (sound : IsSound s) (takes : takes_blocks h 
     unfolding counts_of
     needs_page = let l = needs in grind (arith, nat_tests)
 
-    module _ (p : ℕ) (found : Finds 0 s.owner (Some p)) where
+    module _ (p : ℕ) (found : Finds 0 s.owner (Some p)) (lowest : IsLowest 0 s.owner (Some p)) where
       abbrev pub after_new : Plain
-      after_new = record s { owner = slice_set s.owner p (2 * h + 1); used = slice_set s.used p room; last = slice_set s.last h (p + 1) }
+      after_new = record s { owner = slice_set s.owner p (2 * h + 1); used = slice_set s.used p room; last = slice_set s.last h (p + 1); ever_used = used_up p s.ever_used }
 
       new_used_in : p < length s.used
       new_used_in = let n = sound.used_long in let b = found.0 in omega (arith, n, b)
@@ -265,24 +268,24 @@ module _ (s : Plain) (h room : ℕ) (sound : IsSound s) (takes : takes_blocks h 
       classes_kept : (c : ℕ) → count_of (2 * c + 2) after_new.owner ≡ count_of (2 * c + 2) s.owner
       classes_kept c = let n = count_set (2 * c + 2) s.owner p (2 * h + 1) found.0 in let e = found.1 in grind (arith, nat_tests)
 
-      counted_new : counts_of after_new.owner after_new.used after_new.last s.slots ≡ with_block h room (counts_of s.owner s.used s.last s.slots)
+      counted_new : counts_of after_new.ever_used after_new.owner after_new.used after_new.last s.slots ≡ with_block h room (counts_of s.ever_used s.owner s.used s.last s.slots)
       unfolding counts_of
       counted_new =
-          let c = counts_of s.owner s.used s.last s.slots in
-          let free : count_of 0 after_new.owner ≡ count_of 0 s.owner - 1 = (let n = count_set 0 s.owner p (2 * h + 1) found.0 in let e = found.1 in
-          grind (arith, nat_tests)) in
+          let c = counts_of s.ever_used s.owner s.used s.last s.slots in
+          let f = free_less s p (2 * h + 1) sound found lowest (omega arith) in
           let taken : (k : ℕ) → count_of (2 * k + 1) after_new.owner ≡ put h (count_of (2 * h + 1) s.owner + 1) (λ k. count_of (2 * k + 1) s.owner) k =
           (λ k. let n = count_set (2 * k + 1) s.owner p (2 * h + 1) found.0 in let e = found.1 in grind (arith, nat_tests)) in
-          let all : counts_of after_new.owner after_new.used after_new.last s.slots
-          ≡ record c { free = c.free - 1; taken = put h (c.taken h + 1) c.taken; left = put h (4096 - room) c.left } =
+          let all : counts_of after_new.ever_used after_new.owner after_new.used after_new.last s.slots
+          ≡ record (one_less c) { taken = put h (c.taken h + 1) c.taken; left = put h (4096 - room) c.left } =
           (λ i. record {
-            free = free i;
+            fresh = f.fresh i;
+            given = f.given i;
             taken = λ k. taken k i;
             left = λ k. new_left_by (nat_eq k h) k refl i;
             class_pages = λ c. classes_kept c i;
             slots = λ c. count_of (2 * c + 1) s.slots;
           }) in
-          rw (needs_page) all
+          rw (not_large room most, needs_page) all
 
       pub new_holds : holdings_of after_new ≡ with_region_block h (arena_base + 4096 * p) room (holdings_of s)
       new_holds = λ i. record {
@@ -320,13 +323,15 @@ module _ (s : Plain) (h room : ℕ) (sound : IsSound s) (takes : takes_blocks h 
         standing_long = sound.standing_long ∙ ap (λ n. n + 1) (sym (length-set s.owner p (2 * h + 1)));
         slots_long = sound.slots_long ∙ ap (λ n. 128 * n) (sym (length-set s.owner p (2 * h + 1)));
         few = subst (λ n. n ≤ 4096) (sym (length-set s.owner p (2 * h + 1))) sound.few;
+        begun = (free_less s p (2 * h + 1) sound found lowest (omega arith)).begun;
+        unused = (free_less s p (2 * h + 1) sound found lowest (omega arith)).unused;
         rounded = λ k. let n = sound.rounded k in let i = index_set s.used p room k new_used_in in grind (arith, nat_tests);
         within = λ k. let n = sound.within k in let i = index_set s.used p room k new_used_in in grind (arith, nat_tests);
         heap = sound.heap;
         known = λ k l. known_by (nat_eq k h) k l refl;
         headed = λ k l. let n = sound.headed k in let m = live_number in let i = index_set s.last h (p + 1) (k + 1) has_place in
             let o = index_set s.owner p (2 * h + 1) k found.0 in let z = found.1 in grind (arith, nat_tests);
-        lived = λ k q l. let n = sound.lived k q in let i = index_set s.last h (p + 1) k has_place in
+        lived = λ k q b l. let n = sound.lived k q in let i = index_set s.last h (p + 1) k has_place in
             let o = index_set s.owner p (2 * h + 1) q found.0 in grind (arith, nat_tests);
         ended = λ k q l. let n = sound.ended k q in let i = index_set s.last h (p + 1) k has_place in
             let o = index_set s.owner p (2 * h + 1) q found.0 in let z = found.1 in grind (arith, nat_tests);
@@ -338,29 +343,29 @@ module _ (s : Plain) (h room : ℕ) (sound : IsSound s) (takes : takes_blocks h 
 
       not_full : is_full (holdings_of s).counts ≡ false
       unfolding counts_of
-      not_full = some_found 0 s.owner p found
+      not_full = page_found s p sound found
 
-      spare : (block_needs_page h room (holdings_of s).counts && is_full (holdings_of s).counts) ≡ false
-      spare = rw (needs_page) not_full
+      spare : is_full_for_room h room (holdings_of s).counts ≡ false
+      spare = rw (not_large room most, needs_page) not_full
 
       pub new_does : (bytes : ℕ) → room ≡ room_of bytes → is_too_long bytes ≡ false →
           Does (Ok (arena_base + 4096 * p)) (holdings_of after_new) (region_alloc h bytes (Grants (arena_base + 4096 * p)) (holdings_of s))
       new_does bytes e long =
           let at = arena_base + 4096 * p in
           granted (holdings_of s) h bytes at takes long
-          (subst (λ r. (block_needs_page h r (holdings_of s).counts && is_full (holdings_of s).counts) ≡ false) e spare)
+          (subst (λ r. is_full_for_room h r (holdings_of s).counts ≡ false) e spare)
           (subst (λ r. is_lawful_room (holdings_of s) at r ≡ true) e lawful_new) (holdings_of after_new)
           (subst (λ r. holdings_of after_new ≡ with_region_block h at r (holdings_of s)) e new_holds)
 
       pub new_not_refused : (bytes : ℕ) → room ≡ room_of bytes → is_too_long bytes ≡ false → is_block_refused h bytes (holdings_of s) ≡ false
       new_not_refused bytes e long =
-          rw (takes, long) (subst (λ r. (block_needs_page h r (holdings_of s).counts && is_full (holdings_of s).counts) ≡ false) e spare)
+          rw (takes, long) (subst (λ r. is_full_for_room h r (holdings_of s).counts ≡ false) e spare)
 
     pub none_refused : Finds 0 s.owner None → (bytes : ℕ) → room ≡ room_of bytes → is_block_refused h bytes (holdings_of s) ≡ true
     none_refused found bytes e =
         let n : block_needs_page h (room_of bytes) (holdings_of s).counts ≡ true = subst (λ r. block_needs_page h r (holdings_of s).counts
         ≡ true) e needs_page in
-        rw (takes, n, all_taken s sound found) (or_true (is_too_long bytes))
+        rw (takes, subst (λ r. is_large r ≡ false) e (not_large room most), n, all_taken s sound found) (or_true (is_too_long bytes))
       where
         or_true : (b : Bool) → (b || true) ≡ true
         or_true true = refl

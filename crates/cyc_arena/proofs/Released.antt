@@ -44,6 +44,7 @@ use Rattle.cyc_arena.specs.Plain.{
   IsInPage,
   IsCleared,
   count_of,
+  count_below,
   address_of,
   owner_in,
   owner_at,
@@ -54,6 +55,7 @@ use Rattle.cyc_arena.specs.Plain.{
   counts_of,
   holdings_of,
 }
+use Rattle.cyc_arena.proofs.Pages.{below_cleared, below_all}
 use Rattle.region_runtime.proofs.Words.{index_at, index_else, index_set}
 use Rattle.cyc_arena.proofs.Words.{is_place, standing_set}
 use Rattle.cyc_arena.proofs.Owners.{owner_below, owner_here, owner_region, owner_nobody}
@@ -169,10 +171,16 @@ module _ (s : Plain) (h : ℕ) (zs : List ℕ) (sound : IsSound s) (there : is_s
   classes_kept c = count_cleared (2 * h + 1) (2 * c + 2) s.owner zs (omega arith) cleared
       ∙ ap (λ t. if t then 0 else count_of (2 * c + 2) s.owner) (no_number c)
 
-  counted : counts_of zs s.used after.last s.slots ≡ without_region h (counts_of s.owner s.used s.last s.slots)
+  given_back : count_below s.ever_used 0 zs ≡ count_below s.ever_used 0 s.owner + count_of (2 * h + 1) s.owner
+  given_back =
+      below_cleared s.ever_used (2 * h + 1) s.owner zs (omega arith) cleared
+      ∙ ap (λ n. count_below s.ever_used 0 s.owner + n) (below_all s (2 * h + 1) sound (omega arith))
+
+  counted : counts_of s.ever_used zs s.used after.last s.slots ≡ without_region h (counts_of s.ever_used s.owner s.used s.last s.slots)
   unfolding counts_of
   counted = λ i. record {
-    free = count_free (2 * h + 1) s.owner zs (omega arith) cleared i;
+    fresh = ap (λ n. n - s.ever_used) cleared.long i;
+    given = given_back i;
     taken = λ k. (count_cleared (2 * h + 1) (2 * k + 1) s.owner zs (omega arith) cleared
         ∙ ap (λ t. if t then 0 else count_of (2 * k + 1) s.owner) (same_number k)) i;
     left = λ k. left_by (nat_eq k h) k refl i;
@@ -212,12 +220,14 @@ module _ (s : Plain) (h : ℕ) (zs : List ℕ) (sound : IsSound s) (there : is_s
     standing_long = length-set s.standing h None ∙ sound.standing_long ∙ ap (λ n. n + 1) (sym cleared.long);
     slots_long = sound.slots_long ∙ ap (λ n. 128 * n) (sym cleared.long);
     few = subst (λ n. n ≤ 4096) (sym cleared.long) sound.few;
+    begun = subst (λ n. s.ever_used ≤ n) (sym cleared.long) sound.begun;
+    unused = λ p l. let e = cleared.each p in let z = sound.unused p l in grind (arith, nat_tests);
     rounded = sound.rounded;
     within = sound.within;
     heap = standing_set s.standing h None 0 standing_in ∙ heap_by (nat_eq 0 h) refl;
     known = λ k l. known_by (nat_eq k h) k l refl;
     headed = λ k l. let n = sound.headed k in let i = index_set s.last h 0 (k + 1) number_in in let e = cleared.each k in grind (arith, nat_tests);
-    lived = λ k q l. let n = sound.lived k q in let i = index_set s.last h 0 k number_in in let e = cleared.each q in grind (arith, nat_tests);
+    lived = λ k q b l. let n = sound.lived k q in let i = index_set s.last h 0 k number_in in let e = cleared.each q in grind (arith, nat_tests);
     ended = λ k q l. let n = sound.ended k q in let i = index_set s.last h 0 k number_in in let e = cleared.each q in grind (arith, nat_tests);
     classes = λ q c l. sound.classes q c (let e = cleared.each q in grind (arith, nat_tests));
     live = λ u c l. in_page u c (sound.live u c l);

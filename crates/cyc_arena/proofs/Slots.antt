@@ -217,13 +217,13 @@ module _ (s : Plain) (u c : ℕ) (sound : IsSound s) (in_page : IsInPage s.owner
     spare =
         let n = some_found (2 * c + 2) s.slots u (slot_in, vacant) in let m = sound.capacity c in grind (arith, nat_tests)
 
-    counted_taken : counts_of s.owner s.used s.last after_taken.slots ≡ with_slot c (counts_of s.owner s.used s.last s.slots)
+    counted_taken : counts_of s.ever_used s.owner s.used s.last after_taken.slots ≡ with_slot c (counts_of s.ever_used s.owner s.used s.last s.slots)
     unfolding counts_of
     counted_taken =
-        let k = counts_of s.owner s.used s.last s.slots in
+        let k = counts_of s.ever_used s.owner s.used s.last s.slots in
         let each : (d : ℕ) → count_of (2 * d + 1) after_taken.slots ≡ put c (count_of (2 * c + 1) s.slots + 1) (λ d. count_of (2 * d + 1) s.slots) d =
         (λ d. let n = count_set (2 * d + 1) s.slots u (2 * c + 1) slot_in in let v = vacant in grind (arith, nat_tests)) in
-        let all : counts_of s.owner s.used s.last after_taken.slots ≡ record k { slots = put c (k.slots c + 1) k.slots } =
+        let all : counts_of s.ever_used s.owner s.used s.last after_taken.slots ≡ record k { slots = put c (k.slots c + 1) k.slots } =
         (λ i. record k { slots = λ d. each d i }) in
         rw (spare) all
 
@@ -242,6 +242,8 @@ module _ (s : Plain) (u c : ℕ) (sound : IsSound s) (in_page : IsInPage s.owner
       standing_long = sound.standing_long;
       slots_long = lengths_kept (2 * c + 1);
       few = sound.few;
+      begun = sound.begun;
+      unused = sound.unused;
       rounded = sound.rounded;
       within = sound.within;
       heap = sound.heap;

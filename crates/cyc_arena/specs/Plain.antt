@@ -38,7 +38,8 @@ use Rattle.arena_laws.specs.Holdings.{Holdings, arena_base, is_none}
 -- The tables. `bytes` is the arena. Of each page `owner` says whose it is, by a word: 0 nobody's, 2 h + 1 the region's or key's with number h
 -- (the heap's where h is 0), 2 c + 2 cut into slots of c bytes; `used` has the bytes used of a region's page. Of each number (the heap is 0)
 -- `last` has its last page and one, or 0, and `standing` what it stands for. `slots` has 128 places for each page, of which a page of c bytes a
--- slot uses the first 4096 / c, by a word: 0 no slot, 2 c + 1 a live one of c bytes, 2 c + 2 a vacant one.
+-- slot uses the first 4096 / c, by a word: 0 no slot, 2 c + 1 a live one of c bytes, 2 c + 2 a vacant one. `ever_used`
+-- says how many pages were ever used: they come first.
 pub record Plain : Type 0 where
   pub bytes : List ℕ
   pub owner : List ℕ
@@ -46,11 +47,21 @@ pub record Plain : Type 0 where
   pub last : List ℕ
   pub standing : List (Option Standing)
   pub slots : List ℕ
+  pub ever_used : ℕ
 
 -- how often a word stands in a list
 abbrev pub count_of : ℕ → List ℕ → ℕ
 count_of x [] = 0
 count_of x (y ∷ ys) = (if nat_eq y x then suc (count_of x ys) else count_of x ys)
+
+-- how often it stands at the first places
+unfoldable pub count_below : ℕ → ℕ → List ℕ → ℕ
+count_below zero x words = 0
+count_below (suc n) x words = (if nat_eq (slice_index words n) x then suc (count_below n x words) else count_below n x words)
+
+-- a page is taken: where it was never used it is used now
+abbrev pub used_up : ℕ → ℕ → ℕ
+used_up p n = (if nat_eq p n then suc n else n)
 
 abbrev pub address_of : ℕ → ℕ → ℕ
 address_of p o = arena_base + 4096 * p + o
@@ -85,9 +96,10 @@ abbrev pub left_of : List ℕ → ℕ → ℕ
 left_of used zero = 0
 left_of used (suc p) = 4096 - slice_index used p
 
-unfoldable pub counts_of : List ℕ → List ℕ → List ℕ → List ℕ → Counts
-counts_of owner used last slots = record {
-  free = count_of 0 owner;
+unfoldable pub counts_of : ℕ → List ℕ → List ℕ → List ℕ → List ℕ → Counts
+counts_of n owner used last slots = record {
+  fresh = length owner - n;
+  given = count_below n 0 owner;
   taken = λ h. count_of (2 * h + 1) owner;
   left = λ h. left_of used (slice_index last h);
   class_pages = λ c. count_of (2 * c + 2) owner;
@@ -99,7 +111,7 @@ holdings_of s = record {
   pages = length s.owner;
   standing = standing_at s.standing;
   owner = owner_at s.owner s.used s.slots;
-  counts = counts_of s.owner s.used s.last s.slots;
+  counts = counts_of s.ever_used s.owner s.used s.last s.slots;
 }
 
 -- what a number stands for, as a word
@@ -115,7 +127,7 @@ standing_words (s ∷ rest) = standing_word s ∷ standing_words rest
 
 -- all tables but the arena's bytes, one behind the other
 abbrev pub tables_of : Plain → List ℕ
-tables_of s = s.owner ++ s.used ++ s.last ++ standing_words s.standing ++ s.slots
+tables_of s = s.ever_used ∷ s.owner ++ s.used ++ s.last ++ standing_words s.standing ++ s.slots
 
 -- the slot stands in a page of its class
 pub record IsInPage (owner : List ℕ) (u c : ℕ) : Type 0 where
@@ -129,6 +141,9 @@ pub record IsSound (s : Plain) : Type 0 where
   pub standing_long : length s.standing ≡ length s.owner + 1
   pub slots_long : length s.slots ≡ 128 * length s.owner
   pub few : length s.owner ≤ 4096
+  -- pages never used are nobody's
+  pub begun : s.ever_used ≤ length s.owner
+  pub unused : (p : ℕ) → s.ever_used ≤ p → slice_index s.owner p ≡ 0
   pub rounded : (p : ℕ) → slice_index s.used p % 8 ≡ 0
   pub within : (p : ℕ) → slice_index s.used p ≤ 4096
   -- the heap is no number, and a number is live where it has a last page
@@ -136,8 +151,8 @@ pub record IsSound (s : Plain) : Type 0 where
   pub known : (h : ℕ) → 0 < h → is_none (standing_at s.standing h) ≡ nat_eq (slice_index s.last h) 0
   -- the first page of a live number is its own
   pub headed : (p : ℕ) → 0 < slice_index s.last (p + 1) → slice_index s.owner p ≡ 2 * (p + 1) + 1
-  -- no page of a number that has no last page
-  pub lived : (h q : ℕ) → slice_index s.last h ≡ 0 → nat_eq (slice_index s.owner q) (2 * h + 1) ≡ false
+  -- no page of a number but the heap that has no last page
+  pub lived : (h q : ℕ) → 0 < h → slice_index s.last h ≡ 0 → nat_eq (slice_index s.owner q) (2 * h + 1) ≡ false
   -- a last page is the number's own
   pub ended : (h q : ℕ) → slice_index s.last h ≡ q + 1 → slice_index s.owner q ≡ 2 * h + 1
   -- pages are cut into slots of a class
@@ -151,6 +166,11 @@ pub record IsSound (s : Plain) : Type 0 where
 abbrev pub Finds : ℕ → List ℕ → Option ℕ → Type 0
 Finds word words None = (p : ℕ) → p < length words → nat_eq (slice_index words p) word ≡ false
 Finds word words (Some p) = (p < length words) × (slice_index words p ≡ word)
+
+-- no place before the one that was found has the word
+abbrev pub IsLowest : ℕ → List ℕ → Option ℕ → Type 0
+IsLowest word words None = Unit {0}
+IsLowest word words (Some p) = (q : ℕ) → q < p → nat_eq (slice_index words q) word ≡ false
 
 -- the word is gone, and nothing else changed
 pub record IsCleared (word : ℕ) (old new : List ℕ) : Type 0 where

@@ -1,17 +1,18 @@
 // The plain store: tables that are read from their beginning at each call.
 
-ghost use Rattle.std.specs.Prelude.{◌≡◌, ◌≢◌, ◌<◌, true, false, IfOk};
+ghost use Rattle.std.specs.Prelude.{◌≡◌, ◌≢◌, ◌+◌, ◌*◌, ◌%◌, ◌<◌, ◌≤◌, length, true, false, IfOk};
 ghost use Rattle.arena_laws.specs.Asked.{KeyNew, RegionAlloc, RegionNew, UniqueAlloc, is_short};
-ghost use Rattle.arena_laws.specs.Counts.{is_full};
-ghost use Rattle.arena_laws.specs.Holdings.{fresh, is_some};
-ghost use Rattle.arena_laws.specs.Lawful.{Lacks, without_number};
+ghost use Rattle.arena_laws.specs.Counts.{is_full, run_of};
+ghost use Rattle.arena_laws.specs.Holdings.{arena_base, fresh, is_some};
+ghost use Rattle.arena_laws.specs.Lawful.{Lacks, takes_blocks, without_number};
 ghost use Rattle.arena_laws.specs.Laws.{Does, answer_of, is_refused_full, key_new, made, region_alloc, region_new, unique_alloc};
 ghost use Rattle.cyc_arena.specs.Plain.{byte_at, holdings_of, standing_at, tables_of};
+ghost use Rattle.region_runtime.specs.Runs.{ran};
 ghost use Rattle.raw_pages.specs.Raw.{is_no_page_count, is_pages_fault};
 
 use crate::store::BlockStore;
-use crate::tables::{PAGE_LIMIT, clear, fill, find, left_in, standing_of, takes};
-use arena_laws::{BASE, Owner, PAGE, Standing, StoreRefusal, class_for, room_for};
+use crate::tables::{PAGE_LIMIT, clear, fill, find, left_in, standing_of, takes, used_with};
+use arena_laws::{BASE, LIMIT, Owner, PAGE, Standing, StoreRefusal, class_for, room_for, run_for};
 use raw_pages::PagesFault;
 use std::alloc::Global;
 use std::marker::Model;
@@ -26,6 +27,7 @@ pub struct PlainStore {
     last: Vec<u32>,
     standing: Vec<Option<Standing>>,
     slots: Vec<u32>,
+    ever_used: usize,
 }
 
 impl Model for PlainStore {
@@ -33,9 +35,9 @@ impl Model for PlainStore {
 
     ghost Value = { Plain };
 
-    ghost view = { λ s. record { bytes = s.bytes.items; owner = s.owner.items; used = s.used.items; last = s.last.items; standing = s.standing.items; slots = s.slots.items } };
+    ghost view = { λ s. record { bytes = s.bytes.items; owner = s.owner.items; used = s.used.items; last = s.last.items; standing = s.standing.items; slots = s.slots.items; ever_used = s.ever_used } };
 
-    ghost invariant = { λ s. IsSound (record { bytes = s.bytes.items; owner = s.owner.items; used = s.used.items; last = s.last.items; standing = s.standing.items; slots = s.slots.items }) };
+    ghost invariant = { λ s. IsSound (record { bytes = s.bytes.items; owner = s.owner.items; used = s.used.items; last = s.last.items; standing = s.standing.items; slots = s.slots.items; ever_used = s.ever_used }) };
 }
 
 impl PlainStore {
@@ -75,6 +77,7 @@ impl PlainStore {
             last,
             standing,
             slots,
+            ever_used: 0,
         })
     }
 
@@ -88,6 +91,7 @@ impl PlainStore {
         match find(&self.owner, 0) {
             Some(page) => {
                 let number = page as u32 + 1;
+                self.ever_used = used_with(page, self.ever_used);
                 self.owner[page] = 2 * number + 1;
                 self.used[page] = 0;
                 self.last[page + 1] = number;
@@ -107,6 +111,39 @@ impl PlainStore {
         clear(&mut self.owner, 2 * number + 1);
         self.last[number as usize] = 0;
         self.standing[number as usize] = None;
+    }
+
+    // makes the first page never used the heap's or a number's, with a block of so many bytes
+    fn extend(&mut self, number: u32, room: u32)
+        requires takes { takes_blocks number (standing_at self.old.standing number) ≡ true }
+        requires page { self.old.ever_used < length self.old.owner }
+        requires eights { room % 8 ≡ 0 }
+        requires most { room ≤ 4096 }
+        ensures holds { holdings_of self.new ≡ ran number (arena_base + 4096 * self.old.ever_used) room 1 (holdings_of self.old) }
+        ensures used { self.new.ever_used ≡ self.old.ever_used + 1 }
+        ensures bytes { self.new.bytes ≡ self.old.bytes }
+    {
+        let page = self.ever_used;
+        self.owner[page] = 2 * number + 1;
+        self.used[page] = room;
+        self.ever_used += 1;
+    }
+
+    // makes a run of pages never used the heap's or a number's, with a block of so many bytes
+    fn run(&mut self, number: u32, room: u32)
+        requires takes { takes_blocks number (standing_at self.old.standing number) ≡ true }
+        requires eights { room % 8 ≡ 0 }
+        requires some { 0 < room }
+        requires pages { self.old.ever_used + run_of room ≤ length self.old.owner }
+        ensures holds { holdings_of self.new ≡ ran number (arena_base + 4096 * self.old.ever_used) room (run_of room) (holdings_of self.old) }
+        ensures bytes { self.new.bytes ≡ self.old.bytes }
+    {
+        let mut left = room;
+        'pages: while left > PAGE {
+            self.extend(number, PAGE);
+            left -= PAGE;
+        }
+        self.extend(number, left);
     }
 
     // whose an address is
@@ -169,11 +206,19 @@ impl BlockStore for PlainStore {
         if !takes(handle, standing_of(&self.standing, handle)) {
             return Err(StoreRefusal::BadHandle);
         }
-        if bytes > PAGE {
+        if bytes > LIMIT {
             return Err(StoreRefusal::Full);
         }
-        let number = handle as usize;
         let room = room_for(bytes);
+        if room > PAGE {
+            if run_for(room) as usize > self.owner.len() - self.ever_used {
+                return Err(StoreRefusal::Full);
+            }
+            let page = self.ever_used;
+            self.run(handle, room);
+            return Ok(BASE + PAGE * page as u32);
+        }
+        let number = handle as usize;
         let last = self.last[number];
         let left = left_in(&self.used, last);
         if room <= left {
@@ -184,6 +229,7 @@ impl BlockStore for PlainStore {
         }
         match find(&self.owner, 0) {
             Some(page) => {
+                self.ever_used = used_with(page, self.ever_used);
                 self.owner[page] = 2 * handle + 1;
                 self.used[page] = room;
                 self.last[number] = page as u32 + 1;
@@ -220,6 +266,7 @@ impl BlockStore for PlainStore {
             }
             None => match find(&self.owner, 0) {
                 Some(page) => {
+                    self.ever_used = used_with(page, self.ever_used);
                     self.owner[page] = 2 * size + 2;
                     fill(
                         &mut self.slots,

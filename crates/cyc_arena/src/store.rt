@@ -36,9 +36,11 @@ pub trait BlockStore {
 
     /// A block of so many bytes in the region of a handle: its address, a multiple of 8. Handle 0
     /// is the heap, and an open key's number is its region's handle. The room is the bytes rounded
-    /// up to 8 (0 to 8), and meets no live room. BadHandle where the number is no such handle; Full
-    /// above 4,096 bytes, or where the room is more than what is left of the region's last page and
-    /// no page is free; Memory where the store lacks host memory.
+    /// up to 8 (0 to 8), and meets no live room. BadHandle where the number is no such handle, looked
+    /// for first; Full above 1,048,576 bytes. A room above 4,096 takes a run of neighbouring pages that
+    /// were never used, and is Full where fewer are left; another room is Full where it is more than
+    /// what is left of the region's last page and no page is free. Memory where the store lacks host
+    /// memory.
     fn region_alloc(&mut self, handle: u32, bytes: u32) -> Result<u32, StoreRefusal>
         ensures does { Does result (holdings self.new) (region_alloc handle bytes (answer_of result) (holdings self.old)) }
         ensures bytes { byte_at self.new ≡ byte_at self.old }

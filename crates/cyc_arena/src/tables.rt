@@ -2,7 +2,7 @@
 
 ghost use Rattle.std.specs.Prelude.{◌≡◌, ◌+◌, ◌-◌, ◌≤◌, ◌<◌, length, slice_index};
 ghost use Rattle.arena_laws.specs.Lawful.{takes_blocks};
-ghost use Rattle.cyc_arena.specs.Plain.{Finds, IsCleared, filled, left_of, standing_at};
+ghost use Rattle.cyc_arena.specs.Plain.{Finds, IsCleared, IsLowest, filled, left_of, standing_at, used_up};
 
 use arena_laws::{PAGE, Standing};
 
@@ -11,7 +11,8 @@ pub(crate) const PAGE_LIMIT: u32 = 4096;
 
 // the first place with this word
 pub(crate) fn find(words: &[u32], word: u32) -> Option<usize>
-    ensures { Finds word words.now result }
+    ensures found { Finds word words.now result }
+    ensures lowest { IsLowest word words.now result }
 {
     let mut p: usize = 0;
     'words: while p < words.len() {
@@ -21,6 +22,18 @@ pub(crate) fn find(words: &[u32], word: u32) -> Option<usize>
         p += 1;
     }
     None
+}
+
+// how many pages were ever used, where this one is
+pub(crate) fn used_with(page: usize, ever_used: usize) -> usize
+    requires { ever_used < 4097 }
+    ensures { result ≡ used_up page ever_used }
+{
+    if page == ever_used {
+        ever_used + 1
+    } else {
+        ever_used
+    }
 }
 
 // writes 0 wherever this word stands

@@ -7,7 +7,7 @@ use Rattle.arena_laws.specs.declared.standing.Standing.TheVariants.{Lexical, Ope
 use Rattle.arena_laws.specs.Counts.{is_full_for_block, is_too_long, room_of}
 use Rattle.arena_laws.specs.Holdings.{Holdings}
 use Rattle.arena_laws.specs.Lawful.{Answer, Grants, Refuses, Lacks, Done, refuses, gives_block, is_lawful_room, takes_blocks, with_region_block}
-use Rattle.arena_laws.specs.Laws.{Does, answer_of, region_alloc}
+use Rattle.arena_laws.specs.Laws.{Does, answer_of, is_block_refused, region_alloc}
 use Rattle.dynamic_region.specs.Keyed.{AreTagged, is_closed_key, keyed, lexical, standing_of}
 
 -- what a call did, with the keys' numbers
@@ -58,6 +58,10 @@ module _ (h bytes : ℕ) where
         let e : takes_blocks h (standing_of (tags h)) ≡ takes_blocks h (s.standing h) = same_takes h (tags h) n ∙ ap (takes_blocks h) (sym (t.each h)) in
         ap (λ takes. asked (keyed s tags) takes (is_full_for_block h bytes s.counts) (is_too_long bytes) a) e
         ∙ asked_same (takes_blocks h (s.standing h)) (is_full_for_block h bytes s.counts) (is_too_long bytes) a
+
+    pub placed_full : AreTagged s tags → is_closed_key (standing_of (tags h)) ≡ false → is_block_refused h bytes s ≡ is_block_refused h bytes (keyed s tags)
+    placed_full t n =
+        ap (λ takes. takes && is_full_for_block h bytes s.counts) (sym (same_takes h (tags h) n ∙ ap (takes_blocks h) (sym (t.each h))))
 
     pub placed_does : (after : Holdings) (tags_after : ℕ → Option ℕ) (r : Result ℕ StoreRefusal) → AreTagged s tags →
         is_closed_key (standing_of (tags h)) ≡ false → tags_after ≡ tags → Does r after (region_alloc h bytes (answer_of r) s) →

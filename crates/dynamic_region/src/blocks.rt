@@ -1,6 +1,6 @@
 // Unique blocks beside the regions.
 
-ghost use Rattle.std.specs.Prelude.{◌≡◌, is_ok, ◌&&◌};
+ghost use Rattle.std.specs.Prelude.{◌≡◌, false, is_ok, ◌&&◌};
 ghost use Rattle.arena_laws.specs.Counts.{class_of, is_full_for_slot, slot_needs_page};
 ghost use Rattle.arena_laws.specs.Lawful.{unique_free};
 ghost use Rattle.arena_laws.specs.Laws.{Does, answer_of, is_refused_full, unique_alloc};
@@ -25,8 +25,9 @@ pub trait Blocks: Regions {
         ensures fresh { let needs = slot_needs_page (class_of bytes) (Self.holdings self.old).counts in
             Self.ever_used self.new ≡ used_after (is_ok result && needs) (Self.holdings self.old) (Self.ever_used self.old) }
         ensures touched { let needs = slot_needs_page (class_of bytes) (Self.holdings self.old).counts in
-            let link = reads_link (Self.holdings self.old) (Self.ever_used self.old) in
-            Touched (is_ok result) (slot_least needs link) 8 0 (Self.touches self.new) };
+            let link = reads_link (Self.holdings self.old) in
+            Touched (is_ok result) (slot_least needs link) 8 0 (Self.touches self.new) }
+        ensures unchanged { is_ok result ≡ false → Self.headers self.new ≡ Self.headers self.old };
 
     /// Frees the unique block that begins at an address; its page stays with its class. NotABlock
     /// where no live unique block begins there.
@@ -35,7 +36,8 @@ pub trait Blocks: Regions {
         ensures tags { Self.tag_of self.new ≡ Self.tag_of self.old }
         ensures bytes { Self.byte_at self.new ≡ Self.byte_at self.old }
         ensures touched { Touched (is_ok result) 12 2 4 (Self.touches self.new) }
-        ensures fresh { Self.ever_used self.new ≡ Self.ever_used self.old };
+        ensures fresh { Self.ever_used self.new ≡ Self.ever_used self.old }
+        ensures unchanged { is_ok result ≡ false → Self.headers self.new ≡ Self.headers self.old };
 }
 
 impl<R: Blocks> Keys<R> {
@@ -50,8 +52,9 @@ impl<R: Blocks> Keys<R> {
         ensures fresh { let needs = slot_needs_page (class_of bytes) (R.holdings self.old.regions).counts in
             R.ever_used self.new.regions ≡ used_after (is_ok result && needs) (R.holdings self.old.regions) (R.ever_used self.old.regions) }
         ensures touched { let needs = slot_needs_page (class_of bytes) (R.holdings self.old.regions).counts in
-            let link = reads_link (R.holdings self.old.regions) (R.ever_used self.old.regions) in
+            let link = reads_link (R.holdings self.old.regions) in
             Touched (is_ok result) (slot_least needs link) 8 0 self.new.touched }
+        ensures unchanged { is_ok result ≡ false → R.headers self.new.regions ≡ R.headers self.old.regions }
     {
         let given = self.regions.unique_alloc(bytes);
         self.touched = u64::from(self.regions.touched());
@@ -66,6 +69,7 @@ impl<R: Blocks> Keys<R> {
         ensures bytes { R.byte_at self.new.regions ≡ R.byte_at self.old.regions }
         ensures touched { Touched (is_ok result) 12 2 4 self.new.touched }
         ensures fresh { R.ever_used self.new.regions ≡ R.ever_used self.old.regions }
+        ensures unchanged { is_ok result ≡ false → R.headers self.new.regions ≡ R.headers self.old.regions }
     {
         let freed = self.regions.unique_free(at);
         self.touched = u64::from(self.regions.touched());

@@ -1,14 +1,14 @@
 // The calls on keys, and those on the regions below.
 
-ghost use Rattle.std.specs.Prelude.{◌≡◌, ◌+◌, ◌-◌, ◌≤◌, true, is_ok, ◌&&◌, if◌then◌else◌};
-ghost use Rattle.arena_laws.specs.Counts.{block_needs_page, is_full, room_of};
+ghost use Rattle.std.specs.Prelude.{◌≡◌, ◌+◌, ◌-◌, ◌≤◌, true, false, is_ok, ◌&&◌, if◌then◌else◌};
+ghost use Rattle.arena_laws.specs.Counts.{free_pages, is_full, room_of};
 ghost use Rattle.arena_laws.specs.Holdings.{is_in_arena, is_live_in, is_none, is_some};
 ghost use Rattle.arena_laws.specs.Lawful.{key_close, key_free, key_open, region_free, without_number};
 ghost use Rattle.arena_laws.specs.Laws.{Does, answer_of, is_block_refused, is_refused_full, key_new, loaded, region_alloc, region_new, stored};
 ghost use Rattle.region_runtime.specs.Calls.{said_address, said_done, said_handle, tags_set};
 ghost use Rattle.region_runtime.specs.Pool.{changed_words};
 ghost use Rattle.region_runtime.specs.Headers.{AreBlank, word_in};
-ghost use Rattle.region_runtime.specs.Touches.{Touched, block_least, reads_link, touches_for, used_after};
+ghost use Rattle.region_runtime.specs.Touches.{Touched, alloc_least, reads_link, touches_for, used_after, used_with_block};
 ghost use Rattle.dynamic_region.specs.Calls as key_calls;
 ghost use Rattle.dynamic_region.specs.Calls.{said_key, said_opened};
 ghost use Rattle.dynamic_region.specs.Keyed.{held_by, is_closed_key, standing_of};
@@ -121,7 +121,8 @@ impl<R: Regions> Keys<R> {
         ensures full { is_refused_full (said_key result) ≡ is_full (R.holdings self.old.regions).counts }
         ensures bytes { R.byte_at self.new.regions ≡ R.byte_at self.old.regions }
         ensures fresh { R.ever_used self.new.regions ≡ used_after (is_ok result) (R.holdings self.old.regions) (R.ever_used self.old.regions) }
-        ensures sums { self.new.touched ≡ (if is_ok result then 7 + reads_link (R.holdings self.old.regions) (R.ever_used self.old.regions) else 0) }
+        ensures sums { self.new.touched ≡ (if is_ok result then 8 + reads_link (R.holdings self.old.regions) else 0) }
+        ensures unchanged { is_ok result ≡ false → R.headers self.new.regions ≡ R.headers self.old.regions }
     {
         let made = self.regions.region_new();
         let touched = u64::from(self.regions.touched());
@@ -146,6 +147,7 @@ impl<R: Regions> Keys<R> {
         ensures bytes { R.byte_at self.new.regions ≡ R.byte_at self.old.regions }
         ensures sums { self.new.touched ≡ touches_for (is_some (R.tag_of self.old.regions key.0)) 2 (R.holdings self.old.regions).pages key.0 + (if is_ok result then 2 else 0) }
         ensures fresh { R.ever_used self.new.regions ≡ R.ever_used self.old.regions }
+        ensures unchanged { is_ok result ≡ false → R.headers self.new.regions ≡ R.headers self.old.regions }
     {
         match self.standing(key.0) {
             Some(Standing::Closed) => {
@@ -165,6 +167,7 @@ impl<R: Regions> Keys<R> {
         ensures bytes { R.byte_at self.new.regions ≡ R.byte_at self.old.regions }
         ensures sums { self.new.touched ≡ touches_for (is_some (R.tag_of self.old.regions key.0)) 2 (R.holdings self.old.regions).pages key.0 + (if is_ok result then 2 else 0) }
         ensures fresh { R.ever_used self.new.regions ≡ R.ever_used self.old.regions }
+        ensures unchanged { is_ok result ≡ false → R.headers self.new.regions ≡ R.headers self.old.regions }
     {
         match self.standing(key.0) {
             Some(Standing::Opened) => {
@@ -188,6 +191,7 @@ impl<R: Regions> Keys<R> {
         ensures few { changed_words (R.headers self.old.regions) (R.headers self.new.regions) ≤ 8 }
         ensures touched { self.new.touched ≤ 8 }
         ensures counted { changed_words (R.headers self.old.regions) (R.headers self.new.regions) ≤ self.new.touched }
+        ensures unchanged { is_ok result ≡ false → R.headers self.new.regions ≡ R.headers self.old.regions }
     {
         match self.standing(key.0) {
             Some(Standing::Closed) => {
@@ -207,7 +211,8 @@ impl<R: Regions> Keys<R> {
         ensures full { is_none result ≡ is_full (R.holdings self.old.regions).counts }
         ensures bytes { R.byte_at self.new.regions ≡ R.byte_at self.old.regions }
         ensures fresh { R.ever_used self.new.regions ≡ used_after (is_some result) (R.holdings self.old.regions) (R.ever_used self.old.regions) }
-        ensures sums { self.new.touched ≡ (if is_some result then 5 + reads_link (R.holdings self.old.regions) (R.ever_used self.old.regions) else 0) }
+        ensures sums { self.new.touched ≡ (if is_some result then 6 + reads_link (R.holdings self.old.regions) else 0) }
+        ensures unchanged { is_some result ≡ false → R.headers self.new.regions ≡ R.headers self.old.regions }
     {
         let made = self.regions.region_new();
         self.touched = u64::from(self.regions.touched());
@@ -216,16 +221,17 @@ impl<R: Regions> Keys<R> {
 
     /// A block of so many bytes in a live region, in the heap (0), or in an open key's region under
     /// the key's number: its address, a multiple of 8. BadHandle where the number is no such handle (a
-    /// closed key's too); Full above 4,096 bytes, or where a page is needed and none is free.
+    /// closed key's too); Full above 1,048,576 bytes, or where a page or a run of pages is
+    /// needed and there is none.
     pub fn region_alloc(&mut self, handle: Handle, bytes: u32) -> Result<u32, Refusal>
         ensures does { let held = held_by R.holdings R.tag_of in
             Does (said_address result) (held self.new.regions) (region_alloc handle.0 bytes (answer_of (said_address result)) (held self.old.regions)) }
         ensures full { is_refused_full (said_address result) ≡ is_block_refused handle.0 bytes (held_by R.holdings R.tag_of self.old.regions) }
         ensures bytes { R.byte_at self.new.regions ≡ R.byte_at self.old.regions }
-        ensures fresh { R.ever_used self.new.regions ≡ used_after (is_ok result && block_needs_page handle.0 (room_of bytes) (R.holdings self.old.regions).counts) (R.holdings self.old.regions) (R.ever_used self.old.regions) }
-        ensures sums { let needs = block_needs_page handle.0 (room_of bytes) (R.holdings self.old.regions).counts in
-            let tag = touches_for (is_some (R.tag_of self.old.regions handle.0)) 2 (R.holdings self.old.regions).pages handle.0 in
-            Touched (is_ok result) (tag + block_least handle.0 needs (reads_link (R.holdings self.old.regions) (R.ever_used self.old.regions))) 1 5 self.new.touched }
+        ensures fresh { R.ever_used self.new.regions ≡ (if is_ok result then used_with_block handle.0 (room_of bytes) (R.holdings self.old.regions) (R.ever_used self.old.regions) else R.ever_used self.old.regions) }
+        ensures sums { let tag = touches_for (is_some (R.tag_of self.old.regions handle.0)) 2 (R.holdings self.old.regions).pages handle.0 in
+            Touched (is_ok result) (tag + alloc_least handle.0 (room_of bytes) (R.holdings self.old.regions)) 1 5 self.new.touched }
+        ensures unchanged { is_ok result ≡ false → R.headers self.new.regions ≡ R.headers self.old.regions }
     {
         let standing = self.standing(handle.0);
         if is_closed(standing) {
@@ -248,6 +254,7 @@ impl<R: Regions> Keys<R> {
         ensures few { changed_words (R.headers self.old.regions) (R.headers self.new.regions) ≤ 8 }
         ensures touched { self.new.touched ≤ 8 }
         ensures counted { changed_words (R.headers self.old.regions) (R.headers self.new.regions) ≤ self.new.touched }
+        ensures unchanged { is_ok result ≡ false → R.headers self.new.regions ≡ R.headers self.old.regions }
     {
         match self.standing(handle.0) {
             Some(Standing::Lexical) => {
@@ -260,7 +267,7 @@ impl<R: Regions> Keys<R> {
 
     /// How many pages are free.
     pub fn free_pages(&self) -> u32
-        ensures { result ≡ (R.holdings self.now.regions).counts.free }
+        ensures { result ≡ free_pages (R.holdings self.now.regions).counts }
     {
         self.regions.free_pages()
     }
@@ -269,7 +276,7 @@ impl<R: Regions> Keys<R> {
     /// A page that is taken is one of them only where no freed one is there.
     pub fn fresh_pages(&self) -> u32
         ensures fresh { result ≡ (R.holdings self.now.regions).pages - R.ever_used self.now.regions }
-        ensures free { result ≤ (R.holdings self.now.regions).counts.free }
+        ensures count { result ≡ (R.holdings self.now.regions).counts.fresh }
         ensures unused { AreBlank (R.ever_used self.now.regions) (word_in (R.headers self.now.regions)) }
     {
         self.regions.fresh_pages()

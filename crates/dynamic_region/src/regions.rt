@@ -1,14 +1,14 @@
 // What keys are made over.
 
-ghost use Rattle.std.specs.Prelude.{◌≡◌, ◌+◌, ◌-◌, ◌≤◌, ℕ, List, Option, is_ok, ◌&&◌, if◌then◌else◌};
-ghost use Rattle.arena_laws.specs.Counts.{block_needs_page, is_full, room_of};
+ghost use Rattle.std.specs.Prelude.{◌≡◌, ◌+◌, ◌-◌, ◌≤◌, ℕ, List, Option, false, is_ok, ◌&&◌, if◌then◌else◌};
+ghost use Rattle.arena_laws.specs.Counts.{free_pages, is_full, room_of};
 ghost use Rattle.arena_laws.specs.Holdings.{Holdings, is_in_arena, is_live_in, is_none, is_some};
 ghost use Rattle.arena_laws.specs.Lawful.{region_free};
 ghost use Rattle.arena_laws.specs.Laws.{Does, answer_of, is_block_refused, is_refused_full, loaded, region_alloc, region_new, stored};
 ghost use Rattle.region_runtime.specs.Calls.{said_address, said_done, said_handle, tags_set, tags_with, tags_without};
 ghost use Rattle.region_runtime.specs.Pool.{byte_at, changed_words, held, tag_of};
 ghost use Rattle.region_runtime.specs.Headers.{AreBlank, word_in};
-ghost use Rattle.region_runtime.specs.Touches.{Touched, block_least, reads_link, touches_for, used_after};
+ghost use Rattle.region_runtime.specs.Touches.{Touched, alloc_least, reads_link, touches_for, used_after, used_with_block};
 ghost use Rattle.dynamic_region.specs.Keyed.{AreTagged};
 ghost use Rattle.dynamic_region.specs.Tagged.{pool_tagged};
 
@@ -40,19 +40,20 @@ pub trait Regions {
         ensures tags { tag_of self.new ≡ tags_with result (tag_of self.old) }
         ensures bytes { byte_at self.new ≡ byte_at self.old }
         ensures fresh { ever_used self.new ≡ used_after (is_some result) (holdings self.old) (ever_used self.old) }
-        ensures touched { touches self.new ≡ (if is_some result then 5 + reads_link (holdings self.old) (ever_used self.old) else 0) };
+        ensures touched { touches self.new ≡ (if is_some result then 6 + reads_link (holdings self.old) else 0) }
+        ensures unchanged { is_some result ≡ false → headers self.new ≡ headers self.old };
 
     /// A block of so many bytes in a live region, or in the heap (0): its address, a multiple of 8.
-    /// BadHandle where the handle is of no live region; Full above 4,096 bytes, or where a page is
-    /// needed and none is free.
+    /// BadHandle where the handle is of no live region; Full above 1,048,576 bytes, or where a page or
+    /// a run of pages is needed and there is none.
     fn region_alloc(&mut self, handle: Handle, bytes: u32) -> Result<u32, Refusal>
         ensures does { Does (said_address result) (holdings self.new) (region_alloc handle.0 bytes (answer_of (said_address result)) (holdings self.old)) }
         ensures full { is_refused_full (said_address result) ≡ is_block_refused handle.0 bytes (holdings self.old) }
         ensures tags { tag_of self.new ≡ tag_of self.old }
         ensures bytes { byte_at self.new ≡ byte_at self.old }
-        ensures fresh { ever_used self.new ≡ used_after (is_ok result && block_needs_page handle.0 (room_of bytes) (holdings self.old).counts) (holdings self.old) (ever_used self.old) }
-        ensures touched { let needs = block_needs_page handle.0 (room_of bytes) (holdings self.old).counts in
-            Touched (is_ok result) (block_least handle.0 needs (reads_link (holdings self.old) (ever_used self.old))) 1 3 (touches self.new) };
+        ensures fresh { ever_used self.new ≡ (if is_ok result then used_with_block handle.0 (room_of bytes) (holdings self.old) (ever_used self.old) else ever_used self.old) }
+        ensures touched { Touched (is_ok result) (alloc_least handle.0 (room_of bytes) (holdings self.old)) 1 3 (touches self.new) }
+        ensures unchanged { is_ok result ≡ false → headers self.new ≡ headers self.old };
 
     /// Frees a region: its blocks and all its pages. BadHandle where the handle is of no live region
     /// (the heap's too). At most 8 header words change, and at most 5 are touched.
@@ -64,7 +65,8 @@ pub trait Regions {
         ensures touched { touches self.new ≤ 5 }
         ensures counted { changed_words (headers self.old) (headers self.new) ≤ touches self.new }
         ensures sums { touches self.new ≡ touches_for (is_some (tag_of self.old handle.0)) 5 (holdings self.old).pages handle.0 }
-        ensures fresh { ever_used self.new ≡ ever_used self.old };
+        ensures fresh { ever_used self.new ≡ ever_used self.old }
+        ensures unchanged { is_ok result ≡ false → headers self.new ≡ headers self.old };
 
     /// The tag of a live region; none for another handle, and for the heap's. At most 2 header words
     /// are touched.
@@ -86,17 +88,18 @@ pub trait Regions {
         ensures holds { holdings self.new ≡ holdings self.old }
         ensures bytes { byte_at self.new ≡ byte_at self.old }
         ensures touched { touches self.new ≡ touches_for (is_some (tag_of self.old handle.0)) 2 (holdings self.old).pages handle.0 }
-        ensures fresh { ever_used self.new ≡ ever_used self.old };
+        ensures fresh { ever_used self.new ≡ ever_used self.old }
+        ensures unchanged { result ≡ false → headers self.new ≡ headers self.old };
 
     /// How many pages are free.
     fn free_pages(&self) -> u32
-        ensures { result ≡ (holdings self.now).counts.free };
+        ensures { result ≡ free_pages (holdings self.now).counts };
 
     /// How many pages were never used. They are free, they come last, and their header words are 0.
     /// A page that is taken is one of them only where no freed one is there.
     fn fresh_pages(&self) -> u32
         ensures fresh { result ≡ (holdings self.now).pages - ever_used self.now }
-        ensures free { result ≤ (holdings self.now).counts.free }
+        ensures count { result ≡ (holdings self.now).counts.fresh }
         ensures unused { AreBlank (ever_used self.now) (word_in (headers self.now)) };
 
     /// How many header words the last call with `&mut self` read or wrote.

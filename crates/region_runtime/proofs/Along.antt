@@ -1,29 +1,13 @@
 -- What was shown of a pool's shape holds of the pool that callers see.
-use Rattle.std.proofs.Common.{◌≡◌, ℕ, ◌+◌, ◌-◌, ◌*◌, ◌/◌, ◌<◌, ◌≤◌, true, false, Some, None, length, Ok, nat_eq, nat_lt, sym, ap, subst, ◌∙◌, arith}
+use Rattle.std.proofs.Common.{◌≡◌, ℕ, ◌+◌, ◌-◌, ◌*◌, ◌/◌, ◌<◌, ◌≤◌, true, false, Some, None, length, Ok, nat_lt, sym, ap, subst, ◌∙◌, arith}
 use Rattle.std.specs.Prelude.{if◌then◌else◌, slice_index}
 use Rattle.std.proofs.lemmas.Bool.Decides.{nat_tests}
-use Rattle.arena_laws.specs.Counts.{put}
+use Rattle.arena_laws.specs.Counts.{put, is_full}
 use Rattle.arena_laws.specs.Holdings.{arena_base}
 use Rattle.arena_laws.specs.Lawful.{Grants, region_free}
 use Rattle.arena_laws.specs.Laws.{Does, region_new}
-use Rattle.region_runtime.specs.Headers.{AreBlank, word_in, owner_of, used_of, is_live_number, pages_of, holder_of}
-use Rattle.region_runtime.specs.Pool.{
-  Pooled,
-  Shape,
-  shape_of,
-  AreApart,
-  byte_at,
-  free_in,
-  held,
-  holdings_of,
-  is_taken,
-  is_taken_by,
-  page_at,
-  tag_by,
-  tag_of,
-  word_by,
-  word_of,
-}
+use Rattle.region_runtime.specs.Headers.{word_in, owner_of, used_of, is_live_number, pages_of, holder_of}
+use Rattle.region_runtime.specs.Pool.{Pooled, Shape, shape_of, AreApart, byte_at, held, holdings_of, is_taken, is_taken_by, page_at, tag_by, tag_of, word_by, word_of, counts_of}
 use Rattle.region_runtime.specs.Sound.{IsOrdered, IsSound, no_page}
 use Rattle.region_runtime.specs.Steps.{next_page, with_first, with_freed, with_taken, without_page}
 use Rattle.region_runtime.specs.Calls.{IsGot}
@@ -65,7 +49,7 @@ sound_after old new after s l b e o =
     }
 
 -- the next free page is there
-pub next_within : (p : Pooled) → IsSound p → nat_eq (free_in (shape_of p)) 0 ≡ false → next_page (shape_of p) < length p.words / 16
+pub next_within : (p : Pooled) → IsSound p → is_full (counts_of (shape_of p)) ≡ false → next_page (shape_of p) < length p.words / 16
 next_within p s f = (granted (shape_of p) s.ordered f).within
 
 pub pages_few : (p : Pooled) → IsSound p → length p.words / 16 ≤ 4096
@@ -81,7 +65,7 @@ pub record GrantSays (old new : Pooled) (p : ℕ) : Type 0 where
   pub bytes : byte_at new ≡ byte_at old
   pub fresh : new.ever_used ≡ used_after true (held old) old.ever_used
 
-pub grant_says : (fields value new : Pooled) (p : ℕ) → fields ≡ value → IsSound fields → nat_eq (free_in (shape_of fields)) 0 ≡ false →
+pub grant_says : (fields value new : Pooled) (p : ℕ) → fields ≡ value → IsSound fields → is_full (counts_of (shape_of fields)) ≡ false →
     p ≡ next_page (shape_of fields) → shape_of new ≡ with_first p (without_page (shape_of fields)) → new.bytes ≡ fields.bytes → GrantSays value new p
 grant_says fields value new p v s f n e b =
     let t = shape_of fields in
@@ -128,7 +112,7 @@ pub record GotSays (old new : Pooled) (p : ℕ) : Type 0 where
   pub bytes : byte_at new ≡ byte_at old
   pub fresh : new.ever_used ≡ used_after true (held old) old.ever_used
 
-pub got_says : (fields value new : Pooled) (p : ℕ) → fields ≡ value → IsSound fields → nat_eq (free_in (shape_of fields)) 0 ≡ false →
+pub got_says : (fields value new : Pooled) (p : ℕ) → fields ≡ value → IsSound fields → is_full (counts_of (shape_of fields)) ≡ false →
     p ≡ next_page (shape_of fields) → shape_of new ≡ with_taken p (without_page (shape_of fields)) → new.bytes ≡ fields.bytes → GotSays value new p
 got_says fields value new p v s f n e b =
     let t = shape_of fields in

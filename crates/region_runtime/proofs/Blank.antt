@@ -3,7 +3,7 @@ use Rattle.std.proofs.Common.{◌≡◌, ℕ, ◌+◌, ◌-◌, ◌<◌, ◌≤�
 use Rattle.std.specs.Prelude.{if◌then◌else◌}
 use Rattle.std.proofs.lemmas.Bool.Decides.{nat_tests}
 use Rattle.region_runtime.specs.Headers.{AreBlank, put_word}
-use Rattle.region_runtime.specs.Pool.{Pooled, Shape, shape_of, free_in, held, holdings_of}
+use Rattle.region_runtime.specs.Pool.{Pooled, Shape, shape_of, held, holdings_of}
 use Rattle.region_runtime.specs.Steps.{without_page}
 use Rattle.region_runtime.specs.Touches.{Touched, block_least, has_freed, one_if, reads_link, reads_number, reads_page, used_after}
 use Rattle.region_runtime.proofs.Tags.{word_other}
@@ -18,16 +18,9 @@ blank_more word used b = record { blank = λ q g m. b.blank q g (omega (arith, m
 
 -- ---- a page is taken
 
-more_than : (a b : ℕ) → nat_lt b (a + b) ≡ nat_lt 0 a
-more_than a b = by_test (nat_lt 0 a) refl
-  where
-    by_test : (c : Bool) → nat_lt 0 a ≡ c → nat_lt b (a + b) ≡ c
-    by_test true e = grind (arith, nat_tests)
-    by_test false e = grind (arith, nat_tests)
-
-freed_is : (t : Shape) → has_freed (free_in t) t.pages t.ever_used ≡ nat_lt 0 t.freed
+freed_is : (t : Shape) → has_freed t.freed ≡ nat_lt 0 t.freed
 unfolding has_freed
-freed_is t = more_than t.freed (t.pages - t.ever_used)
+freed_is t = refl
 
 pub used_taken : (t : Shape) → (without_page t).ever_used ≡ used_after true (holdings_of t) t.ever_used
 unfolding without_page
@@ -41,9 +34,9 @@ used_taken t = by_freed (nat_lt 0 t.freed) ∙ ap (λ b. if b then t.ever_used e
 
 -- its link is read where it is a freed one
 pub link_is : (fields value : Pooled) (now : Shape) → fields ≡ value → now ≡ shape_of fields →
-    one_if (nat_lt 0 now.freed) ≡ reads_link (held value) value.ever_used
+    one_if (nat_lt 0 now.freed) ≡ reads_link (held value)
 link_is fields value now v e =
-    ap (λ t. one_if (nat_lt 0 t.freed)) e ∙ ap one_if (sym (freed_is (shape_of fields))) ∙ ap (λ p. reads_link (held p) p.ever_used) v
+    ap (λ t. one_if (nat_lt 0 t.freed)) e ∙ ap one_if (sym (freed_is (shape_of fields))) ∙ ap (λ p. reads_link (held p)) v
 
 pub one_where : (n : ℕ) → 0 < n → one_if (nat_lt 0 n) ≡ 1
 unfolding one_if
@@ -91,12 +84,12 @@ cut_words h last r n link l z o e = by_heap (nat_eq h 0) (nat_eq last 0) refl re
         let k = o (grind (arith, nat_tests)) in record { least = omega (arith, k, e); most = omega (arith, k, e) }
 
 pub grow_words : (h last r n link : ℕ) → (0 < h → 0 < last) → (h ≡ 0 → r ≡ 0) → (0 < h → r ≡ 1) →
-    n ≡ r + (if nat_eq h 0 then 0 else 1) + (if nat_eq last 0 then 0 else 1) + link + (if nat_eq h 0 then 2 else 7) →
+    n ≡ r + (if nat_eq h 0 then 0 else 1) + (if nat_eq last 0 then 0 else 1) + link + (if nat_eq h 0 then 2 else 8) →
     Touched true (block_least h true link) 1 3 n
 grow_words h last r n link l z o e = by_heap (nat_eq h 0) (nat_eq last 0) refl refl e
   where
     by_heap : (b d : Bool) → nat_eq h 0 ≡ b → nat_eq last 0 ≡ d →
-        n ≡ r + (if b then 0 else 1) + (if d then 0 else 1) + link + (if b then 2 else 7) → Touched true ((if b then 2 else 10) + link) 1 3 n
+        n ≡ r + (if b then 0 else 1) + (if d then 0 else 1) + link + (if b then 2 else 8) → Touched true ((if b then 2 else 11) + link) 1 3 n
     by_heap true true t u e =
         let k = z (grind (arith, nat_tests)) in record { least = omega (arith, k, e); most = omega (arith, k, e) }
     by_heap true false t u e =

@@ -70,6 +70,7 @@ module _ (r : Raw) (pages : ℕ) (zeros : AreZero pages r) where
           };
           rounded = λ p. let e = z p 2 in grind (arith, nat_tests);
           within = λ p. let e = z p 2 in omega (arith, e);
+          current = λ h e. absurd (not_live h e);
           heap = λ p e. absurd (omega (arith, e));
           unused = record { blank = λ p f l. z p f };
         };
@@ -98,7 +99,8 @@ module _ (r : Raw) (pages : ℕ) (zeros : AreZero pages r) where
     standing = λ h. if dead h i then Some Lexical else None;
     owner = λ q. owner_none q i;
     counts = record {
-      free = (let p = pages_are in let e : 0 + (length r.words / 16 - 0) ≡ pages = omega (arith, p) in e) i;
+      fresh = (let p = pages_are in let e : length r.words / 16 - 0 ≡ pages = omega (arith, p) in e) i;
+      given = 0;
       taken = λ h. taken_none h i;
       left = λ h. left_of (used_of t.word) (last_none h i);
       class_pages = λ c. 0;

@@ -3,12 +3,12 @@ use Rattle.std.proofs.Common.{◌≡◌, ℕ, zero, suc, ◌+◌, ◌-◌, ◌<�
 use Rattle.std.specs.Prelude.{if◌then◌else◌}
 use Rattle.std.proofs.lemmas.Bool.Decides.{nat_tests}
 use Rattle.arena_laws.specs.declared.standing.Standing.TheVariants.{Lexical}
-use Rattle.arena_laws.specs.Counts.{put, is_full}
+use Rattle.arena_laws.specs.Counts.{put, is_full, one_less}
 use Rattle.arena_laws.specs.Holdings.{Holdings}
 use Rattle.arena_laws.specs.Lawful.{Grants, with_number, is_new_number}
 use Rattle.arena_laws.specs.Laws.{Does, region_new}
-use Rattle.region_runtime.specs.Headers.{put_word, owner_of, used_of, newest_of, count_of, heap_mark, taken_mark, is_live_number, pages_of, holder_of, marked}
-use Rattle.region_runtime.specs.Pool.{Shape, free_in, last_of, taken_by, left_of, owner_at, counts_of, standing_by, holdings_of, tag_by, is_taken_by, word_by}
+use Rattle.region_runtime.specs.Headers.{put_word, owner_of, used_of, count_of, heap_mark, taken_mark, is_live_number, pages_of, holder_of, marked, current_of}
+use Rattle.region_runtime.specs.Pool.{Shape, last_of, taken_by, left_of, owner_at, counts_of, standing_by, holdings_of, tag_by, is_taken_by, word_by}
 use Rattle.region_runtime.specs.Sound.{IsOrdered, freed_of, no_page}
 use Rattle.region_runtime.specs.Steps.{next_page, with_first, without_page}
 use Rattle.region_runtime.proofs.Words.{live_some, last_of_heap, last_of_region, last_of_other}
@@ -20,17 +20,18 @@ use Rattle.region_runtime.proofs.Held.{marked_kept, taken_heap, taken_region, ta
 use Rattle.region_runtime.proofs.Tags.{word_other, taken_same, not_taken, small_unmarked, words_same, tag_live, tag_same}
 
 -- what is held while a page is in hand: a free page less
-pub less_holds : (t u : Shape) → IsLess t u → holdings_of u ≡ record (holdings_of t) { counts = record (counts_of t) { free = free_in t - 1 } }
+pub less_holds : (t u : Shape) → IsLess t u → holdings_of u ≡ record (holdings_of t) { counts = one_less (counts_of t) }
 unfolding last_of taken_by
 less_holds t u l = λ i. record {
   pages = l.pages i;
   standing = standing_by (owner_of (l.word i));
   owner = owner_at (holder_of (l.word i)) (used_of (l.word i));
   counts = record {
-    free = l.free i;
+    fresh = l.fresh i;
+    given = l.given i;
     taken = λ h. if nat_eq h 0 then marked heap_mark (owner_of (l.word i)) (l.pages i) else if is_live_number (owner_of (l.word i)) h then count_of
         (l.word i) h else 0;
-    left = λ h. left_of (used_of (l.word i)) (if nat_eq h 0 then l.heap_last i else if is_live_number (owner_of (l.word i)) h then newest_of
+    left = λ h. left_of (used_of (l.word i)) (if nat_eq h 0 then l.heap_last i else if is_live_number (owner_of (l.word i)) h then current_of
         (l.word i) h + 1 else 0);
     class_pages = λ c. 0;
     slots = λ c. 0;
@@ -40,8 +41,8 @@ less_holds t u l = λ i. record {
 -- words of other pages
 first_others : (u : Shape) (p q f : ℕ) → nat_eq q p ≡ false → (with_first p u).word q f ≡ u.word q f
 first_others u p q f n =
-    let a = put_word p 1 (p + 1) u.word in let b = put_word p 2 0 a in let c = put_word p 3 p b in let d = put_word p 4 1 c in
-    word_other p 5 0 d q f n ∙ word_other p 4 1 c q f n ∙ word_other p 3 p b q f n ∙ word_other p 2 0 a q f n ∙ word_other p 1 (p + 1) u.word q f n
+    let a = put_word p 1 (p + 1) u.word in let b = put_word p 2 0 a in let c = put_word p 3 p b in let d = put_word p 4 1 c in let e = put_word p 5 0 d in
+    word_other p 6 p e q f n ∙ word_other p 5 0 d q f n ∙ word_other p 4 1 c q f n ∙ word_other p 3 p b q f n ∙ word_other p 2 0 a q f n ∙ word_other p 1 (p + 1) u.word q f n
 
 module _ (u : Shape) (p : ℕ) (s : IsOrdered u (page_in_hand p)) where
   abbrev pub first : Shape
@@ -111,7 +112,7 @@ module _ (u : Shape) (p : ℕ) (s : IsOrdered u (page_in_hand p)) where
     where
       by_live : (c : Bool) → is_live_number (owner_of u.word) (suc g) ≡ c → last_of first (suc g) ≡ last_of u (suc g)
       by_live true d =
-          last_of_region first (suc g) (live_other (suc g) e ∙ d) ∙ ap (λ n. n + 1) (first_words (suc g) 3 d e) ∙ sym (last_of_region u (suc g) d)
+          last_of_region first (suc g) (live_other (suc g) e ∙ d) ∙ ap (λ n. n + 1) (first_words (suc g) 6 d e) ∙ sym (last_of_region u (suc g) d)
       by_live false d = last_of_other first (suc g) (omega arith) (live_other (suc g) e ∙ d) ∙ sym (last_of_other u (suc g) (omega arith) d)
 
   left : (g : ℕ) → left_of (used_of first.word) (last_of first g) ≡ put (p + 1) 4096 (λ h. left_of (used_of u.word) (last_of u h)) g
@@ -134,7 +135,7 @@ module _ (u : Shape) (p : ℕ) (s : IsOrdered u (page_in_hand p)) where
     pages = u.pages;
     standing = λ g. standing g i;
     owner = λ q. owners q i;
-    counts = record { free = free_in u; taken = λ g. taken g i; left = λ g. left g i; class_pages = λ c. 0; slots = λ c. 0 };
+    counts = record { fresh = u.pages - u.ever_used; given = u.freed; taken = λ g. taken g i; left = λ g. left g i; class_pages = λ c. 0; slots = λ c. 0 };
   }
 
   pub first_tags : tag_by first.word ≡ put (p + 1) (Some 0) (tag_by u.word)
@@ -189,7 +190,7 @@ pub record IsGranted (t after : Shape) (p : ℕ) : Type 0 where
   pub taken : is_taken_by after.word ≡ is_taken_by t.word
   pub words : word_by after.word ≡ word_by t.word
 
-pub granted : (t : Shape) → IsOrdered t no_page → nat_eq (free_in t) 0 ≡ false → IsGranted t (with_first (next_page t) (without_page t)) (next_page t)
+pub granted : (t : Shape) → IsOrdered t no_page → is_full (counts_of t) ≡ false → IsGranted t (with_first (next_page t) (without_page t)) (next_page t)
 granted t s f =
     let p = next_page t in let u = without_page t in
     let l = page_less t s.begun f in let o = page_taken t s f in

@@ -1,17 +1,14 @@
 -- What the counts read: a page's holder, a last page, and how many pages are taken.
-use Rattle.std.proofs.Common.{◌≡◌, ℕ, zero, suc, ◌+◌, ◌-◌, ◌<◌, ◌≤◌, Bool, true, false, Option, Some, [], ◌∷◌, nat_eq, nat_lt, refl, sym, ap, subst, ◌∙◌, arith}
+use Rattle.std.proofs.Common.{◌≡◌, ℕ, zero, suc, ◌+◌, ◌-◌, ◌<◌, ◌≤◌, Bool, true, false, Option, Some, nat_eq, nat_lt, refl, sym, ap, subst, ◌∙◌, arith}
 use Rattle.std.specs.Prelude.{if◌then◌else◌, ◌&&◌}
 use Rattle.std.proofs.lemmas.Bool.Decides.{nat_tests}
-use Rattle.arena_laws.specs.Counts.{put}
-use Rattle.region_runtime.specs.Chains.{follow, times}
-use Rattle.region_runtime.specs.Headers.{link_of, owner_of, newest_of, count_of, heap_mark, is_live_number, pages_of, holder_of, marked}
-use Rattle.region_runtime.specs.Pool.{Shape, free_in, last_of, taken_by, left_of}
+use Rattle.arena_laws.specs.Counts.{put, one_less, is_full}
+use Rattle.region_runtime.specs.Headers.{owner_of, current_of, count_of, heap_mark, is_live_number, pages_of, holder_of, marked, current_of}
+use Rattle.region_runtime.specs.Pool.{Shape, last_of, taken_by, left_of, counts_of}
 use Rattle.region_runtime.specs.Sound.{IsOrdered, freed_of}
 use Rattle.region_runtime.specs.Steps.{without_page}
 use Rattle.region_runtime.proofs.Words.{live_some, last_of_heap, last_of_region, last_of_other}
-use Rattle.region_runtime.proofs.Chains.{follow_zero, follow_more, times_none, times_more}
-use Rattle.region_runtime.proofs.Places.{first_there, live_small, uses_marked, uses_there}
-use Rattle.region_runtime.proofs.Ordered.{pages_are}
+use Rattle.region_runtime.proofs.Places.{live_small, uses_marked, uses_there}
 use Rattle.region_runtime.proofs.Holders.{holder_heap, holder_live}
 
 -- ---- a mark is counted
@@ -59,26 +56,10 @@ module _ (t : Shape) (in_hand : ℕ → ℕ) (s : IsOrdered t in_hand) where
   few_used : t.ever_used ≤ 4096
   few_used = let a = s.few in let b = s.begun in omega (arith, a, b)
 
-  pub newest_there : (h : ℕ) → is_live_number (owner_of t.word) h ≡ true → 0 < times (newest_of t.word h) (pages_of t.word h)
-  newest_there h e =
-      by_count (count_of t.word h) refl (first_there (freed_of t) (owner_of t.word) (pages_of t.word) t.ever_used in_hand few_used s.chains h e)
-    where
-      by_count : (n : ℕ) → count_of t.word h ≡ n → 0 < times (h - 1) (pages_of t.word h) → 0 < times (newest_of t.word h) (pages_of t.word h)
-      by_count zero d l =
-          let z : pages_of t.word h ≡ [] = pages_are t.word h ∙ ap (λ k. follow (link_of t.word) k (newest_of t.word h)) d ∙ follow_zero (link_of t.word)
-          (newest_of t.word h) in
-          let k = ap (times (h - 1)) z ∙ times_none (h - 1) in absurd (omega (arith, l, k))
-      by_count (suc n) d l =
-          let z : pages_of t.word h ≡ newest_of t.word h ∷ follow (link_of t.word) n (link_of t.word (newest_of t.word h)) =
-          pages_are t.word h ∙ ap (λ k. follow (link_of t.word) k (newest_of t.word h)) d ∙ follow_more (link_of t.word) n (newest_of t.word h) in
-          let k = ap (times (newest_of t.word h)) z
-          ∙ times_more (newest_of t.word h) (newest_of t.word h) (follow (link_of t.word) n (link_of t.word (newest_of t.word h))) in
-          grind (arith, nat_tests)
-
-  pub newest_held : (h : ℕ) → is_live_number (owner_of t.word) h ≡ true → holder_of t.word (newest_of t.word h) ≡ Some h
-  newest_held h e =
-      holder_live (owner_of t.word) (pages_of t.word) (newest_of t.word h) h (s.chains.named h (newest_of t.word h) e (newest_there h e))
-      (live_small (freed_of t) (owner_of t.word) (pages_of t.word) t.ever_used in_hand few_used s.chains h e) e (newest_there h e)
+  pub current_held : (h : ℕ) → is_live_number (owner_of t.word) h ≡ true → holder_of t.word (current_of t.word h) ≡ Some h
+  current_held h e =
+      holder_live (owner_of t.word) (pages_of t.word) (current_of t.word h) h (s.chains.named h (current_of t.word h) e (s.current h e))
+      (live_small (freed_of t) (owner_of t.word) (pages_of t.word) t.ever_used in_hand few_used s.chains h e) e (s.current h e)
 
   pub last_held : (h q : ℕ) → last_of t h ≡ q + 1 → holder_of t.word q ≡ Some h
   last_held zero q e = holder_heap (owner_of t.word) (pages_of t.word) q (s.heap q (sym (last_of_heap t 0 refl) ∙ e))
@@ -87,8 +68,8 @@ module _ (t : Shape) (in_hand : ℕ → ℕ) (s : IsOrdered t in_hand) where
       by_live : (b : Bool) → is_live_number (owner_of t.word) (suc g) ≡ b → holder_of t.word q ≡ Some (suc g)
       by_live false d = let z = last_of_other t (suc g) (omega arith) d in absurd (omega (arith, z, e))
       by_live true d =
-          let l = last_of_region t (suc g) d in let same : newest_of t.word (suc g) ≡ q = omega (arith, l, e) in
-          ap (holder_of t.word) (sym same) ∙ newest_held (suc g) d
+          let l = last_of_region t (suc g) d in let same : current_of t.word (suc g) ≡ q = omega (arith, l, e) in
+          ap (holder_of t.word) (sym same) ∙ current_held (suc g) d
 
   -- so pages that others hold aren't its last
   pub last_differs : (h q : ℕ) (o : Option ℕ) → holder_of t.word q ≡ o → (o ≡ Some h → ⊥) → nat_eq (last_of t h) (q + 1) ≡ false
@@ -113,9 +94,10 @@ pub record IsLess (t u : Shape) : Type 0 where
   pub pages : u.pages ≡ t.pages
   pub word : u.word ≡ t.word
   pub heap_last : u.heap_last ≡ t.heap_last
-  pub free : free_in u ≡ free_in t - 1
+  pub fresh : u.pages - u.ever_used ≡ (one_less (counts_of t)).fresh
+  pub given : u.freed ≡ (one_less (counts_of t)).given
 
-pub page_less : (t : Shape) → t.ever_used ≤ t.pages → nat_eq (free_in t) 0 ≡ false → IsLess t (without_page t)
+pub page_less : (t : Shape) → t.ever_used ≤ t.pages → is_full (counts_of t) ≡ false → IsLess t (without_page t)
 unfolding without_page
 page_less t l f = by_freed (nat_lt 0 t.freed) refl
   where
@@ -123,8 +105,8 @@ page_less t l f = by_freed (nat_lt 0 t.freed) refl
       first_freed = t.word t.first_freed 0;
       freed = t.freed - 1;
     } else record t { ever_used = t.ever_used + 1 })
-    by_freed true e = record { pages = refl; word = refl; heap_last = refl; free = grind (arith, nat_tests) }
-    by_freed false e = record { pages = refl; word = refl; heap_last = refl; free = grind (arith, nat_tests) }
+    by_freed true e = record { pages = refl; word = refl; heap_last = refl; fresh = grind (arith, nat_tests); given = grind (arith, nat_tests) }
+    by_freed false e = record { pages = refl; word = refl; heap_last = refl; fresh = grind (arith, nat_tests); given = grind (arith, nat_tests) }
 
 -- a last page was used
 pub last_within : (t : Shape) (in_hand : ℕ → ℕ) → IsOrdered t in_hand → (h q : ℕ) → last_of t h ≡ q + 1 → q < t.ever_used
@@ -136,9 +118,9 @@ last_within t in_hand s (suc g) q e = by_live (is_live_number (owner_of t.word) 
     by_live : (b : Bool) → is_live_number (owner_of t.word) (suc g) ≡ b → q < t.ever_used
     by_live false d = let z = last_of_other t (suc g) (omega arith) d in absurd (omega (arith, z, e))
     by_live true d =
-        let l = last_of_region t (suc g) d in let same : newest_of t.word (suc g) ≡ q = omega (arith, l, e) in
-        let n = newest_there t in_hand s (suc g) d in
+        let l = last_of_region t (suc g) d in let same : current_of t.word (suc g) ≡ q = omega (arith, l, e) in
+        let n = s.current (suc g) d in
         let few : t.ever_used ≤ 4096 = (let a = s.few in let b = s.begun in omega (arith, a, b)) in
-        let u = uses_there (freed_of t) (owner_of t.word) (pages_of t.word) t.ever_used in_hand few s.chains (suc g) (newest_of t.word (suc g)) d n in
-        let o = s.chains.once (newest_of t.word (suc g)) in
-        let k : newest_of t.word (suc g) < t.ever_used = grind (arith, nat_tests) in subst (λ r. r < t.ever_used) same k
+        let u = uses_there (freed_of t) (owner_of t.word) (pages_of t.word) t.ever_used in_hand few s.chains (suc g) (current_of t.word (suc g)) d n in
+        let o = s.chains.once (current_of t.word (suc g)) in
+        let k : current_of t.word (suc g) < t.ever_used = grind (arith, nat_tests) in subst (λ r. r < t.ever_used) same k

@@ -3,13 +3,12 @@ use Rattle.std.proofs.Common.{◌≡◌, ℕ, zero, suc, ◌+◌, ◌-◌, ◌<�
 use Rattle.std.specs.Prelude.{if◌then◌else◌}
 use Rattle.std.proofs.lemmas.Bool.Decides.{nat_tests}
 use Rattle.arena_laws.specs.declared.standing.Standing.TheVariants.{Lexical}
-use Rattle.arena_laws.specs.Counts.{put}
+use Rattle.arena_laws.specs.Counts.{put, one_less, is_full}
 use Rattle.arena_laws.specs.Holdings.{arena_base}
 use Rattle.region_runtime.specs.Chains.{follow, times, last_or}
-use Rattle.region_runtime.specs.Headers.{AreBlank, link_of, owner_of, used_of, newest_of, count_of, heap_mark, taken_mark, is_live_number, pages_of, holder_of, marked}
+use Rattle.region_runtime.specs.Headers.{AreBlank, link_of, owner_of, used_of, newest_of, count_of, heap_mark, taken_mark, is_live_number, pages_of, holder_of, marked, current_of}
 use Rattle.region_runtime.specs.Pool.{
   Shape,
-  free_in,
   last_of,
   taken_by,
   left_of,
@@ -38,7 +37,8 @@ use Rattle.region_runtime.proofs.Granted.{less_holds}
 module _ (t : Shape) (word : ℕ → ℕ → ℕ) (owners : (q : ℕ) → owner_of word q ≡ owner_of t.word q) (links : (q : ℕ) → link_of word q ≡ link_of t.word q)
     (useds : (q : ℕ) → used_of word q ≡ used_of t.word q)
     (newests : (h : ℕ) → is_live_number (owner_of t.word) h ≡ true → newest_of word h ≡ newest_of t.word h)
-    (pages : (h : ℕ) → is_live_number (owner_of t.word) h ≡ true → count_of word h ≡ count_of t.word h) where
+    (pages : (h : ℕ) → is_live_number (owner_of t.word) h ≡ true → count_of word h ≡ count_of t.word h)
+    (currents : (h : ℕ) → is_live_number (owner_of t.word) h ≡ true → current_of word h ≡ current_of t.word h) where
   abbrev pub kept : Shape
   kept = record t { word = word }
 
@@ -76,6 +76,9 @@ module _ (t : Shape) (word : ℕ → ℕ → ℕ) (owners : (q : ℕ) → owner_
           (subst (λ o. AreChains (freed_of t) o (pages_of word) t.ever_used in_hand) (sym owner_is) chains);
       rounded = λ q. let e = useds q in let r = s.rounded q in grind (arith, nat_tests);
       within = λ q. let e = useds q in let r = s.within q in omega (arith, e, r);
+      current = λ h e. let d = sym (live_is h) ∙ e in
+          subst (λ xs. 0 < times (current_of word h) xs) (sym (chain_is h d)) (subst (λ k. 0 < times k (pages_of t.word h)) (sym (currents h d))
+          (s.current h d));
       heap = λ q e. owners q ∙ s.heap q e;
       unused = blank;
     }
@@ -97,7 +100,7 @@ module _ (t : Shape) (word : ℕ → ℕ → ℕ) (owners : (q : ℕ) → owner_
   last_is (suc h) = by_live (is_live_number (owner_of t.word) (suc h)) refl
     where
       by_live : (b : Bool) → is_live_number (owner_of t.word) (suc h) ≡ b → last_of kept (suc h) ≡ last_of t (suc h)
-      by_live true e = last_of_region kept (suc h) (live_is (suc h) ∙ e) ∙ ap (λ n. n + 1) (newests (suc h) e) ∙ sym (last_of_region t (suc h) e)
+      by_live true e = last_of_region kept (suc h) (live_is (suc h) ∙ e) ∙ ap (λ n. n + 1) (currents (suc h) e) ∙ sym (last_of_region t (suc h) e)
       by_live false e = last_of_other kept (suc h) (omega arith) (live_is (suc h) ∙ e) ∙ sym (last_of_other t (suc h) (omega arith) e)
 
   pub kept_holds : holdings_of kept ≡ holdings_of t
@@ -105,7 +108,7 @@ module _ (t : Shape) (word : ℕ → ℕ → ℕ) (owners : (q : ℕ) → owner_
     pages = t.pages;
     standing = standing_by (owner_is i);
     owner = owner_at (λ q. holder_is q i) (used_is i);
-    counts = record { free = free_in t; taken = λ h. taken_is h i; left = λ h. left_of (used_is i) (last_is h i); class_pages = λ c. 0; slots = λ c. 0 };
+    counts = record { fresh = t.pages - t.ever_used; given = t.freed; taken = λ h. taken_is h i; left = λ h. left_of (used_is i) (last_is h i); class_pages = λ c. 0; slots = λ c. 0 };
   }
 
   pub kept_taken : is_taken_by word ≡ is_taken_by t.word
@@ -118,7 +121,7 @@ pub record IsTaken (t after : Shape) (p : ℕ) : Type 0 where
   pub within : p < t.pages
   pub fresh : is_taken_by t.word p ≡ false
   pub clear : (q : ℕ) → arena_base ≤ q → page_at q ≡ p → (holdings_of t).owner q ≡ None
-  pub holds : holdings_of after ≡ record (holdings_of t) { counts = record (counts_of t) { free = free_in t - 1 } }
+  pub holds : holdings_of after ≡ record (holdings_of t) { counts = one_less (counts_of t) }
   pub taken : is_taken_by after.word ≡ put p true (is_taken_by t.word)
   pub words : (q f : ℕ) → nat_eq q p ≡ false → word_by after.word q f ≡ word_by t.word q f
   pub tags : tag_by after.word ≡ tag_by t.word
@@ -174,7 +177,8 @@ module _ (u : Shape) (p : ℕ) (s : IsOrdered u (page_in_hand p)) where
     standing = λ g. if live_got g i then Some Lexical else None;
     owner = owner_at (λ q. holder_got q i) (used_of u.word);
     counts = record {
-      free = free_in u;
+      fresh = u.pages - u.ever_used;
+      given = u.freed;
       taken = λ h. takens_got h i;
       left = λ h. left_of (used_of u.word) (lasts_got h i);
       class_pages = λ c. 0;
@@ -195,7 +199,7 @@ module _ (u : Shape) (p : ℕ) (s : IsOrdered u (page_in_hand p)) where
   tags_got : (g : ℕ) → tag_by got.word g ≡ tag_by u.word g
   tags_got g = tag_same u.word got.word g (live_got g) (λ d. refl)
 
-pub taken : (t : Shape) → IsOrdered t no_page → nat_eq (free_in t) 0 ≡ false → IsTaken t (with_taken (next_page t) (without_page t)) (next_page t)
+pub taken : (t : Shape) → IsOrdered t no_page → is_full (counts_of t) ≡ false → IsTaken t (with_taken (next_page t) (without_page t)) (next_page t)
 taken t s f =
     let p = next_page t in let u = without_page t in
     let l = page_less t s.begun f in let o = page_taken t s f in

@@ -12,6 +12,7 @@ pub mod Granted
 pub mod Released
 pub mod Placed
 pub mod Blocks
+pub mod Runs
 pub mod Kept
 pub mod Serves
 pub mod Walked

@@ -28,16 +28,16 @@ use Rattle.std.proofs.Common.{
 }
 use Rattle.std.specs.Prelude.{if◌then◌else◌}
 use Rattle.std.proofs.lemmas.Bool.Decides.{nat_tests}
-use Rattle.arena_laws.specs.Counts.{put}
+use Rattle.arena_laws.specs.Counts.{put, is_full}
 use Rattle.region_runtime.specs.Chains.{follow, times, last_or}
-use Rattle.region_runtime.specs.Headers.{put_word, link_of, owner_of, used_of, newest_of, count_of, heap_mark, taken_mark, is_live_number, pages_of}
-use Rattle.region_runtime.specs.Pool.{Shape, free_in}
+use Rattle.region_runtime.specs.Headers.{AreBlank, put_word, link_of, owner_of, used_of, newest_of, count_of, heap_mark, taken_mark, is_live_number, pages_of, current_of}
+use Rattle.region_runtime.specs.Pool.{Shape, counts_of}
 use Rattle.region_runtime.specs.Sound.{AreChains, IsOrdered, freed_of, no_page, uses}
-use Rattle.region_runtime.specs.Steps.{next_page, with_first, with_freed, with_heap_page, with_newest, with_taken, without_page}
+use Rattle.region_runtime.specs.Steps.{next_page, with_first, with_freed, with_heap_joined, with_heap_page, with_joined, with_newest, with_taken, without_fresh, without_page}
 use Rattle.region_runtime.proofs.Words.{live_some, live_own}
-use Rattle.region_runtime.proofs.Chains.{times_append, follow_zero, follow_more, follow_kept, follow_length, follow_spliced, length_least}
+use Rattle.region_runtime.proofs.Chains.{times_append, times_more, follow_zero, follow_more, follow_kept, follow_length, follow_spliced, length_least}
 use Rattle.region_runtime.proofs.Blank.{blank_put, blank_more}
-use Rattle.region_runtime.proofs.Freeing.{all_freed}
+use Rattle.region_runtime.proofs.Freeing.{all_freed, dead_now, live_other}
 use Rattle.region_runtime.proofs.Places.{
   page_in_hand,
   freed_in_hand,
@@ -50,6 +50,9 @@ use Rattle.region_runtime.proofs.Places.{
   hand_marked,
   hand_grown,
   hand_started,
+  started_live,
+  grown_live,
+  live_same,
   first_there,
   live_small,
   uses_there,
@@ -83,22 +86,24 @@ module _ (t : Shape) (s : IsOrdered t no_page) where
         (ap (λ k. follow (link_of t.word) k t.first_freed) e ∙ follow_more (link_of t.word) n t.first_freed) s.chains));
     rounded = s.rounded;
     within = s.within;
+    current = s.current;
     heap = s.heap;
     unused = s.unused;
   }
 
-  unused_taken : t.freed ≡ 0 → t.ever_used < t.pages → IsOrdered (record t { ever_used = t.ever_used + 1 }) (page_in_hand t.ever_used)
-  unused_taken e l = record {
+  pub unused_taken : t.ever_used < t.pages → IsOrdered (without_fresh t) (page_in_hand t.ever_used)
+  unused_taken l = record {
     few = s.few;
     begun = omega (arith, l);
     chains = unused_in_hand (owner_of t.word) (pages_of t.word) t.ever_used (freed_of t) s.chains;
     rounded = s.rounded;
     within = s.within;
+    current = s.current;
     heap = s.heap;
     unused = blank_more t.word t.ever_used s.unused;
   }
 
-  pub page_taken : nat_eq (free_in t) 0 ≡ false → IsOrdered (without_page t) (page_in_hand (next_page t))
+  pub page_taken : is_full (counts_of t) ≡ false → IsOrdered (without_page t) (page_in_hand (next_page t))
   unfolding without_page
   page_taken f = by_freed t.freed refl
     where
@@ -110,7 +115,7 @@ module _ (t : Shape) (s : IsOrdered t no_page) where
           let some : nat_lt 0 t.freed ≡ true = grind (arith, nat_tests) in rw some (first_in_hand n e)
       by_freed zero e =
           let none : nat_lt 0 t.freed ≡ false = grind (arith, nat_tests) in
-          let l : t.ever_used < t.pages = grind (arith, nat_tests) in rw none (unused_taken e l)
+          let l : t.ever_used < t.pages = grind (arith, nat_tests) in rw none (unused_taken l)
 
   -- ---- a live region's words
 
@@ -187,11 +192,23 @@ module _ (t : Shape) (s : IsOrdered t no_page) where
       chains = subst (λ xs. AreChains xs (put (h - 1) 0 (owner_of t.word)) (pages_of after.word) t.ever_used no_page) (sym spliced) freed_chains;
       rounded = s.rounded;
       within = s.within;
+      current = λ g e. current_by g (nat_eq g h) refl e;
       heap = λ p e. heap_by p (nat_eq p (h - 1)) refl (s.heap p e);
       unused = let l = first_used h live in
           blank_put (put_word (h - 1) 0 t.first_freed t.word) t.ever_used (h - 1) 1 0 l (blank_put t.word t.ever_used (h - 1) 0 t.first_freed l s.unused);
     }
       where
+        current_by : (g : ℕ) (b : Bool) → nat_eq g h ≡ b → is_live_number (owner_of after.word) g ≡ true → 0 < times (current_of after.word g) (pages_of
+            after.word g)
+        current_by g true e d =
+            let same : g ≡ h = grind (arith, nat_tests) in
+            let n = dead_now (freed_of t) (owner_of t.word) (pages_of t.word) t.ever_used few_used s.chains h live (pages_of after.word) others in
+            absurd (let m : is_live_number (owner_of after.word) g ≡ false = ap (is_live_number (owner_of after.word)) same ∙ n in cc)
+        current_by g false e d =
+            let was = sym (live_other (freed_of t) (owner_of t.word) (pages_of t.word) t.ever_used few_used s.chains h live (pages_of after.word) others g e)
+            ∙ d in
+            subst (λ xs. 0 < times (current_of t.word g) xs) (sym (others g e was)) (s.current g was)
+
         heap_by : (p : ℕ) (b : Bool) → nat_eq p (h - 1) ≡ b → owner_of t.word p ≡ heap_mark → (if b then 0 else owner_of t.word p) ≡ heap_mark
         heap_by p false e o = o
         heap_by p true e o =
@@ -236,6 +253,15 @@ module _ (t : Shape) (p : ℕ) (s : IsOrdered t (page_in_hand p)) where
       by_page true = a
       by_page false = f q
 
+  -- a marked page leaves each region its current page
+  marked_current : (w : ℕ) (word : ℕ → ℕ → ℕ) → 4096 < w → owner_of word ≡ put p w (owner_of t.word) → ((g : ℕ) → pages_of word g ≡ pages_of t.word g) →
+      ((g : ℕ) → current_of word g ≡ current_of t.word g) → (g : ℕ) → is_live_number (owner_of word) g ≡ true → 0 < times (current_of word g) (pages_of word g)
+  marked_current w word m o c k g e =
+      let was : is_live_number (owner_of t.word) g ≡ true =
+      sym (live_same (freed_of t) (owner_of t.word) (pages_of t.word) t.ever_used p hand_few s.chains w (let l = hand_small in grind (arith, nat_tests)) g)
+      ∙ ap (λ f. is_live_number f g) (sym o) ∙ e in
+      subst (λ xs. 0 < times (current_of word g) xs) (sym (c g)) (subst (λ n. 0 < times n (pages_of t.word g)) (sym (k g)) (s.current g was))
+
   -- its taker's
   pub taken_ordered : IsOrdered (with_taken p t) no_page
   taken_ordered = record {
@@ -245,6 +271,7 @@ module _ (t : Shape) (p : ℕ) (s : IsOrdered t (page_in_hand p)) where
         (omega arith) hand_small (λ g e. pages_are (with_taken p t).word g ∙ sym (pages_are t.word g));
     rounded = s.rounded;
     within = s.within;
+    current = marked_current taken_mark (with_taken p t).word (omega arith) refl (λ g. pages_are (with_taken p t).word g ∙ sym (pages_are t.word g)) (λ g. refl);
     heap = λ q e. heap_other q taken_mark (s.heap q e);
     unused = blank_put t.word t.ever_used p 1 taken_mark hand_in s.unused;
   }
@@ -259,8 +286,23 @@ module _ (t : Shape) (p : ℕ) (s : IsOrdered t (page_in_hand p)) where
         (omega arith) hand_small (λ g e. pages_are (with_heap_page p room t).word g ∙ sym (pages_are t.word g));
     rounded = put_used (used_of t.word) room (λ n. n % 8 ≡ 0) a s.rounded;
     within = put_used (used_of t.word) room (λ n. n ≤ 4096) b s.within;
+    current = marked_current heap_mark (with_heap_page p room t).word (omega arith) refl (λ g. pages_are (with_heap_page p room t).word g ∙ sym
+        (pages_are t.word g)) (λ g. refl);
     heap = λ q e. let same : nat_eq q p ≡ true = grind (arith, nat_tests) in rw same refl;
     unused = blank_put (put_word p 2 room t.word) t.ever_used p 1 heap_mark hand_in (blank_put t.word t.ever_used p 2 room hand_in s.unused);
+  }
+
+  -- one of the heap's, beside its last
+  pub heap_joined_ordered : (room : ℕ) → room % 8 ≡ 0 → room ≤ 4096 → IsOrdered (with_heap_joined p room t) no_page
+  heap_joined_ordered room a b = let w = heap_ordered room a b in record {
+    few = s.few;
+    begun = s.begun;
+    chains = w.chains;
+    rounded = w.rounded;
+    within = w.within;
+    current = w.current;
+    heap = λ q e. heap_other q heap_mark (s.heap q e);
+    unused = w.unused;
   }
 
   -- a region's first
@@ -291,11 +333,34 @@ module _ (t : Shape) (p : ℕ) (s : IsOrdered t (page_in_hand p)) where
         started_pages started_others;
     rounded = put_used (used_of t.word) 0 (λ n. n % 8 ≡ 0) refl s.rounded;
     within = put_used (used_of t.word) 0 (λ n. n ≤ 4096) (omega arith) s.within;
+    current = λ g e. current_by g (nat_eq g (p + 1)) refl e;
     heap = λ q e. heap_other q (p + 1) (s.heap q e);
     unused = let n = t.ever_used in let l = hand_in in
-        let a = put_word p 1 (p + 1) t.word in let b = put_word p 2 0 a in let c = put_word p 3 p b in let d = put_word p 4 1 c in
-        blank_put d n p 5 0 l (blank_put c n p 4 1 l (blank_put b n p 3 p l (blank_put a n p 2 0 l (blank_put t.word n p 1 (p + 1) l s.unused))));
+        let a = put_word p 1 (p + 1) t.word in let b = put_word p 2 0 a in let c = put_word p 3 p b in let d = put_word p 4 1 c in let e = put_word p 5 0 d in
+        blank_put e n p 6 p l (blank_put d n p 5 0 l (blank_put c n p 4 1 l (blank_put b n p 3 p l (blank_put a n p 2 0 l (blank_put t.word n p 1 (p + 1) l
+        s.unused)))));
   }
+    where
+      lives : (g : ℕ) → is_live_number (owner_of (with_first p t).word) g ≡ (if nat_eq g (p + 1) then true else is_live_number (owner_of t.word) g)
+      lives = started_live (freed_of t) (owner_of t.word) (pages_of t.word) t.ever_used p hand_few s.chains (pages_of (with_first p t).word) hand_small
+          started_pages started_others
+
+      current_by : (g : ℕ) (b : Bool) → nat_eq g (p + 1) ≡ b → is_live_number (owner_of (with_first p t).word) g ≡ true →
+          0 < times (current_of (with_first p t).word g) (pages_of (with_first p t).word g)
+      current_by g true e d =
+          let same : g ≡ p + 1 = grind (arith, nat_tests) in
+          let n : nat_eq (g - 1) p ≡ true = grind (arith, nat_tests) in
+          let k : current_of (with_first p t).word g ≡ p = rw n refl in
+          let c : pages_of (with_first p t).word g ≡ p ∷ [] = ap (pages_of (with_first p t).word) same ∙ started_pages in
+          let m = times_more p p [] in
+          subst (λ x. 0 < times x (pages_of (with_first p t).word g)) (sym k) (subst (λ xs. 0 < times p xs) (sym c) (grind (arith, nat_tests)))
+      current_by g false e d =
+          let was : is_live_number (owner_of t.word) g ≡ true = sym (lives g ∙ (rw e refl)) ∙ d in
+          let l = live_some (owner_of t.word) g was in
+          let n : nat_eq (g - 1) p ≡ false = grind (arith, nat_tests) in
+          let k : current_of (with_first p t).word g ≡ current_of t.word g = rw n refl in
+          subst (λ x. 0 < times x (pages_of (with_first p t).word g)) (sym k) (subst (λ xs. 0 < times (current_of t.word g) xs) (sym (started_others g e was))
+          (s.current g was))
 
   -- a live region's newest
   module _ (h room : ℕ) (live : is_live_number (owner_of t.word) h ≡ true) where
@@ -342,6 +407,15 @@ module _ (t : Shape) (p : ℕ) (s : IsOrdered t (page_in_hand p)) where
         let u = uses_there (freed_of t) (owner_of t.word) (pages_of t.word) t.ever_used (page_in_hand p) hand_few s.chains h (h - 1) live a in
         let o = s.chains.once (h - 1) in grind (arith, nat_tests)
 
+    lives : (g : ℕ) → is_live_number (owner_of grown.word) g ≡ is_live_number (owner_of t.word) g
+    lives = grown_live (freed_of t) (owner_of t.word) (pages_of t.word) t.ever_used p hand_few s.chains h (pages_of grown.word) live grown_pages grown_others
+
+    blank_joined : (room : ℕ) → AreBlank t.ever_used (with_joined h p room t).word
+    blank_joined room = let n = t.ever_used in let l = hand_in in let f = first_in in
+        let a = put_word p 2 room t.word in let b = put_word p 1 h a in let c = put_word p 0 (newest_of t.word h) b in let d = put_word (h - 1) 3 p c in
+        blank_put d n (h - 1) 4 (count_of t.word h + 1) f (blank_put c n (h - 1) 3 p f (blank_put b n p 0 (newest_of t.word h) l (blank_put a n p 1 h l
+        (blank_put t.word n p 2 room l s.unused))))
+
     pub grown_ordered : room % 8 ≡ 0 → room ≤ 4096 → IsOrdered grown no_page
     grown_ordered a b = record {
       few = s.few;
@@ -350,9 +424,56 @@ module _ (t : Shape) (p : ℕ) (s : IsOrdered t (page_in_hand p)) where
           (hand_grown (freed_of t) (owner_of t.word) (pages_of t.word) t.ever_used p hand_few s.chains h (pages_of grown.word) live grown_pages grown_others);
       rounded = put_used (used_of t.word) room (λ n. n % 8 ≡ 0) a s.rounded;
       within = put_used (used_of t.word) room (λ n. n ≤ 4096) b s.within;
+      current = λ g e. current_by g (nat_eq g h) refl (sym (lives g) ∙ e);
       heap = λ q e. heap_other q h (s.heap q e);
       unused = let n = t.ever_used in let l = hand_in in let f = first_in in
-          let a = put_word p 2 room t.word in let b = put_word p 1 h a in let c = put_word p 0 (newest_of t.word h) b in let d = put_word (h - 1) 3 p c in
-          blank_put d n (h - 1) 4 (count_of t.word h + 1) f (blank_put c n (h - 1) 3 p f (blank_put b n p 0 (newest_of t.word h) l (blank_put a n p 1 h l
-          (blank_put t.word n p 2 room l s.unused))));
+          let a = put_word p 2 room t.word in let b = put_word p 1 h a in let c = put_word p 0 (newest_of t.word h) b in let d = put_word (h - 1) 3 p c in let e = put_word (h - 1) 4 (count_of t.word h + 1) d in
+          blank_put e n (h - 1) 6 p f (blank_joined room);
     }
+      where
+        current_by : (g : ℕ) (b : Bool) → nat_eq g h ≡ b → is_live_number (owner_of t.word) g ≡ true → 0 < times (current_of grown.word g)
+            (pages_of grown.word g)
+        current_by g true e d =
+            let same : g ≡ h = grind (arith, nat_tests) in
+            let n : nat_eq (g - 1) (h - 1) ≡ true = grind (arith, nat_tests) in
+            let k : current_of grown.word g ≡ p = rw n refl in
+            let c : pages_of grown.word g ≡ p ∷ pages_of t.word h = ap (pages_of grown.word) same ∙ grown_pages in
+            let m = times_more p p (pages_of t.word h) in
+            subst (λ x. 0 < times x (pages_of grown.word g)) (sym k) (subst (λ xs. 0 < times p xs) (sym c) (grind (arith, nat_tests)))
+        current_by g false e d =
+            let a = live_some (owner_of t.word) g d in let b = live_some (owner_of t.word) h live in
+            let n : nat_eq (g - 1) (h - 1) ≡ false = grind (arith, nat_tests) in
+            let k : current_of grown.word g ≡ current_of t.word g = rw n refl in
+            subst (λ x. 0 < times x (pages_of grown.word g)) (sym k) (subst (λ xs. 0 < times (current_of t.word g) xs) (sym (grown_others g e d))
+            (s.current g d))
+
+    -- one of its pages, beside the current one
+    abbrev pub joined : Shape
+    joined = with_joined h p room t
+
+    pub joined_pages : pages_of joined.word ≡ pages_of grown.word
+    joined_pages = λ i g. (pages_are joined.word g ∙ sym (pages_are grown.word g)) i
+
+    pub joined_ordered : room % 8 ≡ 0 → room ≤ 4096 → IsOrdered joined no_page
+    joined_ordered a b = let w = grown_ordered a b in record {
+      few = s.few;
+      begun = s.begun;
+      chains = subst (λ c. AreChains (freed_of grown) (owner_of grown.word) c t.ever_used no_page) (sym joined_pages) w.chains;
+      rounded = w.rounded;
+      within = w.within;
+      current = λ g e. current_by g (nat_eq g h) refl (sym (lives g) ∙ e);
+      heap = w.heap;
+      unused = blank_joined room;
+    }
+      where
+        current_by : (g : ℕ) (b : Bool) → nat_eq g h ≡ b → is_live_number (owner_of t.word) g ≡ true → 0 < times (current_of t.word g)
+            (pages_of joined.word g)
+        current_by g true e d =
+            let same : g ≡ h = grind (arith, nat_tests) in
+            let c : pages_of joined.word g ≡ p ∷ pages_of t.word h = ap (λ f. f g) joined_pages ∙ ap (pages_of grown.word) same ∙ grown_pages in
+            let k = s.current h live in
+            let m = times_more (current_of t.word h) p (pages_of t.word h) in
+            let more : 0 < times (current_of t.word h) (p ∷ pages_of t.word h) = grind (arith, nat_tests) in
+            subst (λ xs. 0 < times (current_of t.word g) xs) (sym c) (subst (λ x. 0 < times (current_of t.word x) (p ∷ pages_of t.word h)) (sym same) more)
+        current_by g false e d =
+            subst (λ xs. 0 < times (current_of t.word g) xs) (sym (ap (λ f. f g) joined_pages ∙ grown_others g e d)) (s.current g d)

@@ -7,6 +7,7 @@ use Rattle.std.proofs.Common.{
   ◌+◌,
   ◌-◌,
   ◌*◌,
+  ◌/◌,
   ◌%◌,
   ◌<◌,
   ◌≤◌,
@@ -26,23 +27,24 @@ use Rattle.std.proofs.Common.{
   ◌∙◌,
   arith,
 }
-use Rattle.std.specs.Prelude.{if◌then◌else◌, ◌&&◌}
+use Rattle.std.specs.Prelude.{if◌then◌else◌}
 use Rattle.std.proofs.lemmas.Bool.Decides.{nat_tests}
-use Rattle.arena_laws.specs.declared.refusal.StoreRefusal.TheVariants.{Full, BadHandle}
+use Rattle.arena_laws.specs.declared.refusal.StoreRefusal.TheVariants.{Full}
 use Rattle.arena_laws.specs.declared.standing.Standing.TheVariants.{Lexical}
 use Rattle.arena_laws.specs.declared.owner.Owner.TheVariants.{Region}
-use Rattle.arena_laws.specs.Counts.{put, room_of, block_needs_page, is_full, is_too_long, with_block}
+use Rattle.arena_laws.specs.Counts.{put, room_of, block_needs_page, is_too_long, with_block, is_full_for_room, is_large}
 use Rattle.arena_laws.specs.Holdings.{Holdings, arena_base}
 use Rattle.arena_laws.specs.Lawful.{Grants, Refuses, owns, is_lawful_room, takes_blocks, with_region_block}
 use Rattle.arena_laws.specs.Laws.{Does, is_block_refused, region_alloc}
-use Rattle.region_runtime.specs.Headers.{put_word, owner_of, used_of, newest_of, count_of, heap_mark, is_live_number, pages_of, holder_of, holder_by}
-use Rattle.region_runtime.specs.Pool.{Shape, free_in, last_of, taken_by, left_of, owner_at, counts_of, holdings_of, tag_by, is_taken_by, word_by}
+use Rattle.region_runtime.specs.Chains.{times}
+use Rattle.region_runtime.specs.Headers.{put_word, owner_of, used_of, count_of, heap_mark, is_live_number, pages_of, holder_of, holder_by, current_of}
+use Rattle.region_runtime.specs.Pool.{Shape, last_of, taken_by, left_of, owner_at, counts_of, holdings_of, tag_by, is_taken_by, word_by}
 use Rattle.region_runtime.specs.Sound.{AreChains, IsOrdered, freed_of}
 use Rattle.region_runtime.proofs.Blank.{blank_put}
-use Rattle.region_runtime.specs.Steps.{with_word, with_heap_page, with_newest}
+use Rattle.region_runtime.specs.Steps.{with_word, with_heap_joined, with_heap_page, with_joined, with_newest}
 use Rattle.region_runtime.proofs.Words.{live_some, last_of_heap, last_of_region, last_of_other}
 use Rattle.region_runtime.proofs.Places.{page_in_hand, live_small, live_same, grown_live}
-use Rattle.region_runtime.proofs.Ordered.{pages_are, hand_within, hand_few, hand_small, grown_pages, grown_others}
+use Rattle.region_runtime.proofs.Ordered.{pages_are, hand_within, hand_few, hand_small, grown_pages, grown_others, joined_pages}
 use Rattle.region_runtime.proofs.Holders.{holder_heap, holder_taken, hand_nobody, hand_unmarked, marked_others, grown_holder}
 use Rattle.region_runtime.proofs.Owners.{owner_empty, owner_cut, clear_cut, is_lawful}
 use Rattle.region_runtime.proofs.Held.{
@@ -61,7 +63,7 @@ use Rattle.region_runtime.proofs.Tags.{word_other, tag_same, taken_same, taken_o
 
 -- a room that is granted is granted by the law
 pub granted : (s : Holdings) (h bytes at : ℕ) → takes_blocks h (s.standing h) ≡ true → is_too_long bytes ≡ false →
-    (block_needs_page h (room_of bytes) s.counts && is_full s.counts) ≡ false → is_lawful_room s at (room_of bytes) ≡ true →
+    is_full_for_room h (room_of bytes) s.counts ≡ false → is_lawful_room s at (room_of bytes) ≡ true →
     (after : Holdings) → after ≡ with_region_block h at (room_of bytes) s → Does (Ok at) after (region_alloc h bytes (Grants at) s)
 granted s h bytes at t l f r after e = rw (t, l, f, r) (record { says = refl; holds = e })
 
@@ -77,6 +79,21 @@ pub record IsRoom (room : ℕ) : Type 0 where
 
 pub is_room : (bytes room : ℕ) → bytes ≤ 4096 → room ≡ room_of bytes → IsRoom room
 is_room bytes room l e = record { eights = grind (arith, nat_tests); most = grind (arith, nat_tests); some = grind (arith, nat_tests) }
+
+-- and is no large block's
+pub not_large : (room : ℕ) → room ≤ 4096 → is_large room ≡ false
+not_large room l = grind (arith, nat_tests)
+
+pub room_small : (bytes : ℕ) → bytes ≤ 4096 → room_of bytes ≤ 4096
+room_small bytes l = grind (arith, nat_tests)
+
+-- a room of at most a page is for as few bytes
+pub short_room : (bytes room : ℕ) → room ≡ room_of bytes → room ≤ 4096 → bytes ≤ 4096
+short_room bytes room e l = by_zero (nat_eq bytes 0) refl e
+  where
+    by_zero : (b : Bool) → nat_eq bytes 0 ≡ b → room ≡ (if b then 8 else (bytes + 7) / 8 * 8) → bytes ≤ 4096
+    by_zero true z e = grind (arith, nat_tests)
+    by_zero false z e = omega (arith, e, l)
 
 pub is_short : (bytes : ℕ) → bytes ≤ 4096 → is_too_long bytes ≡ false
 is_short bytes l = grind (arith, nat_tests)
@@ -105,6 +122,7 @@ module _ (t : Shape) (in_hand : ℕ → ℕ) (s : IsOrdered t in_hand) (h q u ro
     chains = subst (λ c. AreChains (freed_of t) (owner_of t.word) c t.ever_used in_hand) (sym same_pages) s.chains;
     rounded = put_used (λ n. n % 8 ≡ 0) (let r = s.rounded q in omega (arith, r, used, eights)) s.rounded;
     within = put_used (λ n. n ≤ 4096) fits s.within;
+    current = subst (λ c. (g : ℕ) → is_live_number (owner_of t.word) g ≡ true → 0 < times (current_of t.word g) (c g)) (sym same_pages) s.current;
     heap = s.heap;
     unused = blank_put t.word t.ever_used q 2 (u + room) (last_within t in_hand s h q last) s.unused;
   }
@@ -159,7 +177,7 @@ module _ (t : Shape) (in_hand : ℕ → ℕ) (s : IsOrdered t in_hand) (h q u ro
   lefts = λ i. record (counts_of t) { taken = λ g. takens g i; left = λ g. left g i }
 
   counted : counts_of cut ≡ with_block h room (counts_of t)
-  counted = rw (no_page_needed) lefts
+  counted = let k : is_large room ≡ false = not_large room (omega (arith, fits)) in let n = no_page_needed in rw (k, n) lefts
 
   pub cut_holds : holdings_of cut ≡ with_region_block h (arena_base + 4096 * q + u) room (holdings_of t)
   cut_holds = λ i. record (holdings_of t) { owner = λ r. owners r i; counts = counted i }
@@ -198,6 +216,13 @@ abbrev pub placed : ℕ → ℕ → ℕ → Holdings → Holdings
 placed h at room k = record k {
   owner = owns at room (Region h) k.owner;
   counts = record (k.counts) { taken = put h (k.counts.taken h + 1) k.counts.taken; left = put h (4096 - room) k.counts.left };
+}
+
+-- what it makes of them beside the last page
+abbrev pub joined : ℕ → ℕ → ℕ → Holdings → Holdings
+joined h at room k = record k {
+  owner = owns at room (Region h) k.owner;
+  counts = record (k.counts) { taken = put h (k.counts.taken h + 1) k.counts.taken };
 }
 
 owner_new : (holder : ℕ → Option ℕ) (used : ℕ → ℕ) (p h room : ℕ) → holder p ≡ None → room ≤ 4096 → (q : ℕ) →
@@ -278,7 +303,42 @@ module _ (u : Shape) (p : ℕ) (s : IsOrdered u (page_in_hand p)) (room : ℕ) (
     standing = λ g. if heap_live g i then Some Lexical else None;
     owner = λ q. (ap (λ f. owner_at f (put p room (used_of u.word)) q) (λ j r. heap_holder r j) ∙ owner_new (holder_of u.word) (used_of u.word) p 0
         room nobody most q) i;
-    counts = record { free = free_in u; taken = λ g. heap_taken g i; left = λ g. heap_left g i; class_pages = λ c. 0; slots = λ c. 0 };
+    counts = record { fresh = u.pages - u.ever_used; given = u.freed; taken = λ g. heap_taken g i; left = λ g. heap_left g i; class_pages = λ c. 0; slots = λ c. 0 };
+  }
+
+  -- beside its last page
+  abbrev pub heap_joined : Shape
+  heap_joined = with_heap_joined p room u
+
+  heap_joined_lasts : (g : ℕ) → last_of heap_joined g ≡ last_of u g
+  heap_joined_lasts zero = last_of_heap heap_joined 0 refl ∙ sym (last_of_heap u 0 refl)
+  heap_joined_lasts (suc g) = by_live (is_live_number (owner_of u.word) (suc g)) refl
+    where
+      by_live : (c : Bool) → is_live_number (owner_of u.word) (suc g) ≡ c → last_of heap_joined (suc g) ≡ last_of u (suc g)
+      by_live true d = last_of_region heap_joined (suc g) (heap_live (suc g) ∙ d) ∙ sym (last_of_region u (suc g) d)
+      by_live false d = last_of_other heap_joined (suc g) (omega arith) (heap_live (suc g) ∙ d) ∙ sym (last_of_other u (suc g) (omega arith) d)
+
+  heap_same_taken : (g : ℕ) → taken_by heap_joined g ≡ taken_by heaped g
+  unfolding taken_by
+  heap_same_taken g = refl
+
+  heap_joined_taken : (g : ℕ) → taken_by heap_joined g ≡ put 0 (taken_by u 0 + 1) (taken_by u) g
+  heap_joined_taken g = heap_same_taken g ∙ heap_taken g
+
+  pub heap_joined_holds : holdings_of heap_joined ≡ joined 0 (arena_base + 4096 * p) room (holdings_of u)
+  heap_joined_holds = λ i. record {
+    pages = u.pages;
+    standing = λ g. if heap_live g i then Some Lexical else None;
+    owner = λ q. (ap (λ f. owner_at f (put p room (used_of u.word)) q) (λ j r. heap_holder r j) ∙ owner_new (holder_of u.word) (used_of u.word) p 0
+        room nobody most q) i;
+    counts = record {
+      fresh = u.pages - u.ever_used;
+      given = u.freed;
+      taken = λ g. heap_joined_taken g i;
+      left = λ g. (ap (left_of (used_of heap_joined.word)) (heap_joined_lasts g) ∙ left_other (used_of u.word) p room (last_of u g) (no_last g)) i;
+      class_pages = λ c. 0;
+      slots = λ c. 0;
+    };
   }
 
   pub heap_now : owner_of heaped.word p ≡ heap_mark
@@ -306,8 +366,8 @@ module _ (u : Shape) (p : ℕ) (s : IsOrdered u (page_in_hand p)) (room : ℕ) (
     region_count : (g : ℕ) → nat_eq g h ≡ true → count_of newest.word g ≡ count_of u.word h + 1
     region_count g e = let n : nat_eq (g - 1) (h - 1) ≡ true = grind (arith, nat_tests) in rw n refl
 
-    region_newest : (g : ℕ) → nat_eq g h ≡ true → newest_of newest.word g ≡ p
-    region_newest g e = let n : nat_eq (g - 1) (h - 1) ≡ true = grind (arith, nat_tests) in rw n refl
+    region_current : (g : ℕ) → nat_eq g h ≡ true → current_of newest.word g ≡ p
+    region_current g e = let n : nat_eq (g - 1) (h - 1) ≡ true = grind (arith, nat_tests) in rw n refl
 
     pub other_first : (g : ℕ) → 0 < g → nat_eq g h ≡ false → nat_eq (g - 1) (h - 1) ≡ false
     other_first g l e = let k = live_some (owner_of u.word) h live in grind (arith, nat_tests)
@@ -354,7 +414,7 @@ module _ (u : Shape) (p : ℕ) (s : IsOrdered u (page_in_hand p)) (room : ℕ) (
         by_number true e =
             let same : g ≡ h = grind (arith, nat_tests) in
             left_here (used_of u.word) p room (last_of newest g) (last_of_region newest g (region_live g ∙ ap (is_live_number (owner_of u.word)) same
-            ∙ live) ∙ ap (λ n. n + 1) (region_newest g e))
+            ∙ live) ∙ ap (λ n. n + 1) (region_current g e))
         by_number false e =
             ap (left_of (used_of newest.word)) (region_lasts g e) ∙ left_other (used_of u.word) p room (last_of u g) (no_last g)
 
@@ -364,5 +424,43 @@ module _ (u : Shape) (p : ℕ) (s : IsOrdered u (page_in_hand p)) (room : ℕ) (
       standing = λ g. if region_live g i then Some Lexical else None;
       owner = λ q. (ap (λ f. owner_at f (put p room (used_of u.word)) q) (λ j r. region_holder r j) ∙ owner_new (holder_of u.word) (used_of u.word) p h
           room nobody most q) i;
-      counts = record { free = free_in u; taken = λ g. region_taken g i; left = λ g. region_left g i; class_pages = λ c. 0; slots = λ c. 0 };
+      counts = record { fresh = u.pages - u.ever_used; given = u.freed; taken = λ g. region_taken g i; left = λ g. region_left g i; class_pages = λ c. 0; slots = λ c. 0 };
+    }
+
+    -- beside its current page
+    abbrev pub one_more : Shape
+    one_more = with_joined h p room u
+
+    joined_holder : (q : ℕ) → holder_of one_more.word q ≡ put p (Some h) (holder_of u.word) q
+    joined_holder q = ap (λ c. holder_by (owner_of newest.word) c q) (joined_pages u p s h room live) ∙ region_holder q
+
+    joined_lasts : (g : ℕ) → last_of one_more g ≡ last_of u g
+    joined_lasts zero = last_of_heap one_more 0 refl ∙ sym (last_of_heap u 0 refl)
+    joined_lasts (suc g) = by_live (is_live_number (owner_of u.word) (suc g)) refl
+      where
+        by_live : (c : Bool) → is_live_number (owner_of u.word) (suc g) ≡ c → last_of one_more (suc g) ≡ last_of u (suc g)
+        by_live true d = last_of_region one_more (suc g) (region_live (suc g) ∙ d) ∙ sym (last_of_region u (suc g) d)
+        by_live false d = last_of_other one_more (suc g) (omega arith) (region_live (suc g) ∙ d) ∙ sym (last_of_other u (suc g) (omega arith) d)
+
+    same_taken : (g : ℕ) → taken_by one_more g ≡ taken_by newest g
+    unfolding taken_by
+    same_taken g = refl
+
+    joined_taken : (g : ℕ) → taken_by one_more g ≡ put h (taken_by u h + 1) (taken_by u) g
+    joined_taken g = same_taken g ∙ region_taken g
+
+    pub joined_holds : holdings_of one_more ≡ joined h (arena_base + 4096 * p) room (holdings_of u)
+    joined_holds = λ i. record {
+      pages = u.pages;
+      standing = λ g. if region_live g i then Some Lexical else None;
+      owner = λ q. (ap (λ f. owner_at f (put p room (used_of u.word)) q) (λ j r. joined_holder r j) ∙ owner_new (holder_of u.word) (used_of u.word) p h
+          room nobody most q) i;
+      counts = record {
+        fresh = u.pages - u.ever_used;
+        given = u.freed;
+        taken = λ g. joined_taken g i;
+        left = λ g. (ap (left_of (used_of one_more.word)) (joined_lasts g) ∙ left_other (used_of u.word) p room (last_of u g) (no_last g)) i;
+        class_pages = λ c. 0;
+        slots = λ c. 0;
+      };
     }

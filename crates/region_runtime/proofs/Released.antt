@@ -1,15 +1,14 @@
 -- A live region is freed.
-use Rattle.std.proofs.Common.{◌≡◌, ℕ, zero, suc, ◌+◌, ◌-◌, ◌≤◌, Bool, true, false, Some, None, Ok, Err, nat_eq, refl, sym, ap, ◌∙◌, arith}
+use Rattle.std.proofs.Common.{◌≡◌, ℕ, zero, suc, ◌+◌, ◌-◌, ◌≤◌, Bool, true, false, Some, None, Ok, nat_eq, refl, sym, ap, ◌∙◌, arith}
 use Rattle.std.specs.Prelude.{if◌then◌else◌}
 use Rattle.std.proofs.lemmas.Bool.Decides.{nat_tests}
 use Rattle.arena_laws.specs.declared.standing.Standing.TheVariants.{Lexical}
-use Rattle.arena_laws.specs.declared.refusal.StoreRefusal.TheVariants.{BadHandle}
 use Rattle.arena_laws.specs.Counts.{put}
 use Rattle.arena_laws.specs.Holdings.{Holdings}
 use Rattle.arena_laws.specs.Lawful.{without_number, without_blocks, region_free}
 use Rattle.arena_laws.specs.Laws.{Does}
 use Rattle.region_runtime.specs.Headers.{put_word, owner_of, used_of, heap_mark, is_live_number, pages_of, holder_of}
-use Rattle.region_runtime.specs.Pool.{Shape, free_in, last_of, taken_by, left_of, owner_at, standing_by, holdings_of, tag_by, is_taken_by, word_by}
+use Rattle.region_runtime.specs.Pool.{Shape, last_of, taken_by, left_of, owner_at, standing_by, holdings_of, tag_by, is_taken_by, word_by}
 use Rattle.region_runtime.specs.Sound.{IsOrdered, freed_of, no_page}
 use Rattle.region_runtime.specs.Steps.{with_freed}
 use Rattle.region_runtime.proofs.Words.{live_some, live_own, last_of_heap, last_of_region, last_of_other}
@@ -66,8 +65,8 @@ module _ (t : Shape) (s : IsOrdered t no_page) (h : ℕ) (live : is_live_number 
       owner_without h (holder_of t.word) (holder_of after.word) (used_of t.word)
       (freed_holder (freed_of t) (owner_of t.word) (pages_of t.word) t.ever_used few s.chains h live (pages_of after.word) (others t s h live))
 
-  free : free_in after ≡ free_in t + taken_by t h
-  free = let e = taken_region t h live in omega (arith, e)
+  given : after.freed ≡ t.freed + taken_by t h
+  given = let e = taken_region t h live in omega (arith, e)
 
   taken : (g : ℕ) → taken_by after g ≡ put h 0 (taken_by t) g
   taken g = by_number g (nat_eq g h) refl
@@ -109,7 +108,7 @@ module _ (t : Shape) (s : IsOrdered t no_page) (h : ℕ) (live : is_live_number 
     pages = t.pages;
     standing = λ g. standing g i;
     owner = λ q. owners q i;
-    counts = record { free = free i; taken = λ g. taken g i; left = λ g. left g i; class_pages = λ c. 0; slots = λ c. 0 };
+    counts = record { fresh = t.pages - t.ever_used; given = given i; taken = λ g. taken g i; left = λ g. left g i; class_pages = λ c. 0; slots = λ c. 0 };
   }
 
   tags : (g : ℕ) → tag_by after.word g ≡ put h None (tag_by t.word) g

@@ -30,8 +30,9 @@ use Rattle.std.proofs.Common.{
 use Rattle.std.specs.Prelude.{slice_index, slice_set, ◌&&◌, if◌then◌else◌}
 use Rattle.std.proofs.lemmas.Bool.Decides.{nat_tests}
 use Rattle.std.proofs.lemmas.Grind.{common_steps}
-use Rattle.region_runtime.specs.Headers.{word_in, put_word, owner_of, newest_of, is_live_number}
-use Rattle.region_runtime.specs.Pool.{Pooled, Shape, shape_of, is_taken_by, last_of, changed_words, free_in}
+use Rattle.arena_laws.specs.Counts.{is_full}
+use Rattle.region_runtime.specs.Headers.{word_in, put_word, owner_of, is_live_number, current_of}
+use Rattle.region_runtime.specs.Pool.{Pooled, Shape, shape_of, is_taken_by, last_of, changed_words, counts_of}
 use Rattle.region_runtime.specs.Steps.{with_word}
 
 pub word_read : (ws : List ℕ) (p f : ℕ) → p < length ws / 16 → f < 16 → slice_index ws (16 * p + f) ≡ word_in ws p f
@@ -125,7 +126,7 @@ pub last_of_heap : (t : Shape) (h : ℕ) → h ≡ 0 → last_of t h ≡ t.heap_
 unfolding last_of
 last_of_heap t h e = grind (arith, nat_tests)
 
-pub last_of_region : (t : Shape) (h : ℕ) → is_live_number (owner_of t.word) h ≡ true → last_of t h ≡ newest_of t.word h + 1
+pub last_of_region : (t : Shape) (h : ℕ) → is_live_number (owner_of t.word) h ≡ true → last_of t h ≡ current_of t.word h + 1
 unfolding last_of
 last_of_region t h e = let l = live_some _ h e in let n : nat_eq h 0 ≡ false = grind (arith, nat_tests) in rw (n, e) refl
 
@@ -159,8 +160,8 @@ pub dead_seen : (before now : Shape) (h : ℕ) (b : Bool) → now ≡ before →
     is_live_number (owner_of before.word) h ≡ false
 dead_seen before now h b e v t = ap (λ k. is_live_number (owner_of k.word) h) (sym e) ∙ sym v ∙ t
 
-pub free_seen : (before now : Shape) (b : Bool) → now ≡ before → b ≡ nat_eq (free_in now) 0 → b ≡ false → nat_eq (free_in before) 0 ≡ false
-free_seen before now b e v t = ap (λ k. nat_eq (free_in k) 0) (sym e) ∙ sym v ∙ t
+pub free_seen : (before now : Shape) (b : Bool) → now ≡ before → b ≡ is_full (counts_of now) → b ≡ false → is_full (counts_of before) ≡ false
+free_seen before now b e v t = ap (λ k. is_full (counts_of k)) (sym e) ∙ sym v ∙ t
 
 -- a taken page is there
 pub taken_page : (ws : List ℕ) (p : ℕ) → is_taken_by (word_in ws) p ≡ true → p < length ws / 16

@@ -1,8 +1,8 @@
 -- What the pool's calls say, in the words of the laws of every store.
-use Rattle.std.specs.Prelude.{◌≡◌, Option, Some, None, ℕ, ◌-◌, ◌<◌, ◌≤◌, true, false, ◌&&◌, nat_eq, if◌then◌else◌, Result, Ok, Err}
+use Rattle.std.specs.Prelude.{◌≡◌, Option, Some, None, ℕ, ◌<◌, ◌≤◌, true, false, ◌&&◌, nat_eq, if◌then◌else◌, Result, Ok, Err}
 use Rattle.arena_laws.specs.declared.refusal.StoreRefusal.{StoreRefusal}
 use Rattle.arena_laws.specs.declared.refusal.StoreRefusal.TheVariants as store
-use Rattle.arena_laws.specs.Counts.{put}
+use Rattle.arena_laws.specs.Counts.{put, is_full, one_less}
 use Rattle.arena_laws.specs.Holdings.{arena_base, is_some}
 use Rattle.region_runtime.specs.declared.handle.Handle.{Handle}
 use Rattle.region_runtime.specs.declared.refusal.Refusal.{Refusal}
@@ -53,13 +53,13 @@ pub record IsGot (old new : Pooled) (page : ℕ) : Type 0 where
   pub within : page < (held old).pages
   pub fresh : is_taken old page ≡ false
   pub clear : (q : ℕ) → arena_base ≤ q → page_at q ≡ page → (held old).owner q ≡ None
-  pub holds : held new ≡ record (held old) { counts = record ((held old).counts) { free = (held old).counts.free - 1 } }
+  pub holds : held new ≡ record (held old) { counts = one_less (held old).counts }
   pub taken : is_taken new ≡ put page true (is_taken old)
   pub words : (q field : ℕ) → nat_eq q page ≡ false → word_of new q field ≡ word_of old q field
 
 -- no page is got, and nothing else changed
 pub record IsNotGot (old new : Pooled) : Type 0 where
-  pub full : (held old).counts.free ≡ 0
+  pub full : is_full (held old).counts ≡ true
   pub holds : held new ≡ held old
   pub taken : is_taken new ≡ is_taken old
   pub words : word_of new ≡ word_of old

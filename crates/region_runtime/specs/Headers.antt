@@ -26,7 +26,8 @@ owner_of word p = word p 1
 abbrev pub used_of : (ℕ → ℕ → ℕ) → ℕ → ℕ
 used_of word p = word p 2
 
--- the first page of the region with number h has three words more: the region's newest page, how many pages it has, and its tag
+-- The first page of the region with number h has four words more: the page that joined the region last, from which its chain goes; how many
+-- pages it has; its tag; and its current page, from which blocks are cut. A run joins the chain and leaves the current page.
 abbrev pub newest_of : (ℕ → ℕ → ℕ) → ℕ → ℕ
 newest_of word h = word (h - 1) 3
 
@@ -35,6 +36,9 @@ count_of word h = word (h - 1) 4
 
 abbrev pub tag_in : (ℕ → ℕ → ℕ) → ℕ → ℕ
 tag_in word h = word (h - 1) 5
+
+abbrev pub current_of : (ℕ → ℕ → ℕ) → ℕ → ℕ
+current_of word h = word (h - 1) 6
 
 -- the marks of a page of the heap, and of a page got by `take_page`
 abbrev pub heap_mark : ℕ

@@ -3,5 +3,6 @@ pub mod Headers
 pub mod Pool
 pub mod Sound
 pub mod Steps
+pub mod Runs
 pub mod Touches
 pub mod Calls

@@ -31,7 +31,7 @@ use Rattle.arena_laws.specs.declared.owner.Owner.{Owner}
 use Rattle.arena_laws.specs.declared.owner.Owner.TheVariants.{Region}
 use Rattle.arena_laws.specs.Counts.{Counts}
 use Rattle.arena_laws.specs.Holdings.{Holdings, arena_base}
-use Rattle.region_runtime.specs.Headers.{word_in, owner_of, used_of, newest_of, count_of, tag_in, heap_mark, taken_mark, is_live_number, holder_of, marked}
+use Rattle.region_runtime.specs.Headers.{word_in, owner_of, used_of, current_of, count_of, tag_in, heap_mark, taken_mark, is_live_number, holder_of, marked}
 
 -- A pool: the words of its headers and its bytes; the first page of the chain of freed pages and how many it has; how many pages were ever used
 -- (they come first); the heap's last page and one, or 0; and how many words of headers the last call that may change the pool read or wrote.
@@ -85,19 +85,17 @@ left_of used (suc p) = 4096 - used p
 
 -- the last page, and one, of the heap and of each live region
 unfoldable pub last_of : Shape → ℕ → ℕ
-last_of t h = (if nat_eq h 0 then t.heap_last else if is_live_number (owner_of t.word) h then newest_of t.word h + 1 else 0)
+last_of t h = (if nat_eq h 0 then t.heap_last else if is_live_number (owner_of t.word) h then current_of t.word h + 1 else 0)
 
 -- the pages of the heap and of each live region
 unfoldable pub taken_by : Shape → ℕ → ℕ
 taken_by t h =
     (if nat_eq h 0 then marked heap_mark (owner_of t.word) t.pages else if is_live_number (owner_of t.word) h then count_of t.word h else 0)
 
-abbrev pub free_in : Shape → ℕ
-free_in t = t.freed + (t.pages - t.ever_used)
-
 abbrev pub counts_of : Shape → Counts
 counts_of t = record {
-  free = free_in t;
+  fresh = t.pages - t.ever_used;
+  given = t.freed;
   taken = taken_by t;
   left = λ h. left_of (used_of t.word) (last_of t h);
   class_pages = λ c. 0;

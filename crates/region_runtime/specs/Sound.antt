@@ -2,7 +2,7 @@
 use Rattle.std.specs.Prelude.{◌≡◌, ℕ, ◌+◌, ◌-◌, ◌%◌, ◌<◌, ◌≤◌, true, List, nat_lt, if◌then◌else◌}
 use Rattle.raw_pages.specs.Raw.{IsWhole}
 use Rattle.region_runtime.specs.Chains.{follow, times, last_or}
-use Rattle.region_runtime.specs.Headers.{AreBlank, link_of, owner_of, used_of, heap_mark, is_live_number, pages_of}
+use Rattle.region_runtime.specs.Headers.{AreBlank, link_of, owner_of, used_of, current_of, heap_mark, is_live_number, pages_of}
 use Rattle.region_runtime.specs.Pool.{Pooled, Shape, shape_of}
 
 -- how often a page is in use: once for a marked page, and for another as often as it is on its live owner's chain
@@ -25,6 +25,7 @@ pub record IsOrdered (t : Shape) (in_hand : ℕ → ℕ) : Type 0 where
   pub chains : AreChains (freed_of t) (owner_of t.word) (pages_of t.word) t.ever_used in_hand
   pub rounded : (p : ℕ) → used_of t.word p % 8 ≡ 0
   pub within : (p : ℕ) → used_of t.word p ≤ 4096
+  pub current : (h : ℕ) → is_live_number (owner_of t.word) h ≡ true → 0 < times (current_of t.word h) (pages_of t.word h)
   pub heap : (p : ℕ) → t.heap_last ≡ p + 1 → owner_of t.word p ≡ heap_mark
   pub unused : AreBlank t.ever_used t.word
 

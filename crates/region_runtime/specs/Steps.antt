@@ -32,16 +32,32 @@ without_page t =
 
 -- a page becomes a region's first
 abbrev pub with_first : ℕ → Shape → Shape
-with_first p t = with_word p 5 0 (with_word p 4 1 (with_word p 3 p (with_word p 2 0 (with_word p 1 (p + 1) t))))
+with_first p t = with_word p 6 p (with_word p 5 0 (with_word p 4 1 (with_word p 3 p (with_word p 2 0 (with_word p 1 (p + 1) t)))))
 
--- a page becomes a region's newest, with a block of so many bytes
-abbrev pub with_newest : ℕ → ℕ → ℕ → Shape → Shape
-with_newest h p room t =
+-- the first page never used is taken, whatever was freed
+abbrev pub without_fresh : Shape → Shape
+without_fresh t = record t { ever_used = t.ever_used + 1 }
+
+-- a page joins a region, with a block of so many bytes; its current page stays
+abbrev pub with_joined : ℕ → ℕ → ℕ → Shape → Shape
+with_joined h p room t =
     with_word (h - 1) 4 (count_of t.word h + 1) (with_word (h - 1) 3 p (with_word p 0 (newest_of t.word h) (with_word p 1 h (with_word p 2 room t))))
 
--- a page becomes the heap's last, with a block of so many bytes
+-- it becomes the region's current one too
+abbrev pub with_newest : ℕ → ℕ → ℕ → Shape → Shape
+with_newest h p room t = with_word (h - 1) 6 p (with_joined h p room t)
+
+-- a page joins the heap, with a block of so many bytes; its last page stays
+abbrev pub with_heap_joined : ℕ → ℕ → Shape → Shape
+with_heap_joined p room t = with_word p 1 heap_mark (with_word p 2 room t)
+
+-- a page joins the heap (0) or a live region
+abbrev pub with_more : ℕ → ℕ → ℕ → Shape → Shape
+with_more h p room t = (if nat_eq h 0 then with_heap_joined p room t else with_joined h p room t)
+
+-- it becomes the heap's last too
 abbrev pub with_heap_page : ℕ → ℕ → Shape → Shape
-with_heap_page p room t = record (with_word p 1 heap_mark (with_word p 2 room t)) { heap_last = p + 1 }
+with_heap_page p room t = record (with_heap_joined p room t) { heap_last = p + 1 }
 
 -- a page becomes the last of the heap (0) or a live region
 abbrev pub with_page : ℕ → ℕ → ℕ → Shape → Shape

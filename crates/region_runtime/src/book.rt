@@ -1,14 +1,16 @@
 // A pool's headers and fields, which are read and written word by word, and counted.
 
-ghost use Rattle.std.specs.Prelude.{◌≡◌, ◌+◌, ◌-◌, ◌*◌, ◌/◌, ◌<◌, ◌≤◌, ℕ, length, nat_eq, slice_set, true, false, ◌||◌, nat_lt, if◌then◌else◌};
+ghost use Rattle.std.specs.Prelude.{◌≡◌, ◌+◌, ◌-◌, ◌*◌, ◌/◌, ◌%◌, ◌<◌, ◌≤◌, ℕ, length, nat_eq, slice_set, true, false, ◌||◌, nat_lt, if◌then◌else◌};
 ghost use Rattle.raw_pages.specs.Raw.{count};
-ghost use Rattle.arena_laws.specs.Counts.{is_full};
+ghost use Rattle.arena_laws.specs.Counts.{block_limit, is_full, run_of};
 ghost use Rattle.arena_laws.specs.Holdings.{arena_base};
 ghost use Rattle.arena_laws.specs.Lawful.{takes_blocks};
 ghost use Rattle.region_runtime.specs.Headers.{word_in, owner_of, newest_of, count_of, is_live_number, used_of, tag_in};
 ghost use Rattle.region_runtime.specs.Pool.{counts_of, last_of, left_of, changed_words, is_taken_by, standing_by};
-ghost use Rattle.region_runtime.specs.Touches.{one_if, reads_number, reads_page};
-ghost use Rattle.region_runtime.specs.Steps.{next_page, seen, with_first, with_freed, with_heap_page, with_newest, with_page, with_taken, with_word, without_page};
+ghost use Rattle.region_runtime.specs.Touches.{one_if, run_words, reads_number, reads_page};
+ghost use Rattle.region_runtime.specs.Steps.{next_page, seen, with_first, with_freed, with_heap_joined, with_heap_page, with_joined, with_more, with_newest, with_page, with_taken, with_word, without_fresh, without_page};
+ghost use Rattle.region_runtime.specs.Runs.{IsRun};
+ghost use Rattle.region_runtime.specs.Sound.{IsOrdered, no_page};
 
 use arena_laws::{BASE, PAGE};
 use raw_pages::RawPages;
@@ -22,7 +24,7 @@ pub(crate) const OWNER: u32 = 1;
 /// The field of the bytes used of a page.
 pub(crate) const USED: u32 = 2;
 
-/// The field of a region's newest page, in its first page.
+/// The field of the page that joined a region last, in its first page: the region's chain goes from it.
 pub(crate) const NEWEST: u32 = 3;
 
 /// The field of how many pages a region has, in its first page.
@@ -30,6 +32,9 @@ pub(crate) const COUNT: u32 = 4;
 
 /// The field of a region's tag, in its first page.
 pub(crate) const TAG: u32 = 5;
+
+/// The field of a region's current page, from which blocks are cut, in its first page.
+pub(crate) const CURRENT: u32 = 6;
 
 /// The owner of the heap's pages.
 pub(crate) const HEAP: u32 = 4097;
@@ -55,7 +60,7 @@ impl Book {
     fn read(&mut self, page: u32, field: u32) -> u32
         requires page { page < count self.old.raw }
         requires field { field < 16 }
-        requires few { self.old.touched < 64 }
+        requires few { self.old.touched < 8192 }
         ensures value { result ≡ word_in self.old.raw.words page field }
         ensures raw { self.new.raw ≡ self.old.raw }
         ensures shape { seen self.new ≡ seen self.old }
@@ -69,7 +74,7 @@ impl Book {
     fn write(&mut self, page: u32, field: u32, value: u32)
         requires page { page < count self.old.raw }
         requires field { field < 16 }
-        requires few { self.old.touched < 64 }
+        requires few { self.old.touched < 8192 }
         ensures words { self.new.raw.words ≡ slice_set self.old.raw.words (16 * page + field) value }
         ensures shape { seen self.new ≡ with_word page field value (seen self.old) }
         ensures bytes { self.new.raw.bytes ≡ self.old.raw.bytes }
@@ -162,13 +167,14 @@ impl Book {
         ensures shape { seen self.new ≡ with_first page (seen self.old) }
         ensures long { length self.new.raw.words ≡ length self.old.raw.words }
         ensures bytes { self.new.raw.bytes ≡ self.old.raw.bytes }
-        ensures touched { self.new.touched ≡ self.old.touched + 5 }
+        ensures touched { self.new.touched ≡ self.old.touched + 6 }
     {
         self.write(page, OWNER, page + 1);
         self.write(page, USED, 0);
         self.write(page, NEWEST, page);
         self.write(page, COUNT, 1);
         self.write(page, TAG, 0);
+        self.write(page, CURRENT, page);
     }
 
     // the last page, and one, of the heap or a live region
@@ -186,7 +192,7 @@ impl Book {
         if number == 0 {
             self.heap_last
         } else {
-            self.read(number - 1, NEWEST) + 1
+            self.read(number - 1, CURRENT) + 1
         }
     }
 
@@ -224,30 +230,28 @@ impl Book {
         BASE + PAGE * page + used
     }
 
-    // makes a page the last of the heap, with a block of so many bytes
-    fn grow_heap(&mut self, page: u32, room: u32)
+    // makes a page one of the heap's, with a block of so many bytes
+    fn join_heap(&mut self, page: u32, room: u32)
         requires page { page < count self.old.raw }
-        requires small { count self.old.raw ≤ 4096 }
-        requires few { self.old.touched < 50 }
-        ensures shape { seen self.new ≡ with_heap_page page room (seen self.old) }
+        requires few { self.old.touched < 8000 }
+        ensures shape { seen self.new ≡ with_heap_joined page room (seen self.old) }
         ensures long { length self.new.raw.words ≡ length self.old.raw.words }
         ensures bytes { self.new.raw.bytes ≡ self.old.raw.bytes }
         ensures touched { self.new.touched ≡ self.old.touched + 2 }
     {
         self.write(page, USED, room);
         self.write(page, OWNER, HEAP);
-        self.heap_last = page + 1;
     }
 
-    // makes a page the newest of a live region, with a block of so many bytes
-    fn grow_region(&mut self, number: u32, page: u32, room: u32)
+    // makes a page one of a live region's, with a block of so many bytes
+    fn join_region(&mut self, number: u32, page: u32, room: u32)
         requires page { page < count self.old.raw }
         requires some { 0 < number }
         requires first { number - 1 < count self.old.raw }
         requires other { nat_eq page (number - 1) ≡ false }
         requires small { count_of (seen self.old).word number ≤ 4096 }
-        requires few { self.old.touched < 50 }
-        ensures shape { seen self.new ≡ with_newest number page room (seen self.old) }
+        requires few { self.old.touched < 8000 }
+        ensures shape { seen self.new ≡ with_joined number page room (seen self.old) }
         ensures long { length self.new.raw.words ≡ length self.old.raw.words }
         ensures bytes { self.new.raw.bytes ≡ self.old.raw.bytes }
         ensures touched { self.new.touched ≡ self.old.touched + 7 }
@@ -261,6 +265,104 @@ impl Book {
         self.write(number - 1, COUNT, pages + 1);
     }
 
+    // makes a page one of the heap's or a live region's, with a block of so many bytes
+    fn join(&mut self, number: u32, page: u32, room: u32)
+        requires page { page < count self.old.raw }
+        requires first { 0 < number → number - 1 < count self.old.raw }
+        requires other { 0 < number → nat_eq page (number - 1) ≡ false }
+        requires few { 0 < number → count_of (seen self.old).word number ≤ 4096 }
+        requires touches { self.old.touched < 8000 }
+        ensures shape { seen self.new ≡ with_more number page room (seen self.old) }
+        ensures long { length self.new.raw.words ≡ length self.old.raw.words }
+        ensures bytes { self.new.raw.bytes ≡ self.old.raw.bytes }
+        ensures touched { self.new.touched ≡ self.old.touched + (if nat_eq number 0 then 2 else 7) }
+    {
+        if number == 0 {
+            self.join_heap(page, room);
+        } else {
+            self.join_region(number, page, room);
+        }
+    }
+
+    // how many pages were never used
+    pub(crate) fn unused(&self) -> u32
+        requires { self.now.ever_used ≤ count self.now.raw }
+        ensures { result ≡ (counts_of (seen self.now)).fresh }
+    {
+        self.raw.pages() - self.ever_used
+    }
+
+    // takes the first page that was never used, and makes it one of the heap's or a live region's
+    fn extend(&mut self, number: u32, room: u32)
+        requires page { self.old.ever_used < count self.old.raw }
+        requires small { count self.old.raw ≤ 4096 }
+        requires first { 0 < number → number - 1 < count self.old.raw }
+        requires other { 0 < number → nat_eq self.old.ever_used (number - 1) ≡ false }
+        requires few { 0 < number → count_of (seen self.old).word number ≤ 4096 }
+        requires touches { self.old.touched < 8000 }
+        ensures shape { seen self.new ≡ with_more number self.old.ever_used room (without_fresh (seen self.old)) }
+        ensures long { length self.new.raw.words ≡ length self.old.raw.words }
+        ensures bytes { self.new.raw.bytes ≡ self.old.raw.bytes }
+        ensures touched { self.new.touched ≡ self.old.touched + (if nat_eq number 0 then 2 else 7) }
+    {
+        let page = self.ever_used;
+        self.ever_used += 1;
+        self.join(number, page, room);
+    }
+
+    // makes a run of pages never used the heap's or a live region's, with a block of so many bytes
+    pub(crate) fn run(&mut self, number: u32, room: u32)
+        requires ordered { IsOrdered (seen self.old) no_page }
+        requires live { 0 < number → is_live_number (owner_of (seen self.old).word) number ≡ true }
+        requires eights { room % 8 ≡ 0 }
+        requires some { 0 < room }
+        requires limit { room ≤ block_limit }
+        requires pages { self.old.ever_used + run_of room ≤ count self.old.raw }
+        requires few { self.old.touched < 60 }
+        ensures run { IsRun (seen self.old) (seen self.new) number (arena_base + 4096 * self.old.ever_used) room (run_of room) }
+        ensures long { length self.new.raw.words ≡ length self.old.raw.words }
+        ensures bytes { self.new.raw.bytes ≡ self.old.raw.bytes }
+        ensures touched { self.new.touched ≡ self.old.touched + run_words number (run_of room) }
+    {
+        let mut left = room;
+        'pages: while left > PAGE {
+            self.extend(number, PAGE);
+            left -= PAGE;
+        }
+        self.extend(number, left);
+    }
+
+    // makes a page the last of the heap, with a block of so many bytes
+    fn grow_heap(&mut self, page: u32, room: u32)
+        requires page { page < count self.old.raw }
+        requires small { count self.old.raw ≤ 4096 }
+        requires few { self.old.touched < 50 }
+        ensures shape { seen self.new ≡ with_heap_page page room (seen self.old) }
+        ensures long { length self.new.raw.words ≡ length self.old.raw.words }
+        ensures bytes { self.new.raw.bytes ≡ self.old.raw.bytes }
+        ensures touched { self.new.touched ≡ self.old.touched + 2 }
+    {
+        self.join_heap(page, room);
+        self.heap_last = page + 1;
+    }
+
+    // makes a page the newest and the current one of a live region, with a block of so many bytes
+    fn grow_region(&mut self, number: u32, page: u32, room: u32)
+        requires page { page < count self.old.raw }
+        requires some { 0 < number }
+        requires first { number - 1 < count self.old.raw }
+        requires other { nat_eq page (number - 1) ≡ false }
+        requires small { count_of (seen self.old).word number ≤ 4096 }
+        requires few { self.old.touched < 50 }
+        ensures shape { seen self.new ≡ with_newest number page room (seen self.old) }
+        ensures long { length self.new.raw.words ≡ length self.old.raw.words }
+        ensures bytes { self.new.raw.bytes ≡ self.old.raw.bytes }
+        ensures touched { self.new.touched ≡ self.old.touched + 8 }
+    {
+        self.join_region(number, page, room);
+        self.write(number - 1, CURRENT, page);
+    }
+
     // makes a page the last of the heap or a live region, with a block of so many bytes
     pub(crate) fn grow(&mut self, number: u32, page: u32, room: u32)
         requires page { page < count self.old.raw }
@@ -272,7 +374,7 @@ impl Book {
         ensures shape { seen self.new ≡ with_page number page room (seen self.old) }
         ensures long { length self.new.raw.words ≡ length self.old.raw.words }
         ensures bytes { self.new.raw.bytes ≡ self.old.raw.bytes }
-        ensures touched { self.new.touched ≡ self.old.touched + (if nat_eq number 0 then 2 else 7) }
+        ensures touched { self.new.touched ≡ self.old.touched + (if nat_eq number 0 then 2 else 8) }
     {
         if number == 0 {
             self.grow_heap(page, room);

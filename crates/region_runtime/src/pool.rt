@@ -1,21 +1,21 @@
 // The pool's calls.
 
 ghost use Rattle.std.specs.Prelude.{◌≡◌, ◌+◌, ◌-◌, ◌≤◌, ℕ, Bool, true, false, IfOk, is_ok, ◌&&◌, nat_eq, nat_le, nat_lt, if◌then◌else◌};
-ghost use Rattle.arena_laws.specs.Counts.{block_needs_page, is_full, room_of};
+ghost use Rattle.arena_laws.specs.Counts.{free_pages, is_full, room_of};
 ghost use Rattle.arena_laws.specs.Holdings.{fresh, is_in_arena, is_live_in, is_none, is_some};
 ghost use Rattle.arena_laws.specs.Lawful.{region_free};
 ghost use Rattle.arena_laws.specs.Laws.{Does, answer_of, is_block_refused, is_refused_full, loaded, region_alloc, region_new, stored};
 ghost use Rattle.raw_pages.specs.Raw.{is_no_page_count, is_pages_fault};
 ghost use Rattle.region_runtime.specs.Calls.{Gets, said_address, said_done, said_handle, tags_set, tags_with, tags_without, word_seen, words_set};
 ghost use Rattle.region_runtime.specs.Headers.{AreBlank, word_in};
-ghost use Rattle.region_runtime.specs.Touches.{Touched, block_least, reads_link, touches_field, touches_for, used_after};
+ghost use Rattle.region_runtime.specs.Touches.{Touched, alloc_least, reads_link, touches_field, touches_for, used_after, used_with_block};
 ghost use Rattle.region_runtime.specs.Pool.{AreApart, byte_at, changed_words, held, is_free_field, is_taken, tag_of, word_of};
 
 use crate::book::{Book, OWNER, TAKEN, USED};
 use crate::handle::Handle;
 use crate::refusal::Refusal;
 use crate::walk::is_held;
-use arena_laws::{BASE, PAGE, room_for};
+use arena_laws::{BASE, LIMIT, PAGE, room_for, run_for};
 use raw_pages::{PagesFault, RawPages};
 use std::alloc::Global;
 use std::marker::Model;
@@ -75,8 +75,9 @@ impl Pool {
         ensures words { word_of self.new ≡ word_of self.old }
         ensures bytes { byte_at self.new ≡ byte_at self.old }
         ensures fresh { self.new.ever_used ≡ used_after (is_some result) (held self.old) self.old.ever_used }
-        ensures touches { self.new.touched ≡ (if is_some result then 5 + reads_link (held self.old) self.old.ever_used else 0) }
+        ensures touches { self.new.touched ≡ (if is_some result then 6 + reads_link (held self.old) else 0) }
         ensures apart { AreApart self.new }
+        ensures unchanged { is_some result ≡ false → self.new.words ≡ self.old.words }
     {
         self.book.begin();
         if self.book.is_full() {
@@ -89,8 +90,10 @@ impl Pool {
 
     /// A block of so many bytes in a live region, or in the heap (0): its address, a multiple of 8.
     /// The room is the bytes rounded up to 8 (0 to 8), and meets no live room. BadHandle where the
-    /// handle is of no live region; Full above 4,096 bytes, or where the room is more than what is
-    /// left of the region's last page and no page is free.
+    /// handle is of no live region, looked for first; Full above 1,048,576 bytes. A room above 4,096
+    /// takes a run of neighbouring pages that were never used, and is Full where fewer are left; the
+    /// region's last page stays. Another room is Full where it is more than what is left of the last
+    /// page and no page is free.
     pub fn region_alloc(&mut self, handle: Handle, bytes: u32) -> Result<u32, Refusal>
         ensures does { Does (said_address result) (held self.new) (region_alloc handle.0 bytes (answer_of (said_address result)) (held self.old)) }
         ensures full { is_refused_full (said_address result) ≡ is_block_refused handle.0 bytes (held self.old) }
@@ -98,20 +101,28 @@ impl Pool {
         ensures taken { is_taken self.new ≡ is_taken self.old }
         ensures words { word_of self.new ≡ word_of self.old }
         ensures bytes { byte_at self.new ≡ byte_at self.old }
-        ensures fresh { self.new.ever_used ≡ used_after (is_ok result && block_needs_page handle.0 (room_of bytes) (held self.old).counts) (held self.old) self.old.ever_used }
-        ensures touches { let needs = block_needs_page handle.0 (room_of bytes) (held self.old).counts in
-            Touched (is_ok result) (block_least handle.0 needs (reads_link (held self.old) self.old.ever_used)) 1 3 self.new.touched }
+        ensures fresh { self.new.ever_used ≡ (if is_ok result then used_with_block handle.0 (room_of bytes) (held self.old) self.old.ever_used else self.old.ever_used) }
+        ensures touches { Touched (is_ok result) (alloc_least handle.0 (room_of bytes) (held self.old)) 1 3 self.new.touched }
         ensures apart { AreApart self.new }
+        ensures unchanged { is_ok result ≡ false → self.new.words ≡ self.old.words }
     {
         self.book.begin();
         let number = handle.0;
         if !self.book.serves(number) {
             return Err(Refusal::BadHandle);
         }
-        if bytes > PAGE {
+        if bytes > LIMIT {
             return Err(Refusal::Full);
         }
         let room = room_for(bytes);
+        if room > PAGE {
+            if run_for(room) > self.book.unused() {
+                return Err(Refusal::Full);
+            }
+            let page = self.book.ever_used;
+            self.book.run(number, room);
+            return Ok(BASE + PAGE * page);
+        }
         let last = self.book.last(number);
         if room <= self.book.left(last) {
             return Ok(self.book.cut(last - 1, room));
@@ -138,6 +149,7 @@ impl Pool {
         ensures touches { self.new.touched ≡ touches_for (is_some (tag_of self.old handle.0)) 5 (held self.old).pages handle.0 }
         ensures fresh { self.new.ever_used ≡ self.old.ever_used }
         ensures apart { AreApart self.new }
+        ensures unchanged { is_ok result ≡ false → self.new.words ≡ self.old.words }
     {
         self.book.begin();
         if !self.book.knows(handle.0) {
@@ -180,6 +192,7 @@ impl Pool {
         ensures touches { self.new.touched ≡ touches_for (is_some (tag_of self.old handle.0)) 2 (held self.old).pages handle.0 }
         ensures fresh { self.new.ever_used ≡ self.old.ever_used }
         ensures apart { AreApart self.new }
+        ensures unchanged { result ≡ false → self.new.words ≡ self.old.words }
     {
         self.book.begin();
         if !self.book.knows(handle.0) {
@@ -196,8 +209,9 @@ impl Pool {
         ensures tags { tag_of self.new ≡ tag_of self.old }
         ensures bytes { byte_at self.new ≡ byte_at self.old }
         ensures fresh { self.new.ever_used ≡ used_after (is_some result) (held self.old) self.old.ever_used }
-        ensures touches { self.new.touched ≡ (if is_some result then 1 + reads_link (held self.old) self.old.ever_used else 0) }
+        ensures touches { self.new.touched ≡ (if is_some result then 1 + reads_link (held self.old) else 0) }
         ensures apart { AreApart self.new }
+        ensures unchanged { is_some result ≡ false → self.new.words ≡ self.old.words }
     {
         self.book.begin();
         if self.book.is_full() {
@@ -236,6 +250,7 @@ impl Pool {
         ensures touches { self.new.touched ≡ touches_field result 2 (is_free_field field) (held self.old).pages page }
         ensures fresh { self.new.ever_used ≡ self.old.ever_used }
         ensures apart { AreApart self.new }
+        ensures unchanged { result ≡ false → self.new.words ≡ self.old.words }
     {
         self.book.begin();
         if field < 4 || field > 15 {
@@ -250,7 +265,7 @@ impl Pool {
 
     /// How many pages are free.
     pub fn free_pages(&self) -> u32
-        ensures { result ≡ (held self.now).counts.free }
+        ensures { result ≡ free_pages (held self.now).counts }
     {
         self.book.freed + self.fresh_pages()
     }
@@ -259,7 +274,7 @@ impl Pool {
     /// A page that is taken is one of them only where no freed one is there.
     pub fn fresh_pages(&self) -> u32
         ensures fresh { result ≡ (held self.now).pages - self.now.ever_used }
-        ensures free { result ≤ (held self.now).counts.free }
+        ensures count { result ≡ (held self.now).counts.fresh }
         ensures unused { AreBlank self.now.ever_used (word_in self.now.words) }
     {
         self.pages() - self.book.ever_used

@@ -1,11 +1,11 @@
 -- The pool's calls, with unique blocks beside.
-use Rattle.std.proofs.Common.{◌≡◌, ℕ, Bool, true, false, List, Some, None, Result, Ok, refl, sym, ap, subst, ◌∙◌}
+use Rattle.std.proofs.Common.{◌≡◌, ℕ, true, List, Some, None, Result, refl, sym, ap, subst, ◌∙◌}
 use Rattle.std.specs.Prelude.{if◌then◌else◌}
 use Rattle.arena_laws.specs.declared.owner.Owner.{Owner}
 use Rattle.arena_laws.specs.declared.owner.Owner.TheVariants.{Region}
 use Rattle.arena_laws.specs.declared.refusal.StoreRefusal.{StoreRefusal}
-use Rattle.arena_laws.specs.declared.refusal.StoreRefusal.TheVariants.{BadHandle, Full}
-use Rattle.arena_laws.specs.Counts.{is_too_long, room_of}
+use Rattle.arena_laws.specs.declared.refusal.StoreRefusal.TheVariants.{Full}
+use Rattle.arena_laws.specs.Counts.{room_of}
 use Rattle.arena_laws.specs.Holdings.{Holdings, is_none}
 use Rattle.arena_laws.specs.Lawful.{Answer, Grants, Refuses, Lacks, Done, gives_block, is_in_room, is_lawful_room, refuses, region_free, takes_blocks}
 use Rattle.arena_laws.specs.Lawful.{with_region_block}

@@ -1,40 +1,14 @@
 -- A unique block is asked for or freed: what is said.
-use Rattle.std.proofs.Common.{
-  ◌≡◌,
-  ℕ,
-  ◌+◌,
-  ◌-◌,
-  ◌/◌,
-  ◌%◌,
-  ◌<◌,
-  ◌≤◌,
-  Bool,
-  true,
-  false,
-  List,
-  Option,
-  Some,
-  None,
-  Ok,
-  Err,
-  nat_eq,
-  nat_lt,
-  refl,
-  sym,
-  ap,
-  subst,
-  ◌∙◌,
-  arith,
-}
-use Rattle.std.specs.Prelude.{◌&&◌, ◌||◌, if◌then◌else◌}
+use Rattle.std.proofs.Common.{◌≡◌, ℕ, ◌+◌, ◌/◌, ◌%◌, ◌<◌, ◌≤◌, Bool, true, false, List, Option, Some, None, Ok, Err, nat_eq, nat_lt, refl, sym, ap, subst, ◌∙◌, arith}
+use Rattle.std.specs.Prelude.{◌&&◌, if◌then◌else◌}
 use Rattle.std.proofs.lemmas.Nat.{div-add-mod'}
 use Rattle.std.proofs.lemmas.Bool.Decides.{nat_tests}
 use Rattle.arena_laws.specs.declared.owner.Owner.{Owner}
 use Rattle.arena_laws.specs.declared.owner.Owner.TheVariants.{Region, Alone}
-use Rattle.arena_laws.specs.declared.refusal.StoreRefusal.TheVariants.{Full, NotABlock}
-use Rattle.arena_laws.specs.Counts.{Counts, put, class_of, is_full, is_full_for_slot, is_too_long, slot_needs_page, with_slot}
-use Rattle.arena_laws.specs.Holdings.{Holdings, arena_base, is_live_in, is_some}
-use Rattle.arena_laws.specs.Lawful.{Grants, Refuses, frees_alone, is_alone, is_lawful_room, with_alone, without_alone}
+use Rattle.arena_laws.specs.declared.refusal.StoreRefusal.TheVariants.{NotABlock}
+use Rattle.arena_laws.specs.Counts.{Counts, put, class_of, is_full, is_full_for_slot, slot_needs_page, with_slot, is_too_long_alone, one_less}
+use Rattle.arena_laws.specs.Holdings.{Holdings, arena_base, is_some}
+use Rattle.arena_laws.specs.Lawful.{Grants, frees_alone, is_alone, is_lawful_room, with_alone}
 use Rattle.arena_laws.specs.Laws.{Does, unique_alloc}
 use Rattle.region_runtime.specs.Pool.{Pooled, page_at, place_at, word_of}
 use Rattle.region_runtime.specs.Pool as pool
@@ -48,15 +22,15 @@ use Rattle.unique_blocks.proofs.Steps.{pool_alone}
 -- ---- a block is asked for
 
 module _ (h : Holdings) (bytes : ℕ) where
-  pub short : bytes ≤ 4096 → is_too_long bytes ≡ false
+  pub short : bytes ≤ 4096 → is_too_long_alone bytes ≡ false
   short l = grind (arith, nat_tests)
 
   -- what says that a slot can be had
-  pub not_full : is_too_long bytes ≡ false → (slot_needs_page (class_of bytes) h.counts && is_full h.counts) ≡ false →
+  pub not_full : is_too_long_alone bytes ≡ false → (slot_needs_page (class_of bytes) h.counts && is_full h.counts) ≡ false →
       is_full_for_slot bytes h.counts ≡ false
   not_full l f = rw (l, f) refl
 
-  pub granted : (at : ℕ) → is_too_long bytes ≡ false → (slot_needs_page (class_of bytes) h.counts && is_full h.counts) ≡ false →
+  pub granted : (at : ℕ) → is_too_long_alone bytes ≡ false → (slot_needs_page (class_of bytes) h.counts && is_full h.counts) ≡ false →
       is_lawful_room h at (class_of bytes) ≡ true → (after : Holdings) → after ≡ with_alone at (class_of bytes) h →
       Does (Ok at) after (unique_alloc bytes (Grants at) h)
   granted at l f r after e = rw (l, f, r) (record { says = refl; holds = e })
@@ -66,21 +40,18 @@ pub after_cut : (h : Holdings) (c at : ℕ) → slot_needs_page c h.counts ≡ t
     with_alone at c (with_page_of c h) ≡ with_alone at c h
 after_cut h c at n s = ap (λ k. record (with_alone at c h) { counts = k }) (spare s ∙ sym (needs n))
   where
-    needs : slot_needs_page c h.counts ≡ true → with_slot c h.counts ≡ record (h.counts) {
-      free = h.counts.free - 1;
+    needs : slot_needs_page c h.counts ≡ true → with_slot c h.counts ≡ record (one_less h.counts) {
       class_pages = put c (h.counts.class_pages c + 1) h.counts.class_pages;
       slots = put c (h.counts.slots c + 1) h.counts.slots;
     }
     needs n = rw n refl
 
-    spare : slot_needs_page c (with_page_of c h).counts ≡ false → with_slot c (with_page_of c h).counts ≡ record (h.counts) {
-      free = h.counts.free - 1;
+    spare : slot_needs_page c (with_page_of c h).counts ≡ false → with_slot c (with_page_of c h).counts ≡ record (one_less h.counts) {
       class_pages = put c (h.counts.class_pages c + 1) h.counts.class_pages;
       slots = put c (h.counts.slots c + 1) h.counts.slots;
     }
     spare s =
-        ap (λ t. let k : Counts = (with_page_of c h).counts in if t then record k {
-          free = k.free - 1;
+        ap (λ t. let k : Counts = (with_page_of c h).counts in if t then record (one_less k) {
           class_pages = put c (k.class_pages c + 1) k.class_pages;
           slots = put c (k.slots c + 1) k.slots;
         } else record k { slots = put c (k.slots c + 1) k.slots }) s

@@ -34,7 +34,7 @@ use Rattle.arena_laws.specs.declared.refusal.StoreRefusal.{StoreRefusal}
 use Rattle.arena_laws.specs.declared.refusal.StoreRefusal.TheVariants.{Full, BadHandle, NotABlock, BadKey, Open, NotOpen, Memory}
 use Rattle.arena_laws.specs.declared.standing.Standing.{Standing}
 use Rattle.arena_laws.specs.declared.standing.Standing.TheVariants.{Lexical, Opened, Closed}
-use Rattle.arena_laws.specs.Counts.{put, room_of, block_needs_page, is_full, is_too_long}
+use Rattle.arena_laws.specs.Counts.{put, room_of, block_needs_page, is_too_long, is_large, run_of, with_run, one_less}
 use Rattle.arena_laws.specs.Holdings.{Holdings, arena_base, is_none}
 use Rattle.arena_laws.specs.Lawful.{
   Answer,
@@ -59,7 +59,7 @@ use Rattle.arena_laws.specs.Lawful.{
   without_number,
 }
 use Rattle.arena_laws.specs.Lawful as lawful
-use Rattle.arena_laws.specs.Laws.{Does, answer_of, is_block_refused, refused_by, region_alloc, region_new}
+use Rattle.arena_laws.specs.Laws.{Does, answer_of, is_block_refused, refused_by, region_alloc}
 use Rattle.arena_laws.proofs.Rooms.{block_placed}
 use Rattle.unique_blocks.specs.Slots.{Slots, alone_at}
 use Rattle.unique_blocks.specs.Blocks.{either_owner, joined}
@@ -131,22 +131,25 @@ module _ (s : Slots) (h : Holdings) where
         by_room false = refl
 
     placed_lifted : (at room : ℕ) → with_region_block n at room (joined s h) ≡ joined s (with_region_block n at room h)
-    placed_lifted at room = by_page (block_needs_page n room h.counts) refl
+    placed_lifted at room = by_run (is_large room) refl
       where
-        by_page : (t : Bool) → block_needs_page n room h.counts ≡ t → with_region_block n at room (joined s h) ≡ joined s (with_region_block n at room h)
-        by_page true e = rw e (λ i. record (joined s h) {
+        by_run : (l : Bool) → is_large room ≡ l → with_region_block n at room (joined s h) ≡ joined s (with_region_block n at room h)
+        by_run true l = rw l (λ i. record (joined s h) {
           owner = λ q. owns_lifted at room q i;
-          counts = record ((joined s h).counts) {
-            free = h.counts.free - 1;
-            taken = put n (h.counts.taken n + 1) h.counts.taken;
-            left = put n
-                (4096 - room) h.counts.left;
-          };
+          counts = with_run n (run_of room) (joined s h).counts;
         })
-        by_page false e = rw e (λ i. record (joined s h) {
-          owner = λ q. owns_lifted at room q i;
-          counts = record ((joined s h).counts) { left = put n (h.counts.left n - room) h.counts.left };
-        })
+        by_run false l = by_page (block_needs_page n room h.counts) refl
+          where
+            by_page : (t : Bool) → block_needs_page n room h.counts ≡ t → with_region_block n at room (joined s h) ≡ joined s
+                (with_region_block n at room h)
+            by_page true e = rw (l, e) (λ i. record (joined s h) {
+              owner = λ q. owns_lifted at room q i;
+              counts = record (one_less (joined s h).counts) { taken = put n (h.counts.taken n + 1) h.counts.taken; left = put n (4096 - room) h.counts.left };
+            })
+            by_page false e = rw (l, e) (λ i. record (joined s h) {
+              owner = λ q. owns_lifted at room q i;
+              counts = record ((joined s h).counts) { left = put n (h.counts.left n - room) h.counts.left };
+            })
 
     either_none : (o : Option Owner) → either_owner o None ≡ o
     either_none None = refl

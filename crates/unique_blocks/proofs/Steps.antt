@@ -1,10 +1,10 @@
 -- What a pool's unique blocks are after a page is opened, a slot taken or given back.
-use Rattle.std.proofs.Common.{◌≡◌, ℕ, ◌+◌, ◌-◌, ◌/◌, ◌%◌, ◌<◌, Bool, true, false, Option, Some, None, List, nat_eq, nat_lt, refl, sym, ap, subst, ◌∙◌, arith}
+use Rattle.std.proofs.Common.{◌≡◌, ℕ, ◌+◌, ◌/◌, ◌%◌, ◌<◌, Bool, true, false, Option, Some, None, List, nat_eq, nat_lt, refl, sym, ap, subst, ◌∙◌, arith}
 use Rattle.std.specs.Prelude.{slice_index, slice_set, ◌&&◌, if◌then◌else◌}
 use Rattle.std.specs.Int.{bit_at}
 use Rattle.std.proofs.lemmas.Bool.Decides.{nat_tests}
 use Rattle.arena_laws.specs.declared.owner.Owner.TheVariants.{Region}
-use Rattle.arena_laws.specs.Counts.{put, class_of}
+use Rattle.arena_laws.specs.Counts.{put, class_of, one_less}
 use Rattle.arena_laws.specs.Holdings.{arena_base, is_none}
 use Rattle.arena_laws.specs.Lawful.{is_alone, is_of}
 use Rattle.region_runtime.specs.Headers.{holder_of, used_of, word_in}
@@ -124,7 +124,7 @@ module _ (old got new : Pooled) (heads : List ℕ) (c p : ℕ) (sound : AreSlots
     next = λ q. put_by q (nat_eq q p) refl 0 10 i;
   })
 
-  pool_is : pool.held new ≡ record (pool.held old) { counts = record ((pool.held old).counts) { free = (pool.held old).counts.free - 1 } }
+  pool_is : pool.held new ≡ record (pool.held old) { counts = one_less (pool.held old).counts }
   pool_is = kept.holds ∙ is_got.holds
 
   pages_is : (pool.held new).pages ≡ (pool.held old).pages
@@ -152,8 +152,7 @@ module _ (old got new : Pooled) (heads : List ℕ) (c p : ℕ) (sound : AreSlots
           ∙ sym (alone_here s q b)
 
   pub opened_holds : joined (slots_of new) (pool.held new) ≡ record (joined s (pool.held old)) {
-    counts = record ((joined s (pool.held old)).counts) {
-      free = (pool.held old).counts.free - 1;
+    counts = record (one_less (joined s (pool.held old)).counts) {
       class_pages = put c (pages_of_class (pool.held old).pages s c + 1) (pages_of_class (pool.held old).pages s);
     };
   }
@@ -161,8 +160,7 @@ module _ (old got new : Pooled) (heads : List ℕ) (c p : ℕ) (sound : AreSlots
       ap (λ t. joined t (pool.held new)) is_new ∙ ap (joined (with_cut p c s)) pool_is
       ∙ (λ i. record (joined s (pool.held old)) {
         owner = λ q. either_owner ((pool.held old).owner q) (cut_owner q i);
-        counts = record ((joined s (pool.held old)).counts) {
-          free = (pool.held old).counts.free - 1;
+        counts = record (one_less (joined s (pool.held old)).counts) {
           class_pages = λ d. cut_pages (pool.held old).pages s p c is_got.within some fresh d i;
           slots = λ d. cut_slots (pool.held old).pages s p c is_got.within some fresh d i;
         };

@@ -5,7 +5,7 @@ use Rattle.std.proofs.lemmas.Bool.Decides.{nat_tests}
 use Rattle.arena_laws.specs.declared.owner.Owner.{Owner}
 use Rattle.arena_laws.specs.declared.owner.Owner.TheVariants.{Alone}
 use Rattle.arena_laws.specs.Classes.{IsClass}
-use Rattle.arena_laws.specs.Counts.{Counts, put, slot_needs_page}
+use Rattle.arena_laws.specs.Counts.{Counts, put, slot_needs_page, one_less}
 use Rattle.arena_laws.specs.Holdings.{Holdings, arena_base}
 use Rattle.arena_laws.specs.Lawful.{is_alone, is_in_room, is_lawful_room, owns, with_alone, without_alone}
 use Rattle.region_runtime.specs.Pool.{Pooled, page_at, word_of}
@@ -112,7 +112,7 @@ module _ (old new : Pooled) (p c k : ℕ) (class : IsClass c) (of_class : word_o
         })
         ∙ sym (ap (λ t. let k : Counts = (joined s h).counts in record (with_alone at c (joined s h)) {
           counts = (if t then
-              record k { free = k.free - 1; class_pages = put c (k.class_pages c + 1) k.class_pages; slots = put c (k.slots c + 1) k.slots } else record k {
+              record (one_less k) { class_pages = put c (k.class_pages c + 1) k.class_pages; slots = put c (k.slots c + 1) k.slots } else record k {
                 slots = put c (k.slots c + 1) k.slots;
               });
         }) spare)

@@ -1,9 +1,9 @@
 -- What the calls say and leave, in the words of the laws of every store.
-use Rattle.std.specs.Prelude.{◌≡◌, Some, ℕ, ◌+◌, ◌-◌, ◌<◌, ◌≤◌, Bool, true, false, Result, Ok, Err, slice_index, if◌then◌else◌}
+use Rattle.std.specs.Prelude.{◌≡◌, Some, ℕ, ◌+◌, ◌<◌, ◌≤◌, Bool, true, false, Result, Ok, Err, slice_index, if◌then◌else◌}
 use Rattle.arena_laws.specs.declared.refusal.StoreRefusal.{StoreRefusal}
 use Rattle.arena_laws.specs.declared.refusal.StoreRefusal.TheVariants as store
 use Rattle.arena_laws.specs.declared.owner.Owner.TheVariants.{Alone}
-use Rattle.arena_laws.specs.Counts.{put, is_full, slot_needs_page}
+use Rattle.arena_laws.specs.Counts.{put, is_full, slot_needs_page, one_less}
 use Rattle.arena_laws.specs.Holdings.{Holdings}
 use Rattle.arena_laws.specs.Lawful.{is_lawful_room, with_alone, without_alone}
 use Rattle.region_runtime.specs.Pool.{Pooled, is_taken, word_of}
@@ -46,7 +46,7 @@ pub record IsKept (old new : Pooled) : Type 0 where
 
 -- a page less is free, and the class has one more
 abbrev pub with_page_of : ℕ → Holdings → Holdings
-with_page_of c h = record h { counts = record (h.counts) { free = h.counts.free - 1; class_pages = put c (h.counts.class_pages c + 1) h.counts.class_pages } }
+with_page_of c h = record h { counts = record (one_less h.counts) { class_pages = put c (h.counts.class_pages c + 1) h.counts.class_pages } }
 
 -- tags and bytes are as they were
 pub record IsBeside (old new : Slotted) : Type 0 where

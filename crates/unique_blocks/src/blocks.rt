@@ -1,14 +1,14 @@
 // The calls of unique blocks, and the pool's beside.
 
 ghost use Rattle.std.specs.Prelude.{◌≡◌, ◌+◌, ◌-◌, ◌*◌, ◌/◌, ◌%◌, ◌<◌, ◌≤◌, ℕ, true, false, is_ok, ◌&&◌, if◌then◌else◌, slice_index};
-ghost use Rattle.arena_laws.specs.Counts.{block_needs_page, class_of, is_full, is_full_for_slot, room_of, slot_needs_page};
+ghost use Rattle.arena_laws.specs.Counts.{class_of, free_pages, is_full, is_full_for_slot, room_of, slot_needs_page};
 ghost use Rattle.arena_laws.specs.Holdings.{is_in_arena, is_live_in, is_none, is_some};
 ghost use Rattle.arena_laws.specs.Lawful.{region_free, unique_free};
 ghost use Rattle.arena_laws.specs.Laws.{Does, answer_of, is_block_refused, is_refused_full, loaded, region_alloc, region_new, stored, unique_alloc};
 ghost use Rattle.region_runtime.specs.Calls.{said_address, said_done, said_handle, tags_set, tags_with, tags_without};
 ghost use Rattle.region_runtime.specs.Headers.{AreBlank, word_in};
 ghost use Rattle.region_runtime.specs.Pool.{changed_words};
-ghost use Rattle.region_runtime.specs.Touches.{Touched, block_least, reads_link, touches_for, used_after};
+ghost use Rattle.region_runtime.specs.Touches.{Touched, alloc_least, reads_link, touches_for, used_after, used_with_block};
 ghost use Rattle.region_runtime.specs.Pool as pooled;
 ghost use Rattle.unique_blocks.specs.Blocks.{byte_at, held, slots_in, tag_of};
 ghost use Rattle.unique_blocks.specs.Calls.{IsOpened, IsSlotGiven, IsSlotTaken, IsUnopened, said_block, said_freed, slot_least};
@@ -70,7 +70,8 @@ impl UniqueBlocks {
         requires touches { self.old.touched < 100 }
         ensures opened { result ≡ true → IsOpened self.old self.new class }
         ensures unopened { result ≡ false → IsUnopened self.old self.new class }
-        ensures touches { self.new.touched ≡ self.old.touched + (if result then 15 + reads_link (held self.old) self.old.pool.ever_used else 0) }
+        ensures unchanged { result ≡ false → self.new.pool.words ≡ self.old.pool.words }
+        ensures touches { self.new.touched ≡ self.old.touched + (if result then 15 + reads_link (held self.old) else 0) }
     {
         match self.pool.take_page() {
             None => {
@@ -118,7 +119,8 @@ impl UniqueBlocks {
         ensures fresh { let needs = slot_needs_page (class_of bytes) (held self.old).counts in
             self.new.pool.ever_used ≡ used_after (is_ok result && needs) (held self.old) self.old.pool.ever_used }
         ensures touches { let needs = slot_needs_page (class_of bytes) (held self.old).counts in
-            Touched (is_ok result) (slot_least needs (reads_link (held self.old) self.old.pool.ever_used)) 8 0 self.new.touched }
+            Touched (is_ok result) (slot_least needs (reads_link (held self.old))) 8 0 self.new.touched }
+        ensures unchanged { is_ok result ≡ false → self.new.pool.words ≡ self.old.pool.words }
     {
         self.touched = 0;
         if bytes > PAGE {
@@ -159,6 +161,7 @@ impl UniqueBlocks {
         ensures bytes { byte_at self.new ≡ byte_at self.old }
         ensures touches { Touched (is_ok result) 12 2 4 self.new.touched }
         ensures fresh { self.new.pool.ever_used ≡ self.old.pool.ever_used }
+        ensures unchanged { is_ok result ≡ false → self.new.pool.words ≡ self.old.pool.words }
     {
         self.touched = 0;
         if at < BASE {
@@ -209,7 +212,8 @@ impl UniqueBlocks {
         ensures tags { tag_of self.new ≡ tags_with result (tag_of self.old) }
         ensures bytes { byte_at self.new ≡ byte_at self.old }
         ensures fresh { self.new.pool.ever_used ≡ used_after (is_some result) (held self.old) self.old.pool.ever_used }
-        ensures touches { self.new.touched ≡ (if is_some result then 5 + reads_link (held self.old) self.old.pool.ever_used else 0) }
+        ensures touches { self.new.touched ≡ (if is_some result then 6 + reads_link (held self.old) else 0) }
+        ensures unchanged { is_some result ≡ false → self.new.pool.words ≡ self.old.pool.words }
     {
         let made = self.pool.region_new();
         self.touched = self.pool.touched();
@@ -218,16 +222,18 @@ impl UniqueBlocks {
 
     /// A block of so many bytes in a live region, or in the heap (0): its address, a multiple of 8.
     /// The room is the bytes rounded up to 8 (0 to 8), and meets no live room. BadHandle where the
-    /// handle is of no live region; Full above 4,096 bytes, or where the room is more than what is
-    /// left of the region's last page and no page is free.
+    /// handle is of no live region, looked for first; Full above 1,048,576 bytes. A room above 4,096
+    /// takes a run of neighbouring pages that were never used, and is Full where fewer are left; the
+    /// region's last page stays. Another room is Full where it is more than what is left of the last
+    /// page and no page is free.
     pub fn region_alloc(&mut self, handle: Handle, bytes: u32) -> Result<u32, Refusal>
         ensures does { Does (said_address result) (held self.new) (region_alloc handle.0 bytes (answer_of (said_address result)) (held self.old)) }
         ensures full { is_refused_full (said_address result) ≡ is_block_refused handle.0 bytes (held self.old) }
         ensures tags { tag_of self.new ≡ tag_of self.old }
         ensures bytes { byte_at self.new ≡ byte_at self.old }
-        ensures fresh { self.new.pool.ever_used ≡ used_after (is_ok result && block_needs_page handle.0 (room_of bytes) (held self.old).counts) (held self.old) self.old.pool.ever_used }
-        ensures touches { let needs = block_needs_page handle.0 (room_of bytes) (held self.old).counts in
-            Touched (is_ok result) (block_least handle.0 needs (reads_link (held self.old) self.old.pool.ever_used)) 1 3 self.new.touched }
+        ensures fresh { self.new.pool.ever_used ≡ (if is_ok result then used_with_block handle.0 (room_of bytes) (held self.old) self.old.pool.ever_used else self.old.pool.ever_used) }
+        ensures touches { Touched (is_ok result) (alloc_least handle.0 (room_of bytes) (held self.old)) 1 3 self.new.touched }
+        ensures unchanged { is_ok result ≡ false → self.new.pool.words ≡ self.old.pool.words }
     {
         let placed = self.pool.region_alloc(handle, bytes);
         self.touched = self.pool.touched();
@@ -245,6 +251,7 @@ impl UniqueBlocks {
         ensures counted { changed_words self.old.pool.words self.new.pool.words ≤ self.new.touched }
         ensures touches { self.new.touched ≡ touches_for (is_some (tag_of self.old handle.0)) 5 (held self.old).pages handle.0 }
         ensures fresh { self.new.pool.ever_used ≡ self.old.pool.ever_used }
+        ensures unchanged { is_ok result ≡ false → self.new.pool.words ≡ self.old.pool.words }
     {
         let freed = self.pool.region_free(handle);
         self.touched = self.pool.touched();
@@ -276,6 +283,7 @@ impl UniqueBlocks {
         ensures bytes { byte_at self.new ≡ byte_at self.old }
         ensures touches { self.new.touched ≡ touches_for (is_some (tag_of self.old handle.0)) 2 (held self.old).pages handle.0 }
         ensures fresh { self.new.pool.ever_used ≡ self.old.pool.ever_used }
+        ensures unchanged { result ≡ false → self.new.pool.words ≡ self.old.pool.words }
     {
         let set = self.pool.set_tag(handle, value);
         self.touched = self.pool.touched();
@@ -284,7 +292,7 @@ impl UniqueBlocks {
 
     /// How many pages are free.
     pub fn free_pages(&self) -> u32
-        ensures { result ≡ (held self.now).counts.free }
+        ensures { result ≡ free_pages (held self.now).counts }
     {
         self.pool.free_pages()
     }
@@ -293,7 +301,7 @@ impl UniqueBlocks {
     /// A page that is taken is one of them only where no freed one is there.
     pub fn fresh_pages(&self) -> u32
         ensures fresh { result ≡ (held self.now).pages - self.now.pool.ever_used }
-        ensures free { result ≤ (held self.now).counts.free }
+        ensures count { result ≡ (held self.now).counts.fresh }
         ensures unused { AreBlank self.now.pool.ever_used (word_in self.now.pool.words) }
     {
         self.pool.fresh_pages()

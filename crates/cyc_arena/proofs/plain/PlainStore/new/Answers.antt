@@ -1,4 +1,4 @@
-use Rattle.std.proofs.Common.{rules}
+use Rattle.std.proofs.Common.{rules, refl}
 use Rattle.cyc_arena.proofs.Fresh.{fresh_holds, fresh_sound, fresh_zeros}
 use Rattle.cyc_arena.proofs.plain.PlainStore.new.Goals as goal
 
@@ -10,6 +10,7 @@ invariant_of-result c = fresh_sound c.args.pages _ (record {
   last = c.in-Ok-vec-3.ensures.items_if_clones_equal (λ y e. e);
   standing = c.in-Ok-vec-4.ensures.items_if_clones_equal (λ y e. search rules);
   slots = c.in-Ok-vec-5.ensures.items_if_clones_equal (λ y e. e);
+  ever_used = refl;
 }) c.if-pages-gt-PAGE_LIMIT.false
 
 pub returns-clause-made : goal.returns-clause-made
@@ -20,6 +21,7 @@ returns-clause-made c = fresh_holds c.args.pages _ (record {
   last = c.in-Ok-vec-3.ensures.items_if_clones_equal (λ y e. e);
   standing = c.in-Ok-vec-4.ensures.items_if_clones_equal (λ y e. search rules);
   slots = c.in-Ok-vec-5.ensures.items_if_clones_equal (λ y e. e);
+  ever_used = refl;
 })
 
 pub returns-clause-zeros : goal.returns-clause-zeros
@@ -30,4 +32,5 @@ returns-clause-zeros c = fresh_zeros c.args.pages _ (record {
   last = c.in-Ok-vec-3.ensures.items_if_clones_equal (λ y e. e);
   standing = c.in-Ok-vec-4.ensures.items_if_clones_equal (λ y e. search rules);
   slots = c.in-Ok-vec-5.ensures.items_if_clones_equal (λ y e. e);
+  ever_used = refl;
 })

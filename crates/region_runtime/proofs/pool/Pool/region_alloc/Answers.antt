@@ -1,14 +1,18 @@
-use Rattle.std.proofs.Common.{◌∙◌, refl, ap, sym, subst, arith, ◌<◌, ◌≤◌, ◌+◌, ◌-◌, ◌*◌, ◌/◌, length, nat_eq}
-use Rattle.arena_laws.specs.Lawful.{takes_blocks}
+use Rattle.std.proofs.Common.{◌∙◌, Ok, refl, ap, sym, subst, arith, ◌<◌, ◌≤◌, ◌+◌, ◌-◌, ◌*◌, ◌/◌, length, nat_eq}
+use Rattle.arena_laws.specs.Lawful.{Grants, takes_blocks}
 use Rattle.region_runtime.specs.Headers.{word_in, owner_of, used_of}
-use Rattle.region_runtime.specs.Pool.{standing_by, last_of, left_of}
+use Rattle.region_runtime.specs.Pool.{held, standing_by, last_of, left_of}
 use Rattle.region_runtime.specs.Steps.{pool_of, seen, next_page, with_page, with_word, without_page}
+use Rattle.arena_laws.specs.Counts.{run_of}
+use Rattle.arena_laws.specs.Laws.{Does, region_alloc}
+use Rattle.region_runtime.specs.Runs.{IsRun}
 use Rattle.region_runtime.specs.Touches.{reads_number}
 use Rattle.region_runtime.proofs.Blank.{link_is}
 use Rattle.region_runtime.proofs.Words.{free_seen, live_page}
 use Rattle.region_runtime.proofs.Serves.{serves_live}
 use Rattle.region_runtime.proofs.Along.{apart, bytes_along, next_within, pages_few}
-use Rattle.region_runtime.proofs.Told.{cut_touched, grow_touched, last_in, last_fits, last_some, PlaceSays, cut_says, grow_says, hand_other, count_small}
+use Rattle.region_runtime.proofs.Placed.{short_room}
+use Rattle.region_runtime.proofs.Told.{cut_touched, grow_touched, last_in, last_fits, last_some, PlaceSays, cut_says, grow_says, hand_other, count_small, run_says}
 use Rattle.region_runtime.proofs.pool.Pool.region_alloc.Goals as goal
 
 pub returns-then-not-serves-clause-bytes : goal.returns-then-not-serves-clause-bytes
@@ -18,12 +22,12 @@ returns-then-not-serves-clause-bytes c =
 pub returns-then-not-serves-clause-apart : goal.returns-then-not-serves-clause-apart
 returns-then-not-serves-clause-apart c = apart (pool_of c.serves.new.self)
 
-pub returns-then-bytes-gt-PAGE-clause-bytes : goal.returns-then-bytes-gt-PAGE-clause-bytes
-returns-then-bytes-gt-PAGE-clause-bytes c =
+pub returns-then-bytes-gt-LIMIT-clause-bytes : goal.returns-then-bytes-gt-LIMIT-clause-bytes
+returns-then-bytes-gt-LIMIT-clause-bytes c =
     bytes_along _ _ (pool_of c.serves.new.self) c.self.view_is (ap (λ r. r.bytes) (c.serves.ensures.raw ∙ c.begin.ensures.raw))
 
-pub returns-then-bytes-gt-PAGE-clause-apart : goal.returns-then-bytes-gt-PAGE-clause-apart
-returns-then-bytes-gt-PAGE-clause-apart c = apart (pool_of c.serves.new.self)
+pub returns-then-bytes-gt-LIMIT-clause-apart : goal.returns-then-bytes-gt-LIMIT-clause-apart
+returns-then-bytes-gt-LIMIT-clause-apart c = apart (pool_of c.serves.new.self)
 
 -- the number's page is there
 pub last-last-requires-clause-first : goal.last-last-requires-clause-first
@@ -57,7 +61,7 @@ cut-requires-clause-page c =
     let s = last_some (pool_of c.self.inside.book) c.args.self.now (pool_of c.self.inside.book) c.self.view_is c.self.invariant refl refl h c.args.bytes
     (ap (λ t. takes_blocks c.args.handle.0 (standing_by (owner_of t.word) c.args.handle.0)) (sym c.begin.ensures.shape) ∙ sym c.serves.ensures.value
     ∙ c.if-not-serves.false)
-    c.room_for-room.result c.if-bytes-gt-PAGE.false (c.room_for-room.ensures.room c.if-bytes-gt-PAGE.false)
+    c.room_for-room.result (short_room c.args.bytes c.room_for-room.result (c.room_for-room.ensures.room c.if-bytes-gt-LIMIT.false) c.if-room-gt-PAGE.false) (c.room_for-room.ensures.room c.if-bytes-gt-LIMIT.false)
     c.last-last.result c.left.result last_is left_is c.if-room-left.true in
     let l = last_in (pool_of c.self.inside.book) c.self.invariant h in
     subst (λ r. c.last-last.result - 1 < length r.words / 16) (sym raws) (omega (arith, s, l, last_is))
@@ -74,7 +78,7 @@ cut-requires-clause-within c =
     let f = last_fits (pool_of c.self.inside.book) c.args.self.now (pool_of c.self.inside.book) c.self.view_is c.self.invariant refl refl h c.args.bytes
     (ap (λ t. takes_blocks c.args.handle.0 (standing_by (owner_of t.word) c.args.handle.0)) (sym c.begin.ensures.shape) ∙ sym c.serves.ensures.value
     ∙ c.if-not-serves.false)
-    c.room_for-room.result c.if-bytes-gt-PAGE.false (c.room_for-room.ensures.room c.if-bytes-gt-PAGE.false)
+    c.room_for-room.result (short_room c.args.bytes c.room_for-room.result (c.room_for-room.ensures.room c.if-bytes-gt-LIMIT.false) c.if-room-gt-PAGE.false) (c.room_for-room.ensures.room c.if-bytes-gt-LIMIT.false)
     c.last-last.result c.left.result last_is left_is c.if-room-left.true in
     subst (λ k. used_of k.word (c.last-last.result - 1) + c.room_for-room.result ≤ 4096) (sym shapes) f
 
@@ -92,7 +96,7 @@ cut_said c =
     (c.cut.ensures.bytes ∙ ap (λ r. r.bytes) raws) h c.args.bytes
     (ap (λ t. takes_blocks c.args.handle.0 (standing_by (owner_of t.word) c.args.handle.0)) (sym c.begin.ensures.shape) ∙ sym c.serves.ensures.value
     ∙ c.if-not-serves.false)
-    c.room_for-room.result c.if-bytes-gt-PAGE.false (c.room_for-room.ensures.room c.if-bytes-gt-PAGE.false) c.last-last.result c.left.result last_is left_is
+    c.room_for-room.result (short_room c.args.bytes c.room_for-room.result (c.room_for-room.ensures.room c.if-bytes-gt-LIMIT.false) c.if-room-gt-PAGE.false) (c.room_for-room.ensures.room c.if-bytes-gt-LIMIT.false) c.last-last.result c.left.result last_is left_is
     c.if-room-left.true c.cut.result (c.cut.ensures.value
     ∙ ap (λ k. 268435456 + 4096 * (c.last-last.result - 1) + used_of k.word (c.last-last.result - 1)) shapes)
     (c.cut.ensures.shape ∙ ap (λ k. with_word (c.last-last.result - 1) 2 (used_of k.word (c.last-last.result - 1) + c.room_for-room.result) k) shapes)
@@ -198,8 +202,8 @@ grow-requires-clause-few c =
     (sym c.begin.ensures.shape) ∙ sym c.serves.ensures.value
     ∙ c.if-not-serves.false) l))
 
-pub overflow_mul-result : goal.overflow_mul-result
-overflow_mul-result c =
+pub overflow_mul-result-2 : goal.overflow_mul-result-2
+overflow_mul-result-2 c =
     let t = seen c.self.inside.book in
     let h = c.args.handle.0 in
     let raws = c.left.ensures.raw ∙ c.last-last.ensures.raw ∙ c.serves.ensures.raw ∙ c.begin.ensures.raw in
@@ -211,8 +215,8 @@ overflow_mul-result c =
     let e = c.take-page.ensures.page ∙ ap next_page shapes in
     let f = pages_few (pool_of c.self.inside.book) c.self.invariant in omega (arith, n, f, e)
 
-pub overflow_add-result : goal.overflow_add-result
-overflow_add-result c =
+pub overflow_add-result-2 : goal.overflow_add-result-2
+overflow_add-result-2 c =
     let t = seen c.self.inside.book in
     let h = c.args.handle.0 in
     let raws = c.left.ensures.raw ∙ c.last-last.ensures.raw ∙ c.serves.ensures.raw ∙ c.begin.ensures.raw in
@@ -239,7 +243,7 @@ grow_said c =
     (c.grow.ensures.bytes ∙ ap (λ r. r.bytes) (c.take-page.ensures.raw ∙ raws)) h c.args.bytes
     (ap (λ t. takes_blocks c.args.handle.0 (standing_by (owner_of t.word) c.args.handle.0)) (sym c.begin.ensures.shape) ∙ sym c.serves.ensures.value
     ∙ c.if-not-serves.false)
-    c.room_for-room.result c.if-bytes-gt-PAGE.false (c.room_for-room.ensures.room c.if-bytes-gt-PAGE.false) c.last-last.result c.left.result last_is left_is
+    c.room_for-room.result (short_room c.args.bytes c.room_for-room.result (c.room_for-room.ensures.room c.if-bytes-gt-LIMIT.false) c.if-room-gt-PAGE.false) (c.room_for-room.ensures.room c.if-bytes-gt-LIMIT.false) c.last-last.result c.left.result last_is left_is
     c.if-room-left.false c.take-page.result (free_seen t _ _ shapes c.is_full.ensures c.if-is_full.false) (c.take-page.ensures.page ∙ ap next_page shapes)
     (c.grow.ensures.shape ∙ ap (with_page h c.take-page.result c.room_for-room.result) (c.take-page.ensures.shape ∙ ap without_page shapes))
 
@@ -282,7 +286,7 @@ returns-then-room-left-clause-touches c =
     cut_touched (pool_of c.self.inside.book) c.args.self.now (pool_of c.self.inside.book) c.self.view_is c.self.invariant refl refl h c.args.bytes
     (ap (λ t. takes_blocks c.args.handle.0 (standing_by (owner_of t.word) c.args.handle.0)) (sym c.begin.ensures.shape) ∙ sym c.serves.ensures.value
     ∙ c.if-not-serves.false)
-    c.room_for-room.result c.if-bytes-gt-PAGE.false (c.room_for-room.ensures.room c.if-bytes-gt-PAGE.false) c.last-last.result c.left.result last_is left_is
+    c.room_for-room.result (short_room c.args.bytes c.room_for-room.result (c.room_for-room.ensures.room c.if-bytes-gt-LIMIT.false) c.if-room-gt-PAGE.false) (c.room_for-room.ensures.room c.if-bytes-gt-LIMIT.false) c.last-last.result c.left.result last_is left_is
     c.if-room-left.true c.cut.new.self.touched (omega (arith, z, a, b, d, k, r))
 
 pub returns-clause-touches : goal.returns-clause-touches
@@ -299,5 +303,45 @@ returns-clause-touches c =
     grow_touched (pool_of c.self.inside.book) c.args.self.now (pool_of c.self.inside.book) c.self.view_is c.self.invariant refl refl h c.args.bytes
     (ap (λ t. takes_blocks c.args.handle.0 (standing_by (owner_of t.word) c.args.handle.0)) (sym c.begin.ensures.shape) ∙ sym c.serves.ensures.value
     ∙ c.if-not-serves.false)
-    c.room_for-room.result c.if-bytes-gt-PAGE.false (c.room_for-room.ensures.room c.if-bytes-gt-PAGE.false) c.last-last.result c.left.result last_is left_is
+    c.room_for-room.result (short_room c.args.bytes c.room_for-room.result (c.room_for-room.ensures.room c.if-bytes-gt-LIMIT.false) c.if-room-gt-PAGE.false) (c.room_for-room.ensures.room c.if-bytes-gt-LIMIT.false) c.last-last.result c.left.result last_is left_is
     c.if-room-left.false c.grow.new.self.touched (omega (arith, z, a, b, d, j, k, m, r))
+
+-- ---- a run of pages
+
+pub returns-then-run_for-unused-clause-bytes : goal.returns-then-run_for-unused-clause-bytes
+returns-then-run_for-unused-clause-bytes c =
+    bytes_along _ _ (pool_of c.serves.new.self) c.self.view_is (ap (λ r. r.bytes) (c.serves.ensures.raw ∙ c.begin.ensures.raw))
+
+pub returns-then-run_for-unused-clause-apart : goal.returns-then-run_for-unused-clause-apart
+returns-then-run_for-unused-clause-apart c = apart (pool_of c.serves.new.self)
+
+-- what is said of a block in a run
+run_said : (c : goal.After-run) → PlaceSays c.args.self.now (pool_of c.run.new.self) c.args.handle.0 c.args.bytes
+    (268435456 + 4096 * c.self.inside.book.ever_used)
+run_said c =
+    let t = seen c.self.inside.book in
+    let h = c.args.handle.0 in
+    let raws = c.serves.ensures.raw ∙ c.begin.ensures.raw in
+    let shapes = c.serves.ensures.shape ∙ c.begin.ensures.shape in
+    let room = c.room_for-room.result in
+    run_says (pool_of c.self.inside.book) c.args.self.now (pool_of c.run.new.self) c.self.view_is c.self.invariant (c.run.ensures.long
+    ∙ ap (λ r. length r.words) raws)
+    (c.run.ensures.bytes ∙ ap (λ r. r.bytes) raws) h c.args.bytes
+    (ap (λ t. takes_blocks c.args.handle.0 (standing_by (owner_of t.word) c.args.handle.0)) (sym c.begin.ensures.shape) ∙ sym c.serves.ensures.value
+    ∙ c.if-not-serves.false)
+    room c.if-bytes-gt-LIMIT.false (c.room_for-room.ensures.room c.if-bytes-gt-LIMIT.false) c.if-room-gt-PAGE.true
+    (let e = c.unused.ensures in let f = c.run_for.ensures in let g = c.if-run_for-unused.false in let k = ap (λ t. t.pages - t.ever_used) shapes in omega
+    (arith, e, f, g, k))
+    (subst (λ t. IsRun t (seen c.run.new.self) h (268435456 + 4096 * t.ever_used) room (run_of room)) shapes c.run.ensures.run)
+
+pub returns-then-room-gt-PAGE-clause-does : goal.returns-then-room-gt-PAGE-clause-does
+returns-then-room-gt-PAGE-clause-does c =
+    let e = ap (λ t. t.ever_used) (c.serves.ensures.shape ∙ c.begin.ensures.shape) in
+    subst (λ n. Does (Ok (268435456 + 4096 * n)) (held (pool_of c.run.new.self)) (region_alloc c.args.handle.0 c.args.bytes (Grants
+    (268435456 + 4096 * n)) (held c.args.self.now))) (sym e) (run_said c).does
+
+pub returns-then-room-gt-PAGE-clause-bytes : goal.returns-then-room-gt-PAGE-clause-bytes
+returns-then-room-gt-PAGE-clause-bytes c = (run_said c).bytes
+
+pub returns-then-room-gt-PAGE-clause-apart : goal.returns-then-room-gt-PAGE-clause-apart
+returns-then-room-gt-PAGE-clause-apart c = apart (pool_of c.run.new.self)

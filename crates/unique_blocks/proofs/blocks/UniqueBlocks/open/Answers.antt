@@ -49,18 +49,18 @@ invariant_of-self-in-Some c =
 
 pub overflow_add-self-in-Some : goal.overflow_add-self-in-Some
 overflow_add-self-in-Some c =
-    let p = c.self.inside.pool in let l = link_most (pool.held p) p.ever_used in let t = c.in-Some.ensures.touches in
+    let p = c.self.inside.pool in let l = link_most (pool.held p) in let t = c.in-Some.ensures.touches in
     let v = ap (λ u. u.touched) c.self.view_is in let r = c.touched-in-Some.ensures in omega (arith, l, t, v, r)
 
 pub cut-requires-clause-few : goal.cut-requires-clause-few
 cut-requires-clause-few c =
-    let p = c.self.inside.pool in let l = link_most (pool.held p) p.ever_used in let t = c.in-Some.ensures.touches in
+    let p = c.self.inside.pool in let l = link_most (pool.held p) in let t = c.in-Some.ensures.touches in
     let v = ap (λ u. u.touched) c.self.view_is in let r = c.touched-in-Some.ensures in omega (arith, l, t, v, r)
 
 pub returns-in-Some-clause-touches : goal.returns-in-Some-clause-touches
 returns-in-Some-clause-touches c =
     let t = c.in-Some.ensures.touches in let v = ap (λ u. u.touched) c.self.view_is in let r = c.touched-in-Some.ensures in
-    let l = ap (λ u. reads_link (held u) u.pool.ever_used) c.self.view_is in let k = c.cut.ensures.counts in omega (arith, t, v, r, l, k)
+    let l = ap (λ u. reads_link (held u)) c.self.view_is in let k = c.cut.ensures.counts in omega (arith, t, v, r, l, k)
 
 pub returns-in-None-clause-touches : goal.returns-in-None-clause-touches
 returns-in-None-clause-touches c =

@@ -30,11 +30,11 @@ returns-clause-does c =
 
 pub take-requires-clause-touches : goal.take-requires-clause-touches
 take-requires-clause-touches c =
-    let p = c.self.inside.pool in let l = link_most (pool.held p) p.ever_used in
+    let p = c.self.inside.pool in let l = link_most (pool.held p) in
     elim c.else-self-place-eq0.branch [
       | else-self-place-eq0-via-then-self-place-eq0+else-not-open w ↦
-          let t : w.open.new.self.touched ≡ 0 + (15 + reads_link (pool.held p) p.ever_used) =
-          w.open.ensures.touches ∙ ap (λ b. 0 + (if b then 15 + reads_link (pool.held p) p.ever_used else 0)) w.if-not-open.false in
+          let t : w.open.new.self.touched ≡ 0 + (15 + reads_link (pool.held p)) =
+          w.open.ensures.touches ∙ ap (λ b. 0 + (if b then 15 + reads_link (pool.held p) else 0)) w.if-not-open.false in
           subst (λ u. u.touched < 200) (sym w.self-is) (omega (arith, l, t))
       | else-self-place-eq0-via-else-self-place-eq0 w ↦ subst (λ u. u.touched < 200) (sym w.self-is) (omega arith)
     ]

@@ -1,30 +1,31 @@
 // Whether bytes are an image of some parts, and if not why.
 
 ghost use Rattle.std.specs.Prelude.{◌≡◌, ◌↔◌, ◌≤◌, IsTrue, length, take};
-ghost use Rattle.cyc_image.specs.Format.{HasBadEntry, HasOtherVersion, HasTrailing, IsPastLimit, IsShort, header_length, magic};
+ghost use Rattle.cyc_image.specs.Format.{HasBadEntry, HasOtherVersion, HasTrailing, IsPastLimit, IsShort, first_header_length, header_of, magic};
 ghost use Rattle.cyc_image.specs.Refusal.{IsVerdict};
 
 use crate::fault::ImageFault;
 use crate::layout::{
-    CODE_LENGTH_AT, CODE_LIMIT, DATA_LENGTH_AT, DATA_LIMIT, ENTRY_AT, HEADER_LENGTH, MAGIC,
-    PAGE_LIMIT, PAGES_AT, VERSION, VERSION_AT, field_at,
+    CODE_LENGTH_AT, CODE_LIMIT, DATA_LENGTH_AT, DATA_LIMIT, ENTRY_AT, FIRST_HEADER_LENGTH,
+    FIRST_VERSION, MAGIC, PAGE_LIMIT, PAGES_AT, STACK_PAGE_LIMIT, VERSION, VERSION_AT, field_at,
 };
+use crate::version::{header_length_of, stack_pages_of};
 
 // no whole header, or fewer bytes than it speaks of
 fn is_short(bytes: &[u8]) -> bool
     ensures { IsTrue result ↔ IsShort bytes.now }
 {
-    if bytes.len() < HEADER_LENGTH {
+    if bytes.len() < FIRST_HEADER_LENGTH {
         return true;
     }
     let code_length = field_at(bytes, CODE_LENGTH_AT) as usize;
     let data_length = field_at(bytes, DATA_LENGTH_AT) as usize;
-    bytes.len() < HEADER_LENGTH + code_length + data_length
+    bytes.len() < header_length_of(bytes) + code_length + data_length
 }
 
 // the first bytes of an image
 fn has_magic(bytes: &[u8]) -> bool
-    requires { header_length ≤ length bytes.now }
+    requires { first_header_length ≤ length bytes.now }
     ensures { IsTrue result ↔ (take 4 bytes.now ≡ magic) }
 {
     &bytes[..4] == MAGIC
@@ -32,31 +33,36 @@ fn has_magic(bytes: &[u8]) -> bool
 
 // another version
 fn has_other_version(bytes: &[u8]) -> bool
-    requires { header_length ≤ length bytes.now }
+    requires { first_header_length ≤ length bytes.now }
     ensures { IsTrue result ↔ HasOtherVersion bytes.now }
 {
-    field_at(bytes, VERSION_AT) != VERSION
+    let version = field_at(bytes, VERSION_AT);
+    version != FIRST_VERSION && version != VERSION
 }
 
 // a length or a number of pages that no image has
 fn is_past_limit(bytes: &[u8]) -> bool
-    requires { header_length ≤ length bytes.now }
+    requires some { first_header_length ≤ length bytes.now }
+    requires whole { header_of bytes.now ≤ length bytes.now }
     ensures { IsTrue result ↔ IsPastLimit bytes.now }
 {
     let code_length = field_at(bytes, CODE_LENGTH_AT) as usize;
     let data_length = field_at(bytes, DATA_LENGTH_AT) as usize;
     let pages = field_at(bytes, PAGES_AT);
+    let stack_pages = stack_pages_of(bytes);
     code_length == 0
         || CODE_LIMIT < code_length
         || code_length % 4 != 0
         || DATA_LIMIT < data_length
         || pages == 0
         || PAGE_LIMIT < pages
+        || stack_pages == 0
+        || STACK_PAGE_LIMIT < stack_pages
 }
 
 // an entry that is no word of the code
 fn has_bad_entry(bytes: &[u8]) -> bool
-    requires { header_length ≤ length bytes.now }
+    requires { first_header_length ≤ length bytes.now }
     ensures { IsTrue result ↔ HasBadEntry bytes.now }
 {
     let entry = field_at(bytes, ENTRY_AT);
@@ -65,12 +71,12 @@ fn has_bad_entry(bytes: &[u8]) -> bool
 
 // bytes after the data
 fn has_trailing(bytes: &[u8]) -> bool
-    requires { header_length ≤ length bytes.now }
+    requires { first_header_length ≤ length bytes.now }
     ensures { IsTrue result ↔ HasTrailing bytes.now }
 {
     let code_length = field_at(bytes, CODE_LENGTH_AT) as usize;
     let data_length = field_at(bytes, DATA_LENGTH_AT) as usize;
-    HEADER_LENGTH + code_length + data_length < bytes.len()
+    header_length_of(bytes) + code_length + data_length < bytes.len()
 }
 
 /// The first refusal that applies to the bytes, or none.

@@ -11,14 +11,15 @@ use std::fmt;
 /// Why `load` refuses bytes, in the order in which it looks.
 #[derive(Clone, Copy, Debug)]
 pub enum ImageFault {
-    /// Under 24 bytes, or fewer than the header speaks of.
+    /// Under 24 bytes, or fewer than the header and what it speaks of: the header is 28 bytes long
+    /// where the version is 2, and else 24.
     Short,
     /// The first bytes are not `CYI1`.
     Magic,
-    /// The version is not 1.
+    /// The version is neither 1 nor 2.
     Version,
-    /// The code's length is 0, over 1,048,576 or no multiple of 4, the data's is over 1,048,576, or
-    /// the pages are not 1 to 4,096.
+    /// The code's length is 0, over 1,048,576 or no multiple of 4, the data's is over 1,048,576, the
+    /// pages are not 1 to 4,096, or those of the stack in version 2.
     Limit,
     /// The entry is no multiple of 4, or not below the code's length.
     Entry,

@@ -12,6 +12,8 @@ pub struct Image {
     pub(crate) code: Vec<u8>,
     pub(crate) statics: Vec<u8>,
     pub(crate) pages: u32,
+    pub(crate) stack_pages: u32,
+    pub(crate) block_limit: u32,
 }
 
 impl Model for Image {
@@ -24,6 +26,8 @@ impl Model for Image {
       code = i.code.items;
       statics = i.statics.items;
       pages = i.pages;
+      stack_pages = i.stack_pages;
+      block_limit = i.block_limit;
     } };
 
     ghost invariant = { λ i. Fits record {
@@ -31,6 +35,8 @@ impl Model for Image {
       code = i.code.items;
       statics = i.statics.items;
       pages = i.pages;
+      stack_pages = i.stack_pages;
+      block_limit = i.block_limit;
     } };
 }
 
@@ -65,5 +71,21 @@ impl Image {
         ensures fits { Fits self.now }
     {
         self.pages
+    }
+
+    /// The pages of the stack, of 4,096 bytes each: 1 to 4,096 of them, 256 for version 1.
+    pub fn stack_pages(&self) -> u32
+        ensures stack_pages { result ≡ self.now.stack_pages }
+        ensures fits { Fits self.now }
+    {
+        self.stack_pages
+    }
+
+    /// The longest block of a region, in bytes: 4,096 for version 1, and 1,048,576 for version 2.
+    pub fn block_limit(&self) -> u32
+        ensures block_limit { result ≡ self.now.block_limit }
+        ensures fits { Fits self.now }
+    {
+        self.block_limit
     }
 }

@@ -7,7 +7,8 @@ ghost use Rattle.cyc_image.specs.Refusal.{IsAccepted};
 use crate::checks::refusal;
 use crate::fault::ImageFault;
 use crate::image::Image;
-use crate::layout::{CODE_LENGTH_AT, ENTRY_AT, HEADER_LENGTH, PAGES_AT, field_at};
+use crate::layout::{CODE_LENGTH_AT, ENTRY_AT, PAGES_AT, field_at};
+use crate::version::{block_limit_of, header_length_of, stack_pages_of};
 use std::alloc::{AllocError, Global};
 
 /// The image that the bytes are.
@@ -42,9 +43,10 @@ fn image_of(alloc: Global, bytes: &[u8]) -> Result<Image, AllocError>
     requires { IsAccepted bytes.now }
     ensures { IfOk result (λ image. image ≡ parts_of bytes.now) }
 {
-    let code_end = HEADER_LENGTH + field_at(bytes, CODE_LENGTH_AT) as usize;
+    let code_start = header_length_of(bytes);
+    let code_end = code_start + field_at(bytes, CODE_LENGTH_AT) as usize;
     let mut code = Vec::new(alloc);
-    code.extend_from_slice(&bytes[HEADER_LENGTH..code_end])?;
+    code.extend_from_slice(&bytes[code_start..code_end])?;
     let mut statics = Vec::new(alloc);
     statics.extend_from_slice(&bytes[code_end..])?;
     Ok(Image {
@@ -52,5 +54,7 @@ fn image_of(alloc: Global, bytes: &[u8]) -> Result<Image, AllocError>
         code,
         statics,
         pages: field_at(bytes, PAGES_AT),
+        stack_pages: stack_pages_of(bytes),
+        block_limit: block_limit_of(bytes),
     })
 }

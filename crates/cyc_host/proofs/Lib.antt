@@ -5,3 +5,4 @@ pub mod OneStep
 pub mod Progress
 pub mod Unstepped
 pub mod OtherEndings
+pub mod Quietly

@@ -14,10 +14,10 @@ use Rattle.rv32_machine.proofs.Modes.{stopped, runs_on, runs_after_write, waits_
 pub record IsStep (n : Areas) (answer : Answer) (old new : State) (shown : Shown) : Type 0 where
   pub state : new ≡ (step n answer old).state
   pub shows : shown ≡ (step n answer old).shown
-  pub exact : IsShortage (asked_at n old) old.holdings shown
+  pub exact : IsShortage n (asked_at n old) old.holdings shown
 
 pub step_at : (m n : Areas) (answer : Answer) (old new : State) (shown : Shown) → m ≡ n → new ≡ (step m answer old).state →
-    shown ≡ (step m answer old).shown → IsShortage (asked_at m old) old.holdings shown → IsStep n answer old new shown
+    shown ≡ (step m answer old).shown → IsShortage m (asked_at m old) old.holdings shown → IsStep n answer old new shown
 step_at m n answer old new shown same state shows exact =
     subst (λ (k : Areas). IsStep k answer old new shown) same (record { state = state; shows = shows; exact = exact })
 

@@ -90,21 +90,21 @@ module _ {n : Areas} {old : State} {reader_old writer_old : Option (List ℕ)} w
 
     -- the same of a step's being exact, where it isn't free
     exact_not_free : (answer : Answer) (shown : Shown) → was_free (step n answer now).told ≡ false → shown ≡ (step n answer now).shown
-        → IsShortage (asked_at n now) now.holdings shown → (more : List ℕ) (others : ℕ → Answer) → (is_over ≡ true → more ≡ [])
+        → IsShortage n (asked_at n now) now.holdings shown → (more : List ℕ) (others : ℕ → Answer) → (is_over ≡ true → more ≡ [])
         → (k : ℕ) → k < count + 1 → IsExact n (run_steps n k (from old (p.input ++ more) (stream p.answers others)))
     exact_not_free answer shown bound shows exact more others end =
         let same : (step n answer now).shown ≡ (step n (others 0) now).shown = ap (λ (x : Stepped). x.shown) (step_alike n answer (others 0) now bound) in
         one_more_exact n count _ (p.exact more others end)
-        (subst (IsExact n) (sym (p.ran more others end)) (subst (IsShortage (asked_at n now) now.holdings) (shows ∙ same) exact))
+        (subst (IsExact n) (sym (p.ran more others end)) (subst (IsShortage n (asked_at n now) now.holdings) (shows ∙ same) exact))
 
     -- and where it is
     exact_free : (answer : Answer) (shown : Shown) → shown ≡ (step n answer now).shown
-        → IsShortage (asked_at n now) now.holdings shown → (more : List ℕ) (others : ℕ → Answer) → (is_over ≡ true → more ≡ [])
+        → IsShortage n (asked_at n now) now.holdings shown → (more : List ℕ) (others : ℕ → Answer) → (is_over ≡ true → more ≡ [])
         → (k : ℕ) → k < count + 1 → IsExact n (run_steps n k (from old (p.input ++ more) (stream (p.answers ++ answer ∷ []) others)))
     exact_free answer shown shows exact more others end k below =
         subst (λ f. IsExact n (run_steps n k (from old (p.input ++ more) f))) (sym (stream_more p.answers answer others))
         (one_more_exact n count _ (p.exact more (first answer others) end)
-        (subst (IsExact n) (sym (p.ran more (first answer others) end)) (subst (IsShortage (asked_at n now) now.holdings) shows exact)) k below)
+        (subst (IsExact n) (sym (p.ran more (first answer others) end)) (subst (IsShortage n (asked_at n now) now.holdings) shows exact)) k below)
 
     -- the store's part in a step that shows nothing or stops
     module _ (answer : Answer) (new : State) (shown : Shown) (x : IsStep n answer now new shown)

@@ -5,7 +5,6 @@ use Rattle.std.proofs.lemmas.List.{take_rest}
 use Rattle.std.proofs.Math.Seq.{take-append_seam, take-append-add}
 use Rattle.std.specs.Io.KnownBytes.{Appends}
 use Rattle.std.proofs.KnownBytes.{Appends-trans}
-use Rattle.cyc_words.specs.Devices.{one_more}
 use Rattle.cyc_host.specs.Failures.{failed_once}
 use Rattle.cyc_host.specs.Transfers.{WritesBut, WritesSome}
 

@@ -1,12 +1,11 @@
 -- What an ending wants to have reached the writer.
-use Rattle.std.proofs.Common.{ℕ, List, [], ◌++◌, Option, subst, append-nil}
+use Rattle.std.proofs.Common.{ℕ, List, ◌++◌, Option}
 use Rattle.std.specs.Io.KnownBytes.{Appends}
 use Rattle.std.proofs.KnownBytes.{Appends-trans}
-use Rattle.cyc_host.specs.Transfers.{WritesSome}
 use Rattle.cyc_host.specs.Hosted.{Written}
 use Rattle.cyc_host.specs.declared.ending.Ending.{Ending}
 use Rattle.cyc_host.specs.declared.ending.Ending.TheVariants as ending
-use Rattle.cyc_host.proofs.Transfers.{some_front, some_then}
+use Rattle.cyc_host.proofs.Transfers.{some_then}
 
 -- what an ending wants of the rest, after the front, it has of all
 pub written_then : (why : Ending) (old middle new : Option (List ℕ)) (front rest : List ℕ) → Appends old middle front

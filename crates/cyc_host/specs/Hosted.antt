@@ -37,7 +37,7 @@ EndsAs ending.WriteFault n limit count left now = (now ≡ left.state) ⊎ ((cou
 
 -- Where the next step of a run asks the store, it shows Exhausted exactly where the store's counts refuse the call.
 abbrev pub IsExact : Areas → Run → Type 0
-IsExact n r = IsShortage (asked_at n r.state) r.state.holdings (step n (r.answers 0) r.state).shown
+IsExact n r = IsShortage n (asked_at n r.state) r.state.holdings (step n (r.answers 0) r.state).shown
 
 -- A run of at most `limit` steps, from one state to another: of so many steps, on the bytes that the reader gave, all of which were taken, over a store that gave
 -- these answers. The machine was told of the input's end only where the reader is at its end, and the store refused for

@@ -53,7 +53,10 @@ pub fn run<S: BlockStore, R: Input, W: Output>(
 {
     let mut gathered = Gathered::new();
     let mut is_over = false;
-    'steps: for _ in 0..steps {
+    let mut left = steps;
+    'steps: while left > 0 {
+        // what shows nothing goes in one call, and then one step by itself
+        left -= machine.glide(left - 1) + 1;
         match machine.step() {
             Event::Next => {}
             Event::Put(byte) => {

@@ -1,5 +1,9 @@
 pub mod Bytes
 pub mod Moves
+pub mod Leading
+pub mod Pushing
+pub mod Gliding
+pub mod Limits
 pub mod Asking
 pub mod Served
 pub mod Lacking
@@ -11,6 +15,7 @@ pub mod LongerRuns
 pub mod Modes
 pub mod Stepping
 pub mod Splices
+pub mod Handed
 mod SampleRuns
 mod ImmediateSamples
 mod ArithmeticSamples

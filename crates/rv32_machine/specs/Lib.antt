@@ -10,6 +10,9 @@ pub mod Places
 pub mod Widths
 pub mod Audit
 pub mod Implements
+pub mod Quiet
+pub mod Quick
+pub mod Ops
 pub use Rattle.cyc_words.specs.Words
 pub use Rattle.cyc_words.specs.Events
 pub use Rattle.rv32_isa.specs.Table

@@ -2,7 +2,7 @@
 
 ghost use Rattle.std.specs.Prelude.{◌≡◌, ◌≤◌, ◌-◌, ◌^◌, Some, None, if◌then◌else◌};
 ghost use Rattle.rv32_machine.specs.State.{is_within};
-ghost use Rattle.rv32_machine.specs.Arrays.{stack_length};
+ghost use Rattle.rv32_machine.specs.Arrays.{longest_stack};
 ghost use Rattle.rv32_machine.specs.Places.{Locates};
 
 use arena_laws::{BASE, PAGE};
@@ -15,12 +15,6 @@ pub const DATA_BASE: u32 = 0x0020_0000;
 
 /// Where the stack begins.
 pub const STACK_BASE: u32 = 0x0040_0000;
-
-/// The stack's length in bytes.
-pub const STACK_LENGTH: u32 = 0x0010_0000;
-
-/// Where the stack ends.
-pub const STACK_END: u32 = STACK_BASE + STACK_LENGTH;
 
 /// The area that an address lies in, and its offset there.
 #[derive(Clone, Copy)]
@@ -53,14 +47,22 @@ pub fn offset_in(base: u32, length: usize, at: u32, width: usize) -> Option<usiz
 }
 
 /// The place of so many bytes from an address on, where they lie in one area.
-pub fn locate(code: usize, statics: usize, pages: u32, at: u32, width: usize) -> Option<Place>
+pub fn locate(
+    code: usize,
+    statics: usize,
+    stack: usize,
+    pages: u32,
+    at: u32,
+    width: usize,
+) -> Option<Place>
     requires code { code ≤ 2 ^ 20 }
     requires statics { statics ≤ 2 ^ 20 }
+    requires stack { stack ≤ longest_stack }
     requires pages { pages ≤ 4096 }
     requires width { width ≤ 4 }
-    ensures { Locates record { code = code; statics = statics; stack = stack_length; pages = pages } at width result }
+    ensures { Locates record { code = code; statics = statics; stack = stack; pages = pages; block_limit = 0 } at width result }
 {
-    if let Some(offset) = offset_in(STACK_BASE, STACK_LENGTH as usize, at, width) {
+    if let Some(offset) = offset_in(STACK_BASE, stack, at, width) {
         return Some(Place::Stack(offset));
     }
     if let Some(offset) = offset_in(DATA_BASE, statics, at, width) {

@@ -6,7 +6,7 @@ ghost use Rattle.rv32_machine.specs.Step.{a0, a1, a7, asked_by, calls, calls_hos
 ghost use Rattle.rv32_machine.specs.Served.{IsServed};
 ghost use Rattle.rv32_machine.specs.Arrays.{Steps, answer_seen, areas_of, arrays, shown_of, state_of};
 
-use crate::areas::{STACK_BASE, STACK_END};
+use crate::areas::STACK_BASE;
 use crate::event::Event;
 use crate::machine::Machine;
 use crate::numbers::{
@@ -25,7 +25,7 @@ impl<S: BlockStore> Machine<S> {
         ensures step { let seen = arrays S.holdings S.byte_at in Steps (seen self.old) (seen self.new) result (calls (areas_of (seen self.old)) (answer_seen result (seen self.new))
             (register_of (state_of (seen self.old)) a7) (register_of (state_of (seen self.old)) a0)
             (register_of (state_of (seen self.old)) a1) (state_of (seen self.old))) }
-        ensures served { let seen = arrays S.holdings S.byte_at in IsServed S.may_lack (asked_by (register_of (state_of (seen self.old)) a7)
+        ensures served { let seen = arrays S.holdings S.byte_at in IsServed S.may_lack (areas_of (seen self.old)) (asked_by (register_of (state_of (seen self.old)) a7)
             (register_of (state_of (seen self.old)) a0) (register_of (state_of (seen self.old)) a1)) (seen self.old).holdings (shown_of result)
             (S.headers self.old.store) (S.headers self.new.store) }
     {
@@ -95,7 +95,8 @@ impl<S: BlockStore> Machine<S> {
         ensures headers { S.headers self.new.store ≡ S.headers self.old.store }
     {
         let top = self.register(Register::STACK_POINTER);
-        if STACK_BASE <= top && top <= STACK_END && top - STACK_BASE < bytes {
+        let end = STACK_BASE + self.stack.len() as u32;
+        if STACK_BASE <= top && top <= end && top - STACK_BASE < bytes {
             self.phase = Phase::Exhausted;
             Event::Exhausted
         } else {

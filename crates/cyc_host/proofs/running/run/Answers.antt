@@ -1,4 +1,4 @@
-use Rattle.std.proofs.Common.{[], refl, sym, ap, subst, false, ◌∙◌, inl, inr, arith, rules, ⊎_elim}
+use Rattle.std.proofs.Common.{[], ◌+◌, refl, sym, ap, subst, false, ◌∙◌, inl, inr, arith, rules, ⊎_elim}
 use Rattle.std.proofs.lemmas.Int.{to_z-of_z}
 use mir.Val.{SFits}
 use mir.Syntax.{w32}
@@ -14,12 +14,14 @@ use Rattle.cyc_host.specs.declared.ending.Ending.TheVariants as ending
 use Rattle.cyc_host.proofs.Transfers.{all_written, counted_ok, of_err, of_ok}
 use Rattle.cyc_host.proofs.OtherEndings.{isnt_memory}
 use Rattle.cyc_host.proofs.OneStep.{IsStep, step_at, over_at, runs_at, runs_at_write, runs_at_answer}
+use Rattle.cyc_host.proofs.Quietly.{went_quietly, keeps_memory, quiet_at}
 use Rattle.cyc_host.proofs.Progress.{Progress, begun, went_on, stopped_at, put_one, wrote, kept, answered, hosted, either_end}
 use Rattle.cyc_host.proofs.running.run.Goals as goal
-use Rattle.cyc_host.proofs.running.run.Goals.{in-Next, in-Put+else-is_err, in-Get+else-is_err-2+in-Ok}
 
 pub steps-init : goal.steps-init
 steps-init g c = record {
+  count = 0;
+  counted = omega arith;
   reads = search rules;
   writes = search rules;
   areas = refl;
@@ -32,156 +34,199 @@ pub returns-then-is_err-clause-hosted : goal.returns-then-is_err-clause-hosted
 returns-then-is_err-clause-hosted g c =
     let seen = arrays g.S.BlockStore.holdings g.S.BlockStore.byte_at in
     let i = c.steps.invariant in
-    let x : IsStep (areas_of (seen c.args.machine.now)) _ (state_of (seen c.steps.machine)) (state_of (seen c.step.new.self)) (Writes c.in-Put.byte) =
-    step_at _ _ _ _ _ _ i.areas c.in-Put.ensures.state c.in-Put.ensures.event c.in-Put.ensures.full in
-    hosted (put_one i.progress _ _ c.in-Put.byte x) ending.WriteFault _ _ _ (λ k. Refuses) (omega arith)
+    let n = areas_of (seen c.args.machine.now) in
+    let there = c.glide.ensures.areas ∙ i.areas in
+    let q = went_quietly i.progress c.glide.result _ (quiet_at _ n _ _ _ i.areas c.glide.ensures.quiet) in
+    let x : IsStep (areas_of (seen c.args.machine.now)) _ (state_of (seen c.glide.new.self)) (state_of (seen c.step.new.self)) (Writes c.in-Put.byte) =
+    step_at _ _ _ _ _ _ there c.in-Put.ensures.state c.in-Put.ensures.event c.in-Put.ensures.full in
+    hosted (put_one q _ _ c.in-Put.byte x) ending.WriteFault _ _ _ (λ k. Refuses) (omega (arith, i.counted, c.glide.ensures.few))
     (of_err c.put.result c.put.ensures.some (sym c.is_err.ensures.value ∙ c.if-is_err.true)) (inl refl)
 
 pub returns-then-is_err-2-clause-hosted : goal.returns-then-is_err-2-clause-hosted
 returns-then-is_err-2-clause-hosted g c =
     let seen = arrays g.S.BlockStore.holdings g.S.BlockStore.byte_at in
     let i = c.steps.invariant in
-    let x : IsStep (areas_of (seen c.args.machine.now)) _ (state_of (seen c.steps.machine)) (state_of (seen c.step.new.self)) Asks =
-    step_at _ _ _ _ _ _ i.areas c.in-Get.ensures.state c.in-Get.ensures.event c.in-Get.ensures.full in
-    hosted i.progress ending.WriteFault _ _ _ (λ k. answer_seen event.Get (seen c.step.new.self)) (omega arith)
-    (of_err c.flush.result c.flush.ensures.some (sym c.is_err-in-Get.ensures.value ∙ c.if-is_err-2.true)) (inr (omega arith, x.state))
+    let n = areas_of (seen c.args.machine.now) in
+    let there = c.glide.ensures.areas ∙ i.areas in
+    let q = went_quietly i.progress c.glide.result _ (quiet_at _ n _ _ _ i.areas c.glide.ensures.quiet) in
+    let x : IsStep (areas_of (seen c.args.machine.now)) _ (state_of (seen c.glide.new.self)) (state_of (seen c.step.new.self)) Asks =
+    step_at _ _ _ _ _ _ there c.in-Get.ensures.state c.in-Get.ensures.event c.in-Get.ensures.full in
+    hosted q ending.WriteFault _ _ _ (λ k. answer_seen event.Get (seen c.step.new.self)) (omega (arith, i.counted, c.glide.ensures.few))
+    (of_err c.flush.result c.flush.ensures.some (sym c.is_err-in-Get.ensures.value ∙ c.if-is_err-2.true)) (inr (omega (arith, i.counted, c.glide.ensures.few), x.state))
 
 pub returns-in-Err-clause-hosted : goal.returns-in-Err-clause-hosted
 returns-in-Err-clause-hosted g c =
     let seen = arrays g.S.BlockStore.holdings g.S.BlockStore.byte_at in
     let i = c.steps.invariant in
-    let x : IsStep (areas_of (seen c.args.machine.now)) _ (state_of (seen c.steps.machine)) (state_of (seen c.step.new.self)) Asks =
-    step_at _ _ _ _ _ _ i.areas c.in-Get.ensures.state c.in-Get.ensures.event c.in-Get.ensures.full in
-    let flushed = wrote i.progress _ []
+    let n = areas_of (seen c.args.machine.now) in
+    let there = c.glide.ensures.areas ∙ i.areas in
+    let q = went_quietly i.progress c.glide.result _ (quiet_at _ n _ _ _ i.areas c.glide.ensures.quiet) in
+    let x : IsStep (areas_of (seen c.args.machine.now)) _ (state_of (seen c.glide.new.self)) (state_of (seen c.step.new.self)) Asks =
+    step_at _ _ _ _ _ _ there c.in-Get.ensures.state c.in-Get.ensures.event c.in-Get.ensures.full in
+    let flushed = wrote q _ []
     (all_written _ _ _ (of_ok c.flush.result c.flush.ensures.all (sym c.is_err-in-Get.ensures.value ∙ c.if-is_err-2.false))) in
-    hosted (kept flushed _ c.in-Err.ensures.kept c.in-Err.ensures.asked) ending.ReadFault _ _ _ (λ k. answer_seen event.Get (seen c.step.new.self)) (omega arith) (Appends-nil _)
-    (omega arith, (x.state, sym x.shows))
+    hosted (kept flushed _ c.in-Err.ensures.kept c.in-Err.ensures.asked) ending.ReadFault _ _ _ (λ k. answer_seen event.Get (seen c.step.new.self)) (omega (arith, i.counted, c.glide.ensures.few)) (Appends-nil _)
+    (omega (arith, i.counted, c.glide.ensures.few), (x.state, sym x.shows))
 
 pub returns-in-Ended-clause-hosted : goal.returns-in-Ended-clause-hosted
 returns-in-Ended-clause-hosted g c =
     let seen = arrays g.S.BlockStore.holdings g.S.BlockStore.byte_at in
     let i = c.steps.invariant in
-    let x : IsStep (areas_of (seen c.args.machine.now)) _ (state_of (seen c.steps.machine)) (state_of (seen c.step.new.self)) (Stops (Stop.Ended (word c.in-Ended.status))) =
-    step_at _ _ _ _ _ _ i.areas c.in-Ended.ensures.state c.in-Ended.ensures.event c.in-Ended.ensures.full in
+    let n = areas_of (seen c.args.machine.now) in
+    let there = c.glide.ensures.areas ∙ i.areas in
+    let q = went_quietly i.progress c.glide.result _ (quiet_at _ n _ _ _ i.areas c.glide.ensures.quiet) in
+    let x : IsStep (areas_of (seen c.args.machine.now)) _ (state_of (seen c.glide.new.self)) (state_of (seen c.step.new.self)) (Stops (Stop.Ended (word c.in-Ended.status))) =
+    step_at _ _ _ _ _ _ there c.in-Ended.ensures.state c.in-Ended.ensures.event c.in-Ended.ensures.full in
     let fits : SFits w32 c.in-Ended.status = search rules in
-    hosted (stopped_at i.progress _ _ _ x) c.finish.result _ _ _ (λ k. Refuses) (omega arith) c.finish.ensures.written
+    hosted (stopped_at q _ _ _ x) c.finish.result _ _ _ (λ k. Refuses) (omega (arith, i.counted, c.glide.ensures.few)) c.finish.ensures.written
     (either_end (ending.Ended c.in-Ended.status) _ _ _ _ _ (simp (to_z-of_z w32 c.in-Ended.status fits) at c.finish.ensures.same) (refl, over_at x))
 
 pub returns-in-Raised-clause-hosted : goal.returns-in-Raised-clause-hosted
 returns-in-Raised-clause-hosted g c =
     let seen = arrays g.S.BlockStore.holdings g.S.BlockStore.byte_at in
     let i = c.steps.invariant in
-    let x : IsStep (areas_of (seen c.args.machine.now)) _ (state_of (seen c.steps.machine)) (state_of (seen c.step.new.self)) (Stops (Stop.Raised c.in-Raised.kind)) =
-    step_at _ _ _ _ _ _ i.areas c.in-Raised.ensures.state c.in-Raised.ensures.event c.in-Raised.ensures.full in
-    hosted (stopped_at i.progress _ _ _ x) c.finish-in-Raised.result _ _ _ (λ k. Refuses) (omega arith) c.finish-in-Raised.ensures.written
+    let n = areas_of (seen c.args.machine.now) in
+    let there = c.glide.ensures.areas ∙ i.areas in
+    let q = went_quietly i.progress c.glide.result _ (quiet_at _ n _ _ _ i.areas c.glide.ensures.quiet) in
+    let x : IsStep (areas_of (seen c.args.machine.now)) _ (state_of (seen c.glide.new.self)) (state_of (seen c.step.new.self)) (Stops (Stop.Raised c.in-Raised.kind)) =
+    step_at _ _ _ _ _ _ there c.in-Raised.ensures.state c.in-Raised.ensures.event c.in-Raised.ensures.full in
+    hosted (stopped_at q _ _ _ x) c.finish-in-Raised.result _ _ _ (λ k. Refuses) (omega (arith, i.counted, c.glide.ensures.few)) c.finish-in-Raised.ensures.written
     (either_end (ending.Raised c.in-Raised.kind) _ _ _ _ _ c.finish-in-Raised.ensures.same (refl, over_at x))
 
 pub returns-in-Exhausted-clause-hosted : goal.returns-in-Exhausted-clause-hosted
 returns-in-Exhausted-clause-hosted g c =
     let seen = arrays g.S.BlockStore.holdings g.S.BlockStore.byte_at in
     let i = c.steps.invariant in
-    let x : IsStep (areas_of (seen c.args.machine.now)) _ (state_of (seen c.steps.machine)) (state_of (seen c.step.new.self)) (Stops Stop.Exhausted) =
-    step_at _ _ _ _ _ _ i.areas c.in-Exhausted.ensures.state c.in-Exhausted.ensures.event c.in-Exhausted.ensures.full in
-    hosted (stopped_at i.progress _ _ _ x) c.finish-in-Exhausted.result _ _ _ (λ k. Refuses) (omega arith) c.finish-in-Exhausted.ensures.written
+    let n = areas_of (seen c.args.machine.now) in
+    let there = c.glide.ensures.areas ∙ i.areas in
+    let q = went_quietly i.progress c.glide.result _ (quiet_at _ n _ _ _ i.areas c.glide.ensures.quiet) in
+    let x : IsStep (areas_of (seen c.args.machine.now)) _ (state_of (seen c.glide.new.self)) (state_of (seen c.step.new.self)) (Stops Stop.Exhausted) =
+    step_at _ _ _ _ _ _ there c.in-Exhausted.ensures.state c.in-Exhausted.ensures.event c.in-Exhausted.ensures.full in
+    hosted (stopped_at q _ _ _ x) c.finish-in-Exhausted.result _ _ _ (λ k. Refuses) (omega (arith, i.counted, c.glide.ensures.few)) c.finish-in-Exhausted.ensures.written
     (either_end ending.Exhausted _ _ _ _ _ c.finish-in-Exhausted.ensures.same (refl, over_at x))
 
 pub returns-in-HostMemory-clause-hosted : goal.returns-in-HostMemory-clause-hosted
 returns-in-HostMemory-clause-hosted g c =
     let seen = arrays g.S.BlockStore.holdings g.S.BlockStore.byte_at in
     let i = c.steps.invariant in
-    let x : IsStep (areas_of (seen c.args.machine.now)) _ (state_of (seen c.steps.machine)) (state_of (seen c.step.new.self)) (Stops Stop.Lacking) =
-    step_at _ _ _ _ _ _ i.areas c.in-HostMemory.ensures.state c.in-HostMemory.ensures.event c.in-HostMemory.ensures.full in
-    hosted (stopped_at i.progress _ _ _ x) c.finish-in-HostMemory.result _ _ _ (λ k. Refuses) (omega arith) c.finish-in-HostMemory.ensures.written
+    let n = areas_of (seen c.args.machine.now) in
+    let there = c.glide.ensures.areas ∙ i.areas in
+    let q = went_quietly i.progress c.glide.result _ (quiet_at _ n _ _ _ i.areas c.glide.ensures.quiet) in
+    let x : IsStep (areas_of (seen c.args.machine.now)) _ (state_of (seen c.glide.new.self)) (state_of (seen c.step.new.self)) (Stops Stop.Lacking) =
+    step_at _ _ _ _ _ _ there c.in-HostMemory.ensures.state c.in-HostMemory.ensures.event c.in-HostMemory.ensures.full in
+    hosted (stopped_at q _ _ _ x) c.finish-in-HostMemory.result _ _ _ (λ k. Refuses) (omega (arith, i.counted, c.glide.ensures.few)) c.finish-in-HostMemory.ensures.written
     (either_end ending.HostMemory _ _ _ _ _ c.finish-in-HostMemory.ensures.same (refl, over_at x))
 
 pub returns-in-Fault-clause-hosted : goal.returns-in-Fault-clause-hosted
 returns-in-Fault-clause-hosted g c =
     let seen = arrays g.S.BlockStore.holdings g.S.BlockStore.byte_at in
     let i = c.steps.invariant in
-    let x : IsStep (areas_of (seen c.args.machine.now)) _ (state_of (seen c.steps.machine)) (state_of (seen c.step.new.self)) (Stops (Stop.Fault c.in-Fault.fault)) =
-    step_at _ _ _ _ _ _ i.areas c.in-Fault.ensures.state c.in-Fault.ensures.event c.in-Fault.ensures.full in
-    hosted (stopped_at i.progress _ _ _ x) c.finish-in-Fault.result _ _ _ (λ k. Refuses) (omega arith) c.finish-in-Fault.ensures.written
+    let n = areas_of (seen c.args.machine.now) in
+    let there = c.glide.ensures.areas ∙ i.areas in
+    let q = went_quietly i.progress c.glide.result _ (quiet_at _ n _ _ _ i.areas c.glide.ensures.quiet) in
+    let x : IsStep (areas_of (seen c.args.machine.now)) _ (state_of (seen c.glide.new.self)) (state_of (seen c.step.new.self)) (Stops (Stop.Fault c.in-Fault.fault)) =
+    step_at _ _ _ _ _ _ there c.in-Fault.ensures.state c.in-Fault.ensures.event c.in-Fault.ensures.full in
+    hosted (stopped_at q _ _ _ x) c.finish-in-Fault.result _ _ _ (λ k. Refuses) (omega (arith, i.counted, c.glide.ensures.few)) c.finish-in-Fault.ensures.written
     (either_end (ending.Fault c.in-Fault.fault) _ _ _ _ _ c.finish-in-Fault.ensures.same (refl, over_at x))
 
 pub returns-clause-hosted : goal.returns-clause-hosted
 returns-clause-hosted g c =
     let seen = arrays g.S.BlockStore.holdings g.S.BlockStore.byte_at in
     let i = c.steps.invariant in
-    hosted i.progress c.finish-2.result _ _ _ (λ k. Refuses) (omega arith) c.finish-2.ensures.written
-    (either_end ending.StepLimit _ _ _ _ _ c.finish-2.ensures.same (refl, omega arith, λ some. ⊎_elim (λ none. absurd (omega (arith, none, some))) (λ runs. runs) i.going))
+    hosted i.progress c.finish-2.result _ _ _ (λ k. Refuses) (omega (arith, i.counted)) c.finish-2.ensures.written
+    (either_end ending.StepLimit _ _ _ _ _ c.finish-2.ensures.same (refl, omega (arith, i.counted), λ some. ⊎_elim (λ none. absurd (omega (arith, none, some, i.counted))) (λ runs. runs) i.going))
 
 pub returns-then-is_err-clause-memory : goal.returns-then-is_err-clause-memory
-returns-then-is_err-clause-memory g c = λ never before. (λ is. absurd (cc), (c.in-Put.ensures.memory never (c.steps.invariant.memory never before)).0)
+returns-then-is_err-clause-memory g c = λ never before. (λ is. absurd (cc), (c.in-Put.ensures.memory never (keeps_memory _ _ _ _ c.glide.ensures.quiet (c.steps.invariant.memory never before))).0)
 
 pub returns-then-is_err-2-clause-memory : goal.returns-then-is_err-2-clause-memory
-returns-then-is_err-2-clause-memory g c = λ never before. (λ is. absurd (cc), (c.in-Get.ensures.memory never (c.steps.invariant.memory never before)).0)
+returns-then-is_err-2-clause-memory g c = λ never before. (λ is. absurd (cc), (c.in-Get.ensures.memory never (keeps_memory _ _ _ _ c.glide.ensures.quiet (c.steps.invariant.memory never before))).0)
 
 pub returns-in-Err-clause-memory : goal.returns-in-Err-clause-memory
-returns-in-Err-clause-memory g c = λ never before. (λ is. absurd (cc), (c.in-Get.ensures.memory never (c.steps.invariant.memory never before)).0)
+returns-in-Err-clause-memory g c = λ never before. (λ is. absurd (cc), (c.in-Get.ensures.memory never (keeps_memory _ _ _ _ c.glide.ensures.quiet (c.steps.invariant.memory never before))).0)
 
 pub returns-in-Ended-clause-memory : goal.returns-in-Ended-clause-memory
 returns-in-Ended-clause-memory g c =
-    λ never before. (isnt_memory _ _ c.finish.ensures.same refl, (c.in-Ended.ensures.memory never (c.steps.invariant.memory never before)).0)
+    λ never before. (isnt_memory _ _ c.finish.ensures.same refl, (c.in-Ended.ensures.memory never (keeps_memory _ _ _ _ c.glide.ensures.quiet (c.steps.invariant.memory never before))).0)
 
 pub returns-in-Raised-clause-memory : goal.returns-in-Raised-clause-memory
 returns-in-Raised-clause-memory g c =
-    λ never before. (isnt_memory _ _ c.finish-in-Raised.ensures.same refl, (c.in-Raised.ensures.memory never (c.steps.invariant.memory never before)).0)
+    λ never before. (isnt_memory _ _ c.finish-in-Raised.ensures.same refl, (c.in-Raised.ensures.memory never (keeps_memory _ _ _ _ c.glide.ensures.quiet (c.steps.invariant.memory never before))).0)
 
 pub returns-in-Exhausted-clause-memory : goal.returns-in-Exhausted-clause-memory
 returns-in-Exhausted-clause-memory g c =
-    λ never before. (isnt_memory _ _ c.finish-in-Exhausted.ensures.same refl, (c.in-Exhausted.ensures.memory never (c.steps.invariant.memory never before)).0)
+    λ never before. (isnt_memory _ _ c.finish-in-Exhausted.ensures.same refl, (c.in-Exhausted.ensures.memory never (keeps_memory _ _ _ _ c.glide.ensures.quiet (c.steps.invariant.memory never before))).0)
 
 pub returns-in-Fault-clause-memory : goal.returns-in-Fault-clause-memory
 returns-in-Fault-clause-memory g c =
-    λ never before. (isnt_memory _ _ c.finish-in-Fault.ensures.same refl, (c.in-Fault.ensures.memory never (c.steps.invariant.memory never before)).0)
+    λ never before. (isnt_memory _ _ c.finish-in-Fault.ensures.same refl, (c.in-Fault.ensures.memory never (keeps_memory _ _ _ _ c.glide.ensures.quiet (c.steps.invariant.memory never before))).0)
 
 pub returns-in-HostMemory-clause-memory : goal.returns-in-HostMemory-clause-memory
-returns-in-HostMemory-clause-memory g c = λ never before. absurd ((c.in-HostMemory.ensures.memory never (c.steps.invariant.memory never before)).1 refl)
+returns-in-HostMemory-clause-memory g c = λ never before. absurd ((c.in-HostMemory.ensures.memory never (keeps_memory _ _ _ _ c.glide.ensures.quiet (c.steps.invariant.memory never before))).1 refl)
 
 pub returns-clause-memory : goal.returns-clause-memory
 returns-clause-memory g c = λ never before. (isnt_memory _ _ c.finish-2.ensures.same refl, c.steps.invariant.memory never before)
+
+pub steps-preserved-in-Next : goal.steps-preserved-in-Next
+steps-preserved-in-Next g c =
+    let seen = arrays g.S.BlockStore.holdings g.S.BlockStore.byte_at in
+    let i = c.steps.invariant in
+    let n = areas_of (seen c.args.machine.now) in
+    let there = c.glide.ensures.areas ∙ i.areas in
+    let q = went_quietly i.progress c.glide.result _ (quiet_at _ n _ _ _ i.areas c.glide.ensures.quiet) in
+    let x : IsStep n _ (state_of (seen c.glide.new.self)) (state_of (seen c.step.new.self)) Nothing =
+    step_at _ _ _ _ _ _ there c.in-Next.ensures.state c.in-Next.ensures.event c.in-Next.ensures.full in
+    record {
+      count = i.count + c.glide.result + 1;
+      counted = omega (arith, i.counted, c.glide.ensures.few);
+      reads = i.reads;
+      writes = i.writes;
+      areas = c.in-Next.ensures.areas ∙ there;
+      memory = λ never before. ap lacks (runs_at x);
+      going = inr (runs_at x);
+      progress = went_on q _ _ x;
+    }
+
+pub steps-preserved-else-is_err : goal.steps-preserved-else-is_err
+steps-preserved-else-is_err g c =
+    let seen = arrays g.S.BlockStore.holdings g.S.BlockStore.byte_at in
+    let i = c.steps.invariant in
+    let n = areas_of (seen c.args.machine.now) in
+    let there = c.glide.ensures.areas ∙ i.areas in
+    let q = went_quietly i.progress c.glide.result _ (quiet_at _ n _ _ _ i.areas c.glide.ensures.quiet) in
+    let x : IsStep n _ (state_of (seen c.glide.new.self)) (state_of (seen c.step.new.self)) (Writes c.in-Put.byte) =
+    step_at _ _ _ _ _ _ there c.in-Put.ensures.state c.in-Put.ensures.event c.in-Put.ensures.full in
+    let moved = of_ok c.put.result c.put.ensures.all (sym c.is_err.ensures.value ∙ c.if-is_err.false) in
+    record {
+      count = i.count + c.glide.result + 1;
+      counted = omega (arith, i.counted, c.glide.ensures.few);
+      reads = i.reads;
+      writes = counted_ok c.put.result _ _ c.put.ensures.counted (sym c.is_err.ensures.value ∙ c.if-is_err.false) ∙ i.writes;
+      areas = c.in-Put.ensures.areas ∙ there;
+      memory = λ never before. ap lacks (runs_at_write x);
+      going = inr (runs_at_write x);
+      progress = wrote (put_one q _ _ c.in-Put.byte x) _ _ moved;
+    }
 
 pub steps-preserved : goal.steps-preserved
 steps-preserved g c =
     let seen = arrays g.S.BlockStore.holdings g.S.BlockStore.byte_at in
     let i = c.steps.invariant in
     let n = areas_of (seen c.args.machine.now) in
-    elim c.match-step.branch [
-      | in-Next w ↦
-          let x : IsStep n _ (state_of (seen c.steps.machine)) (state_of (seen c.step.new.self)) Nothing =
-          step_at _ _ _ _ _ _ i.areas w.in-Next.ensures.state w.in-Next.ensures.event w.in-Next.ensures.full in
-          rw (w.machine-is, w.reader-is, w.writer-is, w.gathered-is, w.is_over-is) (record {
-            reads = i.reads;
-            writes = i.writes;
-            areas = w.in-Next.ensures.areas ∙ i.areas;
-            memory = λ never before. ap lacks (runs_at x);
-            going = inr (runs_at x);
-            progress = went_on i.progress _ _ x;
-          })
-      | in-Put+else-is_err w ↦
-          let x : IsStep n _ (state_of (seen c.steps.machine)) (state_of (seen c.step.new.self)) (Writes w.in-Put.byte) =
-          step_at _ _ _ _ _ _ i.areas w.in-Put.ensures.state w.in-Put.ensures.event w.in-Put.ensures.full in
-          let moved = of_ok w.put.result w.put.ensures.all (sym w.is_err.ensures.value ∙ w.if-is_err.false) in
-          rw (w.machine-is, w.reader-is, w.writer-is, w.gathered-is, w.is_over-is) (record {
-            reads = i.reads;
-            writes = counted_ok w.put.result _ _ w.put.ensures.counted (sym w.is_err.ensures.value ∙ w.if-is_err.false) ∙ i.writes;
-            areas = w.in-Put.ensures.areas ∙ i.areas;
-            memory = λ never before. ap lacks (runs_at_write x);
-            going = inr (runs_at_write x);
-            progress = wrote (put_one i.progress _ _ w.in-Put.byte x) _ _ moved;
-          })
-      | in-Get+else-is_err-2+in-Ok w ↦
-          let x : IsStep n _ (state_of (seen c.steps.machine)) (state_of (seen c.step.new.self)) Asks =
-          step_at _ _ _ _ _ _ i.areas w.in-Get.ensures.state w.in-Get.ensures.event w.in-Get.ensures.full in
-          let flushed = wrote i.progress _ []
-          (all_written _ _ _ (of_ok w.flush.result w.flush.ensures.all (sym w.is_err-in-Get.ensures.value ∙ w.if-is_err-2.false))) in
-          rw (w.machine-is, w.reader-is, w.writer-is, w.gathered-is, w.is_over-is) (record {
-            reads = w.in-Ok.ensures.counted ∙ i.reads;
-            writes = counted_ok w.flush.result _ _ w.flush.ensures.counted (sym w.is_err-in-Get.ensures.value ∙ w.if-is_err-2.false) ∙ i.writes;
-            areas = w.give.ensures.areas ∙ w.in-Get.ensures.areas ∙ i.areas;
-            memory = λ never before. ap lacks (runs_at_answer w.in-Ok.answer x w.give.ensures.state);
-            going = inr (runs_at_answer w.in-Ok.answer x w.give.ensures.state);
-            progress = subst (Progress _ _ _ _ _ _ _ _ _) (sym w.flush.ensures.empty)
-                (answered flushed _ _ _ _ _ _ x w.in-Ok.ensures.answer (search rules) w.give.ensures.state);
-          })
-    ]
+    let there = c.glide.ensures.areas ∙ i.areas in
+    let q = went_quietly i.progress c.glide.result _ (quiet_at _ n _ _ _ i.areas c.glide.ensures.quiet) in
+    let x : IsStep n _ (state_of (seen c.glide.new.self)) (state_of (seen c.step.new.self)) Asks =
+    step_at _ _ _ _ _ _ there c.in-Get.ensures.state c.in-Get.ensures.event c.in-Get.ensures.full in
+    let flushed = wrote q _ []
+    (all_written _ _ _ (of_ok c.flush.result c.flush.ensures.all (sym c.is_err-in-Get.ensures.value ∙ c.if-is_err-2.false))) in
+    record {
+      count = i.count + c.glide.result + 1;
+      counted = omega (arith, i.counted, c.glide.ensures.few);
+      reads = c.in-Ok.ensures.counted ∙ i.reads;
+      writes = counted_ok c.flush.result _ _ c.flush.ensures.counted (sym c.is_err-in-Get.ensures.value ∙ c.if-is_err-2.false) ∙ i.writes;
+      areas = c.give.ensures.areas ∙ c.in-Get.ensures.areas ∙ there;
+      memory = λ never before. ap lacks (runs_at_answer c.in-Ok.answer x c.give.ensures.state);
+      going = inr (runs_at_answer c.in-Ok.answer x c.give.ensures.state);
+      progress = subst (Progress _ _ _ _ _ _ _ _ _) (sym c.flush.ensures.empty)
+          (answered flushed _ _ _ _ _ _ x c.in-Ok.ensures.answer (search rules) c.give.ensures.state);
+    }

@@ -1,4 +1,4 @@
-use Rattle.std.proofs.Common.{◌≡◌, ◌⊎◌, false}
+use Rattle.std.proofs.Common.{◌≡◌, ℕ, ◌+◌, ◌⊎◌, false}
 use Rattle.rv32_machine.specs.Arrays.{areas_of, arrays, state_of}
 use Rattle.rv32_machine.specs.State.{Runs}
 use Rattle.rv32_machine.specs.Served.{lacks}
@@ -9,11 +9,16 @@ abbrev pub invariant-steps : goal.invariant-steps
 invariant-steps g l =
     let seen = arrays g.S.BlockStore.holdings g.S.BlockStore.byte_at in
     record {
+      count : ℕ;
+      counted : count + l.left ≡ l.steps;
       reads : g.R.Input.fault_count l.reader ≡ g.R.Input.fault_count l.fn.reader;
       writes : g.W.Output.fault_count l.writer ≡ g.W.Output.fault_count l.fn.writer;
       areas : areas_of (seen l.machine) ≡ areas_of (seen l.fn.machine);
       memory : g.S.BlockStore.may_lack ≡ false → lacks (seen l.fn.machine).mode ≡ false → lacks (seen l.machine).mode ≡ false;
-      going : (l.counter ≡ 0) ⊎ ((state_of (seen l.machine)).mode ≡ Runs);
-      progress : Progress (areas_of (seen l.fn.machine)) (state_of (seen l.fn.machine)) l.counter l.is_over (state_of (seen l.machine))
+      going : (count ≡ 0) ⊎ ((state_of (seen l.machine)).mode ≡ Runs);
+      progress : Progress (areas_of (seen l.fn.machine)) (state_of (seen l.fn.machine)) count l.is_over (state_of (seen l.machine))
           (g.R.Read.remaining l.fn.reader) (g.R.Read.remaining l.reader) (g.W.Write.contents l.fn.writer) (g.W.Write.contents l.writer) l.gathered;
     }
+
+abbrev pub decreases-steps : goal.decreases-steps
+decreases-steps g l = l.left

@@ -1,0 +1,50 @@
+-- A run goes on by steps that show nothing and ask the store for nothing.
+use Rattle.std.proofs.Common.{◌≡◌, ℕ, zero, suc, ◌+◌, ◌⊎◌, Bool, false, List, Option, ◌∙◌, sym, ap, subst, inl, inr, arith}
+use Rattle.arena_laws.specs.Asked.{Asked}
+use Rattle.arena_laws.specs.Lawful.{Refuses}
+use Rattle.rv32_machine.specs.State.{State, Areas, Runs}
+use Rattle.rv32_machine.specs.Step.{Stepped, Nothing}
+use Rattle.rv32_machine.specs.Served.{lacks}
+use Rattle.rv32_machine.specs.Shortage.{IsShortage}
+use Rattle.rv32_machine.specs.Quiet.{IsQuietStep, AreQuietSteps}
+use Rattle.cyc_host.proofs.OneStep.{IsStep, runs_at}
+use Rattle.cyc_host.proofs.Progress.{Progress, went_on}
+
+-- such a step is one
+pub one_quiet : (n : Areas) (s t : State) → IsQuietStep n s t → IsStep n Refuses s t Nothing
+one_quiet n s t q = record {
+  state = sym (ap (λ (x : Stepped). x.state) (q.steps Refuses));
+  shows = sym (ap (λ (x : Stepped). x.shown) (q.steps Refuses));
+  exact = subst (λ (asked : Option Asked). IsShortage n asked s.holdings Nothing) (sym q.asks) tt;
+}
+
+-- a run goes on by so many of them
+pub went_quietly : {n : Areas} {old now : State} {count : ℕ} {is_over : Bool} {reader_old reader writer_old writer : Option (List ℕ)} {gathered : List ℕ}
+    → Progress n old count is_over now reader_old reader writer_old writer gathered → (k : ℕ) (new : State) → AreQuietSteps n k now new
+    → Progress n old (count + k) is_over new reader_old reader writer_old writer gathered
+went_quietly {n} {old} {now} {count} {is_over} {reader_old} {reader} {writer_old} {writer} {gathered} p zero new same =
+    let here : Progress n old count is_over new reader_old reader writer_old writer gathered =
+    subst (λ (t : State). Progress n old count is_over t reader_old reader writer_old writer gathered) (sym same) p in
+    let none : count ≡ count + 0 = omega arith in
+    subst (λ c. Progress n old c is_over new reader_old reader writer_old writer gathered) none here
+went_quietly {n} {old} {now} {count} {is_over} {reader_old} {reader} {writer_old} {writer} {gathered} p (suc k) new (m, before, last) =
+    let further : Progress n old (count + k + 1) is_over new reader_old reader writer_old writer gathered =
+    went_on (went_quietly p k m before) Refuses new (one_quiet n m new last) in
+    let one : count + k + 1 ≡ count + suc k = omega arith in
+    subst (λ c. Progress n old c is_over new reader_old reader writer_old writer gathered) one further
+
+-- after some of them it runs
+pub runs_quietly : (n : Areas) (k : ℕ) (s t : State) → AreQuietSteps n k s t → (t ≡ s) ⊎ (t.mode ≡ Runs)
+runs_quietly n zero s t same = inl same
+runs_quietly n (suc k) s t (m, before, last) = inr (runs_at (one_quiet n m t last))
+
+-- and isn't over for want of memory where it wasn't before
+pub keeps_memory : (n : Areas) (k : ℕ) (s t : State) → AreQuietSteps n k s t → lacks s.mode ≡ false → lacks t.mode ≡ false
+keeps_memory n k s t q before = elim (runs_quietly n k s t q) [
+  | inl same ↦ ap (λ (x : State). lacks x.mode) same ∙ before
+  | inr runs ↦ ap lacks runs
+]
+
+-- the same with the areas as they were at the start
+pub quiet_at : (m n : Areas) (k : ℕ) (s t : State) → m ≡ n → AreQuietSteps m k s t → AreQuietSteps n k s t
+quiet_at m n k s t same q = subst (λ (x : Areas). AreQuietSteps x k s t) same q

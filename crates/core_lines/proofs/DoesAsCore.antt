@@ -1,6 +1,7 @@
 -- The lines of a program do what it does.
 use Rattle.std.specs.Prelude.{slice_get, length}
-use Rattle.std.proofs.Common.{Bool, ◌+◌, ◌≡◌, ℕ, suc, ◌*◌, ◌^◌, ◌≤◌, List, [], ◌∷◌, Some, refl, sym, ap, subst, ◌∙◌, arith, append-nil}
+use Rattle.rv32_machine.specs.Arrays.{longest_stack}
+use Rattle.std.proofs.Common.{Bool, ◌+◌, ◌≡◌, ℕ, suc, ◌*◌, ◌≤◌, List, [], ◌∷◌, Some, refl, sym, ap, subst, ◌∙◌, arith, append-nil}
 use Rattle.core_meaning.specs.Core.{Datum, Program}
 use Rattle.core_lines.specs.Selected.{frame_bytes, own_end, placed_body, slots_of, offsets_from, datum_locals, program_code}
 use Rattle.core_lines.specs.Selectable.{IsSelectable, HaveLinesIn}
@@ -46,7 +47,7 @@ module _ (p : Program) (selectable : IsSelectable p) (w : World) (order : IsInOr
       (λ is most fits calls ends outer mem arguments.
       let x = activation w order number f is outer mem arguments (offsets_from (4 * slots_of f) f.own) (own_end f) in
       let bytes = frame_bytes f in
-      let small : bytes ≤ 2 ^ 20 = omega (arith, frame, fits) in
+      let small : bytes ≤ longest_stack = omega (arith, frame, fits) in
       let top = frame_has_all f (omega (arith, small)) in
       let held = taken_in f in
       let flags = saves_at w.data_offsets f in

@@ -1,6 +1,7 @@
 -- A function does as Core, from its lines, where the lines of its statements do.
 use Rattle.std.specs.Prelude.{slice_get}
-use Rattle.std.proofs.Common.{◌≡◌, ℕ, suc, [], ap, ◌∙◌, ◌+◌, ◌^◌, ◌≤◌, List, ◌∷◌, ◌++◌, Some, refl, sym, subst, arith}
+use Rattle.rv32_machine.specs.Arrays.{longest_stack}
+use Rattle.std.proofs.Common.{◌≡◌, ℕ, suc, [], ap, ◌∙◌, ◌+◌, ◌≤◌, List, ◌∷◌, ◌++◌, Some, refl, sym, subst, arith}
 use Rattle.core_meaning.specs.Memory.{Content, Memory}
 use Rattle.core_meaning.specs.Core.{Function}
 use Rattle.core_meaning.specs.Meaning as core
@@ -34,7 +35,7 @@ nothing_needed f = record { after = none_of f; out = none_of f; again = none_of 
 -- what is asked of the statements of a function, where calls with less fuel do as Core and the frame is no larger than the stack
 abbrev pub BodyDoes : (w : World) → IsInOrder w → ℕ → ℕ → Function → Type 0
 BodyDoes w order number next f =
-    (is : slice_get w.functions number ≡ Some f) (most : ℕ) → w.frame_bytes number ≤ 2 ^ 20 → ((j : ℕ) → suc j ≤ most → (g : ℕ) → BodyGoes w j g)
+    (is : slice_get w.functions number ≡ Some f) (most : ℕ) → w.frame_bytes number ≤ longest_stack → ((j : ℕ) → suc j ≤ most → (g : ℕ) → BodyGoes w j g)
     → EndsThere w number f → (outer : List Waiting) (mem : Memory) (arguments : List Content)
     → Does w (activation w order number f is outer mem arguments (offsets_from (4 * slots_of f) f.own) (own_end f)) outer most (taken_in f)
     (held_behind_all [] w.data_offsets (taken_in f) f.body) (live_at_start w.data_offsets f) (nothing_needed f)

@@ -1,6 +1,7 @@
 -- Each statement's code does as the statement means, by the forms of statements, where calls with less fuel do as Core.
 use Rattle.std.specs.Prelude.{length, drop}
-use Rattle.std.proofs.Common.{◌≡◌, ℕ, zero, suc, Bool, true, false, Some, ◌+◌, ◌^◌, ◌≤◌, List, [], ◌∷◌, ◌++◌, refl, sym, ◌∙◌, arith, append_assoc}
+use Rattle.rv32_machine.specs.Arrays.{longest_stack}
+use Rattle.std.proofs.Common.{◌≡◌, ℕ, zero, suc, Bool, true, false, Some, ◌+◌, ◌≤◌, List, [], ◌∷◌, ◌++◌, refl, sym, ◌∙◌, arith, append_assoc}
 use Rattle.std.proofs.lemmas.Bool.{and_parts}
 use Rattle.core_meaning.specs.Core.{Local, Statement, Do, If, While, Block, Leave, Break, Continue, Call, Return, Raise, Statements, NoStatements}
 use Rattle.core_meaning.specs.Core.{MoreStatements}
@@ -13,7 +14,7 @@ use Rattle.core_lines.specs.Saved.{cleared, all_flagged, results_of, results_in,
 use Rattle.core_lines.specs.Selected.{offsets_from, end_from, highest, highest_of, labels_in, labels_of, statement_code, statements_code}
 use Rattle.core_lines.specs.Selected.{nth_block, shrunk, shrunk_in, shrunk_of, homes_here, homes_after, names_after, names_after_all}
 use Rattle.core_lines.specs.Homes.{is_home, flag_at}
-use Rattle.core_lines.specs.Selectable.{HasLinesIn, HaveLinesIn, AreBelow}
+use Rattle.core_lines.specs.Selectable.{HasLinesIn, HaveLinesIn}
 use Rattle.core_lines.proofs.memory.Relations.{Inside, EndsThere, home_of, active_of, World, IsInOrder, Waiting, Place, keeping}
 use Rattle.core_lines.proofs.frames.Bodies.{with_config, goes_any, BodyGoes, call_goes, return_goes}
 use Rattle.core_lines.proofs.Flags.{length_cleared, length_all, more_flagged, flags_behind, follows_flags}
@@ -39,7 +40,7 @@ pub record IsAround (w : World) (x : Waiting) (ns : List ℕ) (oss hss : List (L
   pub are_homes : (out local r : ℕ) → home_of (nth_block hss out) local ≡ Some r → is_home r ≡ true
   pub nest : NestFits x.own_high low x.nest
   pub framed : w.frame_bytes x.function ≡ bytes
-  pub small : bytes ≤ 2 ^ 20
+  pub small : bytes ≤ longest_stack
   pub own_small : OwnSmall x
 
 -- ---- what only raises an exception

@@ -1,8 +1,9 @@
 -- A machine in arrays, at its start, begins with the lines that its code has and with the data that its statics are.
 use Rattle.std.specs.Prelude.{slice_index, length}
-use Rattle.std.proofs.Common.{◌≡◌, ℕ, ◌+◌, ◌-◌, ◌^◌, ◌<◌, ◌≤◌, List, [], ◌∷◌, ◌++◌, None, refl, ap, ◌∙◌, arith, length-append}
+use Rattle.std.proofs.Common.{◌≡◌, ℕ, ◌+◌, ◌-◌, ◌%◌, ◌^◌, ◌<◌, ◌≤◌, List, [], ◌∷◌, ◌++◌, None, refl, ap, ◌∙◌, arith, length-append}
+use Rattle.arena_laws.specs.Counts.{block_limit}
 use Rattle.rv32_machine.specs.State.{Runs, code_base, data_base, stack_base}
-use Rattle.rv32_machine.specs.Arrays.{Arrays, areas_of, state_of, byte_at, stack_length}
+use Rattle.rv32_machine.specs.Arrays.{Arrays, areas_of, state_of, byte_at, longest_stack}
 use Rattle.rv32_machine.proofs.Bytes.{in_statics}
 use Rattle.core_meaning.specs.Core.{Datum}
 use Rattle.core_lines.specs.declared.line.Line.{Line}
@@ -25,15 +26,18 @@ data_length os low (d ∷ ds) plain =
     let others = data_length os next ds plain.1 ∙ ap (λ n. end_from (rounded low + n) (datum_locals ds)) here in
     omega (arith, padding, one, two, others)
 
--- A machine that runs from its code's first instruction on, with an empty stack of the whole length, over a store that holds no number.
+-- A machine that runs from its code's first instruction on, with an empty stack of whole pages, and regions whose blocks may be as long as the store's, over a
+-- store that holds no number.
 pub record IsFirst (m : Arrays) : Type 0 where
   pub runs : m.mode ≡ Runs
   pub at_first : m.pc ≡ code_base
-  pub pointer : slice_index m.registers 2 ≡ stack_base + stack_length
+  pub pointer : slice_index m.registers 2 ≡ stack_base + length m.stack
   pub words : (register : ℕ) → slice_index m.registers register < 2 ^ 32
   pub code_within : length m.code ≤ 2 ^ 20
   pub statics_within : length m.statics ≤ 2 ^ 20
-  pub stack_whole : length m.stack ≡ stack_length
+  pub stack_within : length m.stack ≤ longest_stack
+  pub stack_pages : length m.stack % 4096 ≡ 0
+  pub blocks : m.block_limit ≡ block_limit
   pub pages_within : m.holdings.pages ≤ 4096
   pub small : (at : ℕ) → byte_at m at < 256
   pub unheld : (number : ℕ) → m.holdings.standing number ≡ None
@@ -54,13 +58,16 @@ begins_as m places lines ds first plain statics labels has =
       has_pages = refl;
       code_within = first.code_within;
       statics_within = first.statics_within;
-      stack_whole = first.stack_whole;
+      stack_within = first.stack_within;
+      stack_pages = first.stack_pages;
+      blocks = first.blocks;
       pages_within = first.pages_within;
       labels = labels;
       has = has;
       data_within = omega (arith, long, whole);
       shows_data = data_shown ds (byte_at m) plain (has_bytes (byte_at m) data_base (data_bytes os 0 ds) (λ k less.
           in_statics m.holdings.pages m.arena m.code m.statics m.stack (data_base + k) k
-          (record { code_within = first.code_within; statics_within = first.statics_within; stack_whole = first.stack_whole }) refl (omega (arith, long, less))
+          (record { code_within = first.code_within; statics_within = first.statics_within; stack_within = first.stack_within }) refl
+          (omega (arith, long, less))
           ∙ ap (λ (bs : List ℕ). slice_index bs k) statics));
     }

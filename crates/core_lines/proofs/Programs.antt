@@ -157,7 +157,9 @@ module _ (p : Program) (wide : ℕ → Bool) (names : ℕ → List ℕ) (bound :
   in_order : IsInOrder w
   in_order = record {
     code_within = begins.code_within;
-    stack_whole = begins.stack_whole;
+    stack_within = begins.stack_within;
+    stack_pages = begins.stack_pages;
+    blocks = begins.blocks;
     statics_within = begins.statics_within;
     pages_within = begins.pages_within;
     labels = begins.labels;

@@ -6,7 +6,7 @@ use Rattle.arena_laws.specs.declared.owner.Owner.{Owner}
 use Rattle.arena_laws.specs.declared.owner.Owner.TheVariants as owner
 use Rattle.arena_laws.specs.declared.standing.Standing.{Standing as Tag}
 use Rattle.arena_laws.specs.declared.standing.Standing.TheVariants as tag
-use Rattle.rv32_machine.specs.State.{Areas, data_base, stack_base, word_at}
+use Rattle.rv32_machine.specs.State.{Areas, data_base, stack_base, stack_end, word_at}
 use Rattle.rv32_machine.specs.Ledger.{Ledger}
 use Rattle.core_meaning.specs.Memory.{
   Region,
@@ -33,10 +33,6 @@ use Rattle.core_meaning.specs.Memory.{
 use Rattle.core_meaning.specs.Operations.{too_far}
 use Rattle.core_lines.specs.Machines.{Store}
 use Rattle.core_lines.specs.Homes.{is_home}
-
--- where the stack ends: it is 2^20 bytes long
-abbrev pub stack_end : ℕ
-stack_end = 0x500000
 
 -- ---- maps
 
@@ -321,6 +317,6 @@ pub record Laid (at : ℕ) (a : Activation) : Type 0 where
   pub zoned : Zoned a.own_high a.bytes a.zones
 
 -- each frame begins where the next inner one ends, and the outermost ends with the stack
-abbrev pub Stacked : ℕ → List Activation → Type 0
-Stacked at [] = at ≡ stack_end
-Stacked at (a ∷ fs) = Laid at a × Stacked (a.at + a.bytes) fs
+abbrev pub Stacked : Areas → ℕ → List Activation → Type 0
+Stacked n at [] = at ≡ stack_end n
+Stacked n at (a ∷ fs) = Laid at a × Stacked n (a.at + a.bytes) fs

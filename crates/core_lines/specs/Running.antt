@@ -1,5 +1,5 @@
 -- When a machine with lines of code does what a program of Core does.
-use Rattle.std.specs.Prelude.{◌≡◌, ◌≢◌, ℕ, zero, suc, ◌+◌, ◌≤◌, ◌<◌, ◌^◌, List, [], ◌∷◌, Option, Some, None, nat_eq, if◌then◌else◌, slice_get}
+use Rattle.std.specs.Prelude.{◌≡◌, ◌≢◌, ℕ, zero, suc, ◌+◌, ◌≤◌, ◌<◌, ◌^◌, ◌%◌, List, [], ◌∷◌, Option, Some, None, nat_eq, if◌then◌else◌, slice_get}
 use Rattle.cyc_words.specs.Events.{AreBytes, SourceEvent, SourceEnding}
 use Rattle.cyc_words.specs.Events as source
 use Rattle.step_trees.specs.Trees.{Outcome, Bodies, run}
@@ -8,11 +8,13 @@ use Rattle.core_meaning.specs.Core.{Function, Datum, Program}
 use Rattle.core_meaning.specs.Bounds.{core_bound}
 use Rattle.core_meaning.specs.Steps.{Config, Event, Visible, Called, Returned, Exit, Invocation, LoopTurn, Step, read_event}
 use Rattle.core_meaning.specs.Meaning.{called, turned, datum_parts, core}
-use Rattle.rv32_machine.specs.State.{State, Areas, Runs, code_base, data_base}
+use Rattle.rv32_machine.specs.State.{State, Areas, Runs, code_base, data_base, stack_end}
+use Rattle.rv32_machine.specs.Arrays.{longest_stack}
 use Rattle.rv32_machine.specs.Implements.{Meaning, Implements}
+use Rattle.arena_laws.specs.Counts.{block_limit}
 use Rattle.core_lines.specs.declared.line.Line.{Line}
 use Rattle.core_lines.specs.Lines.{HasLines, IsPlace}
-use Rattle.core_lines.specs.Lies.{Maps, Shows, read, stack_end}
+use Rattle.core_lines.specs.Lies.{Maps, Shows, read}
 use Rattle.core_lines.specs.Selected.{offsets_from, end_from, datum_locals}
 
 -- ---- names
@@ -65,19 +67,21 @@ ShowsData ds offsets bytes =
     (object cell part offset : ℕ) (p : Part) → datum_parts ds object cell part ≡ Some p → slice_get offsets object ≡ Some offset
     → Shows (first_maps offsets) p.content (read bytes (data_base + offset + p.offset) p.width)
 
--- A machine that begins with the first of the lines, and with the program's data: it runs, the stack pointer is the stack's end, and nothing was asked of its
--- store, which has the arena's pages.
+-- A machine that begins with the first of the lines, and with the program's data: it runs, the stack pointer is the end of its stack of whole pages, nothing
+-- was asked of its store, which has the arena's pages, and a region's blocks may be as long as the store's.
 pub record Begins (n : Areas) (places : ℕ → ℕ) (lines : List Line) (ds : List Datum) (s : State) : Type 0 where
   pub runs : s.mode ≡ Runs
   pub at_first : s.pc ≡ code_base
-  pub pointer : s.registers 2 ≡ stack_end
+  pub pointer : s.registers 2 ≡ stack_end n
   pub words : (register : ℕ) → s.registers register < 2 ^ 32
   pub small : (at : ℕ) → s.bytes at < 256
   pub unheld : (number : ℕ) → s.holdings.standing number ≡ None
   pub has_pages : s.holdings.pages ≡ n.pages
   pub code_within : n.code ≤ 2 ^ 20
   pub statics_within : n.statics ≤ 2 ^ 20
-  pub stack_whole : n.stack ≡ 2 ^ 20
+  pub stack_within : n.stack ≤ longest_stack
+  pub stack_pages : n.stack % 4096 ≡ 0
+  pub blocks : n.block_limit ≡ block_limit
   pub pages_within : n.pages ≤ 4096
   pub labels : (label : ℕ) → IsPlace (places label)
   pub has : HasLines n s.bytes places 0 lines

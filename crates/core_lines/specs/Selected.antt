@@ -1,9 +1,9 @@
 -- The lines that each operation, statement, function and program of Core becomes.
-use Rattle.std.specs.Prelude.{ℕ, Bool, pos, ◌+◌, ◌-◌, ◌*◌, ◌%◌, ◌^◌, List, [], ◌∷◌, ◌++◌, drop, nat_eq, if◌then◌else◌, length}
+use Rattle.std.specs.Prelude.{ℕ, Bool, pos, ◌+◌, ◌*◌, ◌%◌, ◌^◌, List, [], ◌∷◌, ◌++◌, drop, nat_eq, if◌then◌else◌, length}
 use Rattle.rv32_isa.specs.declared.instruction.Instr.TheVariants as instr
 use Rattle.rv32_machine.specs.State.{data_base}
 use Rattle.core_meaning.specs.Memory.{Layout}
-use Rattle.core_meaning.specs.Core.{Or, Equal, Operation, Constant, NullPointer, Move, Narrow, Apply, LocalAddress, OwnAddress, DataAddress, Offset, Element}
+use Rattle.core_meaning.specs.Core.{Equal, Operation, Constant, NullPointer, Move, Narrow, Apply, LocalAddress, OwnAddress, DataAddress, Offset, Element}
 use Rattle.core_meaning.specs.Core.{Get, Put, Load, Store, Copy, Clear, IsNull, SamePlace, Getchar, Putchar, HeapHandle, RegionNew, RegionAlloc, RegionFree}
 use Rattle.core_meaning.specs.Core.{UniqueAlloc, UniqueFree, KeyNew, KeyOpen, KeyClose, KeyFree, Local, Statement, Do, If, While, Block, Leave, Break, Continue}
 use Rattle.core_meaning.specs.Core.{Call, Return, Raise, Statements, NoStatements, MoreStatements, Function, Program}

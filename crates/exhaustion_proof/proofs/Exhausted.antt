@@ -1,6 +1,7 @@
 -- Where a run is exhausted, by the events that are meant.
 use Rattle.std.proofs.Common.{◌≡◌, ℕ, ◌+◌, ◌-◌, ◌≤◌, ◌⊎◌, inl, inr, true, false, List, [], ◌∷◌, ◌++◌, Option, Some, None, refl, sym, ap, subst, ◌∙◌, arith, append_assoc}
 use Rattle.cyc_words.specs.Events.{Event, SourceEvent, Visible, Called, Returned, visible, Request}
+use Rattle.arena_laws.specs.Counts.{block_limit}
 use Rattle.arena_laws.specs.Holdings.{fresh}
 use Rattle.arena_laws.specs.Lawful.{Answer}
 use Rattle.arena_laws.specs.Pages.{unborn}
@@ -57,13 +58,13 @@ cut_modes (Over Stop.Exhausted) refused e = inr refl
 cut_modes (Over Stop.Lacking) refused e = inl refl
 cut_modes (Over (Stop.Fault fault)) refused e = absurd cc
 
-module _ (bound : List ℕ → ℕ) (n : Areas) (s : State) (input : List ℕ) (m : Meaning) (fresh_is : s.holdings ≡ fresh n.pages) (grows : IsGrowing m)
-    (does : Implements bound n s input m) (answers : ℕ → Answer) where
+module _ (bound : List ℕ → ℕ) (n : Areas) (s : State) (input : List ℕ) (m : Meaning) (fresh_is : s.holdings ≡ fresh n.pages)
+    (limit : n.block_limit ≡ block_limit) (grows : IsGrowing m) (does : Implements bound n s input m) (answers : ℕ → Answer) where
   abbrev at_start : Run
   at_start = from s input answers
 
   kept_after : (count : ℕ) → AreExact n count at_start → Kept n.pages (run_steps n count at_start)
-  kept_after count exact = steps_kept n.pages n count at_start (starts_kept n.pages s input answers fresh_is) exact
+  kept_after count exact = steps_kept n.pages n limit count at_start (starts_kept n.pages s input answers fresh_is) exact
 
   -- ---- what an exhausted run was cut before
 
@@ -187,8 +188,8 @@ module _ (bound : List ℕ → ℕ) (n : Areas) (s : State) (input : List ℕ) (
         ∙ append_assoc (visible before) (e ∷ visible rest) begins.0))
 
 pub exhaustion_is_exact : ExhaustionIsExact
-exhaustion_is_exact bound n s input m fresh_is grows does = (
-  λ room answers count exact over. never bound n s input m fresh_is grows does answers room count exact over,
+exhaustion_is_exact bound n s input m fresh_is limit grows does = (
+  λ room answers count exact over. never bound n s input m fresh_is limit grows does answers room count exact over,
   λ fuel before e rest split room short enough reaches answers count less exact.
-      stopped bound n s input m fresh_is grows does answers fuel before e rest split room short enough count less exact (reaches answers),
+      stopped bound n s input m fresh_is limit grows does answers fuel before e rest split room short enough count less exact (reaches answers),
 )

@@ -6,7 +6,7 @@ use Rattle.arena_laws.specs.declared.standing.Standing.{Standing}
 use Rattle.arena_laws.specs.declared.standing.Standing.TheVariants.{Lexical, Opened, Closed}
 use Rattle.arena_laws.specs.declared.owner.Owner.{Owner}
 use Rattle.arena_laws.specs.declared.owner.Owner.TheVariants.{Region, Alone}
-use Rattle.arena_laws.specs.Counts.{is_too_long, room_of, class_of}
+use Rattle.arena_laws.specs.Counts.{is_too_long, is_too_long_alone, room_of, class_of}
 use Rattle.arena_laws.specs.Holdings.{Holdings}
 use Rattle.arena_laws.specs.Lawful.{Answer, Grants, Refuses, Lacks, Done, makes, with_number, is_new_number, takes_blocks}
 use Rattle.arena_laws.specs.Lawful.{region_alloc, region_free, unique_alloc, unique_free, key_open, key_close, key_free, with_region_block, with_alone}
@@ -66,25 +66,25 @@ pub record WasAlone (bytes : ℕ) (a : Answer) (s : Holdings) (n : ℕ) : Type 0
   pub after : (unique_alloc bytes a s).after ≡ with_alone n (class_of bytes) s
   pub same : unique_alloc bytes (Grants n) s ≡ unique_alloc bytes a s
 
-alone_at : (b : Bool) (bytes at n : ℕ) (s : Holdings) → is_too_long bytes ≡ false → is_lawful_room s at (class_of bytes) ≡ b
+alone_at : (b : Bool) (bytes at n : ℕ) (s : Holdings) → is_too_long_alone bytes ≡ false → is_lawful_room s at (class_of bytes) ≡ b
     → (unique_alloc bytes (Grants at) s).says ≡ Ok n → WasAlone bytes (Grants at) s n
 alone_at true bytes at n s short e says =
     let is : at ≡ n = (let z : Ok at ≡ Ok n = rw (short, e) at says in cc) in
     subst (λ k. WasAlone bytes (Grants at) s k) is (record { after = rw (short, e) refl; same = refl })
 alone_at false bytes at n s short e says = absurd (let z : Err Full ≡ Ok n = rw (short, e) at says in cc)
 
-alone_as : (bytes : ℕ) (a : Answer) (n : ℕ) (s : Holdings) → is_too_long bytes ≡ false → (unique_alloc bytes a s).says ≡ Ok n → WasAlone bytes a s n
+alone_as : (bytes : ℕ) (a : Answer) (n : ℕ) (s : Holdings) → is_too_long_alone bytes ≡ false → (unique_alloc bytes a s).says ≡ Ok n → WasAlone bytes a s n
 alone_as bytes (Grants at) n s short says = alone_at (is_lawful_room s at (class_of bytes)) bytes at n s short refl says
 alone_as bytes Refuses n s short says = absurd (let z : Err Full ≡ Ok n = rw short at says in cc)
 alone_as bytes Lacks n s short says = absurd (let z : Err Memory ≡ Ok n = rw short at says in cc)
 
-alone_by : (long : Bool) (bytes : ℕ) (a : Answer) (n : ℕ) (s : Holdings) → is_too_long bytes ≡ long → (unique_alloc bytes a s).says ≡ Ok n
+alone_by : (long : Bool) (bytes : ℕ) (a : Answer) (n : ℕ) (s : Holdings) → is_too_long_alone bytes ≡ long → (unique_alloc bytes a s).says ≡ Ok n
     → WasAlone bytes a s n
 alone_by true bytes a n s e says = absurd (let z : Err Full ≡ Ok n = rw e at says in cc)
 alone_by false bytes a n s e says = alone_as bytes a n s e says
 
 pub was_alone : (bytes : ℕ) (a : Answer) (s : Holdings) (n : ℕ) → (unique_alloc bytes a s).says ≡ Ok n → WasAlone bytes a s n
-was_alone bytes a s n says = alone_by (is_too_long bytes) bytes a n s refl says
+was_alone bytes a s n says = alone_by (is_too_long_alone bytes) bytes a n s refl says
 
 -- ---- what is freed, opened and closed
 

@@ -5,7 +5,7 @@ use Rattle.arena_laws.specs.declared.standing.Standing.{Standing}
 use Rattle.arena_laws.specs.declared.standing.Standing.TheVariants.{Lexical, Opened, Closed}
 use Rattle.arena_laws.specs.declared.owner.Owner.{Owner}
 use Rattle.arena_laws.specs.declared.owner.Owner.TheVariants.{Region, Alone}
-use Rattle.arena_laws.specs.Counts.{is_too_long, room_of, class_of}
+use Rattle.arena_laws.specs.Counts.{is_too_long, is_too_long_alone, room_of, class_of}
 use Rattle.arena_laws.specs.Holdings.{Holdings}
 use Rattle.arena_laws.specs.Lawful.{Answer, Grants, Refuses, Lacks, makes, is_new_number, takes_blocks, region_alloc, unique_alloc, unique_free}
 use Rattle.arena_laws.specs.Lawful.{is_lawful_room, frees_region, opens, closes, frees_key}
@@ -38,12 +38,12 @@ module _ (s : Holdings) (why : StoreRefusal) where
   placed_by true true h bytes a e f says = rw (e, f) refl
   placed_by true false h bytes a e f says = placed_as h bytes a e f says
 
-  alone_at : (b : Bool) (bytes at : ℕ) → is_too_long bytes ≡ false → is_lawful_room s at (class_of bytes) ≡ b
+  alone_at : (b : Bool) (bytes at : ℕ) → is_too_long_alone bytes ≡ false → is_lawful_room s at (class_of bytes) ≡ b
       → (unique_alloc bytes (Grants at) s).says ≡ Err why → (unique_alloc bytes (Grants at) s).after ≡ s
   alone_at true bytes at short e says = absurd (let z : Ok at ≡ Err why = rw (short, e) at says in cc)
   alone_at false bytes at short e says = rw (short, e) refl
 
-  alone_by : (long : Bool) (bytes : ℕ) (a : Answer) → is_too_long bytes ≡ long → (unique_alloc bytes a s).says ≡ Err why → (unique_alloc bytes a s).after ≡ s
+  alone_by : (long : Bool) (bytes : ℕ) (a : Answer) → is_too_long_alone bytes ≡ long → (unique_alloc bytes a s).says ≡ Err why → (unique_alloc bytes a s).after ≡ s
   alone_by true bytes a e says = rw e refl
   alone_by false bytes (Grants at) e says = alone_at (is_lawful_room s at (class_of bytes)) bytes at e refl says
   alone_by false bytes Refuses e says = rw e refl
@@ -87,7 +87,7 @@ module _ (s : Holdings) (why : StoreRefusal) where
   refusal_keeps RegionNew a says = made_keeps Lexical a says
   refusal_keeps (RegionAlloc h bytes) a says = placed_by (takes_blocks h (s.standing h)) (is_too_long bytes) h bytes a refl refl says
   refusal_keeps (RegionFree h) a says = region_by (s.standing h) h says
-  refusal_keeps (UniqueAlloc bytes) a says = alone_by (is_too_long bytes) bytes a refl says
+  refusal_keeps (UniqueAlloc bytes) a says = alone_by (is_too_long_alone bytes) bytes a refl says
   refusal_keeps (UniqueFree at) a says = dropped_by (s.owner at) at refl says
   refusal_keeps KeyNew a says = made_keeps Closed a says
   refusal_keeps (KeyOpen k) a says = open_by (s.standing k) k says

@@ -20,9 +20,9 @@ abbrev IsQuiet : State → Stepped → Type 0
 IsQuiet s x = (x.told ≡ Silent) × (x.state.holdings ≡ s.holdings)
 
 -- what a step does, by what it asks of the store
-abbrev pub DoesAsked : Option Asked → Answer → State → Stepped → Type 0
-DoesAsked None answer s x = (x.told ≡ Silent) × (x.state.holdings ≡ s.holdings)
-DoesAsked (Some asked) answer s x = x ≡ asks answer asked s
+abbrev pub DoesAsked : Areas → Option Asked → Answer → State → Stepped → Type 0
+DoesAsked n None answer s x = (x.told ≡ Silent) × (x.state.holdings ≡ s.holdings)
+DoesAsked n (Some asked) answer s x = x ≡ asks n answer asked s
 
 -- ---- what a test decides
 
@@ -86,13 +86,13 @@ host_quiet n number argument s =
     call_cases n (nat_eq number 0) (nat_eq number 1) (nat_eq number 2) (nat_eq number 3) (nat_eq number 13) argument s
 
 calls_do : (asked : Option Asked) (n : Areas) (answer : Answer) (number argument : ℕ) (s : State)
-    → DoesAsked asked answer s (calls_by asked n answer number argument s)
+    → DoesAsked n asked answer s (calls_by asked n answer number argument s)
 calls_do (Some asked) n answer number argument s = refl
 calls_do None n answer number argument s = host_quiet n number argument s
 
 -- ---- each instruction
 
-effect_does : (n : Areas) (answer : Answer) (instr : Instr) (s : State) → DoesAsked (asked_of instr s) answer s (effect n answer instr s)
+effect_does : (n : Areas) (answer : Answer) (instr : Instr) (s : State) → DoesAsked n (asked_of instr s) answer s (effect n answer instr s)
 effect_does n answer (Jal rd offset) s = jumps_quiet rd (sum_of s.pc (word offset)) s
 effect_does n answer (Jalr rd base offset) s = jumps_quiet rd (let target = address s base offset in target - target % 2) s
 effect_does n answer (Beq a b offset) s = branches_quiet (nat_eq (register_of s a) (register_of s b)) offset s
@@ -114,19 +114,19 @@ effect_does n answer _ s = (refl, refl)
 
 -- ---- a step
 
-executes_do : (n : Areas) (answer : Answer) (instr : Option Instr) (s : State) → DoesAsked (asked_in_word instr s) answer s (executes n answer instr s)
+executes_do : (n : Areas) (answer : Answer) (instr : Option Instr) (s : State) → DoesAsked n (asked_in_word instr s) answer s (executes n answer instr s)
 executes_do n answer None s = (refl, refl)
 executes_do n answer (Some instr) s = effect_does n answer instr s
 
 run_cases : (within : Bool) (n : Areas) (answer : Answer) (instr : Option Instr) (s : State)
-    → DoesAsked (cond within (asked_in_word instr s) None) answer s (cond within (executes n answer instr s) (fault Access s))
+    → DoesAsked n (cond within (asked_in_word instr s) None) answer s (cond within (executes n answer instr s) (fault Access s))
 run_cases true n answer instr s = executes_do n answer instr s
 run_cases false n answer instr s = (refl, refl)
 
-in_does : (mode : Mode) (n : Areas) (answer : Answer) (s : State) → DoesAsked (asked_in mode n s) answer s (step_in mode n answer s)
+in_does : (mode : Mode) (n : Areas) (answer : Answer) (s : State) → DoesAsked n (asked_in mode n s) answer s (step_in mode n answer s)
 in_does Runs n answer s = run_cases (is_within code_base n.code s.pc 4) n answer (decoded (word_at s.bytes s.pc)) s
 in_does Waits n answer s = (refl, refl)
 in_does (Over why) n answer s = (refl, refl)
 
-pub step_does : (n : Areas) (answer : Answer) (s : State) → DoesAsked (asked_at n s) answer s (step n answer s)
+pub step_does : (n : Areas) (answer : Answer) (s : State) → DoesAsked n (asked_at n s) answer s (step n answer s)
 step_does n answer s = in_does s.mode n answer s

@@ -3,8 +3,9 @@ use Rattle.std.proofs.Common.{◌≡◌, ℕ, zero, suc, Bool, true, false, List
 use Rattle.cyc_words.specs.Events.{Event, ByteRead, ByteWritten, Request, NewRegion, BlockIn, UniqueBlock, NewKey}
 use Rattle.arena_laws.specs.declared.refusal.StoreRefusal.{StoreRefusal}
 use Rattle.arena_laws.specs.declared.refusal.StoreRefusal.TheVariants.{Full, BadHandle, NotABlock, BadKey, Open, NotOpen, Memory}
+use Rattle.arena_laws.specs.Counts.{block_limit}
 use Rattle.arena_laws.specs.Holdings.{fresh}
-use Rattle.arena_laws.specs.Lawful.{Answer}
+use Rattle.arena_laws.specs.Lawful.{Answer, Done}
 use Rattle.arena_laws.specs.Asked.{Asked, RegionNew, RegionAlloc, RegionFree, UniqueAlloc, UniqueFree, KeyNew, KeyOpen, KeyClose, KeyFree, lawfully, is_short}
 use Rattle.arena_laws.specs.Pages.{ByBirth, unborn, counted, is_refused}
 use Rattle.arena_laws.specs.Calls.{Names, no_names}
@@ -15,6 +16,7 @@ use Rattle.rv32_machine.specs.Ledger as ledger
 use Rattle.rv32_machine.specs.Run.{Run, answer_from, refused_by, after_call, after_step, run_step, run_steps, from}
 use Rattle.rv32_machine.specs.Shortage.{IsShortage, asked_at, is_exhausted}
 use Rattle.rv32_machine.specs.Implements.{IsRequested}
+use Rattle.rv32_machine.proofs.Handed.{handed_does, handed_short}
 use Rattle.rv32_machine.proofs.LongerRuns.{over_steps}
 use Rattle.exhaustion_proof.specs.Room.{asked, counted_if, counts_after, refused_if}
 use Rattle.exhaustion_proof.specs.Laws.{AreExact}
@@ -189,20 +191,24 @@ module _ (pages : ℕ) (r : Run) (kept : Kept pages r) (none : r.refused ≡ Non
       (λ is. is_refused_too kept.names (count_of pages r) r.state.holdings r.ledger kept.stands a
       (sym exact ∙ ap (λ w. is_exhausted (Stops (stop_by w))) is))
 
-  by_asked : (o : Option Asked) (x : Stepped) (answer : Answer) → DoesAsked o answer r.state x → IsShortage o r.state.holdings x.shown → Kept pages (after_step r x)
-  by_asked None x answer does exact =
-      subst (λ (t : Told). Kept pages (after_step r (record x { told = t }))) (sym does.0) (quiet_shown x.shown x.state does.1)
-  by_asked (Some a) x answer does exact =
-      subst (λ y. Kept pages (after_step r y)) (sym does)
-      (said_kept a answer (lawfully a answer r.state.holdings).says refl
-      (subst (λ (y : Stepped). is_exhausted y.shown ≡ is_short a r.state.holdings) does exact))
+  -- a step, by what it asks: what is handed to the store is as good as that
+  module _ (n : Areas) (limit : n.block_limit ≡ block_limit) where
+    by_asked : (o : Option Asked) (x : Stepped) (answer : Answer) → DoesAsked n o answer r.state x → IsShortage n o r.state.holdings x.shown
+        → Kept pages (after_step r x)
+    by_asked None x answer does exact =
+        subst (λ (t : Told). Kept pages (after_step r (record x { told = t }))) (sym does.0) (quiet_shown x.shown x.state does.1)
+    by_asked (Some a) x answer does exact =
+        let same = does ∙ ap (λ (d : Done). concludes a d.after d.says r.state) (handed_does n limit a answer r.state.holdings) in
+        subst (λ y. Kept pages (after_step r y)) (sym same)
+        (said_kept a answer (lawfully a answer r.state.holdings).says refl
+        (subst (λ (y : Stepped). is_exhausted y.shown ≡ is_short a r.state.holdings) same (exact ∙ handed_short n limit a r.state.holdings)))
 
-module _ (pages : ℕ) (n : Areas) where
-  step_kept : (r : Run) → Kept pages r → IsShortage (asked_at n r.state) r.state.holdings (step n (r.answers 0) r.state).shown → Kept pages (run_step n r)
+module _ (pages : ℕ) (n : Areas) (limit : n.block_limit ≡ block_limit) where
+  step_kept : (r : Run) → Kept pages r → IsShortage n (asked_at n r.state) r.state.holdings (step n (r.answers 0) r.state).shown → Kept pages (run_step n r)
   step_kept r kept exact = by r.refused refl
     where
       by : (o : Option Request) → r.refused ≡ o → Kept pages (run_step n r)
-      by None none = by_asked pages r kept none (asked_at n r.state) (step n (r.answers 0) r.state) (r.answers 0) (step_does n (r.answers 0) r.state) exact
+      by None none = by_asked pages r kept none n limit (asked_at n r.state) (step n (r.answers 0) r.state) (r.answers 0) (step_does n (r.answers 0) r.state) exact
       by (Some q) some = subst (Kept pages) (sym (over_steps n 1 r Stop.Exhausted (kept.over q some))) kept
 
   -- after so many steps

@@ -1,6 +1,7 @@
 -- Where a run is exhausted.
 use Rattle.std.specs.Prelude.{◌≡◌, ◌≢◌, ℕ, ◌<◌, ◌≤◌, ◌⊎◌, true, List, ◌∷◌, ◌++◌}
 use Rattle.cyc_words.specs.Events.{Event, SourceEvent, Visible, visible}
+use Rattle.arena_laws.specs.Counts.{block_limit}
 use Rattle.arena_laws.specs.Holdings.{fresh}
 use Rattle.arena_laws.specs.Lawful.{Answer}
 use Rattle.rv32_machine.specs.State.{State, Areas, Stop, Over}
@@ -13,7 +14,7 @@ use Rattle.exhaustion_proof.specs.Room.{HasRoom, is_refused_after}
 -- in each of so many steps the store refuses for want of room exactly where its counts do
 abbrev pub AreExact : Areas → ℕ → Run → Type 0
 AreExact n count r =
-    (k : ℕ) → k < count → let now = run_steps n k r in IsShortage (asked_at n now.state) now.state.holdings (step n (now.answers 0) now.state).shown
+    (k : ℕ) → k < count → let now = run_steps n k r in IsShortage n (asked_at n now.state) now.state.holdings (step n (now.answers 0) now.state).shown
 
 -- with more fuel, what was seen with less is seen first
 abbrev pub IsGrowing : Meaning → Type 0
@@ -36,7 +37,8 @@ ExhaustedAt bound n s input m =
     → let r = run_steps n count (from s input answers) in
     (r.state.mode ≡ Over Stop.Lacking) ⊎ ((r.state.mode ≡ Over Stop.Exhausted) × (r.events ≡ visible before))
 
+-- of a machine whose regions' blocks may be as long as the store's
 abbrev pub ExhaustionIsExact : Type 0
 ExhaustionIsExact =
-    (bound : List ℕ → ℕ) (n : Areas) (s : State) (input : List ℕ) (m : Meaning) → s.holdings ≡ fresh n.pages → IsGrowing m
+    (bound : List ℕ → ℕ) (n : Areas) (s : State) (input : List ℕ) (m : Meaning) → s.holdings ≡ fresh n.pages → n.block_limit ≡ block_limit → IsGrowing m
     → Implements bound n s input m → NeverExhausted bound n s input m × ExhaustedAt bound n s input m

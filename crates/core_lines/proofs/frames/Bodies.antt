@@ -1,5 +1,6 @@
 -- Calls do what Core does, of any depth and with recursion: by the fuel, of which each call takes a unit.
 use Rattle.std.specs.Prelude.{nat_eq, length, drop, slice_get}
+use Rattle.rv32_machine.specs.Arrays.{longest_stack}
 use Rattle.std.proofs.Common.{◌≡◌, ℕ, zero, suc, ◌+◌, ◌%◌, ◌≤◌, Bool, true, false, List, [], ◌∷◌, ◌++◌, Option, Some, None, refl, sym, ap, subst, arith}
 use Rattle.std.proofs.lemmas.Bool.{eqb-true}
 use Rattle.core_meaning.specs.Memory.{Content, Memory, Own, Dead, with_standing}
@@ -18,6 +19,7 @@ use Rattle.core_lines.specs.Saved.{all_flagged, flags_of, taken_in, live_at_star
 use Rattle.core_lines.specs.Lies.{Activation}
 use Rattle.core_lines.proofs.memory.Relations.{StackShows, World, IsInOrder, Has, Waiting, Goes, At, Calling, Returning, Back, Stands, active_of}
 use Rattle.core_lines.proofs.memory.Moving.{Comes, comes_then, comes_as, goes_from, goes_as, goes_said, goes_stuck, goes_called, goes_entered, fewer}
+use Rattle.core_lines.proofs.memory.Moving.{goes_nowhere, Reach}
 use Rattle.core_lines.proofs.memory.Access.{length_of_both, behind}
 use Rattle.core_lines.proofs.frames.Passing.{has_first, has_second, frame_fewer}
 use Rattle.core_lines.proofs.frames.Arguments.{PassedAt, passes, calls_to}
@@ -25,19 +27,15 @@ use Rattle.core_lines.proofs.frames.Entering.{with_call, callee, enters}
 use Rattle.core_lines.proofs.frames.Results.{ResultsAt, result_one}
 use Rattle.core_lines.proofs.frames.Leaving.{returns}
 use Rattle.core_lines.proofs.frames.Ending.{is_back}
-use Rattle.core_lines.proofs.memory.Relations.{invoke}
 use Rattle.core_lines.proofs.operations.Registers.{AtHolding, at_any, with_there, as_holding, fewer_with, fewer_holding, knows}
 use Rattle.core_lines.proofs.Flags.{covers_none, follows_first}
 use Rattle.core_meaning.specs.Steps.{checked, stuck}
 use Rattle.step_trees.specs.Trees.{Says}
-use Rattle.std.proofs.Common.{⊎_elim, ◌^◌, ◌<◌}
+use Rattle.std.proofs.Common.{⊎_elim, ◌<◌, inl, inr, ◌*◌}
 use Rattle.std.proofs.lemmas.Bool.{cases_lt}
 use Rattle.core_lines.proofs.memory.Fitting.{below_end}
-use Rattle.core_lines.proofs.memory.Moving.{goes_nowhere}
-use Rattle.std.proofs.Common.{inl, inr, ◌*◌}
 use Rattle.std.specs.Prelude.{if◌then◌else◌}
-use Rattle.core_lines.proofs.memory.Moving.{Reach}
-use Rattle.core_lines.proofs.memory.Relations.{Covers, Follows, keeping, AreKept, slots_in, Inside, EndsThere, back_of, restored}
+use Rattle.core_lines.proofs.memory.Relations.{Covers, Follows, keeping, AreKept, slots_in, Inside, EndsThere, back_of, restored, invoke}
 use Rattle.core_lines.specs.Homes.{saved_by, saved_slot, flag_at}
 use Rattle.core_lines.specs.Selectable.{AreBelow}
 use Rattle.std.proofs.lemmas.Bool.{eq-eqb}
@@ -298,10 +296,10 @@ prologue_of w f fn parameters =
 pub record FunctionDoes (w : World) (order : IsInOrder w) (f : ℕ) (fn : Function) : Type 0 where
   pub offsets : List ℕ
   pub high : ℕ
-  pub laid : w.frame_bytes f ≤ 2 ^ 20 → LaidOut fn.own offsets (4 * slots_in fn) high × (high ≤ w.frame_bytes f)
+  pub laid : w.frame_bytes f ≤ longest_stack → LaidOut fn.own offsets (4 * slots_in fn) high × (high ≤ w.frame_bytes f)
   pub few : fn.parameters ≤ fn.temporaries
   pub prologue : Has w (w.places f) (prologue_of w f fn fn.parameters)
-  pub does : (is : slice_get w.functions f ≡ Some fn) (most : ℕ) → w.frame_bytes f ≤ 2 ^ 20 → ((j : ℕ) → suc j ≤ most → (g : ℕ) → BodyGoes w j g)
+  pub does : (is : slice_get w.functions f ≡ Some fn) (most : ℕ) → w.frame_bytes f ≤ longest_stack → ((j : ℕ) → suc j ≤ most → (g : ℕ) → BodyGoes w j g)
       → (outer : List Waiting) (mem : Memory) (arguments : List Content) (next : Exit → Config → Step)
       → GoesReturning w (keeping [] (activation w order f fn is outer mem arguments offsets high)) outer most next
       → ((c : Config) → (next Falls c ≡ stuck) × (next Breaks c ≡ stuck) × (next Continues c ≡ stuck))
@@ -326,15 +324,17 @@ module _ (w : World) (order : IsInOrder w) (each : (f : ℕ) (fn : Function) →
       (λ s r. subst (λ k. Back w outer (with_standing c.memory (Own k) Dead) values s) isin.own (is_back w order x outer c.memory refl isin.blocks values s r))
       (goes values (with_standing c.memory (Own mem.calls) Dead)))
 
-  -- no frame is larger than the stack
-  too_large : (x : Waiting) (outer : List Waiting) (mem : Memory) (place : ℕ) (s : Machine) → 2 ^ 20 < w.frame_bytes x.function → At w x outer mem place s → ⊥
+  -- no frame is larger than the longest stack
+  too_large : (x : Waiting) (outer : List Waiting) (mem : Memory) (place : ℕ) (s : Machine) → longest_stack < w.frame_bytes x.function
+      → At w x outer mem place s → ⊥
   too_large x outer mem place s large a =
       let laid = a.stands.stacked.0 in
       let at = laid.there in
       let low = laid.low in
       let bytes = a.shows.bytes in
-      let end = below_end (a.frame.at + a.frame.bytes) a.others a.stands.stacked.1 in
-      absurd (omega (arith, at, low, bytes, end, large))
+      let end = below_end w.areas (a.frame.at + a.frame.bytes) a.others a.stands.stacked.1 in
+      let within = order.stack_within in
+      absurd (omega (arith, at, low, bytes, end, large, within))
 
   body_goes : (most f : ℕ) (fn : Function) → slice_get w.functions f ≡ Some fn → ((j : ℕ) → suc j ≤ most → (g : ℕ) → BodyGoes w j g)
       → (arguments : List Content) (next : List Content → Memory → Step) (mem : Memory) (outer : List Waiting)
@@ -358,21 +358,21 @@ module _ (w : World) (order : IsInOrder w) (each : (f : ℕ) (fn : Function) →
       let c = core.statements fn.body (left f mem.calls next) (entered fn arguments mem) in
       let body : Goes w most c R' (w.names f ∷ active_of w outer) =
       ⊎_elim
-      (λ (large : 2 ^ 20 < w.frame_bytes f). goes_nowhere w R' (w.names f ∷ active_of w outer) most c
+      (λ (large : longest_stack < w.frame_bytes f). goes_nowhere w R' (w.names f ∷ active_of w outer) most c
       (λ s a. too_large y outer (entered fn arguments mem).memory place s large (at_any w y outer (entered fn arguments mem).memory place held s a)))
-      (λ (fits : w.frame_bytes f ≤ 2 ^ 20).
+      (λ (fits : w.frame_bytes f ≤ longest_stack).
       subst (λ k. Goes w most c (AtHolding w y outer (entered fn arguments mem).memory (w.places f + code_length (prologue_of w f fn k)) (with_taken 0 k []))
       (w.names f ∷ active_of w outer)) (sym as_many)
       (d.does is most fits calls outer mem arguments (left f mem.calls next) (left_goes most f fn is outer mem arguments next goes) (λ c. (refl, refl, refl))))
-      (cases_lt (2 ^ 20) (w.frame_bytes f)) in
+      (cases_lt (longest_stack) (w.frame_bytes f)) in
       let live : is_live ((with_call mem).standing (Own mem.calls)) ≡ true =
       ap (λ b. is_live (if b then Live else mem.standing (Own mem.calls))) (eq-eqb mem.calls mem.calls refl) in
       let owns : (t : Machine) → mem.objects (Own mem.calls) ≡ 0 → AtHolding w x outer (with_call mem) place held t → R' t =
       λ t none a. ⊎_elim
-      (λ (large : 2 ^ 20 < w.frame_bytes f). absurd (too_large x outer (with_call mem) place t large (at_any w x outer (with_call mem) place held t a)))
-      (λ (fits : w.frame_bytes f ≤ 2 ^ 20). let l = d.laid fits in
+      (λ (large : longest_stack < w.frame_bytes f). absurd (too_large x outer (with_call mem) place t large (at_any w x outer (with_call mem) place held t a)))
+      (λ (fits : w.frame_bytes f ≤ longest_stack). let l = d.laid fits in
       owned_at w order x outer d.offsets d.high (with_call mem) place held t refl refl l.0 l.1 none live a)
-      (cases_lt (2 ^ 20) (w.frame_bytes f)) in
+      (cases_lt (longest_stack) (w.frame_bytes f)) in
       goes_entered w (Calling w f outer mem arguments) R' (active_of w outer) most f way.0 c
       (λ s r. ⊎_elim
       (λ (reach : Reach w.areas way.0 (AtHolding w x outer (with_call mem) place held) s).

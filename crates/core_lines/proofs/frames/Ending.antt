@@ -38,8 +38,8 @@ module _ (w : World) (order : IsInOrder w) (x : Waiting) (outer : List Waiting) 
       let bytes = r.shows.bytes in
       let above = r.above in
       let there : r.frame.at + r.frame.bytes ≡ r.pointer = omega (arith, at, bytes, above) in
-      let stacked : Stacked r.pointer r.others = subst (λ q. Stacked q r.others) there r.stands.stacked.1 in
-      let slots = slot_ground w.areas order.statics_within order.pages_within order.stack_whole order.code_within w.code s.store r.pointer r.others stacked in
+      let stacked : Stacked w.areas r.pointer r.others = subst (λ q. Stacked w.areas q r.others) there r.stands.stacked.1 in
+      let slots = slot_ground w.areas order.statics_within order.pages_within order.stack_within order.code_within w.code s.store r.pointer r.others stacked in
       record {
         maps = r.maps;
         frames = r.others;

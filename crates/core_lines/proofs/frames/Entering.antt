@@ -222,11 +222,12 @@ module _ (w : World) (order : IsInOrder w) (f : ℕ) (fn : Function) (is : slice
       → Reach w.areas (moving + code_length (save_code 1 0) / 4) (Keeping [] (below + code_length (save_code 1 0))) s
   made has s r fits =
       let mem' = with_call mem in
-      let ends = stack_low r.frames r.sp r.stands.stacked in
+      let ends = stack_low w.areas order.stack_pages r.frames r.sp r.stands.stacked in
       let high = ends.1 in
       let even = ends.2 in
       let size_even = order.even f in
-      let room = order.frames f fn is (omega (arith, fits, high)) in
+      let within = order.stack_within in
+      let room = order.frames f fn is (omega (arith, fits, high, within)) in
       let parts = subst (Has w entry) apart has in
       let has_test = has_first w entry (test_code size) (move_code size ++ behind_move) parts in
       let after_test : Has w (entry + 28) (move_code size ++ behind_move) = has_second w entry (test_code size) (move_code size ++ behind_move) parts in
@@ -266,9 +267,11 @@ module _ (w : World) (order : IsInOrder w) (f : ℕ) (fn : Function) (is : slice
         pointer = g.pointer;
         small = r.stands.small;
         kept = r.stands.kept;
-        stacked = push_stacked w.areas order.statics_within r.maps r.frames mem s.bytes s.store r.sp r.stands.fits r.stands.stacked a laid (λ k. refl) end;
+        stacked = push_stacked w.areas order.statics_within order.stack_within r.maps r.frames mem s.bytes s.store r.sp
+            r.stands.fits r.stands.stacked a laid (λ k. refl) end;
         fits = call_fits w.areas r.maps (a ∷ r.frames) mem s.bytes s.store r.stands.known
-            (push_fits w.areas order.statics_within r.maps r.frames mem s.bytes s.store r.sp r.stands.fits r.stands.stacked a laid (λ k. refl) end);
+            (push_fits w.areas order.statics_within order.stack_within r.maps r.frames mem s.bytes s.store r.sp
+            r.stands.fits r.stands.stacked a laid (λ k. refl) end);
         homes = (
           record {
             small = λ q is. subst (λ v. v < 2 ^ 32) (sym (g.same q is)) (homes_small r.maps mem r.frames s.registers r.stands.homes q is);
@@ -356,15 +359,14 @@ module _ (w : World) (order : IsInOrder w) (f : ℕ) (fn : Function) (is : slice
       let count = moving + code_length (save_code 1 0) / 4 + all.count in (
         count,
         λ s r.
-            let ends = stack_low r.frames r.sp r.stands.stacked in
+            let ends = stack_low w.areas order.stack_pages r.frames r.sp r.stands.stacked in
             let has_test = has_first w entry (test_code size) (move_code size ++ behind_move) parts in
             ⊎_elim
             (λ (short : r.sp < stack_base + size).
             let x = refused w order f fn is outer mem s r.maps r.frames r.sp entry r.stands has_test short ends.0 ends.1 in
             let bound = stack_bound w order r.maps outer r.frames r.sp r.stack r.stands.stacked in
             let mine = order.bounded f in
-            let whole = order.stack_whole in
-            inr (record { count = 7; within = omega (arith, some); last = x.last; moves = x.moves; over = x.over }, omega (arith, bound, mine, short, whole)))
+            inr (record { count = 7; within = omega (arith, some); last = x.last; moves = x.moves; over = x.over }, omega (arith, bound, mine, short)))
             (λ (fits : stack_base + size ≤ r.sp).
             let x = made has s r fits in
             let y = all.by x.next x.there in

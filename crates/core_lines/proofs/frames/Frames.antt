@@ -30,6 +30,7 @@ use Rattle.std.proofs.Common.{
 use Rattle.std.proofs.lemmas.Bool.{eqb-false, ne_eqb, eq-eqb, and_right, and_left, and_from, and_cases, cases_eq, cases_lt, true≢false}
 use Rattle.core_meaning.specs.Memory.{Region, Frame, Own, Born, Dead, Spot, Content, Blank, Memory, same_region, with_standing}
 use Rattle.core_lines.specs.Machines.{Store}
+use Rattle.rv32_machine.specs.Arrays.{longest_stack}
 use Rattle.rv32_machine.specs.State.{Areas}
 use Rattle.core_lines.specs.Lies.{
   Maps,
@@ -60,10 +61,11 @@ up fs a fr at width i = record { among = inr i.among; low = i.low; high = i.high
 
 -- ---- a frame with blank slots is pushed
 
-module _ (n : Areas) (few : n.statics ≤ 2 ^ 20) (m : Maps) (fs : List Activation) (mem : Memory) (b : ℕ → ℕ) (st : Store) (sp : ℕ) (f : Fits n m fs mem b st)
-    (stacked : Stacked sp fs) (a : Activation) (laid : Laid a.at a) (blank : (k : ℕ) → a.slots k ≡ Blank) (end : a.at + a.bytes ≡ sp) where
-  pub push_stacked : Stacked a.at (a ∷ fs)
-  push_stacked = (laid, subst (λ q. Stacked q fs) (sym end) stacked)
+module _ (n : Areas) (few : n.statics ≤ 2 ^ 20) (short : n.stack ≤ longest_stack)
+    (m : Maps) (fs : List Activation) (mem : Memory) (b : ℕ → ℕ) (st : Store) (sp : ℕ) (f : Fits n m fs mem b st)
+    (stacked : Stacked n sp fs) (a : Activation) (laid : Laid a.at a) (blank : (k : ℕ) → a.slots k ≡ Blank) (end : a.at + a.bytes ≡ sp) where
+  pub push_stacked : Stacked n a.at (a ∷ fs)
+  push_stacked = (laid, subst (λ q. Stacked n q fs) (sym end) stacked)
 
   -- a frame's own slots, and what was there
   abbrev IsOld : Name → ℕ → ℕ → Content → Type 0
@@ -110,13 +112,13 @@ module _ (n : Areas) (few : n.statics ≤ 2 ^ 20) (m : Maps) (fs : List Activati
 
   -- what was there is not in the new frame
   region_away : (r : Region) (at width : ℕ) → CellGround n fs st r at width → (at + width ≤ a.at) ⊎ (sp ≤ at)
-  region_away (Frame k) at width g = let i = (inside sp fs g.frame stacked g.inside.among).above in let lo = g.inside.low in inr (omega (arith, i, lo))
-  region_away (Own k) at width g = let i = (inside sp fs g.frame stacked g.inside.among).above in let lo = g.inside.low in inr (omega (arith, i, lo))
+  region_away (Frame k) at width g = let i = (inside n sp fs g.frame stacked g.inside.among).above in let lo = g.inside.low in inr (omega (arith, i, lo))
+  region_away (Own k) at width g = let i = (inside n sp fs g.frame stacked g.inside.among).above in let lo = g.inside.low in inr (omega (arith, i, lo))
   region_away (Born d) at width (inl g) = let hi = g.high in let lo = laid.low in inl (omega (arith, hi, lo, few))
-  region_away (Born d) at width (inr g) = let lo = g.bottom in let e = below_end sp fs stacked in inr (omega (arith, lo, e))
+  region_away (Born d) at width (inr g) = let lo = g.bottom in let e = below_end n sp fs stacked in inr (omega (arith, lo, e, short))
 
   away : (x : Name) (at width : ℕ) → Ground n fs st x at width → (at + width ≤ a.at) ⊎ (sp ≤ at)
-  away (Slot g k) at width gr = let i = (inside sp fs gr.frame stacked gr.inside.among).above in let lo = gr.inside.low in inr (omega (arith, i, lo))
+  away (Slot g k) at width gr = let i = (inside n sp fs gr.frame stacked gr.inside.among).above in let lo = gr.inside.low in inr (omega (arith, i, lo))
   away (Cell s j) at width gr = region_away s.region at width gr
 
   region_ground : (r : Region) (at width : ℕ) → CellGround n fs st r at width → CellGround n (a ∷ fs) st r at width
@@ -249,7 +251,7 @@ death_fits n m fs mem b st r f = record {
 -- ---- the innermost frame is popped, where it is in no block any more and its unnamed values are dead
 
 module _ (n : Areas) (m : Maps) (a : Activation) (fs : List Activation) (mem : Memory) (b : ℕ → ℕ) (st : Store) (sp : ℕ) (f : Fits n m (a ∷ fs) mem b st)
-    (stacked : Stacked sp (a ∷ fs)) (none : a.zones ≡ []) where
+    (stacked : Stacked n sp (a ∷ fs)) (none : a.zones ≡ []) where
   abbrev popped : Memory
   popped = with_standing mem (Own a.own) Dead
 

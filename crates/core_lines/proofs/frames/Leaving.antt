@@ -241,7 +241,7 @@ module _ (w : World) (order : IsInOrder w) (x : Waiting) (outer : List Waiting) 
             let own = a.shows.size in
             let bytes = a.shows.bytes in
             let small = order.not_too_large x.function in
-            let ends = inside a.sp (a.frame ∷ a.others) a.frame a.stands.stacked (inl refl) in
+            let ends = inside w.areas a.sp (a.frame ∷ a.others) a.frame a.stands.stacked (inl refl) in
             let end = ends.high in
             let near = a.shows.back_place.within in
             let l = loads w order mem place a.maps (a.frame ∷ a.others) a.sp s a.stands 0 0 0 0 (Word ra)

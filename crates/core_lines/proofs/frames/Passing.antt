@@ -156,7 +156,7 @@ frame_unkept w m x back a t v after follows f = record {
 module _ (w : World) (order : IsInOrder w) (x : Waiting) (outer : List Waiting) (mem : Memory) where
   -- a temporary's slot
   pub temp_lies : (m : Maps) (back : ℕ) (a : Activation) (fs : List Activation) (sp t : ℕ) → t < x.fn.temporaries
-      → flag_at x.kept t ≡ true → FrameShows w m x back a → Stacked sp (a ∷ fs)
+      → flag_at x.kept t ≡ true → FrameShows w m x back a → Stacked w.areas sp (a ∷ fs)
       → SlotsLie (a ∷ fs) 0 (slot_of x.fn.passed t) (sp + 4 * slot_of x.fn.passed t) 4 (x.config.temps t)
   temp_lies m back a fs sp t less kept f stacked =
       let size = f.size in

@@ -33,8 +33,7 @@ use Rattle.rv32_isa.specs.declared.instruction.Instr.TheVariants.{Bgeu, Addi, Ec
 use Rattle.core_meaning.specs.Memory.{Memory}
 use Rattle.core_meaning.specs.Core.{Function}
 use Rattle.core_lines.specs.Machines.{Machine}
-use Rattle.rv32_machine.specs.State.{Stop, Over, code_base, stack_base, set_register}
-use Rattle.core_lines.specs.Lies.{stack_end}
+use Rattle.rv32_machine.specs.State.{Areas, Stop, Over, code_base, stack_base, stack_end, set_register}
 use Rattle.cyc_words.specs.declared.faults.MachineFault.TheVariants.{BadCall}
 use Rattle.rv32_machine.specs.Step.{branches, stop, fault}
 use Rattle.core_lines.specs.declared.line.Line.TheVariants.{Plain}
@@ -54,8 +53,8 @@ use Rattle.rv32_machine.specs.Step.{refuses_frame, has_stack}
 use Rattle.core_lines.specs.Machines.{state_of}
 
 -- the frames' bytes, all together, fill the stack from the stack pointer on; and none is over its bound
-pub stack_bound : (w : World) (order : IsInOrder w) (m : Maps) (xs : List Waiting) (fs : List Activation) (sp : ℕ) → StackShows w m xs fs → Stacked sp fs
-    → stack_end ≤ sp + frames w.bound (active_of w xs)
+pub stack_bound : (w : World) (order : IsInOrder w) (m : Maps) (xs : List Waiting) (fs : List Activation) (sp : ℕ) → StackShows w m xs fs
+    → Stacked w.areas sp fs → stack_end w.areas ≤ sp + frames w.bound (active_of w xs)
 stack_bound w order m [] [] sp shows stacked = omega (arith, stacked)
 stack_bound w order m [] (a ∷ fs) sp shows stacked = absurd shows
 stack_bound w order m (x ∷ xs) [] sp shows stacked = absurd shows
@@ -67,10 +66,11 @@ stack_bound w order m (x ∷ xs) (a ∷ fs) sp shows stacked =
     omega (arith, rest, at, bytes, bounded)
 
 -- x2 is where the frames begin, within the stack
-pub stack_low : (fs : List Activation) (sp : ℕ) → Stacked sp fs → (stack_base ≤ sp) × (sp ≤ stack_end) × (sp % 4 ≡ 0)
-stack_low [] sp stacked = (omega (arith, stacked), omega (arith, stacked), omega (arith, stacked))
-stack_low (a ∷ fs) sp stacked =
-    let low = stacked.0.low in let even = stacked.0.even in let e = below_end sp (a ∷ fs) stacked in (low, e, even)
+pub stack_low : (n : Areas) → n.stack % 4096 ≡ 0 → (fs : List Activation) (sp : ℕ) → Stacked n sp fs
+    → (stack_base ≤ sp) × (sp ≤ stack_end n) × (sp % 4 ≡ 0)
+stack_low n pages [] sp stacked = (omega (arith, stacked), omega (arith, stacked), omega (arith, stacked, pages))
+stack_low n pages (a ∷ fs) sp stacked =
+    let low = stacked.0.low in let even = stacked.0.even in let e = below_end n sp (a ∷ fs) stacked in (low, e, even)
 
 module _ (w : World) (order : IsInOrder w) (f : ℕ) (fn : Function) (is : slice_get w.functions f ≡ Some fn) (outer : List Waiting) (mem : Memory) where
   abbrev size : ℕ
@@ -113,7 +113,7 @@ module _ (w : World) (order : IsInOrder w) (f : ℕ) (fn : Function) (is : slice
       pub moves : Moves w.areas 7 s last
       pub over : last.mode ≡ Over (Stop.Exhausted)
 
-    pub refused : sp < stack_base + size → stack_base ≤ sp → sp ≤ stack_end → IsRefused
+    pub refused : sp < stack_base + size → stack_base ≤ sp → sp ≤ stack_end w.areas → IsRefused
     refused short low high =
         let e : place + 4 + 4 ≡ place + 8 = omega arith in
         let e2 : place + 4 + 4 + 4 ≡ place + 12 = omega arith in
@@ -142,8 +142,7 @@ module _ (w : World) (order : IsInOrder w) (f : ℕ) (fn : Function) (is : slice
         let a0 : four 10 ≡ size = third.holds in
         let l1 : nat_le stack_base (four 2) ≡ true = le-leb stack_base (four 2) (omega (arith, x2, low)) in
         let l3 : nat_lt (four 2 - stack_base) (four 10) ≡ true = lt-ltb (four 2 - stack_base) (four 10) (omega (arith, x2, a0, short, low)) in
-        let whole = order.stack_whole in
-        let l2' : nat_le (four 2) (stack_base + w.areas.stack) ≡ true = le-leb (four 2) (stack_base + w.areas.stack) (omega (arith, x2, high, whole)) in
+        let l2' : nat_le (four 2) (stack_base + w.areas.stack) ≡ true = le-leb (four 2) (stack_base + w.areas.stack) (omega (arith, x2, high)) in
         let why = Stop.Exhausted in
         let s4' = state_of s4 in
         let found : refuses_frame w.areas (four 10) s4' ≡ stop why s4' =
@@ -174,7 +173,7 @@ module _ (w : World) (order : IsInOrder w) (f : ℕ) (fn : Function) (is : slice
       pub kept_one : new 1 ≡ s.registers 1
       pub same : SameHomes new s.registers
 
-    pub moved : stack_base + size ≤ sp → sp ≤ stack_end → Has w (place + 28) (move_code size) → IsMoved
+    pub moved : stack_base + size ≤ sp → sp ≤ stack_end w.areas → Has w (place + 28) (move_code size) → IsMoved
     moved fits high has_move =
         let p = moves_down w order (place + 28) first.new s.bytes s.store stands.kept size sp (omega (arith, small)) two (omega (arith, small, high)) low
         (omega (arith, fits)) has_move in

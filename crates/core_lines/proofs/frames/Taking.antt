@@ -178,7 +178,7 @@ module _ (w : World) (order : IsInOrder w) (f : ℕ) (fn : Function) (is : slice
             (argument 0 done rest v r.others (subst (λ vs. Passed 0 vs r.others) are r.passed)) in
             let bytes = r.shows.bytes in
             let here = r.stands.stacked.0.there in
-            let next = subst (λ gs. Stacked (r.frame.at + r.frame.bytes) gs) arg.are r.stands.stacked.1 in
+            let next = subst (λ gs. Stacked w.areas (r.frame.at + r.frame.bytes) gs) arg.are r.stands.stacked.1 in
             let caller_at = next.0.there in
             let even = order.even f in
             let lies : SlotsLie (r.frame ∷ r.others) 1 (1 + k) (r.sp + 4 * (size / 4 + 1 + k)) 4 v =

@@ -91,14 +91,15 @@ module _ (w : World) (order : IsInOrder w) (mem : Memory) (place : ℕ) (m : Map
       → Read (code_length (load_code (suc r) k) / 4) (place + code_length (load_code (suc r) k)) (suc r) v
   reads f j k r v lies has =
       let at = sp + 4 * k in
-      let g = slot_ground w.areas order.statics_within order.pages_within order.stack_whole order.code_within w.code s.store sp fs stands.stacked f j at 4 v
+      let g = slot_ground w.areas order.statics_within order.pages_within order.stack_within order.code_within w.code s.store sp fs stands.stacked f j at 4 v
       lies in
-      let low = (inside sp fs g.frame stands.stacked g.inside.among).high in
+      let low = (inside w.areas sp fs g.frame stands.stacked g.inside.among).high in
       let high = g.inside.high in
+      let stack = order.stack_within in
       let even = (stands.fits.aligned (Slot f j) at 4 v lies).1 in
-      let may = allowed w.areas order.statics_within order.pages_within order.stack_whole order.code_within w.code s.store sp fs stands.stacked
+      let may = allowed w.areas order.statics_within order.pages_within order.stack_within order.code_within w.code s.store sp fs stands.stacked
       (Slot f j) at 4 g (inr refl) even in
-      let p = loads_slot w order place s.registers s.bytes s.store stands.kept sp k stands.pointer may (omega (arith, low, high)) r has in
+      let p = loads_slot w order place s.registers s.bytes s.store stands.kept sp k stands.pointer may (omega (arith, low, high, stack)) r has in
       let there = place + code_length (load_code (suc r) k) in
       record {
         new = p.new;
@@ -143,15 +144,16 @@ module _ (w : World) (order : IsInOrder w) (mem : Memory) (place : ℕ) (m : Map
       let laid = stands.stacked.0 in
       let here : a.at + 4 * k ≡ at = ap (λ q. q + 4 * k) laid.there in
       let lies : SlotsLie (a ∷ fs) 0 k at 4 (a.slots k) = record { within = within; there = sym here; wide = refl; value = refl } in
-      let g = slot_ground w.areas order.statics_within order.pages_within order.stack_whole order.code_within w.code s.store sp
+      let g = slot_ground w.areas order.statics_within order.pages_within order.stack_within order.code_within w.code s.store sp
       (a ∷ fs) stands.stacked 0 k at 4 (a.slots k) lies in
-      let low = (inside sp (a ∷ fs) g.frame stands.stacked g.inside.among).high in
+      let low = (inside w.areas sp (a ∷ fs) g.frame stands.stacked g.inside.among).high in
       let high = g.inside.high in
+      let stack = order.stack_within in
       let even = (stands.fits.aligned (Slot 0 k) at 4 (a.slots k) lies).1 in
-      let may = allowed w.areas order.statics_within order.pages_within order.stack_whole order.code_within w.code s.store sp (a ∷ fs) stands.stacked
+      let may = allowed w.areas order.statics_within order.pages_within order.stack_within order.code_within w.code s.store sp (a ∷ fs) stands.stacked
       (Slot 0 k) at 4 g (inr refl) even in
       let above = may.above in
-      let p = saves_slot w order place s.registers s.bytes s.store stands.kept sp k stands.pointer may (omega (arith, low, high)) r not7 has in
+      let p = saves_slot w order place s.registers s.bytes s.store stands.kept sp k stands.pointer may (omega (arith, low, high, stack)) r not7 has in
       let there = place + code_length (save_code (suc r) k) in
       let x = s.registers (suc r) in
       let writes = writes_word s.bytes at x below in

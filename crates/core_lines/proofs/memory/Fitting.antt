@@ -7,8 +7,8 @@ use Rattle.std.proofs.lemmas.Bool.Decides.{nat_tests}
 use Rattle.std.proofs.lemmas.Option.{same_Some}
 use Rattle.core_meaning.specs.Memory.{Region, Frame, Own, Born, Spot, Content, Part, Memory, same_spot, with_part}
 use Rattle.core_lines.specs.Machines.{Store}
-use Rattle.rv32_machine.specs.State.{Areas, data_base, stack_base, is_within, word_at, set_word, set_byte}
-use Rattle.core_lines.specs.Lies.{stack_end}
+use Rattle.rv32_machine.specs.Arrays.{longest_stack}
+use Rattle.rv32_machine.specs.State.{stack_end, Areas, data_base, stack_base, is_within, word_at, set_word, set_byte}
 use Rattle.arena_laws.specs.Holdings.{arena_base}
 use Rattle.rv32_machine.specs.Audit.{is_in_block}
 use Rattle.core_lines.specs.Lies.{Maps, Shows, read, Activation, Name, Slot, Cell, same_name, SlotsLie, Lies, Apart, Among, InFrame, InGranted, InData}
@@ -265,24 +265,24 @@ module _ (n : Areas) (m : Maps) (fs : List Activation) (mem : Memory) (s0 : Spot
 
 -- ---- what may be read and written
 
-pub record Inside (sp : ℕ) (a : Activation) : Type 0 where
+pub record Inside (n : Areas) (sp : ℕ) (a : Activation) : Type 0 where
   pub above : sp ≤ a.at
   pub low : stack_base ≤ a.at
-  pub high : a.at + a.bytes ≤ stack_end
+  pub high : a.at + a.bytes ≤ stack_end n
 
-pub below_end : (sp : ℕ) (fs : List Activation) → Stacked sp fs → sp ≤ stack_end
-below_end sp [] s = omega (arith, s)
-below_end sp (a ∷ fs) s = let h = below_end (a.at + a.bytes) fs s.1 in let e = s.0.there in omega (arith, h, e)
+pub below_end : (n : Areas) (sp : ℕ) (fs : List Activation) → Stacked n sp fs → sp ≤ stack_end n
+below_end n sp [] s = omega (arith, s)
+below_end n sp (a ∷ fs) s = let h = below_end n (a.at + a.bytes) fs s.1 in let e = s.0.there in omega (arith, h, e)
 
-pub inside : (sp : ℕ) (fs : List Activation) (a : Activation) → Stacked sp fs → Among a fs → Inside sp a
-inside sp [] a s i = absurd i
-inside sp (g ∷ gs) a s (inl e) =
+pub inside : (n : Areas) (sp : ℕ) (fs : List Activation) (a : Activation) → Stacked n sp fs → Among a fs → Inside n sp a
+inside n sp [] a s i = absurd i
+inside n sp (g ∷ gs) a s (inl e) =
     let at = s.0.there in
     let low = s.0.low in
-    let h = below_end (g.at + g.bytes) gs s.1 in
-    subst (λ x. Inside sp x) (sym e) (record { above = omega (arith, at); low = omega (arith, at, low); high = h })
-inside sp (g ∷ gs) a s (inr i) =
-    let r = inside (g.at + g.bytes) gs a s.1 i in
+    let h = below_end n (g.at + g.bytes) gs s.1 in
+    subst (λ x. Inside n sp x) (sym e) (record { above = omega (arith, at); low = omega (arith, at, low); high = h })
+inside n sp (g ∷ gs) a s (inr i) =
+    let r = inside n (g.at + g.bytes) gs a s.1 i in
     let at = s.0.there in
     let up = r.above in
     record { above = omega (arith, at, up); low = r.low; high = r.high }
@@ -295,22 +295,22 @@ granted_in (j ∷ js) k at width (inl e) low high =
     or_left _ (is_in_block js at width) (within_true j.from j.bytes at width lo hi)
 granted_in (j ∷ js) k at width (inr i) low high = or_right _ (is_in_block js at width) (granted_in js k at width i low high)
 
-module _ (n : Areas) (few : n.statics ≤ 2 ^ 20) (pages : n.pages ≤ 4096) (whole : n.stack ≡ 2 ^ 20) (code : n.code ≤ 2 ^ 20) (kept : ℕ → ℕ) (st : Store)
+module _ (n : Areas) (few : n.statics ≤ 2 ^ 20) (pages : n.pages ≤ 4096) (short : n.stack ≤ longest_stack) (code : n.code ≤ 2 ^ 20) (kept : ℕ → ℕ) (st : Store)
     (sp : ℕ) (fs : List Activation)
-    (stacked : Stacked sp fs) where
+    (stacked : Stacked n sp fs) where
   abbrev Allowed : ℕ → ℕ → Type 0
   Allowed at width = IsAllowed n kept code st sp at width
 
   pub allowed_in_frame : (a : Activation) (at width : ℕ) → InFrame fs a at width → at % width ≡ 0 → width ≤ 4 → Allowed at width
   allowed_in_frame a at width i even narrow =
-      let g = inside sp fs a stacked i.among in
+      let g = inside n sp fs a stacked i.among in
       let low = g.low in
       let high = g.high in
       let above = g.above in
       let lo = i.low in
       let hi = i.high in
       let in_stack : is_within stack_base n.stack at width ≡ true =
-      within_true stack_base n.stack at width (omega (arith, low, lo)) (omega (arith, high, hi, whole)) in
+      within_true stack_base n.stack at width (omega (arith, low, lo)) (omega (arith, high, hi)) in
       record {
         aligned = even;
         writable = or_right (is_within data_base n.statics at width) _ (or_left _ (is_within arena_base (n.pages * 4096) at width) in_stack);
@@ -318,7 +318,7 @@ module _ (n : Areas) (few : n.statics ≤ 2 ^ 20) (pages : n.pages ≤ 4096) (wh
             let over : s.registers 2 ≤ at = omega (arith, x2, above, lo) in
             or_right (is_within data_base n.statics at width) _ (or_left _ (is_in_block s.store.ledger.blocks at width)
             (and_from (nat_le (s.registers 2) at) _ (le-leb (s.registers 2) at over) in_stack));
-        small = omega (arith, high, hi, narrow);
+        small = omega (arith, high, hi, narrow, short);
         above = omega (arith, low, lo);
       }
 
@@ -368,7 +368,7 @@ module _ (n : Areas) (few : n.statics ≤ 2 ^ 20) (pages : n.pages ≤ 4096) (wh
   pub slot_ground : (f k at width : ℕ) (v : Content) → SlotsLie fs f k at width v → SlotGround fs at width
   slot_ground f k at width v l = by sp fs f stacked l
     where
-      by : (sp : ℕ) (fs : List Activation) (f : ℕ) → Stacked sp fs → SlotsLie fs f k at width v → SlotGround fs at width
+      by : (sp : ℕ) (fs : List Activation) (f : ℕ) → Stacked n sp fs → SlotsLie fs f k at width v → SlotGround fs at width
       by sp [] f s l = absurd l
       by sp (a ∷ gs) zero s l =
           let room = s.0.room in

@@ -9,6 +9,7 @@ use Rattle.core_meaning.specs.Memory.{PartShape, shape_in, blank_of, Frame, Part
 use Rattle.core_meaning.specs.Core.{Local}
 use Rattle.core_meaning.specs.Meaning.{with_objects}
 use Rattle.core_lines.specs.Machines.{Store}
+use Rattle.rv32_machine.specs.Arrays.{longest_stack}
 use Rattle.rv32_machine.specs.State.{Areas}
 use Rattle.core_lines.specs.Lies.{HomeLies, Shows, local_at, Maps, Extends, Zone, Activation, Fits, Known, Stacked}
 use Rattle.core_lines.specs.Selected.{first_of, rest_of, shrink, shrunk}
@@ -32,7 +33,7 @@ pub record IsLaid (n : Areas) (m : Maps) (before : Memory) (a : Activation) (fs 
   pub ends : end ≡ high
   pub fits : Fits n maps (record a { zones = record { region = k; low = low; high = end } ∷ zs } ∷ fs) mem b st
   pub known : Known maps mem st
-  pub stacked : Stacked sp (record a { zones = record { region = k; low = low; high = end } ∷ zs } ∷ fs)
+  pub stacked : Stacked n sp (record a { zones = record { region = k; low = low; high = end } ∷ zs } ∷ fs)
   pub based : (o x : ℕ) → slice_get os o ≡ Some x → home_of hs o ≡ None → maps.base (Frame k) (count + o) ≡ Some (a.at + x)
   pub homes : (o r value : ℕ) → home_of hs o ≡ Some r → o < many → HomeLies maps mem k (count + o) value
   pub spares : Spares m before maps mem
@@ -47,7 +48,8 @@ object_live : (mem : Memory) (k : ℕ) (o : ℕ → ℕ → Option Part) → is_
     ((with_object mem (Frame k) o).standing (Frame k)) ≡ true
 object_live mem k o live = live
 
-module _ (n : Areas) (few : n.statics ≤ 2 ^ 20) (a : Activation) (fs : List Activation) (b : ℕ → ℕ) (st : Store) (sp k low high : ℕ) (zs : List Zone)
+module _ (n : Areas) (few : n.statics ≤ 2 ^ 20) (short : n.stack ≤ longest_stack)
+    (a : Activation) (fs : List Activation) (b : ℕ → ℕ) (st : Store) (sp k low high : ℕ) (zs : List Zone)
     (room : high ≤ a.bytes) where
   abbrev zone : ℕ → Zone
   zone end = record { region = k; low = low; high = end }
@@ -59,13 +61,13 @@ module _ (n : Areas) (few : n.statics ≤ 2 ^ 20) (a : Activation) (fs : List Ac
   abbrev Laid_on : List Local → List ℕ → List ℕ → ℕ → ℕ → Type 0
   Laid_on ls hs os start count =
       (m : Maps) (mem : Memory) → LaidOut (shrunk ls hs) os start high → mem.objects (Frame k) ≡ count
-      → is_live (mem.standing (Frame k)) ≡ true → Stacked sp (with_zone start ∷ fs) → Fits n m (with_zone start ∷ fs) mem b st → Known m mem st
+      → is_live (mem.standing (Frame k)) ≡ true → Stacked n sp (with_zone start ∷ fs) → Fits n m (with_zone start ∷ fs) mem b st → Known m mem st
       → IsLaid n m mem a fs (with_objects (Frame k) ls mem) b st sp k low high zs os hs (length ls) count
 
   lay_one : (h : ℕ) (l : Local) (ls : List Local) (hs os : List ℕ) (o start count : ℕ) (m : Maps) (mem : Memory) → first_of hs ≡ h
       → (0 < h → (c j : ℕ) (p : Part) → blanks l.layout l.count c j ≡ Some p → p.offset < too_far)
       → LaidOut (shrink h l ∷ shrunk ls (rest_of hs)) (o ∷ os) start high → mem.objects (Frame k) ≡ count
-      → is_live (mem.standing (Frame k)) ≡ true → Stacked sp (with_zone start ∷ fs) → Fits n m (with_zone start ∷ fs) mem b st → Known m mem st
+      → is_live (mem.standing (Frame k)) ≡ true → Stacked n sp (with_zone start ∷ fs) → Fits n m (with_zone start ∷ fs) mem b st → Known m mem st
       → ((at : ℕ) → Laid_on ls (rest_of hs) os at (count + 1))
       → IsLaid n m mem a fs (with_objects (Frame k) (l ∷ ls) mem) b st sp k low high zs (o ∷ os) hs (suc (length ls)) count
   lay_one zero l ls hs os o start count m mem first tiny laid is live stacked f known next =
@@ -74,15 +76,15 @@ module _ (n : Areas) (few : n.statics ≤ 2 ^ 20) (a : Activation) (fs : List Ac
       let mem1 = with_object mem (Frame k) object in
       let upto = laid_high (shrunk ls (rest_of hs)) os (o + bytes) high laid.3 in
       let inside_frame : o + bytes ≤ a.bytes = omega (arith, upto, room) in
-      let m1 = maps n few m (with_zone start) fs (zone start) zs refl k refl mem b st sp stacked f known object bytes o laid.2 laid.1 laid.0 inside_frame live
-      in
-      let f1 = laid_fits n few m (with_zone start) fs (zone start) zs refl k refl mem b st sp stacked f known object bytes o laid.2 laid.1 laid.0 inside_frame
-      live in
-      let k1 = laid_known n few m (with_zone start) fs (zone start) zs refl k refl mem b st sp stacked f known object bytes o laid.2 laid.1 laid.0 inside_frame
-      live in
-      let s1 = laid_stacked n few m (with_zone start) fs (zone start) zs refl k refl mem b st sp stacked f known object bytes o laid.2 laid.1 laid.0
+      let m1 = maps n few short m (with_zone start) fs (zone start) zs refl k refl mem b st sp stacked f known object bytes o laid.2 laid.1 laid.0
       inside_frame live in
-      let e1 = laid_extends n few m (with_zone start) fs (zone start) zs refl k refl mem b st sp stacked f known object bytes o laid.2 laid.1 laid.0
+      let f1 = laid_fits n few short m (with_zone start) fs (zone start) zs refl k refl mem b st sp stacked f known object bytes o laid.2 laid.1 laid.0
+      inside_frame live in
+      let k1 = laid_known n few short m (with_zone start) fs (zone start) zs refl k refl mem b st sp stacked f known object bytes o laid.2 laid.1 laid.0
+      inside_frame live in
+      let s1 = laid_stacked n few short m (with_zone start) fs (zone start) zs refl k refl mem b st sp stacked f known object bytes o laid.2 laid.1 laid.0
+      inside_frame live in
+      let e1 = laid_extends n few short m (with_zone start) fs (zone start) zs refl k refl mem b st sp stacked f known object bytes o laid.2 laid.1 laid.0
       inside_frame live in
       let objects : mem1.objects (Frame k) ≡ count + 1 = ap (λ c. if c then mem.objects (Frame k) + 1 else mem.objects (Frame k)) (eq-eqb k k refl) ∙ ap
       (λ c. c + 1) is in
@@ -127,9 +129,9 @@ module _ (n : Areas) (few : n.statics ≤ 2 ^ 20) (a : Activation) (fs : List Ac
       let upto = laid_high (shrunk ls (rest_of hs)) os (o + bytes) high laid.3 in
       let inside_frame : o + bytes ≤ a.bytes = omega (arith, upto, room) in
       let near = tiny (omega arith) in
-      let f0 = raised_fits n few m (with_zone start) fs (zone start) zs refl k refl mem b st sp stacked f known nothing bytes o laid.2 laid.1 laid.0
+      let f0 = raised_fits n few short m (with_zone start) fs (zone start) zs refl k refl mem b st sp stacked f known nothing bytes o laid.2 laid.1 laid.0
       inside_frame live in
-      let s1 = laid_stacked n few m (with_zone start) fs (zone start) zs refl k refl mem b st sp stacked f known nothing bytes o laid.2 laid.1 laid.0
+      let s1 = laid_stacked n few short m (with_zone start) fs (zone start) zs refl k refl mem b st sp stacked f known nothing bytes o laid.2 laid.1 laid.0
       inside_frame live in
       let f1 = bare_fits n m (with_zone (o + bytes) ∷ fs) mem b st k object known live near f0 in
       let k1 = bare_known n m (with_zone (o + bytes) ∷ fs) mem b st k object known live near in
@@ -184,7 +186,7 @@ module _ (n : Areas) (few : n.statics ≤ 2 ^ 20) (a : Activation) (fs : List Ac
 
   pub lays : (ls : List Local) (hs os : List ℕ) (start count : ℕ) (m : Maps) (mem : Memory) → AreTiny ls hs → LaidOut (shrunk ls hs) os start high
       → mem.objects (Frame k) ≡ count
-      → is_live (mem.standing (Frame k)) ≡ true → Stacked sp (with_zone start ∷ fs) → Fits n m (with_zone start ∷ fs) mem b st → Known m mem st
+      → is_live (mem.standing (Frame k)) ≡ true → Stacked n sp (with_zone start ∷ fs) → Fits n m (with_zone start ∷ fs) mem b st → Known m mem st
       → IsLaid n m mem a fs (with_objects (Frame k) ls mem) b st sp k low high zs os hs (length ls) count
   lays [] hs [] start count m mem tiny laid is live stacked f known = record {
     maps = m;

@@ -19,7 +19,6 @@ use Rattle.core_lines.proofs.frames.Begun.{begun_fits, counted_fits}
 use Rattle.core_lines.proofs.memory.Extending.{frame_extends, stack_extends}
 use Rattle.core_lines.proofs.memory.Reframing.{reframed, counterpart, reframed_fits}
 use Rattle.core_lines.proofs.memory.Placing.{LaidOut, laid_high}
-use Rattle.core_lines.proofs.memory.Placing.{maps}
 use Rattle.core_lines.proofs.memory.Laying.{AreTiny, lays}
 
 -- ---- the block
@@ -131,7 +130,7 @@ enters_block w order x outer p ls mem place s laid_out room nest tiny homes_fit 
     zoned_as a.maps fr.at fr.own_high p.low x.nest x.config.blocks fr.zones a.shows.blocks (subst (λ q. NestFits q p.low x.nest) (sym own) nest) in
     let laid = a.stands.stacked.0 in
     let upto = laid_high (shrunk ls p.homes) p.offsets p.low p.high laid_out in
-    let stacked1 : Stacked a.sp (more1 ∷ fs) = (
+    let stacked1 : Stacked w.areas a.sp (more1 ∷ fs) = (
       record {
         there = laid.there;
         even = laid.even;
@@ -147,7 +146,7 @@ enters_block w order x outer p ls mem place s laid_out room nest tiny homes_fit 
     (begun_fits n a.maps (more1 ∷ fs) mem s.bytes s.store (Frame k) u.1 known (more_fits n a.maps fr fs z0 mem s.bytes s.store a.stands.fits)) in
     let known1 = known_block a.maps mem s.store known in
     let live : is_live (mem1.standing (Frame k)) ≡ true = ap (λ c. is_live (if c then Live else mem.standing (Frame k))) (eq-eqb k k refl) in
-    let l = lays n order.statics_within fr fs s.bytes s.store a.sp k p.low p.high fr.zones
+    let l = lays n order.statics_within order.stack_within fr fs s.bytes s.store a.sp k p.low p.high fr.zones
     (omega (arith, room, bytes)) ls p.homes p.offsets p.low 0 a.maps mem1 tiny laid_out u.1 live
     stacked1 fits1 known1 in
     let zoned1 : Activation = record fr { zones = record { region = k; low = p.low; high = l.end } ∷ fr.zones } in

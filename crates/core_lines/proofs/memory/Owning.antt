@@ -31,6 +31,7 @@ use Rattle.std.proofs.Common.{
 }
 use Rattle.std.proofs.lemmas.Bool.{eq-eqb, and_from}
 use Rattle.std.proofs.lemmas.Option.{same_Some, none-some}
+use Rattle.rv32_machine.specs.Arrays.{longest_stack}
 use Rattle.rv32_machine.specs.State.{Areas}
 use Rattle.core_meaning.specs.Memory.{Region, Frame, Own, Born, Content, Part, Memory, is_live, blanks, with_object}
 use Rattle.core_meaning.specs.Core.{Local}
@@ -46,8 +47,9 @@ use Rattle.core_lines.proofs.memory.Reframing.{reframed, counterpart, reframed_f
 use Rattle.core_lines.proofs.memory.Laying.{LaidOut, laid_high, slots_above}
 
 -- one of them
-module _ (n : Areas) (few : n.statics ≤ 2 ^ 20) (m : Maps) (a : Activation) (fs : List Activation) (none : a.zones ≡ []) (k : ℕ) (is : a.own ≡ k)
-    (mem : Memory) (b : ℕ → ℕ) (st : Store) (sp : ℕ) (stacked : Stacked sp (a ∷ fs)) (f : Fits n m (a ∷ fs) mem b st) (known : Known m mem st)
+module _ (n : Areas) (few : n.statics ≤ 2 ^ 20) (short : n.stack ≤ longest_stack)
+    (m : Maps) (a : Activation) (fs : List Activation) (none : a.zones ≡ []) (k : ℕ) (is : a.own ≡ k)
+    (mem : Memory) (b : ℕ → ℕ) (st : Store) (sp : ℕ) (stacked : Stacked n sp (a ∷ fs)) (f : Fits n m (a ∷ fs) mem b st) (known : Known m mem st)
     (o : ℕ → ℕ → Option Part) (bytes offset : ℕ) (fits : ObjectFits o bytes) (even : offset % 4 ≡ 0) (behind : a.own_high ≤ offset)
     (room : offset + bytes ≤ a.bytes) (live : is_live (mem.standing (Own k)) ≡ true) where
   abbrev pub after : Activation
@@ -105,7 +107,7 @@ module _ (n : Areas) (few : n.statics ≤ 2 ^ 20) (m : Maps) (a : Activation) (f
       → (at + width ≤ a.at + offset) ⊎ (a.at + offset + bytes ≤ at)
   frame_away fr at width i mine = ⊎_elim
       (λ (e : fr ≡ a). inl (mine e))
-      (λ (among : Among fr fs). let h = (inside (a.at + a.bytes) fs fr stacked.1 among).above in let low = i.low in inr (omega (arith, h, low, room)))
+      (λ (among : Among fr fs). let h = (inside n (a.at + a.bytes) fs fr stacked.1 among).above in let low = i.low in inr (omega (arith, h, low, room)))
       i.among
 
   region_away : (r : Region) (at width : ℕ) → CellGround n (a ∷ fs) st r at width → (at + width ≤ a.at + offset) ⊎ (a.at + offset + bytes ≤ at)
@@ -117,13 +119,13 @@ module _ (n : Areas) (few : n.statics ≤ 2 ^ 20) (m : Maps) (a : Activation) (f
   region_away (Born d) at width (inl g) = let hi = g.high in let lo = laid.low in let e = laid.there in inl (omega (arith, hi, lo, e, few))
   region_away (Born d) at width (inr g) =
       let lo = g.bottom in
-      let end = below_end (a.at + a.bytes) fs stacked.1 in
-      inr (omega (arith, lo, end, room))
+      let end = below_end n (a.at + a.bytes) fs stacked.1 in
+      inr (omega (arith, lo, end, room, short))
 
   away : (y : Name) (at width : ℕ) (v : Content) → Lies m (after ∷ fs) mem y at width v → (at + width ≤ a.at + offset) ⊎ (a.at + offset + bytes ≤ at)
   away (Slot zero j) at width v h =
       let w = h.within in let e = h.there in let four = h.wide in let own = laid.own_room in inl (omega (arith, w, e, four, own, behind))
-  away (Slot (suc g) j) at width v h = let q = slots_above (a.at + a.bytes) fs g j at width v stacked.1 h in inr (omega (arith, q, room))
+  away (Slot (suc g) j) at width v h = let q = slots_above n (a.at + a.bytes) fs g j at width v stacked.1 h in inr (omega (arith, q, room))
   away (Cell s j) at width v h = region_away s.region at width (f.ground (Cell s j) at width v h)
 
   fresh : m.base (Own k) (mem.objects (Own k)) ≡ None
@@ -133,10 +135,10 @@ module _ (n : Areas) (few : n.statics ≤ 2 ^ 20) (m : Maps) (a : Activation) (f
   maps = placed (Own k) (mem.objects (Own k)) (a.at + offset) m
 
   at_low : a.at + offset < 2 ^ 31
-  at_low = let end = below_end (a.at + a.bytes) fs stacked.1 in omega (arith, end, room)
+  at_low = let end = below_end n (a.at + a.bytes) fs stacked.1 in omega (arith, end, room, short)
 
   bytes_few : bytes ≤ too_far
-  bytes_few = let end = below_end (a.at + a.bytes) fs stacked.1 in omega (arith, end, room)
+  bytes_few = let end = below_end n (a.at + a.bytes) fs stacked.1 in omega (arith, end, room, short)
 
   at_even : (a.at + offset) % 4 ≡ 0
   at_even = let e = laid.even in let e' = laid.there in omega (arith, e, e', even)
@@ -159,7 +161,7 @@ module _ (n : Areas) (few : n.statics ≤ 2 ^ 20) (m : Maps) (a : Activation) (f
   owned_known = grow_known n m (after ∷ fs) mem b st st (Own k) o bytes (a.at + offset) raised_fits fresh fits at_even away new_ground (λ y at width g. g)
       st at_low bytes_few live refl refl refl (λ d at i. i) (λ d e. absurd (cc e)) known
 
-  pub owned_stacked : Stacked sp (after ∷ fs)
+  pub owned_stacked : Stacked n sp (after ∷ fs)
   owned_stacked = (
     record {
       there = laid.there;
@@ -186,17 +188,18 @@ pub record IsOwned (n : Areas) (m : Maps) (before : Memory) (a : Activation) (fs
   pub ends : end ≡ high
   pub fits : Fits n maps (record a { own_high = end } ∷ fs) mem b st
   pub known : Known maps mem st
-  pub stacked : Stacked sp (record a { own_high = end } ∷ fs)
+  pub stacked : Stacked n sp (record a { own_high = end } ∷ fs)
   pub based : (o x : ℕ) → slice_get os o ≡ Some x → maps.base (Own k) (count + o) ≡ Some (a.at + x)
   pub spares : Spares m before maps mem
 
-module _ (n : Areas) (few : n.statics ≤ 2 ^ 20) (a : Activation) (fs : List Activation) (none : a.zones ≡ []) (b : ℕ → ℕ) (st : Store) (sp k high : ℕ)
+module _ (n : Areas) (few : n.statics ≤ 2 ^ 20) (short : n.stack ≤ longest_stack)
+    (a : Activation) (fs : List Activation) (none : a.zones ≡ []) (b : ℕ → ℕ) (st : Store) (sp k high : ℕ)
     (is : a.own ≡ k) (room : high ≤ a.bytes) where
   abbrev with_high : ℕ → Activation
   with_high end = record a { own_high = end }
 
   pub owns : (ls : List Local) (os : List ℕ) (start count : ℕ) (m : Maps) (mem : Memory) → LaidOut ls os start high → mem.objects (Own k) ≡ count
-      → is_live (mem.standing (Own k)) ≡ true → Stacked sp (with_high start ∷ fs) → Fits n m (with_high start ∷ fs) mem b st → Known m mem st
+      → is_live (mem.standing (Own k)) ≡ true → Stacked n sp (with_high start ∷ fs) → Fits n m (with_high start ∷ fs) mem b st → Known m mem st
       → IsOwned n m mem a fs (with_objects (Own k) ls mem) b st sp k high os count
   owns [] [] start count m mem laid counts live stacked f known = record {
     maps = m;
@@ -217,11 +220,11 @@ module _ (n : Areas) (few : n.statics ≤ 2 ^ 20) (a : Activation) (fs : List Ac
       let mem1 = with_object mem (Own k) object in
       let upto = laid_high ls os (o + bytes) high laid.3 in
       let within : o + bytes ≤ a.bytes = omega (arith, upto, room) in
-      let m1 = maps n few m (with_high start) fs none k is mem b st sp stacked f known object bytes o laid.2 laid.1 laid.0 within live in
-      let f1 = owned_fits n few m (with_high start) fs none k is mem b st sp stacked f known object bytes o laid.2 laid.1 laid.0 within live in
-      let k1 = owned_known n few m (with_high start) fs none k is mem b st sp stacked f known object bytes o laid.2 laid.1 laid.0 within live in
-      let s1 = owned_stacked n few m (with_high start) fs none k is mem b st sp stacked f known object bytes o laid.2 laid.1 laid.0 within live in
-      let e1 = owned_extends n few m (with_high start) fs none k is mem b st sp stacked f known object bytes o laid.2 laid.1 laid.0 within live in
+      let m1 = maps n few short m (with_high start) fs none k is mem b st sp stacked f known object bytes o laid.2 laid.1 laid.0 within live in
+      let f1 = owned_fits n few short m (with_high start) fs none k is mem b st sp stacked f known object bytes o laid.2 laid.1 laid.0 within live in
+      let k1 = owned_known n few short m (with_high start) fs none k is mem b st sp stacked f known object bytes o laid.2 laid.1 laid.0 within live in
+      let s1 = owned_stacked n few short m (with_high start) fs none k is mem b st sp stacked f known object bytes o laid.2 laid.1 laid.0 within live in
+      let e1 = owned_extends n few short m (with_high start) fs none k is mem b st sp stacked f known object bytes o laid.2 laid.1 laid.0 within live in
       let next : mem1.objects (Own k) ≡ count + 1 = ap (λ c. if c then mem.objects (Own k) + 1 else mem.objects (Own k)) (eq-eqb k k refl)
       ∙ ap (λ c. c + 1) counts in
       let rest = owns ls os (o + bytes) (count + 1) m1 mem1 laid.3 next live s1 f1 k1 in

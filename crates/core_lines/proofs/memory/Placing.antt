@@ -31,6 +31,7 @@ use Rattle.core_meaning.specs.Memory.{Region, Frame, Own, Born, Content, Part, M
 use Rattle.core_meaning.specs.Core.{Local}
 use Rattle.core_meaning.specs.Operations.{too_far}
 use Rattle.core_lines.specs.Machines.{Store}
+use Rattle.rv32_machine.specs.Arrays.{longest_stack}
 use Rattle.rv32_machine.specs.State.{Areas}
 use Rattle.core_lines.specs.Lies.{
   Maps,
@@ -76,14 +77,17 @@ laid_high (l ∷ ls) [] low high x = absurd x
 abbrev raised : Zone → ℕ → Zone
 raised z high = record z { high = high }
 
-pub slots_above : (sp : ℕ) (fs : List Activation) (g j at width : ℕ) (v : Content) → Stacked sp fs → SlotsLie fs g j at width v → sp ≤ at
-slots_above sp [] g j at width v s h = absurd h
-slots_above sp (a ∷ fs) zero j at width v s h = let e = h.there in let e' = s.0.there in omega (arith, e, e')
-slots_above sp (a ∷ fs) (suc g) j at width v s h = let q = slots_above (a.at + a.bytes) fs g j at width v s.1 h in let e' = s.0.there in omega (arith, q, e')
+pub slots_above : (n : Areas) (sp : ℕ) (fs : List Activation) (g j at width : ℕ) (v : Content) → Stacked n sp fs → SlotsLie fs g j at width v → sp ≤ at
+slots_above n sp [] g j at width v s h = absurd h
+slots_above n sp (a ∷ fs) zero j at width v s h = let e = h.there in let e' = s.0.there in omega (arith, e, e')
+slots_above n sp (a ∷ fs) (suc g) j at width v s h =
+    let q = slots_above n (a.at + a.bytes) fs g j at width v s.1 h in
+    let e' = s.0.there in omega (arith, q, e')
 
-module _ (n : Areas) (few : n.statics ≤ 2 ^ 20) (m : Maps) (a : Activation) (fs : List Activation) (z : Zone) (zs : List Zone) (are : a.zones ≡ z ∷ zs) (k : ℕ)
+module _ (n : Areas) (few : n.statics ≤ 2 ^ 20) (short : n.stack ≤ longest_stack)
+    (m : Maps) (a : Activation) (fs : List Activation) (z : Zone) (zs : List Zone) (are : a.zones ≡ z ∷ zs) (k : ℕ)
     (is : z.region ≡ k)
-    (mem : Memory) (b : ℕ → ℕ) (st : Store) (sp : ℕ) (stacked : Stacked sp (a ∷ fs)) (f : Fits n m (a ∷ fs) mem b st) (known : Known m mem st)
+    (mem : Memory) (b : ℕ → ℕ) (st : Store) (sp : ℕ) (stacked : Stacked n sp (a ∷ fs)) (f : Fits n m (a ∷ fs) mem b st) (known : Known m mem st)
     (o : ℕ → ℕ → Option Part) (bytes offset : ℕ) (fits : ObjectFits o bytes) (even : offset % 4 ≡ 0) (behind : z.high ≤ offset)
     (room : offset + bytes ≤ a.bytes)
     (live : is_live (mem.standing (Frame k)) ≡ true) where
@@ -180,7 +184,7 @@ module _ (n : Areas) (few : n.statics ≤ 2 ^ 20) (m : Maps) (a : Activation) (f
       (a.at + offset + bytes ≤ at)
   frame_away fr at width i mine = ⊎_elim
       (λ (e : fr ≡ a). inl (mine e))
-      (λ (among : Among fr fs). let h = (inside (a.at + a.bytes) fs fr stacked.1 among).above in let low = i.low in inr (omega (arith, h, low, room)))
+      (λ (among : Among fr fs). let h = (inside n (a.at + a.bytes) fs fr stacked.1 among).above in let low = i.low in inr (omega (arith, h, low, room)))
       i.among
 
   region_away : (r : Region) (at width : ℕ) → CellGround n (a ∷ fs) st r at width → (at + width ≤ a.at + offset) ⊎ (a.at + offset + bytes ≤ at)
@@ -197,14 +201,14 @@ module _ (n : Areas) (few : n.statics ≤ 2 ^ 20) (m : Maps) (a : Activation) (f
   region_away (Born d) at width (inl g) = let hi = g.high in let lo = laid.low in let e = laid.there in inl (omega (arith, hi, lo, e, few))
   region_away (Born d) at width (inr g) =
       let lo = g.bottom in
-      let end = below_end (a.at + a.bytes) fs stacked.1 in
-      inr (omega (arith, lo, end, room))
+      let end = below_end n (a.at + a.bytes) fs stacked.1 in
+      inr (omega (arith, lo, end, room, short))
 
   away : (y : Name) (at width : ℕ) (v : Content) → Lies m (after ∷ fs) mem y at width v → (at + width ≤ a.at + offset) ⊎ (a.at + offset + bytes ≤ at)
   away (Slot zero j) at width v h =
       let w = h.within in let e = h.there in let four = h.wide in let own = laid.own_room in let first = own_first in inl
       (omega (arith, w, e, four, own, first, behind))
-  away (Slot (suc g) j) at width v h = let q = slots_above (a.at + a.bytes) fs g j at width v stacked.1 h in inr (omega (arith, q, room))
+  away (Slot (suc g) j) at width v h = let q = slots_above n (a.at + a.bytes) fs g j at width v stacked.1 h in inr (omega (arith, q, room))
   away (Cell s j) at width v h = region_away s.region at width (f.ground (Cell s j) at width v h)
 
   fresh : m.base (Frame k) (mem.objects (Frame k)) ≡ None
@@ -214,10 +218,10 @@ module _ (n : Areas) (few : n.statics ≤ 2 ^ 20) (m : Maps) (a : Activation) (f
   maps = placed (Frame k) (mem.objects (Frame k)) (a.at + offset) m
 
   at_low : a.at + offset < 2 ^ 31
-  at_low = let end = below_end (a.at + a.bytes) fs stacked.1 in omega (arith, end, room)
+  at_low = let end = below_end n (a.at + a.bytes) fs stacked.1 in omega (arith, end, room, short)
 
   bytes_few : bytes ≤ too_far
-  bytes_few = let end = below_end (a.at + a.bytes) fs stacked.1 in omega (arith, end, room)
+  bytes_few = let end = below_end n (a.at + a.bytes) fs stacked.1 in omega (arith, end, room, short)
 
   at_even : (a.at + offset) % 4 ≡ 0
   at_even = let e = laid.even in let e' = laid.there in omega (arith, e, e', even)
@@ -242,7 +246,7 @@ module _ (n : Areas) (few : n.statics ≤ 2 ^ 20) (m : Maps) (a : Activation) (f
   laid_known = grow_known n m (after ∷ fs) mem b st st (Frame k) o bytes (a.at + offset) raised_fits fresh fits at_even away new_ground
       (λ y at width g. g) st at_low bytes_few live refl refl refl (λ d at i. i) (λ d e. absurd (cc e)) known
 
-  pub laid_stacked : Stacked sp (after ∷ fs)
+  pub laid_stacked : Stacked n sp (after ∷ fs)
   laid_stacked = (
     record {
       there = laid.there;

@@ -4,6 +4,8 @@ use Rattle.std.specs.Prelude.{Bool, zero, slice_get, length, true, false}
 use Rattle.cyc_words.specs.Events.{AreBytes, SourceEnding, SourceEvent, Request, visible}
 use Rattle.cyc_words.specs.Events as events
 use Rattle.arena_laws.specs.Lawful.{Answer}
+use Rattle.arena_laws.specs.Counts.{block_limit}
+use Rattle.rv32_machine.specs.Arrays.{longest_stack}
 use Rattle.rv32_machine.specs.State.{Areas, Stop, Mode, Runs, Over, code_base, data_base}
 use Rattle.rv32_machine.specs.Run.{Run, run_steps}
 use Rattle.rv32_machine.specs.Implements.{IsCut, IsRefused, HasNoFrame, active_after}
@@ -269,7 +271,7 @@ pub record Stands (w : World) (mem : Memory) (place : ℕ) (m : Maps) (fs : List
   pub pointer : s.registers 2 ≡ x2
   pub small : (q : ℕ) → s.bytes q < 256
   pub kept : (q : ℕ) → q < data_base → s.bytes q ≡ w.code q
-  pub stacked : Stacked sp fs
+  pub stacked : Stacked w.areas sp fs
   pub fits : Fits w.areas m fs mem s.bytes s.store
   pub homes : HomesLie m mem fs s.registers
   pub known : Known m mem s.store
@@ -347,13 +349,15 @@ EndsThere w f fn = Has w (w.places (w.exits f)) (epilogue_code (w.frame_bytes f)
 
 pub record IsInOrder (w : World) : Type 0 where
   pub code_within : w.areas.code ≤ 2 ^ 20
-  pub stack_whole : w.areas.stack ≡ 2 ^ 20
+  pub stack_within : w.areas.stack ≤ longest_stack
+  pub stack_pages : w.areas.stack % 4096 ≡ 0
+  pub blocks : w.areas.block_limit ≡ block_limit
   pub statics_within : w.areas.statics ≤ 2 ^ 20
   pub pages_within : w.areas.pages ≤ 4096
   pub labels : (label : ℕ) → IsPlace (w.places label)
   pub stub_place : IsPlace w.stub
-  -- a frame that is no larger than the stack has room for its slots
-  pub frames : (f : ℕ) (fn : Function) → slice_get w.functions f ≡ Some fn → w.frame_bytes f ≤ 2 ^ 20 → 4 * slots_in fn ≤ w.frame_bytes f
+  -- a frame that is no larger than the longest stack has room for its slots
+  pub frames : (f : ℕ) (fn : Function) → slice_get w.functions f ≡ Some fn → w.frame_bytes f ≤ longest_stack → 4 * slots_in fn ≤ w.frame_bytes f
   pub even : (f : ℕ) → w.frame_bytes f % 16 ≡ 0
   pub bounded : (f : ℕ) → w.frame_bytes f ≤ w.bound (w.names f)
   pub not_too_large : (f : ℕ) → w.frame_bytes f ≤ 2 ^ 25

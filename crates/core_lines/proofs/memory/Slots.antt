@@ -127,7 +127,7 @@ module _ (w : World) (order : IsInOrder w) (place : ℕ) (registers bytes : ℕ 
       and_then w.areas _ _ _ 1 1 first second
 
   module _ (sp k : ℕ) (pointer : registers 2 ≡ sp) (allowed : IsAllowed w.areas w.code order.code_within st sp (sp + 4 * k) 4)
-      (near : sp + 4 * k < 2 ^ 23) where
+      (near : sp + 4 * k < 2 ^ 25) where
     near_address : is_short (4 * k) ≡ true → sum_of (registers 2) (word (lower_of (4 * k))) ≡ sp + 4 * k
     near_address short = let part = short_word (4 * k) short (omega (arith, near)) in omega (arith, part, pointer, near)
 

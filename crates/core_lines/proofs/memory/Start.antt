@@ -6,7 +6,7 @@ use Rattle.std.proofs.lemmas.Option.{none-some}
 use Rattle.cyc_words.specs.Words.{word, sum_of}
 use Rattle.cyc_words.specs.Events.{AreBytes, SourceEnding}
 use Rattle.rv32_isa.specs.declared.instruction.Instr.TheVariants.{Addi, Ecall, Jal}
-use Rattle.rv32_machine.specs.State.{Stop, Runs, Over, code_base, data_base, set_register}
+use Rattle.rv32_machine.specs.State.{Stop, Runs, Over, code_base, data_base, stack_end, set_register}
 use Rattle.rv32_machine.specs.Run.{Run}
 use Rattle.rv32_machine.specs.Ledger.{Ledger, unborn}
 use Rattle.rv32_machine.specs.Implements.{Implements}
@@ -21,7 +21,7 @@ use Rattle.core_lines.specs.Lines.{offset_to}
 use Rattle.core_meaning.specs.Operations.{too_far}
 use Rattle.core_lines.specs.Homes.{is_home}
 use Rattle.core_lines.specs.Machines.{Machine, Store, state_of}
-use Rattle.core_lines.specs.Lies.{Shows, read, Name, Slot, Cell, same_name, Lies, Apart, Among, CellGround, Ground, Fits, Known, HoldsBlocks, stack_end}
+use Rattle.core_lines.specs.Lies.{Shows, read, Name, Slot, Cell, same_name, Lies, Apart, Among, CellGround, Ground, Fits, Known, HoldsBlocks}
 use Rattle.core_lines.specs.Selected.{datum_locals}
 use Rattle.core_lines.specs.Running.{named, core_run, in_data, first_base, first_maps, ShowsData}
 use Rattle.core_lines.proofs.homes.Homes.{homes_of, set_stays}
@@ -41,7 +41,7 @@ use Rattle.core_lines.proofs.memory.DataParts.{in_data_is, data_part, object_of,
 pub record IsStart (w : World) (main : ℕ) (ds : List Datum) (offsets : List ℕ) (s : Machine) : Type 0 where
   pub runs : s.mode ≡ Runs
   pub at_first : s.pc ≡ code_base
-  pub pointer : s.registers 2 ≡ stack_end
+  pub pointer : s.registers 2 ≡ stack_end w.areas
   pub words : (q : ℕ) → is_home q ≡ true → s.registers q < 2 ^ 32
   pub small : (q : ℕ) → s.bytes q < 256
   pub kept : (q : ℕ) → q < data_base → s.bytes q ≡ w.code q
@@ -203,7 +203,7 @@ module _ (w : World) (order : IsInOrder w) (four : w.stub ≡ 4) (main : ℕ)
           there = record {
             maps = first_maps offsets;
             frames = [];
-            sp = stack_end;
+            sp = stack_end w.areas;
             stands = record {
               runs = refl;
               there = refl;

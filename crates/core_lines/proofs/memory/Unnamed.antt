@@ -47,8 +47,8 @@ owned_at w order x outer offsets high mem place held s nest blocks laid room non
     let lie : BlocksLie a.maps fr.at [] [] fr.zones =
     subst (λ ks. BlocksLie a.maps fr.at [] ks fr.zones) blocks (subst (λ ps. BlocksLie a.maps fr.at ps x.config.blocks fr.zones) nest a.shows.blocks) in
     let from : LaidOut x.fn.own offsets fr.own_high high = subst (λ q. LaidOut x.fn.own offsets q high) (sym a.shows.own_high) laid in
-    let l = owns w.areas order.statics_within fr fs (no_zones a.maps fr.at fr.zones lie) s.bytes s.store a.sp k high a.shows.own (omega (arith, room, bytes))
-    x.fn.own offsets fr.own_high 0 a.maps mem from none live a.stands.stacked a.stands.fits a.stands.known in
+    let l = owns w.areas order.statics_within order.stack_within fr fs (no_zones a.maps fr.at fr.zones lie) s.bytes s.store a.sp k high a.shows.own
+    (omega (arith, room, bytes)) x.fn.own offsets fr.own_high 0 a.maps mem from none live a.stands.stacked a.stands.fits a.stands.known in
     let after : Activation = record fr { own_high = l.end } in
     let f = frame_extends w a.maps l.maps x (back_of w outer) fr l.extends a.shows in
     as_holding w (owning x offsets high mem') outer mem' place held s (record {

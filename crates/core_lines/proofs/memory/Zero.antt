@@ -30,7 +30,7 @@ module _ (w : World) (order : IsInOrder w) (x : Waiting) (outer : List Waiting) 
 
   zero_one : Follows true (t ∷ []) x.kept after → (f : ℕ) (offset : ℤ) (place : ℕ) (P Q : Maps → (ℕ → ℕ) → Type 0)
       → ((m : Maps) (registers : ℕ → ℕ) → P m registers → Q m registers)
-      → ((m : Maps) (registers : ℕ → ℕ) → P m registers → registers 2 + at_slot < 2 ^ 23 → sum_of (registers (suc f)) (word offset) ≡ registers 2 + at_slot)
+      → ((m : Maps) (registers : ℕ → ℕ) → P m registers → registers 2 + at_slot < 2 ^ 25 → sum_of (registers (suc f)) (word offset) ≡ registers 2 + at_slot)
       → Has w place (Plain (Sw (suc f) 0 offset) ∷ []) → Comes w (AtWith w x outer mem place P) (AtWith w with_none outer mem (place + 4) Q)
   zero_one follows f offset place P Q gets reach has = record {
     count = 1;
@@ -46,19 +46,20 @@ module _ (w : World) (order : IsInOrder w) (x : Waiting) (outer : List Waiting) 
         let within : k < a.size = omega (arith, size, named) in
         let here : a.at + 4 * k ≡ at = ap (λ q. q + 4 * k) laid.there in
         let lies : SlotsLie (a ∷ fs) 0 k at 4 (a.slots k) = record { within = within; there = sym here; wide = refl; value = refl } in
-        let g = slot_ground w.areas order.statics_within order.pages_within order.stack_whole order.code_within w.code s.store sp
+        let g = slot_ground w.areas order.statics_within order.pages_within order.stack_within order.code_within w.code s.store sp
         (a ∷ fs) stands.stacked 0 k at 4
         (a.slots k) lies in
-        let low = (inside sp (a ∷ fs) g.frame stands.stacked g.inside.among).high in
+        let low = (inside w.areas sp (a ∷ fs) g.frame stands.stacked g.inside.among).high in
         let high = g.inside.high in
+        let stack = order.stack_within in
         let even = (stands.fits.aligned (Slot 0 k) at 4 (a.slots k) lies).1 in
-        let may = allowed w.areas order.statics_within order.pages_within order.stack_whole order.code_within w.code s.store sp (a ∷ fs) stands.stacked
+        let may = allowed w.areas order.statics_within order.pages_within order.stack_within order.code_within w.code s.store sp (a ∷ fs) stands.stacked
         (Slot 0 k) at 4 g
         (inr refl) even in
         let above = may.above in
         let pointer = stands.pointer in
         let there : sum_of (s.registers (suc f)) (word offset) ≡ at =
-        reach r.maps s.registers r.holds (omega (arith, low, high, pointer)) ∙ ap (λ q. q + 4 * k) pointer in
+        reach r.maps s.registers r.holds (omega (arith, low, high, pointer, stack)) ∙ ap (λ q. q + 4 * k) pointer in
         let may_here : IsAllowed w.areas w.code order.code_within s.store (s.registers 2) at 4 =
         subst (λ p. IsAllowed w.areas w.code order.code_within s.store p at 4) (sym pointer) may in
         let writes = writes_word s.bytes at 0 (omega arith) in

@@ -79,7 +79,8 @@ module _ (w : World) (order : IsInOrder w) (x : Waiting) (outer : List Waiting) 
   below : (place : ℕ) (q : Machine) (a : At w x outer mem place q) (base : ℕ) → a.maps.base s.region s.object ≡ Some base → 0 < count * l.bytes
       → base + b + count * l.bytes < 2 ^ 32
   below place q a base known some =
-      object_below w.areas order.statics_within order.pages_within order.stack_whole order.code_within w.code q.store a.sp (a.frame ∷ a.others) a.stands.stacked
+      object_below w.areas order.statics_within order.pages_within order.stack_within order.code_within w.code q.store a.sp (a.frame ∷ a.others)
+      a.stands.stacked
       a.maps mem q.bytes a.stands.fits s b base known live l count layout full there some
 
   -- the loop
@@ -124,7 +125,7 @@ module _ (w : World) (order : IsInOrder w) (x : Waiting) (outer : List Waiting) 
           let same : bytes_in l count ≡ count * l.bytes = omega (arith, end) in
           let sum = a.holds.1 in
           let ran = clears w order q.store a.sp q.registers words place has aligned (p.base + b) (count * l.bytes) q.bytes
-          (unit_allowed w.areas order.statics_within order.pages_within order.stack_whole order.code_within w.code q.store a.sp fs a.stands.stacked m mem
+          (unit_allowed w.areas order.statics_within order.pages_within order.stack_within order.code_within w.code q.store a.sp fs a.stands.stacked m mem
           q.bytes a.stands.fits s b p.base p.known live l count layout full there words are)
           (turns words) (all_turns words (all_whole words (whole_units l layout full words are some_bytes)) same) q.registers at
           (omega (arith, sum, at, end, same)) a.stands.pointer (λ r h. refl)

@@ -158,13 +158,13 @@ module _ (w : World) (order : IsInOrder w) (x : Waiting) (outer : List Waiting) 
           let fits = a.stands.fits in
           let at = p.at in
           let aligned = a.stands.aligned in
-          let end = object_below w.areas order.statics_within order.pages_within order.stack_whole order.code_within w.code q.store a.sp fs a.stands.stacked m
+          let end = object_below w.areas order.statics_within order.pages_within order.stack_within order.code_within w.code q.store a.sp fs a.stands.stacked m
           mem q.bytes fits s b p.base p.known live l 1 layout full one (omega (arith, some)) in
           let sum = a.holds.1 in
           let ran = copies w order q.store a.sp q.registers words place has aligned (p.base + b) (p'.base + c) (1 * l.bytes) q.bytes
-          (unit_allowed w.areas order.statics_within order.pages_within order.stack_whole order.code_within w.code q.store a.sp fs a.stands.stacked m mem
+          (unit_allowed w.areas order.statics_within order.pages_within order.stack_within order.code_within w.code q.store a.sp fs a.stands.stacked m mem
           q.bytes fits s b p.base p.known live l 1 layout full one words are)
-          (unit_allowed w.areas order.statics_within order.pages_within order.stack_whole order.code_within w.code q.store a.sp fs a.stands.stacked m mem
+          (unit_allowed w.areas order.statics_within order.pages_within order.stack_within order.code_within w.code q.store a.sp fs a.stands.stacked m mem
           q.bytes fits t c p'.base p'.known live' l 1 layout full one' words are)
           (objects_apart w.areas m fs mem q.bytes q.store fits s b p.base p.known live t c p'.base p'.known live' l 1 full one one' two)
           (turns words) (all_turns words (whole_units l layout full words are some)) q.registers at p'.at (omega (arith, sum, at, end)) a.stands.pointer (λ r h. refl)
@@ -206,7 +206,7 @@ module _ (w : World) (order : IsInOrder w) (x : Waiting) (outer : List Waiting) 
           count = 0;
           by = λ q a.
               let p = a.holds.0 in
-              let end = object_below w.areas order.statics_within order.pages_within order.stack_whole order.code_within w.code q.store a.sp
+              let end = object_below w.areas order.statics_within order.pages_within order.stack_within order.code_within w.code q.store a.sp
               (a.frame ∷ a.others) a.stands.stacked a.maps mem q.bytes a.stands.fits s b p.base p.known live l 1 layout full one (omega (arith, some)) in
               absurd (omega (arith, end, more));
         })

@@ -4,6 +4,7 @@ use Rattle.std.specs.Prelude.{nat_eq, ◌&&◌, length, slice_get}
 use Rattle.std.proofs.Common.{◌≡◌, ℕ, zero, suc, ◌+◌, ◌*◌, ◌/◌, ◌%◌, ◌^◌, ◌<◌, ◌≤◌, ◌⊎◌, ◌-◌, inl, inr, ⊎_elim, Bool, true, false, List, [], ◌∷◌, Some, refl, sym, ap, subst, ◌∙◌, arith}
 use Rattle.std.proofs.lemmas.Bool.{and_parts, and_from, eqb-true, eq-eqb, cases_lt}
 use Rattle.std.proofs.Math.Nat.{mod-add-div', mod-lt, mul-le-mul_right}
+use Rattle.rv32_machine.specs.Arrays.{longest_stack}
 use Rattle.rv32_machine.specs.State.{Areas}
 use Rattle.core_meaning.specs.Memory.{Region, Frame, Own, Born, Spot, Content, Part, PartShape, Layout, Memory, same_region, same_spot, is_live, shape_in, beyond}
 use Rattle.core_meaning.specs.Operations.{are_elements, same_object}
@@ -235,8 +236,8 @@ whole_units l layout full true are some =
 
 -- ---- each unit may be read and written
 
-module _ (n : Areas) (few : n.statics ≤ 2 ^ 20) (pages : n.pages ≤ 4096) (whole : n.stack ≡ 2 ^ 20) (code : n.code ≤ 2 ^ 20) (kept : ℕ → ℕ) (st : Store)
-    (sp : ℕ) (fs : List Activation) (stacked : Stacked sp fs) (m : Maps) (mem : Memory) (bytes : ℕ → ℕ) (fits : Fits n m fs mem bytes st)
+module _ (n : Areas) (few : n.statics ≤ 2 ^ 20) (pages : n.pages ≤ 4096) (short : n.stack ≤ longest_stack) (code : n.code ≤ 2 ^ 20) (kept : ℕ → ℕ) (st : Store)
+    (sp : ℕ) (fs : List Activation) (stacked : Stacked n sp fs) (m : Maps) (mem : Memory) (bytes : ℕ → ℕ) (fits : Fits n m fs mem bytes st)
     (s : Spot) (b base : ℕ) (known : m.base s.region s.object ≡ Some base) (live : is_live (mem.standing s.region) ≡ true)
     (l : Layout) (count : ℕ) (layout : IsLayout l) (full : IsFull l) (there : are_elements mem s b l count ≡ true) where
   abbrev Allowed : ℕ → ℕ → Type 0
@@ -250,7 +251,7 @@ module _ (n : Areas) (few : n.statics ≤ 2 ^ 20) (pages : n.pages ≤ 4096) (wh
       let c = covered n m fs mem bytes st fits s b base known live l count full there i less in
       let low = c.low in
       let high = c.high in
-      allowed n few pages whole code kept st sp fs stacked (Cell c.spot c.number) (base + b + i) 1
+      allowed n few pages short code kept st sp fs stacked (Cell c.spot c.number) (base + b + i) 1
       (narrower n fs st c.spot.region (base + c.part.offset) c.part.width (base + b + i) 1 (omega (arith, low)) (omega (arith, high))
       (fits.ground (Cell c.spot c.number) (base + c.part.offset) c.part.width c.part.content c.lies))
       (inl refl) (omega arith)
@@ -289,5 +290,5 @@ module _ (n : Areas) (few : n.statics ≤ 2 ^ 20) (pages : n.pages ≤ 4096) (wh
       subst (λ q. Allowed q 4) at
       (subst (λ k. Allowed (base + c.part.offset) k) w.0
       (let good = fits.aligned (Cell c.spot c.number) (base + c.part.offset) c.part.width c.part.content c.lies in
-      allowed n few pages whole code kept st sp fs stacked (Cell c.spot c.number) (base + c.part.offset) c.part.width
+      allowed n few pages short code kept st sp fs stacked (Cell c.spot c.number) (base + c.part.offset) c.part.width
       (fits.ground (Cell c.spot c.number) (base + c.part.offset) c.part.width c.part.content c.lies) good.0 good.1))

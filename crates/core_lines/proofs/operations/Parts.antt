@@ -165,10 +165,10 @@ module _ (w : World) (order : IsInOrder w) (x : Waiting) (outer : List Waiting) 
         let laid = a.stands.stacked.0 in
         let there = laid.there in
         let low = laid.low in
-        let high = below_end a.sp (a.frame ∷ a.others) a.stands.stacked in
+        let high = below_end w.areas a.sp (a.frame ∷ a.others) a.stands.stacked in
         record {
           known = lies a.maps a.frame a.shows ∙ (let e : a.frame.at + off ≡ s.registers 2 + off = omega (arith, there, pointer) in ap (λ q. Some q) e);
-          small = omega (arith, pointer, high, few);
+          small = (let within = order.stack_within in omega (arith, pointer, high, few, within));
           positive = omega (arith, pointer, low);
         }
 

@@ -125,7 +125,7 @@ module _ (w : World) (order : IsInOrder w) (x : Waiting) (outer : List Waiting) 
       let lies = part_lies a.maps at r in
       let fits = a.stands.fits in
       let good = fits.aligned (Cell there j) at part.width part.content lies in
-      let may = allowed w.areas order.statics_within order.pages_within order.stack_whole order.code_within w.code s.store a.sp fs a.stands.stacked
+      let may = allowed w.areas order.statics_within order.pages_within order.stack_within order.code_within w.code s.store a.sp fs a.stands.stacked
       (Cell there j) at part.width
       (fits.ground (Cell there j) at part.width part.content lies) good.0 good.1 in
       record {

@@ -27,7 +27,7 @@ use Rattle.core_lines.proofs.regions.StoreCalls.{Carries, IsRefusing}
 -- it grants a room
 pub record IsGranted (h bytes : ℕ) (s : Holdings) (done : Done) : Type 0 where
   pub at : ℕ
-  pub few : bytes ≤ 4096
+  pub few : bytes ≤ 1048576
   pub lawful : is_lawful_room s at (room_of bytes) ≡ true
   pub is : done ≡ record { says = Ok at; after = with_region_block h at (room_of bytes) s }
 
@@ -40,7 +40,7 @@ grants_or_not h bytes answer s takes = by (is_too_long bytes) refl
     taken : region_alloc h bytes answer s ≡ (if is_too_long bytes then refuses Full s else gives_block h (room_of bytes) answer s)
     taken = ap (λ c. if c then (if is_too_long bytes then refuses Full s else gives_block h (room_of bytes) answer s) else refuses BadHandle s) takes
 
-    gives : (answer : Answer) (done : Done) → bytes ≤ 4096 → done ≡ gives_block h (room_of bytes) answer s
+    gives : (answer : Answer) (done : Done) → bytes ≤ 1048576 → done ≡ gives_block h (room_of bytes) answer s
         → IsGranted h bytes s done ⊎ ((done ≡ refuses Full s) ⊎ (done ≡ refuses NoMemory s))
     gives Refuses done few is = inr (inl is)
     gives Lacks done few is = inr (inr is)
@@ -59,7 +59,7 @@ grants_or_not h bytes answer s takes = by (is_too_long bytes) refl
     by : (c : Bool) → is_too_long bytes ≡ c → IsGranted h bytes s (region_alloc h bytes answer s) ⊎ ((region_alloc h bytes answer s ≡ refuses Full s)
         ⊎ (region_alloc h bytes answer s ≡ refuses NoMemory s))
     by true long = inr (inl (taken ∙ ap (λ c. if c then refuses Full s else gives_block h (room_of bytes) answer s) long))
-    by false short = gives answer (region_alloc h bytes answer s) (ltb-false 4096 bytes short)
+    by false short = gives answer (region_alloc h bytes answer s) (ltb-false 1048576 bytes short)
         (taken ∙ ap (λ c. if c then refuses Full s else gives_block h (room_of bytes) answer s) short)
 
 -- ---- a handle in order
@@ -100,7 +100,7 @@ handle_of m mem st d h k number live = ⊎_elim
 -- ---- at the call
 
 module _ (w : World) (order : IsInOrder w) (x : Waiting) (outer : List Waiting) (mem : Memory) (d bytes : ℕ) (o : ℕ → ℕ → Option Part)
-    (fits : bytes ≤ 4096 → ObjectFits o bytes) (live : is_live (mem.standing (Born d)) ≡ true) where
+    (fits : bytes ≤ 1048576 → ObjectFits o bytes) (live : is_live (mem.standing (Born d)) ≡ true) where
   abbrev pub Wanted : Maps → (ℕ → ℕ) → Type 0
   Wanted m registers = InRegister 10 (Birth d) m registers × (registers 11 ≡ bytes)
 
@@ -135,14 +135,16 @@ module _ (w : World) (order : IsInOrder w) (x : Waiting) (outer : List Waiting) 
           held = with_region_block h g.at room st.holdings;
           is = g.is;
           shows = ap (λ e. events.RegionAlloc e bytes) handle.birth;
-          maps = granted_maps n order.statics_within a.maps fs mem s.bytes st a.sp a.stands.stacked a.stands.fits a.stands.holds_blocks d o bytes g.at (fits g.few)
-              which room (room_bound bytes) (room_some bytes) g.lawful counts births alone k live (λ c among. refl) (λ e at i. refl) handle.birth (handle.named g.at) one;
-          changed = granted n order.statics_within a.maps fs mem s.bytes st a.sp a.stands.stacked a.stands.fits a.stands.holds_blocks d o bytes g.at (fits g.few)
-              which room (room_bound bytes) (room_some bytes) g.lawful counts births alone k live (λ c among. refl) (λ e at i. refl) handle.birth (handle.named g.at) one
+          maps = granted_maps n order.statics_within order.stack_within a.maps fs mem s.bytes st a.sp a.stands.stacked a.stands.fits
+              a.stands.holds_blocks d o bytes g.at (fits g.few) which room (room_bound bytes) (room_some bytes) g.lawful counts births alone k live
+              (λ c among. refl) (λ e at i. refl) handle.birth (handle.named g.at) one;
+          changed = granted n order.statics_within order.stack_within a.maps fs mem s.bytes st a.sp a.stands.stacked a.stands.fits
+              a.stands.holds_blocks d o bytes g.at (fits g.few) which room (room_bound bytes) (room_some bytes) g.lawful counts births alone k live
+              (λ c among. refl) (λ e at i. refl) handle.birth (handle.named g.at) one
               order.pages_within;
-          holds = granted_points n order.statics_within a.maps fs mem s.bytes st a.sp a.stands.stacked a.stands.fits a.stands.holds_blocks d o bytes g.at
-              (fits g.few) which room (room_bound bytes) (room_some bytes) g.lawful counts births alone k live (λ c among. refl) (λ e at i. refl) handle.birth
-              (handle.named g.at) one g.at refl order.pages_within;
+          holds = granted_points n order.statics_within order.stack_within a.maps fs mem s.bytes st a.sp a.stands.stacked a.stands.fits
+              a.stands.holds_blocks d o bytes g.at (fits g.few) which room (room_bound bytes) (room_some bytes) g.lawful counts births alone k live
+              (λ c among. refl) (λ e at i. refl) handle.birth (handle.named g.at) one g.at refl order.pages_within;
         }
 
     refuses_it : (region_alloc h bytes answer st.holdings ≡ refuses Full st.holdings) ⊎ (region_alloc h bytes answer st.holdings ≡ refuses NoMemory st.holdings)

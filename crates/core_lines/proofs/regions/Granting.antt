@@ -11,6 +11,7 @@ use Rattle.arena_laws.specs.Holdings.{Holdings, arena_base}
 use Rattle.arena_laws.specs.Lawful.{is_clear, is_in_room, is_lawful_room, owns}
 use Rattle.arena_laws.proofs.Rooms.{outside}
 use Rattle.arena_laws.proofs.Classes.{class_is}
+use Rattle.rv32_machine.specs.Arrays.{longest_stack}
 use Rattle.rv32_machine.specs.State.{Areas}
 use Rattle.core_meaning.specs.Memory.{Region, Frame, Own, Born, Single, Content, Part, Memory, is_live, first_spot, with_object}
 use Rattle.core_meaning.specs.Operations.{too_far}
@@ -85,7 +86,8 @@ is_room s at room e =
 
 -- ---- a grant
 
-module _ (n : Areas) (few : n.statics ≤ 2 ^ 20) (m : Maps) (fs : List Activation) (mem : Memory) (b : ℕ → ℕ) (st : Store) (sp : ℕ) (stacked : Stacked sp fs)
+module _ (n : Areas) (few : n.statics ≤ 2 ^ 20) (within : n.stack ≤ longest_stack)
+    (m : Maps) (fs : List Activation) (mem : Memory) (b : ℕ → ℕ) (st : Store) (sp : ℕ) (stacked : Stacked n sp fs)
     (f : Fits n m fs mem b st) (holds_blocks : HoldsBlocks n st) (d : ℕ) (o : ℕ → ℕ → Option Part) (bytes x : ℕ) (fits : ObjectFits o bytes) (who : Owner)
     (room : ℕ) (bound : bytes ≤ room) (some_room : 1 ≤ room) (lawful : is_lawful_room st.holdings x room ≡ true) (counts : Counts) (births : ℕ) (alone : ℕ → ℕ)
     (k : Known m mem (record st { ledger = record st.ledger { births = births } })) (live : is_live (mem.standing (Born d)) ≡ true)
@@ -131,9 +133,15 @@ module _ (n : Areas) (few : n.statics ≤ 2 ^ 20) (m : Maps) (fs : List Activati
 
   region_away : (r : Region) (at width : ℕ) → 1 ≤ width → CellGround n fs st r at width → (at + width ≤ x) ⊎ (x + bytes ≤ at)
   region_away (Frame q) at width some g =
-      let end = (inside sp fs g.frame stacked g.inside.among).high in let high = g.inside.high in let low = its_room.low in inl (omega (arith, end, high, low))
+      let end = (inside n sp fs g.frame stacked g.inside.among).high in
+      let high = g.inside.high in
+      let low = its_room.low in
+      inl (omega (arith, end, high, low, within))
   region_away (Own q) at width some g =
-      let end = (inside sp fs g.frame stacked g.inside.among).high in let high = g.inside.high in let low = its_room.low in inl (omega (arith, end, high, low))
+      let end = (inside n sp fs g.frame stacked g.inside.among).high in
+      let high = g.inside.high in
+      let low = its_room.low in
+      inl (omega (arith, end, high, low, within))
   region_away (Born q) at width some (inl g) = let high = g.high in let low = its_room.low in inl (omega (arith, high, low, few))
   region_away (Born q) at width some (inr g) = block_away g.block g.among at width some g.low g.high
 
@@ -142,10 +150,10 @@ module _ (n : Areas) (few : n.statics ≤ 2 ^ 20) (m : Maps) (fs : List Activati
     where
       by : (y : Name) → 1 ≤ width → Ground n fs st y at width → (at + width ≤ x) ⊎ (x + bytes ≤ at)
       by (Slot g j) some gr =
-          let end = (inside sp fs gr.frame stacked gr.inside.among).high in
+          let end = (inside n sp fs gr.frame stacked gr.inside.among).high in
           let high = gr.inside.high in
           let low = its_room.low in
-          inl (omega (arith, end, high, low))
+          inl (omega (arith, end, high, low, within))
       by (Cell s j) some gr = region_away s.region at width some gr
 
   region_on : (r : Region) (at width : ℕ) → CellGround n fs st r at width → CellGround n fs granting r at width

@@ -137,7 +137,7 @@ module _ (w : World) (order : IsInOrder w) (x : Waiting) (outer : List Waiting) 
       let bytes = saturated (count * l.bytes) in
       let v = Pointer (first_spot c.memory (Born d)) 0 in
       let m = with_object c.memory (Born d) o in
-      let fits : bytes ≤ 4096 → ObjectFits o bytes =
+      let fits : bytes ≤ 1048576 → ObjectFits o bytes =
       λ few. subst (ObjectFits o) (sym (saturated_is (count * l.bytes) (omega (arith, few)))) (object_fits l count ok) in
       let lines = first ++ second ++ third in
       let rest = next (with_temp t v (with_memory m c)) in

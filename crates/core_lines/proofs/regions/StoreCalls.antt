@@ -1,5 +1,5 @@
 -- A call that the store answers, from the environment's call on: the machine goes on with what the store holds then, or the run is cut.
-use Rattle.std.proofs.Common.{◌≡◌, ℕ, ◌+◌, ◌^◌, ◌<◌, ◌⊎◌, inl, inr, ⊎_elim, Bool, true, false, List, [], ◌∷◌, ◌++◌, Some, Ok, refl, sym, subst, ◌∙◌, arith}
+use Rattle.std.proofs.Common.{◌≡◌, ℕ, ◌+◌, ◌^◌, ◌<◌, ◌⊎◌, inl, inr, ⊎_elim, Bool, true, false, List, [], ◌∷◌, ◌++◌, Some, Ok, refl, sym, ap, subst, ◌∙◌, arith}
 use Rattle.cyc_words.specs.Events as events
 use Rattle.arena_laws.specs.declared.refusal.StoreRefusal.TheVariants.{Full, Memory as NoMemory}
 use Rattle.arena_laws.specs.Asked.{Asked, lawfully, gives_number}
@@ -7,9 +7,10 @@ use Rattle.arena_laws.specs.Holdings.{Holdings}
 use Rattle.arena_laws.specs.Lawful.{Answer, Done, refuses}
 use Rattle.rv32_isa.specs.declared.instruction.Instr.TheVariants.{Ecall}
 use Rattle.rv32_machine.specs.State.{State, Areas, Runs, code_base, set_register}
-use Rattle.rv32_machine.specs.Step.{Stepped, Nothing, Says as Told, goes_on, asks, calls, step}
+use Rattle.rv32_machine.specs.Step.{Stepped, Nothing, Says as Told, goes_on, concludes, asks, calls, step}
 use Rattle.rv32_machine.specs.Ledger.{event_of, entered, request_of}
 use Rattle.rv32_machine.specs.Implements.{IsRequested}
+use Rattle.rv32_machine.proofs.Handed.{handed_does}
 use Rattle.step_trees.specs.Trees.{Says}
 use Rattle.core_meaning.specs.Memory.{Content, Memory}
 use Rattle.core_meaning.specs.Steps.{Step, Visible}
@@ -98,7 +99,7 @@ module _ (w : World) (order : IsInOrder w) (x : Waiting) (outer : List Waiting) 
   }
 
   module _ (number : ℕ) (small : number < 2 ^ 32) (asked : ℕ → ℕ → Asked) (e : events.Event) (P Q : Maps → (ℕ → ℕ) → Type 0)
-      (calls_it : (answer : Answer) (a b : ℕ) (s : State) → calls w.areas answer number a b s ≡ asks answer (asked a b) s)
+      (calls_it : (answer : Answer) (a b : ℕ) (s : State) → calls w.areas answer number a b s ≡ asks w.areas answer (asked a b) s)
       (answered : (place : ℕ) (s : Machine) (a : AtWith w x outer mem place (λ m registers. (registers 17 ≡ number) × P m registers) s) (answer : Answer)
       → Carries w.areas a.maps (a.frame ∷ a.others) mem mem' s.bytes s.registers s.store (asked (s.registers 10) (s.registers 11)) answer e Q
       ⊎ IsRefusing s.store (asked (s.registers 10) (s.registers 11)) answer e) where
@@ -119,8 +120,9 @@ module _ (w : World) (order : IsInOrder w) (x : Waiting) (outer : List Waiting) 
         abbrev done : Done
         done = lawfully what (answers 0) s.store.holdings
 
-        called : step w.areas (answers 0) (state_of t) ≡ asks (answers 0) what (state_of t)
+        called : step w.areas (answers 0) (state_of t) ≡ concludes what done.after done.says (state_of t)
         called = call_is w order x outer mem place has P number s a (answers 0) ∙ calls_it (answers 0) (s.registers 10) (s.registers 11) (state_of t)
+            ∙ ap (λ (d : Done). concludes what d.after d.says (state_of t)) (handed_does w.areas order.blocks what (answers 0) s.store.holdings)
 
         concluded : (gives : Bool) (given : ℕ) (held : Holdings) (result : Stepped)
             → result ≡ record { shown = Nothing; told = Told what (Ok given); state = record (goes_on gives given (state_of t)) { holdings = held } }
@@ -213,7 +215,7 @@ Free m registers = Unit {0}
 -- a call with a temporary as its argument, of whose number no more is needed
 pub passed_goes : (w : World) (order : IsInOrder w) (x : Waiting) (outer : List Waiting) (mem mem' : Memory) (number : ℕ) → number < 2 ^ 32
     → (asked : ℕ → Asked) (e : events.Event) (v : Content)
-    → ((answer : Answer) (a b : ℕ) (s : State) → calls w.areas answer number a b s ≡ asks answer (asked a) s)
+    → ((answer : Answer) (a b : ℕ) (s : State) → calls w.areas answer number a b s ≡ asks w.areas answer (asked a) s)
     → ((place : ℕ) (s : Machine) (a : AtWith w x outer mem place (λ m registers. (registers 17 ≡ number) × InRegister 10 v m registers) s) (answer : Answer)
     → Carries w.areas a.maps (a.frame ∷ a.others) mem mem' s.bytes s.registers s.store (asked (s.registers 10)) answer e Free)
     → (most : ℕ) (active : List (List ℕ)) (rest : Step) (t place : ℕ) → t < x.fn.temporaries → IsKept w x t → x.config.temps t ≡ v

@@ -32,7 +32,7 @@ use Rattle.std.proofs.lemmas.Bool.{ltb-false, eq-eqb}
 use Rattle.cyc_words.specs.Events as events
 use Rattle.arena_laws.specs.declared.refusal.StoreRefusal.TheVariants.{Full, NotABlock, Memory as NoMemory}
 use Rattle.arena_laws.specs.Asked.{UniqueAlloc, UniqueFree}
-use Rattle.arena_laws.specs.Counts.{is_too_long, class_of}
+use Rattle.arena_laws.specs.Counts.{is_too_long_alone, class_of}
 use Rattle.arena_laws.specs.Holdings.{Holdings}
 use Rattle.arena_laws.specs.Lawful.{Answer, Grants, Refuses, Lacks, Done, refuses, is_lawful_room, with_alone, gives_alone, unique_alloc, without_alone, frees_alone}
 use Rattle.step_trees.specs.Trees.{Says}
@@ -65,7 +65,7 @@ pub record IsAlone (bytes : ℕ) (s : Holdings) (done : Done) : Type 0 where
 -- or has none, or no host memory
 alone_or_not : (bytes : ℕ) (answer : Answer) (s : Holdings)
     → IsAlone bytes s (unique_alloc bytes answer s) ⊎ ((unique_alloc bytes answer s ≡ refuses Full s) ⊎ (unique_alloc bytes answer s ≡ refuses NoMemory s))
-alone_or_not bytes answer s = by (is_too_long bytes) refl
+alone_or_not bytes answer s = by (is_too_long_alone bytes) refl
   where
     gives : (answer : Answer) (done : Done) → bytes ≤ 4096 → done ≡ gives_alone (class_of bytes) answer s
         → IsAlone bytes s done ⊎ ((done ≡ refuses Full s) ⊎ (done ≡ refuses NoMemory s))
@@ -82,7 +82,7 @@ alone_or_not bytes answer s = by (is_too_long bytes) refl
         })
         of_room false e = inr (inl (is ∙ ap (λ c. if c then record { says = Ok at; after = with_alone at (class_of bytes) s } else refuses Full s) e))
 
-    by : (c : Bool) → is_too_long bytes ≡ c → IsAlone bytes s (unique_alloc bytes answer s) ⊎ ((unique_alloc bytes answer s ≡ refuses Full s)
+    by : (c : Bool) → is_too_long_alone bytes ≡ c → IsAlone bytes s (unique_alloc bytes answer s) ⊎ ((unique_alloc bytes answer s ≡ refuses Full s)
         ⊎ (unique_alloc bytes answer s ≡ refuses NoMemory s))
     by true long = inr (inl (ap (λ c. if c then refuses Full s else gives_alone (class_of bytes) answer s) long))
     by false short = gives answer (unique_alloc bytes answer s) (ltb-false 4096 bytes short)
@@ -120,12 +120,12 @@ module _ (w : World) (order : IsInOrder w) (x : Waiting) (outer : List Waiting) 
           held = with_alone g.at (class_of bytes) st.holdings;
           is = g.is;
           shows = ap (λ d. events.UniqueAlloc d bytes) stands.known.births;
-          maps = single_maps n few a.maps fs mem s.bytes st a.sp stands.stacked stands.fits stands.known stands.holds_blocks o bytes g.at fits g.few g.lawful
-              order.pages_within;
-          changed = single_born n few a.maps fs mem s.bytes st a.sp stands.stacked stands.fits stands.known stands.holds_blocks o bytes g.at fits g.few g.lawful
-              order.pages_within;
-          holds = single_points n few a.maps fs mem s.bytes st a.sp stands.stacked stands.fits stands.known stands.holds_blocks o bytes g.at fits g.few g.lawful
-              order.pages_within g.at refl;
+          maps = single_maps n few order.stack_within a.maps fs mem s.bytes st a.sp stands.stacked stands.fits stands.known stands.holds_blocks o
+              bytes g.at fits g.few g.lawful order.pages_within;
+          changed = single_born n few order.stack_within a.maps fs mem s.bytes st a.sp stands.stacked stands.fits stands.known stands.holds_blocks o
+              bytes g.at fits g.few g.lawful order.pages_within;
+          holds = single_points n few order.stack_within a.maps fs mem s.bytes st a.sp stands.stacked stands.fits stands.known stands.holds_blocks o
+              bytes g.at fits g.few g.lawful order.pages_within g.at refl;
         }
 
     refuses_it : (unique_alloc bytes answer st.holdings ≡ refuses Full st.holdings) ⊎ (unique_alloc bytes answer st.holdings ≡ refuses NoMemory st.holdings)

@@ -8,6 +8,7 @@ use Rattle.arena_laws.specs.declared.owner.Owner.TheVariants as owner
 use Rattle.arena_laws.specs.Blocks.{Block}
 use Rattle.arena_laws.specs.Counts.{put, class_of, with_slot}
 use Rattle.arena_laws.specs.Lawful.{is_lawful_room, with_alone}
+use Rattle.rv32_machine.specs.Arrays.{longest_stack}
 use Rattle.rv32_machine.specs.State.{Areas}
 use Rattle.core_meaning.specs.Memory.{Born, Single, Pointer, Part, Memory, is_live, same_region, with_object}
 use Rattle.core_meaning.specs.Operations.{born}
@@ -18,7 +19,8 @@ use Rattle.core_lines.proofs.memory.Growing.{placed, ObjectFits}
 use Rattle.core_lines.proofs.memory.Knowing.{no_parts}
 use Rattle.core_lines.proofs.regions.Granting.{class_bound, class_some, is_room, granted, granted_points}
 
-module _ (n : Areas) (few : n.statics ≤ 2 ^ 20) (m : Maps) (fs : List Activation) (mem : Memory) (b : ℕ → ℕ) (st : Store) (sp : ℕ) (stacked : Stacked sp fs)
+module _ (n : Areas) (few : n.statics ≤ 2 ^ 20) (within : n.stack ≤ longest_stack)
+    (m : Maps) (fs : List Activation) (mem : Memory) (b : ℕ → ℕ) (st : Store) (sp : ℕ) (stacked : Stacked n sp fs)
     (f : Fits n m fs mem b st) (k : Known m mem st) (holds_blocks : HoldsBlocks n st) where
   abbrev d : ℕ
   d = mem.births
@@ -158,7 +160,7 @@ module _ (n : Areas) (few : n.statics ≤ 2 ^ 20) (m : Maps) (fs : List Activati
     single_maps = placed (Born d) (mem.objects (Born d)) x m
 
     grown : Changed n m single_maps fs begun (with_object begun (Born d) o) b single_store
-    grown = granted n few m fs begun b st sp stacked begun_fits holds_blocks d o bytes x fits (owner.Alone x room) room (class_bound bytes short)
+    grown = granted n few within m fs begun b st sp stacked begun_fits holds_blocks d o bytes x fits (owner.Alone x room) room (class_bound bytes short)
         (class_some bytes) lawful (with_slot room st.holdings.counts) births alone begun_known live still
         (λ e at i. alone_other at (owner.Alone at i.room) i.owned) its_birth refl one few_pages
 
@@ -173,6 +175,6 @@ module _ (n : Areas) (few : n.statics ≤ 2 ^ 20) (m : Maps) (fs : List Activati
     pub single_points : (v : ℕ) → v ≡ x → Shows single_maps (Pointer (record { region = Born d; object = 0; cell = 0 }) 0) v × (v < 2 ^ 32)
     single_points v same =
         subst (λ c. Shows single_maps (Pointer (record { region = Born d; object = c; cell = 0 }) 0) v × (v < 2 ^ 32)) no_objects
-        (granted_points n few m fs begun b st sp stacked begun_fits holds_blocks d o bytes x fits (owner.Alone x room) room (class_bound bytes short)
+        (granted_points n few within m fs begun b st sp stacked begun_fits holds_blocks d o bytes x fits (owner.Alone x room) room (class_bound bytes short)
         (class_some bytes) lawful (with_slot room st.holdings.counts) births alone begun_known live still
         (λ e at i. alone_other at (owner.Alone at i.room) i.owned) its_birth refl one v same few_pages)

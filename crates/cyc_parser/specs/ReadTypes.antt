@@ -66,16 +66,21 @@ base_behind _ = done Int
 unfoldable pub base : Tokens → Outcome Base
 base = read (token begins_type) (λ t. base_behind t.kind)
 
+-- "{" Num "}", how many elements a pointer points to; 1 where no such number is written
+unfoldable pub pointee_count : Tokens → Outcome ℕ
+pointee_count =
+    choose (is_sign sign_of.LeftBrace) (read (sign sign_of.LeftBrace) (λ _. read number (λ n. read (sign sign_of.RightBrace) (λ _. done n.0)))) (done 1)
+
 -- what may stand behind `*`
 unfoldable pub qualified : Tokens → Outcome PointerSign
 qualified =
-    choose (is_sign sign_of.NotNull) (read (sign sign_of.NotNull) (λ _. done pointer_sign.NotNull))
+    choose (is_sign sign_of.NotNull) (read (sign sign_of.NotNull) (λ _. read pointee_count (λ n. done (pointer_sign.NotNull n))))
     (choose (is_sign sign_of.FatSign) (read (sign sign_of.FatSign) (λ _. done pointer_sign.Fat))
-    (choose (is_sign sign_of.Thin) (read (sign sign_of.Thin) (λ _. done pointer_sign.Nullable)) (done pointer_sign.Nullable)))
+    (choose (is_sign sign_of.Thin) (read (sign sign_of.Thin) (λ _. done (pointer_sign.Nullable 1))) (read pointee_count (λ n. done (pointer_sign.Nullable n)))))
 
 abbrev pub pointer_sign_behind : TokenKind → Tokens → Outcome PointerSign
 pointer_sign_behind (kind.Sign sign_of.Star) = qualified
-pointer_sign_behind (kind.Sign sign_of.At) = done pointer_sign.NotNull
+pointer_sign_behind (kind.Sign sign_of.At) = read pointee_count (λ n. done (pointer_sign.NotNull n))
 pointer_sign_behind _ = done pointer_sign.Fat
 
 unfoldable pub pointer_sign_read : Tokens → Outcome PointerSign

@@ -3,7 +3,7 @@
 ghost use Rattle.std.specs.Prelude.{◌≡◌, ◌<◌, ◌≤◌, Ok, OnOk, length, map};
 ghost use Rattle.cyc_tree.specs.View.{region_tree, base_tree, pointer_tree, type_tree, member_tree};
 ghost use Rattle.cyc_parser.specs.Reader.{Gives};
-ghost use Rattle.cyc_parser.specs.ReadTypes.{base as base_at, qualified as qualified_at, pointer_sign_read, pointer as pointer_at, pointers as pointers_at, type_name as type_name_at, typed_name as typed_name_at};
+ghost use Rattle.cyc_parser.specs.ReadTypes.{base as base_at, pointee_count as pointee_count_at, qualified as qualified_at, pointer_sign_read, pointer as pointer_at, pointers as pointers_at, type_name as type_name_at, typed_name as typed_name_at};
 ghost use Rattle.cyc_parser.specs.ReadTypes.{one_region as one_region_at, regions as regions_at, region_list as region_list_at};
 
 use crate::cursor::Cursor;
@@ -92,7 +92,7 @@ fn pointer(alloc: Global, cursor: &mut Cursor<'_, '_>) -> Parsed<Pointer>
     Ok(Pointer { sign, region })
 }
 
-/// Reads a pointer's sign.
+/// Reads a pointer's sign, with the number of elements that it points to.
 #[tactic(auto, unfolding(crate::specs::ReadTypes::pointer_sign_read))]
 fn pointer_sign(cursor: &mut Cursor<'_, '_>) -> Parsed<cyc_tree::Sign>
     ensures reads { Gives (λ sign. sign) result cursor.new (pointer_sign_read cursor.old) }
@@ -100,27 +100,42 @@ fn pointer_sign(cursor: &mut Cursor<'_, '_>) -> Parsed<cyc_tree::Sign>
 {
     let token = cursor.read()?;
     match token.kind {
-        TokenKind::Sign(Sign::Star) => Ok(qualified(cursor)),
-        TokenKind::Sign(Sign::At) => Ok(cyc_tree::Sign::NotNull),
+        TokenKind::Sign(Sign::Star) => qualified(cursor),
+        TokenKind::Sign(Sign::At) => Ok(cyc_tree::Sign::NotNull(pointee_count(cursor)?)),
         TokenKind::Sign(Sign::Question) => Ok(cyc_tree::Sign::Fat),
         _ => Err(ParseFault::Parse(token.at)),
     }
 }
 
-/// Reads the word that may stand after `*`, and answers the sign that the two make.
+/// Reads the word and the number that may stand after `*`, and answers the sign that they make.
 #[tactic(auto, unfolding(crate::specs::ReadTypes::qualified))]
-fn qualified(cursor: &mut Cursor<'_, '_>) -> cyc_tree::Sign
-    ensures reads { qualified_at cursor.old ≡ Ok (result, cursor.new) }
-    ensures shorter { length cursor.new ≤ length cursor.old }
+fn qualified(cursor: &mut Cursor<'_, '_>) -> Parsed<cyc_tree::Sign>
+    ensures reads { Gives (λ sign. sign) result cursor.new (qualified_at cursor.old) }
+    ensures shorter { OnOk result (length cursor.new ≤ length cursor.old) }
 {
     if cursor.eat(Sign::NotNull) {
-        cyc_tree::Sign::NotNull
+        Ok(cyc_tree::Sign::NotNull(pointee_count(cursor)?))
     } else if cursor.eat(Sign::FatSign) {
-        cyc_tree::Sign::Fat
+        Ok(cyc_tree::Sign::Fat)
+    } else if cursor.eat(Sign::Thin) {
+        Ok(cyc_tree::Sign::Nullable(1))
     } else {
-        cursor.eat(Sign::Thin);
-        cyc_tree::Sign::Nullable
+        Ok(cyc_tree::Sign::Nullable(pointee_count(cursor)?))
     }
+}
+
+/// Reads the number of elements that a pointer points to, in braces, where it is written. It is 1 where it isn't.
+#[tactic(auto, unfolding(crate::specs::ReadTypes::pointee_count))]
+fn pointee_count(cursor: &mut Cursor<'_, '_>) -> Parsed<u32>
+    ensures reads { Gives (λ count. count) result cursor.new (pointee_count_at cursor.old) }
+    ensures shorter { OnOk result (length cursor.new ≤ length cursor.old) }
+{
+    if !cursor.eat(Sign::LeftBrace) {
+        return Ok(1);
+    }
+    let (count, _) = cursor.number()?;
+    cursor.sign(Sign::RightBrace)?;
+    Ok(count)
 }
 
 /// Reads a region name in angle brackets.

@@ -87,19 +87,19 @@ prefix_inj x y p = apart (gcons (gnum (prefix_number x)) gnil) (gcons (gnum (pre
 abbrev pub coded_prefix : Coded Prefix
 coded_prefix = record { code = λ x. gcons (gnum (prefix_number x)) gnil; inj = prefix_inj }
 
-abbrev pub sign_number : Sign → ℕ
-sign_number Nullable = 0
-sign_number NotNull = 1
-sign_number Fat = 2
+abbrev pub sign_code : Sign → Gv
+sign_code (Nullable count) = gcons (gnum 0) (coded_ℕ.code count)
+sign_code (NotNull count) = gcons (gnum 1) (coded_ℕ.code count)
+sign_code Fat = gcons (gnum 2) gnil
 
-pub sign_inj : (x y : Sign) → gcons (gnum (sign_number x)) gnil ≡ gcons (gnum (sign_number y)) gnil → x ≡ y
-sign_inj Nullable Nullable p = refl
-sign_inj NotNull NotNull p = refl
+pub sign_inj : (x y : Sign) → sign_code x ≡ sign_code y → x ≡ y
+sign_inj (Nullable m) (Nullable n) p = λ i. Nullable (coded_ℕ.inj m n (ap (λ g. tail g) p) i)
+sign_inj (NotNull m) (NotNull n) p = λ i. NotNull (coded_ℕ.inj m n (ap (λ g. tail g) p) i)
 sign_inj Fat Fat p = refl
-sign_inj x y p = apart (gcons (gnum (sign_number x)) gnil) (gcons (gnum (sign_number y)) gnil) p refl
+sign_inj x y p = apart (sign_code x) (sign_code y) p refl
 
 abbrev pub coded_sign : Coded Sign
-coded_sign = record { code = λ x. gcons (gnum (sign_number x)) gnil; inj = sign_inj }
+coded_sign = record { code = sign_code; inj = sign_inj }
 
 abbrev pub coded_name : Coded Name
 coded_name =

@@ -78,10 +78,10 @@ impl Drop for Base {
 /// The sign of a pointer.
 #[derive(Clone, Copy, Debug)]
 pub enum Sign {
-    /// `*`: thin, may be NULL.
-    Nullable,
-    /// `@`: thin, never NULL.
-    NotNull,
+    /// `*`, `*{n}`: thin, may be NULL; to how many elements, 1 where no number is written.
+    Nullable(u32),
+    /// `@`, `@{n}`: thin, never NULL; to how many elements, 1 where no number is written.
+    NotNull(u32),
     /// `?`: fat.
     Fat,
 }

@@ -1,12 +1,13 @@
 -- The grammar of types. A line in quotes is the production that the definition restates.
-use Rattle.std.specs.Prelude.{◌≡◌, ◌⊎◌, List, [], ◌∷◌, Option, Some, None}
+use Rattle.std.specs.Prelude.{◌≡◌, ◌⊎◌, ℕ, Bool, List, [], ◌∷◌, Option, Some, None}
 use Rattle.cyc_lexer.specs.declared.token.Keyword.TheVariants as word
 use Rattle.cyc_lexer.specs.declared.token.Sign.{Sign}
+use Rattle.cyc_lexer.specs.declared.token.TokenKind.TheVariants as kind
 use Rattle.cyc_lexer.specs.declared.token.Sign.TheVariants as sign
 use Rattle.cyc_tree.specs.declared.name.Sign as tree_sign
 use Rattle.cyc_tree.specs.declared.name.Sign.TheVariants as pointer_sign
 use Rattle.cyc_tree.specs.Tree.{RegionName, Base, Int, Unsigned, Char, Void, Struct, Union, Handle, Key, Pointer, TypeName, Member}
-use Rattle.source_grammar.specs.Phrases.{Tokens, IsKeyword, IsSign, IsName, IsRegion, StartsAt, Each, Listed}
+use Rattle.source_grammar.specs.Phrases.{Tokens, IsOne, IsKeyword, IsSign, IsName, IsRegion, StartsAt, Each, Listed}
 
 -- regs = "<" Rg { "," Rg } ">", or nothing
 abbrev pub AreRegions : List RegionName → Tokens → Tokens → Type 0
@@ -32,10 +33,22 @@ IsBase (Key region) from to = (a : Tokens) × IsKeyword word.UregionKeyT from a 
 abbrev pub AreSigns : (first second : Sign) → Tokens → Tokens → Type 0
 AreSigns first second from to = (a : Tokens) × IsSign first from a × IsSign second a to
 
--- "*" [ "@notnull" | "@fat" | "@thin" ] | "@" | "?"
+-- "{" Num "}"
+abbrev pub IsCount : ℕ → Tokens → Tokens → Type 0
+IsCount count from to =
+    (a : Tokens) × (b : Tokens) × (suffix : Bool) × (at : ℕ) × IsSign sign.LeftBrace from a × IsOne (kind.Number count suffix) at a b
+    × IsSign sign.RightBrace b to
+
+-- [ "{" Num "}" ], which is 1 where it isn't there
+abbrev pub MayBeCount : ℕ → Tokens → Tokens → Type 0
+MayBeCount count from to = IsCount count from to ⊎ ((count ≡ 1) × (from ≡ to))
+
+-- "*" [ "@thin" | "@fat" | [ "@notnull" ] "{" Num "}" | "@notnull" ] | "@" [ "{" Num "}" ] | "?"
 abbrev pub IsPointerSign : tree_sign.Sign → Tokens → Tokens → Type 0
-IsPointerSign pointer_sign.Nullable from to = IsSign sign.Star from to ⊎ AreSigns sign.Star sign.Thin from to
-IsPointerSign pointer_sign.NotNull from to = IsSign sign.At from to ⊎ AreSigns sign.Star sign.NotNull from to
+IsPointerSign (pointer_sign.Nullable count) from to =
+    ((a : Tokens) × IsSign sign.Star from a × MayBeCount count a to) ⊎ ((count ≡ 1) × AreSigns sign.Star sign.Thin from to)
+IsPointerSign (pointer_sign.NotNull count) from to =
+    ((a : Tokens) × IsSign sign.At from a × MayBeCount count a to) ⊎ ((a : Tokens) × AreSigns sign.Star sign.NotNull from a × MayBeCount count a to)
 IsPointerSign pointer_sign.Fat from to = IsSign sign.Question from to ⊎ AreSigns sign.Star sign.FatSign from to
 
 -- [Rg]
@@ -43,7 +56,7 @@ abbrev pub MayBeRegion : Option RegionName → Tokens → Tokens → Type 0
 MayBeRegion None from to = from ≡ to
 MayBeRegion (Some r) from to = IsRegion r from to
 
--- ptr = ( "*" [ "@notnull" | "@fat" | "@thin" ] | "@" | "?" ) [Rg]
+-- ptr = ( "*" [ "@thin" | "@fat" | [ "@notnull" ] "{" Num "}" | "@notnull" ] | "@" [ "{" Num "}" ] | "?" ) [Rg]
 abbrev pub IsPointer : Pointer → Tokens → Tokens → Type 0
 IsPointer p from to = (a : Tokens) × IsPointerSign p.sign from a × MayBeRegion p.region a to
 

@@ -1,5 +1,5 @@
 -- Phrases take tokens: so many fewer are left behind each.
-use Rattle.std.proofs.Common.{◌≡◌, ◌⊎◌, ℕ, suc, ◌≤◌, List, [], ◌∷◌, length, Option, Some, None, ap, inl, inr, ⊎_elim, arith}
+use Rattle.std.proofs.Common.{◌≡◌, ℕ, suc, ◌≤◌, List, [], ◌∷◌, length, Option, Some, None, ap, inl, inr, ⊎_elim, arith}
 use Rattle.cyc_lexer.specs.declared.token.Keyword.{Keyword}
 use Rattle.cyc_lexer.specs.declared.token.Sign.{Sign}
 use Rattle.cyc_lexer.specs.declared.token.Sign.TheVariants as sign
@@ -8,7 +8,7 @@ use Rattle.cyc_tree.specs.declared.name.Sign as tree_sign
 use Rattle.cyc_tree.specs.declared.name.Sign.TheVariants as pointer_sign
 use Rattle.cyc_tree.specs.Tree.{Name, RegionName, Heap, Unique, Named, Base, Int, Unsigned, Char, Void, Struct, Union, Handle, Key, Pointer, TypeName}
 use Rattle.source_grammar.specs.Phrases.{Tokens, IsOne, IsKeyword, IsSign, IsName, IsString, IsRegion, Each, Behind, Listed}
-use Rattle.source_grammar.specs.TypeGrammar.{AreRegions, IsOneRegion, IsBase, AreSigns, IsPointerSign, MayBeRegion, IsPointer, IsType}
+use Rattle.source_grammar.specs.TypeGrammar.{AreRegions, IsOneRegion, IsBase, AreSigns, MayBeCount, IsPointerSign, MayBeRegion, IsPointer, IsType}
 
 -- ---- single tokens
 
@@ -83,15 +83,20 @@ base_shorter (Union tag arguments) from to (a, b, word, name, are) =
 base_shorter (Handle region) from to (a, word, is) = omega (arith, keyword_taken word, one_region_shorter region a to is)
 base_shorter (Key region) from to (a, word, is) = omega (arith, keyword_taken word, one_region_shorter region a to is)
 
--- one sign, or two
-sign_shorter : {s first second : Sign} {from to : Tokens} → IsSign s from to ⊎ AreSigns first second from to → length to ≤ length from
-sign_shorter (inl is) = omega (arith, sign_taken is)
-sign_shorter (inr (a, one, other)) = omega (arith, sign_taken one, sign_taken other)
+signs_shorter : {first second : Sign} {from to : Tokens} → AreSigns first second from to → length to ≤ length from
+signs_shorter (a, one, other) = omega (arith, sign_taken one, sign_taken other)
+
+pointee_count_shorter : (count : ℕ) (from to : Tokens) → MayBeCount count from to → length to ≤ length from
+pointee_count_shorter count from to (inl (a, b, suffix, at, opened, is, closed)) = omega (arith, sign_taken opened, one_taken is, sign_taken closed)
+pointee_count_shorter count from to (inr (one, none)) = none_taken none
 
 pointer_sign_shorter : (s : tree_sign.Sign) (from to : Tokens) → IsPointerSign s from to → length to ≤ length from
-pointer_sign_shorter pointer_sign.Nullable from to is = sign_shorter is
-pointer_sign_shorter pointer_sign.NotNull from to is = sign_shorter is
-pointer_sign_shorter pointer_sign.Fat from to is = sign_shorter is
+pointer_sign_shorter (pointer_sign.Nullable count) from to (inl (a, is, counted)) = omega (arith, sign_taken is, pointee_count_shorter count a to counted)
+pointer_sign_shorter (pointer_sign.Nullable count) from to (inr (one, are)) = signs_shorter are
+pointer_sign_shorter (pointer_sign.NotNull count) from to (inl (a, is, counted)) = omega (arith, sign_taken is, pointee_count_shorter count a to counted)
+pointer_sign_shorter (pointer_sign.NotNull count) from to (inr (a, are, counted)) = omega (arith, signs_shorter are, pointee_count_shorter count a to counted)
+pointer_sign_shorter pointer_sign.Fat from to (inl is) = omega (arith, sign_taken is)
+pointer_sign_shorter pointer_sign.Fat from to (inr are) = signs_shorter are
 
 may_be_region_shorter : (r : Option RegionName) (from to : Tokens) → MayBeRegion r from to → length to ≤ length from
 may_be_region_shorter None from to is = none_taken is

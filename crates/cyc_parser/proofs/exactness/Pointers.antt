@@ -1,5 +1,5 @@
 -- The readers of pointers are exact.
-use Rattle.std.proofs.Common.{◌≡◌, ℕ, Bool, true, false, not, ◌||◌, List, [], ◌∷◌, Option, Some, None, refl, inl, inr}
+use Rattle.std.proofs.Common.{◌≡◌, ℕ, Bool, true, false, not, ◌||◌, List, [], ◌∷◌, Option, Some, None, refl, sym, ap, subst, inl, inr}
 use Rattle.cyc_lexer.specs.Lexing.{Token}
 use Rattle.cyc_lexer.specs.declared.token.Sign.{Sign}
 use Rattle.cyc_lexer.specs.declared.token.Sign.TheVariants as sign_of
@@ -9,21 +9,46 @@ use Rattle.cyc_tree.specs.declared.name.Sign.{Sign as PointerSign}
 use Rattle.cyc_tree.specs.declared.name.Sign.TheVariants as pointer_sign
 use Rattle.cyc_tree.specs.Tree.{RegionName, Pointer}
 use Rattle.source_grammar.specs.Phrases.{Tokens, SignAt, IsRegion, Each}
-use Rattle.source_grammar.specs.TypeGrammar.{IsPointerSign, MayBeRegion, IsPointer}
+use Rattle.source_grammar.specs.TypeGrammar.{MayBeCount, IsPointerSign, MayBeRegion, IsPointer}
 use Rattle.cyc_parser.specs.Tests.{is_sign, is_region, is_identifier, begins_pointer}
 use Rattle.cyc_parser.specs.Reader.{done, read, token, sign, next_is}
-use Rattle.cyc_parser.specs.ReadTypes.{qualified, pointer_sign_behind, pointer_sign_read, pointer, pointers}
+use Rattle.cyc_parser.specs.ReadTypes.{pointee_count, qualified, pointer_sign_behind, pointer_sign_read, pointer, pointers}
 use Rattle.cyc_parser.specs.Exact.{nowhere, Exact, Anything, ends, always, Stops, IsToken, IsDone, Then, Either, Whole}
 use Rattle.cyc_parser.proofs.Exact.{token_exact, done_exact, exact_as, exact_wider}
-use Rattle.cyc_parser.proofs.exactness.Composed.{begins_with, begins_stops, stops_at, stops_behind, then_exact, meets_exact, either_exact, option_exact, finish, ends_wider}
-use Rattle.cyc_parser.proofs.exactness.Tokens.{sign_exact, region_exact}
+use Rattle.cyc_parser.proofs.exactness.Composed.{begins_with, begins_stops, stops_at, stops_behind, then_exact, meets_exact, either_exact, option_exact}
+use Rattle.cyc_parser.proofs.exactness.Composed.{Made, image_exact, finish, ends_wider}
+use Rattle.cyc_parser.proofs.exactness.Tokens.{sign_exact, region_exact, IsNumber, number_exact}
 use Rattle.cyc_parser.proofs.exactness.Listed.{each_exact}
 use Rattle.cyc_parser.proofs.exactness.Regions.{region_begins}
+
+-- ---- how many elements a pointer points to
+
+abbrev InBraces : Bool → ℕ → Tokens → Tokens → Type 0
+InBraces = Then (Whole (SignAt sign_of.LeftBrace)) (λ _. Then (Whole IsNumber) (λ n. Then (Whole (SignAt sign_of.RightBrace)) (λ _. IsDone n.0)))
+
+count_into : (b : Bool) (n : ℕ) (from to : Tokens) → Either InBraces (IsDone 1) b n from to → MayBeCount n from to
+count_into b n from to (inl w) =
+    finish (λ n to. MayBeCount n from to) w.3.3.3 (inl (w.1, w.3.1, w.3.0.1, w.3.2.0, (w.0, w.2), w.3.2.1, (w.3.3.0, w.3.3.2)))
+count_into b n from to (inr d) = inr d
+
+count_back : (b : Bool) (n : ℕ) (from to : Tokens) → MayBeCount n from to → Either InBraces (IsDone 1) b n from to
+count_back b n from to (inl w) = inl (w.4.0, w.0, w.4.1, ((n, w.2), w.1, (w.3, w.5), (w.6.0, to, w.6.1, (refl, refl))))
+count_back b n from to (inr d) = inr d
+
+pointee_count_exact : Exact Anything (Whole MayBeCount) (always (is_sign sign_of.LeftBrace)) pointee_count
+unfolding pointee_count
+pointee_count_exact =
+    exact_as Anything (Either InBraces (IsDone 1)) (always (is_sign sign_of.LeftBrace)) _
+    (option_exact (is_sign sign_of.LeftBrace) (always (is_sign sign_of.LeftBrace)) InBraces _
+    (ends_wider InBraces _ (then_exact _ _ (sign_exact sign_of.LeftBrace) _ ends _ (λ _. then_exact _ _ number_exact _ ends _ (λ n.
+    then_exact _ _ (sign_exact sign_of.RightBrace) _ ends _ (λ _. done_exact n.0)))) (always (is_sign sign_of.LeftBrace)))
+    1 (λ b n from to w. begins_with (is_sign sign_of.LeftBrace) from _ _ w.2.1 refl) (λ k h. h))
+    (Whole MayBeCount) count_into count_back
 
 -- ---- what may stand behind `*`
 
 abbrev is_qualifier : TokenKind → Bool
-is_qualifier k = is_sign sign_of.NotNull k || (is_sign sign_of.FatSign k || is_sign sign_of.Thin k)
+is_qualifier k = is_sign sign_of.NotNull k || (is_sign sign_of.FatSign k || (is_sign sign_of.Thin k || is_sign sign_of.LeftBrace k))
 
 not_null_within : (k : TokenKind) → is_sign sign_of.NotNull k ≡ true → is_qualifier k ≡ true
 not_null_within (kind.Sign sign_of.NotNull) h = refl
@@ -37,6 +62,10 @@ thin_within : (k : TokenKind) → is_sign sign_of.Thin k ≡ true → is_qualifi
 thin_within (kind.Sign sign_of.Thin) h = refl
 thin_within _ h = absurd cc
 
+brace_within : (k : TokenKind) → is_sign sign_of.LeftBrace k ≡ true → is_qualifier k ≡ true
+brace_within (kind.Sign sign_of.LeftBrace) h = refl
+brace_within _ h = absurd cc
+
 -- a sign, which means this
 abbrev Means : Sign → PointerSign → Bool → PointerSign → Tokens → Tokens → Type 0
 Means s x = Then (Whole (SignAt s)) (λ _. IsDone x)
@@ -44,36 +73,64 @@ Means s x = Then (Whole (SignAt s)) (λ _. IsDone x)
 means_exact : (s : Sign) (x : PointerSign) → Exact Anything (Means s x) (always is_qualifier) (read (sign s) (λ _. done x))
 means_exact s x = ends_wider (Means s x) _ (then_exact _ _ (sign_exact s) _ ends _ (λ _. done_exact x)) (always is_qualifier)
 
-abbrev ThinOrNone : Bool → PointerSign → Tokens → Tokens → Type 0
-ThinOrNone = Either (Means sign_of.Thin pointer_sign.Nullable) (IsDone pointer_sign.Nullable)
+-- a number of elements, of which this sign is made
+abbrev Counted : (ℕ → PointerSign) → Bool → PointerSign → Tokens → Tokens → Type 0
+Counted f = Made f (Whole MayBeCount)
 
-abbrev FatOrNone : Bool → PointerSign → Tokens → Tokens → Type 0
-FatOrNone = Either (Means sign_of.FatSign pointer_sign.Fat) ThinOrNone
+counted_exact : (f : ℕ → PointerSign) → Exact Anything (Counted f) (always is_qualifier) (read pointee_count (λ n. done (f n)))
+counted_exact f =
+    exact_wider Anything (Counted f) (always (is_sign sign_of.LeftBrace)) (always is_qualifier) _
+    (image_exact (Whole MayBeCount) (is_sign sign_of.LeftBrace) pointee_count pointee_count_exact f) (λ x. brace_within)
+
+-- with a number the next token is `{`, without one it is what stands behind
+not_counted : (test : TokenKind → Bool) → test (kind.Sign sign_of.LeftBrace) ≡ false → ((k : TokenKind) → test k ≡ true → is_qualifier k ≡ true)
+    → (n : ℕ) (from to : Tokens) → MayBeCount n from to → Stops is_qualifier to → next_is test from ≡ false
+not_counted test h within n from to (inl w) s = stops_at test from _ _ w.4.1.1 h
+not_counted test h within n from to (inr d) s = stops_behind test is_qualifier within d.1 s
+
+-- a sign, and a number that may stand behind it
+abbrev CountedBehind : Sign → (ℕ → PointerSign) → Bool → PointerSign → Tokens → Tokens → Type 0
+CountedBehind s f = Then (Whole (SignAt s)) (λ _. Counted f)
+
+counted_behind_exact : (s : Sign) (f : ℕ → PointerSign)
+    → Exact Anything (CountedBehind s f) (always is_qualifier) (read (sign s) (λ _. read pointee_count (λ n. done (f n))))
+counted_behind_exact s f = then_exact _ _ (sign_exact s) _ (always is_qualifier) _ (λ _. counted_exact f)
+
+abbrev ThinOrCount : Bool → PointerSign → Tokens → Tokens → Type 0
+ThinOrCount = Either (Means sign_of.Thin (pointer_sign.Nullable 1)) (Counted pointer_sign.Nullable)
+
+abbrev FatOrThin : Bool → PointerSign → Tokens → Tokens → Type 0
+FatOrThin = Either (Means sign_of.FatSign pointer_sign.Fat) ThinOrCount
 
 abbrev Qualified : Bool → PointerSign → Tokens → Tokens → Type 0
-Qualified = Either (Means sign_of.NotNull pointer_sign.NotNull) FatOrNone
+Qualified = Either (CountedBehind sign_of.NotNull pointer_sign.NotNull) FatOrThin
 
-not_fat : (b : Bool) (x : PointerSign) (from to : Tokens) → ThinOrNone b x from to → Stops is_qualifier to
+not_thin : (b : Bool) (x : PointerSign) (from to : Tokens) → Counted pointer_sign.Nullable b x from to → Stops is_qualifier to
+    → next_is (is_sign sign_of.Thin) from ≡ false
+not_thin b x from to c s = not_counted (is_sign sign_of.Thin) refl thin_within c.0 from to c.2 s
+
+not_fat : (b : Bool) (x : PointerSign) (from to : Tokens) → ThinOrCount b x from to → Stops is_qualifier to
     → next_is (is_sign sign_of.FatSign) from ≡ false
 not_fat b x from to (inl w) s = stops_at (is_sign sign_of.FatSign) from _ _ w.2.1 refl
-not_fat b x from to (inr d) s = stops_behind (is_sign sign_of.FatSign) is_qualifier fat_within d.1 s
+not_fat b x from to (inr c) s = not_counted (is_sign sign_of.FatSign) refl fat_within c.0 from to c.2 s
 
-not_not_null : (b : Bool) (x : PointerSign) (from to : Tokens) → FatOrNone b x from to → Stops is_qualifier to
+not_not_null : (b : Bool) (x : PointerSign) (from to : Tokens) → FatOrThin b x from to → Stops is_qualifier to
     → next_is (is_sign sign_of.NotNull) from ≡ false
 not_not_null b x from to (inl w) s = stops_at (is_sign sign_of.NotNull) from _ _ w.2.1 refl
 not_not_null b x from to (inr (inl w)) s = stops_at (is_sign sign_of.NotNull) from _ _ w.2.1 refl
-not_not_null b x from to (inr (inr d)) s = stops_behind (is_sign sign_of.NotNull) is_qualifier not_null_within d.1 s
+not_not_null b x from to (inr (inr c)) s = not_counted (is_sign sign_of.NotNull) refl not_null_within c.0 from to c.2 s
 
 qualified_exact : Exact Anything Qualified (always is_qualifier) qualified
 unfolding qualified
 qualified_exact =
-    either_exact (is_sign sign_of.NotNull) (always is_qualifier) (Means sign_of.NotNull pointer_sign.NotNull) _
-    (means_exact sign_of.NotNull pointer_sign.NotNull)
-    FatOrNone _ (either_exact (is_sign sign_of.FatSign) (always is_qualifier) (Means sign_of.FatSign pointer_sign.Fat) _
+    either_exact (is_sign sign_of.NotNull) (always is_qualifier) (CountedBehind sign_of.NotNull pointer_sign.NotNull) _
+    (counted_behind_exact sign_of.NotNull pointer_sign.NotNull)
+    FatOrThin _ (either_exact (is_sign sign_of.FatSign) (always is_qualifier) (Means sign_of.FatSign pointer_sign.Fat) _
     (means_exact sign_of.FatSign pointer_sign.Fat)
-    ThinOrNone _ (option_exact (is_sign sign_of.Thin) (always is_qualifier) (Means sign_of.Thin pointer_sign.Nullable) _
-    (means_exact sign_of.Thin pointer_sign.Nullable)
-    pointer_sign.Nullable (λ b x from to w. begins_with (is_sign sign_of.Thin) from _ _ w.2.1 refl) thin_within)
+    ThinOrCount _ (either_exact (is_sign sign_of.Thin) (always is_qualifier) (Means sign_of.Thin (pointer_sign.Nullable 1)) _
+    (means_exact sign_of.Thin (pointer_sign.Nullable 1))
+    (Counted pointer_sign.Nullable) _ (counted_exact pointer_sign.Nullable)
+    (λ b x from to w. begins_with (is_sign sign_of.Thin) from _ _ w.2.1 refl) not_thin)
     (λ b x from to w. begins_with (is_sign sign_of.FatSign) from _ _ w.2.1 refl) not_fat)
     (λ b x from to w. begins_with (is_sign sign_of.NotNull) from _ _ w.2.1 refl) not_not_null
 
@@ -81,26 +138,33 @@ qualified_exact =
 
 abbrev PointerBehind : TokenKind → Bool → PointerSign → Tokens → Tokens → Type 0
 PointerBehind (kind.Sign sign_of.Star) = Qualified
-PointerBehind (kind.Sign sign_of.At) = IsDone pointer_sign.NotNull
+PointerBehind (kind.Sign sign_of.At) = Counted pointer_sign.NotNull
 PointerBehind _ = IsDone pointer_sign.Fat
 
 pointer_behind_exact : (k : TokenKind) → Exact Anything (PointerBehind k) (always is_qualifier) (pointer_sign_behind k)
 pointer_behind_exact (kind.Sign sign_of.Star) = qualified_exact
-pointer_behind_exact (kind.Sign sign_of.At) = ends_wider (IsDone pointer_sign.NotNull) _ (done_exact pointer_sign.NotNull) (always is_qualifier)
+pointer_behind_exact (kind.Sign sign_of.At) = counted_exact pointer_sign.NotNull
 pointer_behind_exact _ = ends_wider (IsDone pointer_sign.Fat) _ (done_exact pointer_sign.Fat) (always is_qualifier)
+
+-- where a sign is made of this number
+counted_of : (f : ℕ → PointerSign) (x : PointerSign) (from mid to : Tokens) (c : Counted f true x mid to) → IsPointerSign (f c.0) from to
+    → IsPointerSign x from to
+counted_of f x from mid to c is = subst (λ y. IsPointerSign y from to) (sym c.1) is
 
 star_into : (at : ℕ) (text : List ℕ) (b : Bool) (x : PointerSign) (from mid to : Tokens)
     → from ≡ record { kind = kind.Sign sign_of.Star; at = at; text = text } ∷ mid
     → Qualified b x mid to → IsPointerSign x from to
-star_into at text b x from mid to e (inl w) = finish (λ x to. IsPointerSign x from to) w.3 (inr (mid, (at, (text, e)), (w.0, w.2)))
+star_into at text b x from mid to e (inl w) =
+    counted_of pointer_sign.NotNull x from w.1 to w.3 (inr (w.1, (mid, (at, (text, e)), (w.0, w.2)), w.3.2))
 star_into at text b x from mid to e (inr (inl w)) = finish (λ x to. IsPointerSign x from to) w.3 (inr (mid, (at, (text, e)), (w.0, w.2)))
-star_into at text b x from mid to e (inr (inr (inl w))) = finish (λ x to. IsPointerSign x from to) w.3 (inr (mid, (at, (text, e)), (w.0, w.2)))
-star_into at text b x from mid to e (inr (inr (inr d))) = finish (λ x to. IsPointerSign x from to) d (inl (at, (text, e)))
+star_into at text b x from mid to e (inr (inr (inl w))) =
+    finish (λ x to. IsPointerSign x from to) w.3 (inr (refl, (mid, (at, (text, e)), (w.0, w.2))))
+star_into at text b x from mid to e (inr (inr (inr c))) = counted_of pointer_sign.Nullable x from mid to c (inl (mid, (at, (text, e)), c.2))
 
 pointer_sign_into : (k : TokenKind) (at : ℕ) (text : List ℕ) (b : Bool) (x : PointerSign) (from mid to : Tokens)
     → from ≡ record { kind = k; at = at; text = text } ∷ mid → begins_pointer k ≡ true → PointerBehind k b x mid to → IsPointerSign x from to
 pointer_sign_into (kind.Sign sign_of.Star) at text b x from mid to e h w = star_into at text b x from mid to e w
-pointer_sign_into (kind.Sign sign_of.At) at text b x from mid to e h d = finish (λ x to. IsPointerSign x from to) d (inl (at, (text, e)))
+pointer_sign_into (kind.Sign sign_of.At) at text b x from mid to e h c = counted_of pointer_sign.NotNull x from mid to c (inl (mid, (at, (text, e)), c.2))
 pointer_sign_into (kind.Sign sign_of.Question) at text b x from mid to e h d = finish (λ x to. IsPointerSign x from to) d (inl (at, (text, e)))
 pointer_sign_into _ at text b x from mid to e h w = absurd cc
 
@@ -112,12 +176,13 @@ abbrev of_sign : Sign → ℕ → List ℕ → Token
 of_sign s at text = record { kind = kind.Sign s; at = at; text = text }
 
 pointer_sign_back : (b : Bool) (x : PointerSign) (from to : Tokens) → IsPointerSign x from to → PointerSignRead b x from to
-pointer_sign_back b pointer_sign.Nullable from to (inl s) = (of_sign sign_of.Star s.0 s.1.0, to, (s.1.1, refl), inr (inr (inr (refl, refl))))
-pointer_sign_back b pointer_sign.Nullable from to (inr w) =
-    (of_sign sign_of.Star w.1.0 w.1.1.0, w.0, (w.1.1.1, refl), inr (inr (inl (w.2.0, to, w.2.1, (refl, refl)))))
-pointer_sign_back b pointer_sign.NotNull from to (inl s) = (of_sign sign_of.At s.0 s.1.0, to, (s.1.1, refl), (refl, refl))
-pointer_sign_back b pointer_sign.NotNull from to (inr w) =
-    (of_sign sign_of.Star w.1.0 w.1.1.0, w.0, (w.1.1.1, refl), inl (w.2.0, to, w.2.1, (refl, refl)))
+pointer_sign_back b (pointer_sign.Nullable n) from to (inl (mid, s, c)) =
+    (of_sign sign_of.Star s.0 s.1.0, mid, (s.1.1, refl), inr (inr (inr (n, refl, c))))
+pointer_sign_back b (pointer_sign.Nullable n) from to (inr (one, w)) =
+    (of_sign sign_of.Star w.1.0 w.1.1.0, w.0, (w.1.1.1, refl), inr (inr (inl (w.2.0, to, w.2.1, (ap pointer_sign.Nullable one, refl)))))
+pointer_sign_back b (pointer_sign.NotNull n) from to (inl (mid, s, c)) = (of_sign sign_of.At s.0 s.1.0, mid, (s.1.1, refl), (n, refl, c))
+pointer_sign_back b (pointer_sign.NotNull n) from to (inr (mid, w, c)) =
+    (of_sign sign_of.Star w.1.0 w.1.1.0, w.0, (w.1.1.1, refl), inl (w.2.0, mid, w.2.1, (n, refl, c)))
 pointer_sign_back b pointer_sign.Fat from to (inl s) = (of_sign sign_of.Question s.0 s.1.0, to, (s.1.1, refl), (refl, refl))
 pointer_sign_back b pointer_sign.Fat from to (inr w) =
     (of_sign sign_of.Star w.1.0 w.1.1.0, w.0, (w.1.1.1, refl), inr (inl (w.2.0, to, w.2.1, (refl, refl))))
